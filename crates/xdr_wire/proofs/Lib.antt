@@ -1,0 +1,10 @@
+pub mod Steps
+pub mod Spelling
+pub mod Items
+pub mod Words
+pub mod Canonical
+pub mod Chains
+pub mod Normal
+pub mod Arrays
+pub mod Passing
+pub mod Going

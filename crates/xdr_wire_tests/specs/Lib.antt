@@ -1,0 +1,4 @@
+pub mod Forms
+pub mod Views
+pub mod ClaimView
+pub mod StableView

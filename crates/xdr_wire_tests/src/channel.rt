@@ -1,0 +1,48 @@
+use std::alloc::Allocator;
+use xdr_wire::{AtMostOne, Full, Reader, Spell, Wire, Writer, XdrFault};
+
+/// What one direction of a session carries (RFC 8881, section 18.36, `channel_attrs4`): a struct of seven fields.
+#[derive(Clone, Copy, Debug, PartialEq, Eq)]
+pub struct Channel {
+    pub padding: u32,
+    pub request_size: u32,
+    pub reply_size: u32,
+    pub cached_size: u32,
+    pub operations: u32,
+    pub slots: u32,
+    pub rdma: Option<u32>,
+}
+
+impl Spell for Channel {
+    ghost use Rattle.std.specs.Prelude.{None};
+    ghost use Rattle.xdr_wire_tests.specs.Forms.{channel};
+    ghost use Rattle.xdr_wire_tests.specs.Views.{channel_value};
+
+    ghost form = { channel };
+
+    ghost view = { channel_value };
+
+    ghost normal = { None };
+
+    fn write<A: Allocator>(self, writer: &mut Writer<A>) -> Result<(), Full> {
+        let last = (self.operations, (self.slots, AtMostOne(self.rdma)));
+        let sizes = (self.reply_size, (self.cached_size, last));
+        (self.padding, (self.request_size, sizes)).write(writer)
+    }
+}
+
+impl<'a> Wire<'a> for Channel {
+    fn read(reader: &mut Reader<'a>) -> Result<Self, XdrFault> {
+        let (padding, (request_size, (reply_size, (cached_size, last)))) = Wire::read(reader)?;
+        let (operations, (slots, AtMostOne(rdma))) = last;
+        Ok(Channel {
+            padding,
+            request_size,
+            reply_size,
+            cached_size,
+            operations,
+            slots,
+            rdma,
+        })
+    }
+}

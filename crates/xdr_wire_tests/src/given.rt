@@ -1,0 +1,38 @@
+//! What the tests call: functions with no contract, so that the prover doesn't compute on a test's bytes.
+use std::alloc::{AllocError, Global};
+use xdr_wire::{Full, Reader, Spell, Wire, Writer, XdrFault};
+
+/// What `read` gives of the bytes, and how many are left.
+pub fn read<'a, T: Wire<'a>>(bytes: &'a [u8]) -> (Result<T, XdrFault>, usize) {
+    let mut reader = Reader::new(bytes);
+    let read = T::read(&mut reader);
+    (read, reader.len())
+}
+
+/// What `fixed` gives of the bytes, and how many are left.
+pub fn fixed(n: usize, bytes: &[u8]) -> (Result<&[u8], XdrFault>, usize) {
+    let mut reader = Reader::new(bytes);
+    let read = reader.fixed(n);
+    (read, reader.len())
+}
+
+/// What `opaque` gives of the bytes, and how many are left.
+pub fn opaque(max: usize, bytes: &[u8]) -> (Result<&[u8], XdrFault>, usize) {
+    let mut reader = Reader::new(bytes);
+    let read = reader.opaque(max);
+    (read, reader.len())
+}
+
+/// What `count` gives of the bytes, and how many are left.
+pub fn count(max: usize, bytes: &[u8]) -> (Result<u32, XdrFault>, usize) {
+    let mut reader = Reader::new(bytes);
+    let read = reader.count(max);
+    (read, reader.len())
+}
+
+/// What is written of a value into a buffer of this room, and the answer.
+pub fn written<T: Spell>(alloc: Global, room: usize, value: T) -> Result<(Vec<u8>, Result<(), Full>), AllocError> {
+    let mut writer = Writer::new(alloc, room)?;
+    let answer = value.write(&mut writer);
+    Ok((writer.into_bytes(), answer))
+}

@@ -1,0 +1,94 @@
+use crate::given;
+use std::alloc::{AllocError, Global};
+use std::test::Fail;
+use xdr_wire::{Full, Opaque, Writer};
+
+/// The file of RFC 4506, section 7, by hand: its name, EXEC with its interpretor, its owner and its data.
+const FILE: &[u8] = b"\0\0\0\x09sillyprog\0\0\0\0\0\0\x02\0\0\0\x04lisp\0\0\0\x04john\0\0\0\x06(quit)\0\0";
+
+type Text<'a> = Opaque<'a, 255>;
+
+/// That file's fields as it is written, in a buffer of this room.
+fn put_file(alloc: Global, room: usize) -> Result<(Vec<u8>, bool), AllocError> {
+    let mut writer = Writer::new(alloc, room)?;
+    let whole = writer.put_opaque(b"sillyprog").is_ok()
+        && writer.put_u32(2).is_ok()
+        && writer.put_opaque(b"lisp").is_ok()
+        && writer.put_opaque(b"john").is_ok()
+        && writer.put_opaque(b"(quit)").is_ok();
+    Ok((writer.into_bytes(), whole))
+}
+
+/// The example of RFC 4506, section 7, written item by item.
+#[test]
+fn file_is_written(rt: HostRuntime) -> Result<(), Fail> {
+    let (bytes, whole) = put_file(rt.alloc(), 48)?;
+    assert!(rt; whole);
+    assert_eq!(rt; bytes.as_slice(), FILE);
+    let (_, whole) = put_file(rt.alloc(), 47)?;
+    assert!(rt; !whole);
+    Ok(())
+}
+
+/// The same example, read.
+#[test]
+fn file_is_read(rt: HostRuntime) -> Result<(), Fail> {
+    let (read, left) = given::read::<(Text, (u32, (Text, (Text, Text))))>(FILE);
+    assert_eq!(rt; left, 0);
+    let Ok((name, (kind, (interpretor, (owner, data))))) = read else {
+        return Ok(assert!(rt; false));
+    };
+    assert_eq!(rt; name.bytes, b"sillyprog".as_slice());
+    assert_eq!(rt; kind, 2);
+    assert_eq!(rt; interpretor.bytes, b"lisp".as_slice());
+    assert_eq!(rt; owner.bytes, b"john".as_slice());
+    assert_eq!(rt; data.bytes, b"(quit)".as_slice());
+    Ok(())
+}
+
+fn put_items(alloc: Global) -> Result<(Vec<u8>, bool), AllocError> {
+    let mut writer = Writer::new(alloc, 52)?;
+    let whole = writer.put_u32(258).is_ok()
+        && writer.put_u64(4294967296).is_ok()
+        && writer.put_i64(-2).is_ok()
+        && writer.put_bool(true).is_ok()
+        && writer.put_bool(false).is_ok()
+        && writer.put_fixed(b"abcde").is_ok()
+        && writer.put_words(&[1, 2]).is_ok()
+        && writer.put_opaque(b"a").is_ok();
+    Ok((writer.into_bytes(), whole))
+}
+
+/// Each item, where there is just room for it.
+#[test]
+fn items(rt: HostRuntime) -> Result<(), Fail> {
+    let (bytes, whole) = put_items(rt.alloc())?;
+    assert!(rt; whole);
+    assert_eq!(rt; bytes.as_slice(), b"\0\0\x01\x02\0\0\0\x01\0\0\0\0\xff\xff\xff\xff\xff\xff\xff\xfe\0\0\0\x01\0\0\0\0abcde\0\0\0\0\0\0\x01\0\0\0\x02\0\0\0\x01a\0\0\0".as_slice());
+    Ok(())
+}
+
+/// With a byte too few nothing is written.
+#[test]
+fn full(rt: HostRuntime) -> Result<(), Fail> {
+    let mut writer = Writer::new(rt.alloc(), 7)?;
+    assert_eq!(rt; writer.put_u64(1), Err(Full));
+    assert_eq!(rt; writer.put_fixed(b"abcde"), Err(Full));
+    assert_eq!(rt; writer.put_opaque(b"a"), Err(Full));
+    assert_eq!(rt; writer.put_words(&[1, 2]), Err(Full));
+    assert!(rt; writer.is_empty());
+    assert_eq!(rt; writer.room(), 7);
+    Ok(())
+}
+
+/// What was written is cut off, and there is room for it again.
+#[test]
+fn truncated(rt: HostRuntime) -> Result<(), Fail> {
+    let mut writer = Writer::new(rt.alloc(), 7)?;
+    assert_eq!(rt; writer.put_u32(3), Ok(()));
+    writer.truncate(1);
+    assert_eq!(rt; writer.bytes(), b"\0".as_slice());
+    assert_eq!(rt; writer.room(), 6);
+    assert_eq!(rt; format!(in rt.alloc(); "{}", Full)?.as_str(), "there is less room than the item takes");
+    Ok(())
+}
