@@ -1,0 +1,4 @@
+pub mod Steps
+pub mod Replies
+pub mod GroupSets
+pub mod Unique

@@ -1,0 +1,19 @@
+-- What a framer knows of the record that has begun (RFC 5531, section 11).
+use Rattle.std.specs.Prelude.{ℕ, Bool, List, length, nat_lt, ◌||◌}
+
+pub record Frame : Type 0 where
+  -- the first bytes of a header that isn't whole
+  pub header : List ℕ
+  -- how many bytes the open fragment still has, and whether it is the last one of its record
+  pub left : ℕ
+  pub last : Bool
+  -- how many bytes of the record have come
+  pub joined : ℕ
+  -- whether a header of the record has been read
+  pub begun : Bool
+  -- whether a header took its record above the limit
+  pub broken : Bool
+
+-- a header of the record has been read, or a part of one
+abbrev pub is_inside : Frame → Bool
+is_inside frame = frame.begun || nat_lt 0 (length frame.header)

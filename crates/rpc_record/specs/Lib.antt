@@ -1,0 +1,9 @@
+pub mod Identity
+pub mod Records
+pub mod Frame
+pub mod Framer
+pub mod FramerParts
+pub mod Call
+pub mod CallViews
+pub mod Faults
+pub mod Reply

@@ -1,0 +1,86 @@
+//! The data of an AUTH_SYS credential (RFC 5531, appendix A).
+ghost use Rattle.std.specs.Prelude.{◌≡◌, ◌≤◌, ◌<◌, ◌++◌, ◌∷◌, [], length};
+ghost use Rattle.xdr_wire.specs.Xdr.{uint, array};
+ghost use Rattle.xdr_wire.specs.Reading.{Gives, read_at};
+ghost use Rattle.rpc_record.specs.Call.{authsys, caller_of};
+
+use crate::caller::{Caller, MOST_FURTHER};
+use std::marker::Model;
+use xdr_wire::{Reader, XdrFault};
+
+/// The most bytes of a machine name.
+const MOST_NAME: usize = 255;
+
+/// The further gids of a credential, at most 16, as they were sent.
+#[derive(Drop)]
+struct Further {
+    row: [u32; MOST_FURTHER],
+    len: usize,
+}
+
+impl Model for Further {
+    ghost use Rattle.std.specs.Prelude.{List, ℕ, take, ◌≤◌};
+
+    ghost Value = { List ℕ };
+
+    ghost view = { λ g. take g.len g.row };
+
+    ghost invariant = { λ g. g.len ≤ 16 };
+}
+
+impl Further {
+    fn new() -> Self
+        ensures { result ≡ [] }
+    {
+        Further {
+            row: [0; MOST_FURTHER],
+            len: 0,
+        }
+    }
+
+    fn push(&mut self, group: u32)
+        requires { length self.old < MOST_FURTHER }
+        ensures { self.new ≡ self.old ++ group ∷ [] }
+    {
+        self.row[self.len] = group;
+        self.len += 1;
+    }
+
+    fn as_slice(&self) -> &[u32]
+        ensures groups { result.now ≡ self.now }
+        ensures few { length self.now ≤ MOST_FURTHER }
+    {
+        &self.row[..self.len]
+    }
+
+    fn read(reader: &mut Reader<'_>) -> Result<Further, XdrFault>
+        ensures { Gives (λ g. g) reader.old reader.new result (read_at (array 16 uint) reader.old) }
+    {
+        let mut ahead = reader.fork();
+        let count = ahead.count(MOST_FURTHER)?;
+        let mut groups = Further::new();
+        for _ in 0..count {
+            let group = ahead.u32()?;
+            groups.push(group);
+        }
+        *reader = ahead;
+        Ok(groups)
+    }
+}
+
+/// Who calls, by the data of an AUTH_SYS credential: all of them (appendix A). The stamp and the machine name, of
+/// any bytes, say nothing.
+pub(crate) fn read_caller(body: &[u8]) -> Option<Caller>
+    ensures { result ≡ caller_of (read_at authsys body.now) }
+{
+    let mut reader = Reader::new(body);
+    let _stamp = reader.u32().ok()?;
+    let _machine_name = reader.opaque(MOST_NAME).ok()?;
+    let uid = reader.u32().ok()?;
+    let gid = reader.u32().ok()?;
+    let further = Further::read(&mut reader).ok()?;
+    if !reader.is_empty() {
+        return None;
+    }
+    Some(Caller::new(uid, gid, further.as_slice()))
+}

@@ -1,0 +1,195 @@
+//! Record marking (RFC 5531, section 11): where the records of a stream are.
+ghost use Rattle.std.specs.Prelude.{◌≡◌, ◌≢◌, ◌≤◌, ◌<◌, ◌+◌, ◌++◌, ◌∷◌, List, [], length, take, IsTrue, ℕ, ◌↔◌};
+ghost use Rattle.std.specs.Prelude.{true};
+ghost use Rattle.std.specs.Int.{w32, to_be_bytes};
+ghost use Rattle.rpc_record.specs.Records.{Cuts, IsRecord, IsEnd, IsUnfinished, Breaks, mark};
+ghost use Rattle.rpc_record.specs.Frame.{Frame, is_inside};
+ghost use Rattle.rpc_record.specs.Framer.{Stands};
+
+use std::marker::Model;
+
+/// The most bytes that a record may have, its headers not counted.
+pub const RECORD_LIMIT: usize = 131_072;
+
+// the top bit of a header, which stands on the last fragment of a record
+const LAST: u32 = 1 << 31;
+
+/// What the bytes of a piece from `at` on are. After `Part` and `Record` the next call goes on at their second number.
+#[derive(Clone, Copy, Debug, PartialEq, Eq)]
+pub enum Step {
+    /// The bytes of the piece from the first to the second number go on the record. There may be none.
+    Part(usize, usize),
+    /// The bytes of the piece from the first to the second number end the record. There may be none.
+    Record(usize, usize),
+    /// The piece is used up.
+    NeedMore,
+    /// A header takes its record above [`RECORD_LIMIT`]. Nothing more of the stream is read.
+    Broken,
+}
+
+/// Finds the records in a stream that comes in pieces, whatever its fragments and wherever it is cut. It keeps no byte
+/// of a record and takes no memory: who calls joins the parts.
+#[derive(Debug, Drop)]
+pub struct Framer {
+    // the first bytes of a header that isn't whole
+    header: [u8; 4],
+    have: usize,
+    // how many bytes the fragment still has, and whether it is the last of its record
+    left: usize,
+    last: bool,
+    // how many bytes of the record there are so far
+    joined: usize,
+    // whether a header of the record has been read
+    begun: bool,
+    broken: bool,
+}
+
+impl Model for Framer {
+    ghost use Rattle.std.specs.Prelude.{◌<◌, ◌≤◌, ◌+◌, take};
+    ghost use Rattle.rpc_record.specs.Frame.{Frame};
+
+    ghost Value = { Frame };
+
+    ghost view = { λ f. record { header = take f.have f.header; left = f.left; last = f.last; joined = f.joined; begun = f.begun; broken = f.broken } };
+
+    ghost invariant = { λ f. (f.have < 4) × (f.joined + f.left ≤ 131072) };
+}
+
+/// Puts bytes behind the first `have` bytes of a header.
+fn put_header(header: &mut [u8; 4], have: usize, bytes: &[u8])
+    requires { have + length bytes.now ≤ 4 }
+    ensures { take (have + length bytes.now) header.new ≡ take have header.old ++ bytes.now }
+{
+    for (i, b) in bytes.iter().enumerate() {
+        header[have + i] = *b;
+    }
+}
+
+impl Framer {
+    ghost use Rattle.rpc_record.specs.Framer.{Stands, StepGives, IsWithin, TakesAll};
+    ghost use Rattle.rpc_record.specs.FramerParts.{HeaderGives, BodyGives};
+
+    /// At the start of a stream.
+    pub fn new() -> Self
+        ensures { Stands result [] [] }
+    {
+        Framer {
+            header: [0; 4],
+            have: 0,
+            left: 0,
+            last: false,
+            joined: 0,
+            begun: false,
+            broken: false,
+        }
+    }
+
+    /// Whether a record has begun that isn't whole: a header of it has been read, be it of an empty fragment, or a part
+    /// of one.
+    pub fn is_inside(&self) -> bool
+        ensures value { result ≡ is_inside self.now }
+        ensures inside { (content bytes : List ℕ) → Stands self.now content bytes → IsTrue result ↔ (bytes ≢ []) }
+    {
+        self.begun || self.have > 0
+    }
+
+    /// Reads on in a header. `None`: it isn't whole yet.
+    fn read_header(&mut self, bytes: &[u8]) -> Option<u32>
+        requires { length self.old.header + length bytes.now ≤ 4 }
+        ensures { HeaderGives result self.old self.new bytes.now }
+    {
+        put_header(&mut self.header, self.have, bytes);
+        let have = self.have + bytes.len();
+        if have < 4 {
+            self.have = have;
+            return None;
+        }
+        self.have = 0;
+        self.begun = true;
+        Some(u32::from_be_bytes(self.header))
+    }
+
+    /// Goes on in a fragment, by the next bytes of the piece from `from` on.
+    fn read_body(&mut self, piece: &[u8], from: usize) -> Step
+        requires { from ≤ length piece.now }
+        ensures { BodyGives result self.old self.new piece.now from }
+    {
+        let to = from + self.left.min(piece.len() - from);
+        self.joined += to - from;
+        self.left -= to - from;
+        if self.left > 0 {
+            return if from == to {
+                Step::NeedMore
+            } else {
+                Step::Part(from, to)
+            };
+        }
+        if !self.last {
+            return Step::Part(from, to);
+        }
+        self.joined = 0;
+        self.begun = false;
+        Step::Record(from, to)
+    }
+
+    /// Finds what the bytes of the piece from `at` on are: a part of the record that has begun, its end, less than
+    /// either, or a header that takes the record above the limit. The limit holds for the whole record, at the header
+    /// that passes it. A broken framer stays so.
+    pub fn feed(&mut self, piece: &[u8], at: usize) -> Step
+        requires { at ≤ length piece.now }
+        ensures within { IsWithin result piece.now at }
+        ensures gives { (content bytes : List ℕ) → Stands self.old content bytes → StepGives result self.new content bytes piece.now at }
+        ensures all { TakesAll result self.new piece.now }
+        ensures broken { result ≡ Step.Broken ↔ IsTrue self.new.broken }
+        ensures stays { IsTrue self.old.broken → (result ≡ Step.Broken) × (self.new ≡ self.old) }
+    {
+        if self.broken {
+            return Step::Broken;
+        }
+        if self.left > 0 {
+            return self.read_body(piece, at);
+        }
+        let from = at + (4 - self.have).min(piece.len() - at);
+        let Some(mark) = self.read_header(&piece[at..from]) else {
+            return Step::NeedMore;
+        };
+        self.last = mark >= LAST;
+        let len = (mark % LAST) as usize;
+        let room = RECORD_LIMIT - self.joined;
+        if len > room {
+            self.broken = true;
+            return Step::Broken;
+        }
+        self.left = len;
+        self.read_body(piece, from)
+    }
+}
+
+/// The mark of a record of this many bytes that is sent as one fragment, which is the last one.
+pub fn record_mark(len: usize) -> [u8; 4]
+    requires { len ≤ RECORD_LIMIT }
+    ensures bytes { result ≡ to_be_bytes w32 (mark true len) }
+    ensures one_record { (content : List ℕ) → length content ≡ len → IsRecord content (result ++ content) }
+{
+    (LAST + len as u32).to_be_bytes()
+}
+
+/// A stream is cut into records in one way, so it makes no difference in which pieces it came.
+pub fn a_stream_has_one_cut()
+    ensures { (stream : List ℕ) (records others : List (List ℕ)) (rest behind : List ℕ) → Cuts stream records rest → Cuts stream others behind
+        → IsEnd rest → IsEnd behind → (records ≡ others) × (rest ≡ behind) }
+{}
+
+/// How the records of a stream are found as it comes: at its start there are none, what comes goes behind the rest, a
+/// rest that is a record is one more, and a stream that breaks stays broken.
+pub fn records_of_a_growing_stream()
+    ensures start { Cuts [] [] [] }
+    ensures more { (stream rest more : List ℕ) (records : List (List ℕ)) → Cuts stream records rest → Cuts (stream ++ more) records (rest ++ more) }
+    ensures broken { (bytes more : List ℕ) → Breaks bytes → Breaks (bytes ++ more) }
+    ensures next { (stream rest content : List ℕ) (records : List (List ℕ)) → Cuts stream records rest → IsRecord content rest → Cuts stream (records ++ content ∷ []) [] }
+{}
+
+/// What a framer stands for is the unfinished rest behind the last whole record.
+pub fn a_framer_stands_for_a_rest()
+    ensures { (frame : Frame) (content bytes : List ℕ) → Stands frame content bytes → IsUnfinished bytes }
+{}

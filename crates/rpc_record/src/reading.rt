@@ -1,0 +1,103 @@
+//! What a record asks (RFC 5531, section 9).
+ghost use Rattle.std.specs.Prelude.{◌≡◌, Ok, Err, MatchResult};
+ghost use Rattle.rpc_record.specs.declared.call.CallFault.TheVariants.{Header};
+ghost use Rattle.xdr_wire.specs.Reading.{read_at};
+ghost use Rattle.rpc_record.specs.Call.{target, targeted, asked};
+ghost use Rattle.rpc_record.specs.CallViews.{outcome};
+
+use crate::call::{Call, CallFault};
+use crate::credential::read_caller;
+use xdr_wire::{Reader, XdrFault};
+
+/// The message type of a call.
+const CALL: u32 = 0;
+
+/// The version of the protocol.
+const RPC_VERSION: u32 = 2;
+
+// the program NFS and its version, and the procedures (RFC 5662)
+const NFS_PROGRAM: u32 = 100_003;
+
+const NFS_VERSION: u32 = 4;
+
+const NULL: u32 = 0;
+
+const COMPOUND: u32 = 1;
+
+/// The flavor of a credential of users and groups by their numbers.
+const AUTH_SYS: u32 = 1;
+
+/// The most bytes of a credential's or a verifier's data.
+const MOST_AUTH: usize = 400;
+
+/// What can't be read is no header.
+fn header<T>(read: Result<T, XdrFault>) -> Result<T, CallFault>
+    ensures { MatchResult read (λ x. result ≡ Ok x) (λ _. result ≡ Err Header) }
+{
+    match read {
+        Ok(x) => Ok(x),
+        Err(_) => Err(CallFault::Header),
+    }
+}
+
+/// What a record asks, or the first thing that is wrong with it: the message type and the version of the protocol are
+/// read first and checked before the rest is read; then program, version and procedure; then, for COMPOUND, the flavor
+/// and the data of its credential. The verifier is not looked at. The bytes behind the header are the arguments.
+pub fn read_call(bytes: &[u8]) -> Result<Call<'_>, CallFault>
+    ensures { outcome result ≡ asked bytes.now }
+{
+    let mut reader = Reader::new(bytes);
+    let xid = header(reader.u32())?;
+    let message_type = header(reader.u32())?;
+    let rpc_version = header(reader.u32())?;
+    if message_type != CALL {
+        return Err(CallFault::Header);
+    }
+    if rpc_version != RPC_VERSION {
+        return Err(CallFault::RpcVersion(xid));
+    }
+    read_target(xid, reader.rest())
+}
+
+/// Reads the rest of a header, behind the version of the protocol, and judges it.
+#[tactic(auto, unfolding(crate::specs::Call::targeted))]
+fn read_target(xid: u32, bytes: &[u8]) -> Result<Call<'_>, CallFault>
+    ensures { outcome result ≡ targeted xid (read_at target bytes.now) }
+{
+    let mut reader = Reader::new(bytes);
+    let program = header(reader.u32())?;
+    let version = header(reader.u32())?;
+    let procedure = header(reader.u32())?;
+    let flavor = header(reader.u32())?;
+    let credential = header(reader.opaque(MOST_AUTH))?;
+    let _flavor = header(reader.u32())?;
+    let _verifier = header(reader.opaque(MOST_AUTH))?;
+    if program != NFS_PROGRAM {
+        return Err(CallFault::Program(xid));
+    }
+    if version != NFS_VERSION {
+        return Err(CallFault::Version(xid));
+    }
+    if procedure > COMPOUND {
+        return Err(CallFault::Procedure(xid));
+    }
+    let arguments = reader.rest();
+    if procedure == NULL {
+        return Ok(Call {
+            xid,
+            arguments,
+            caller: None,
+        });
+    }
+    if flavor != AUTH_SYS {
+        return Err(CallFault::Flavor(xid));
+    }
+    match read_caller(credential) {
+        None => Err(CallFault::BadCred(xid)),
+        Some(caller) => Ok(Call {
+            xid,
+            arguments,
+            caller: Some(caller),
+        }),
+    }
+}

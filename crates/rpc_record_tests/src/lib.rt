@@ -1,0 +1,15 @@
+//! Tests of `rpc_record`: streams, calls, callers and replies, with values of the standard's words or counted by hand.
+#![tactic(auto)]
+
+#[cfg(test)]
+mod callers;
+#[cfg(test)]
+mod calls;
+#[cfg(test)]
+mod connection;
+#[cfg(test)]
+mod replies;
+#[cfg(test)]
+mod streams;
+#[cfg(test)]
+mod words;
