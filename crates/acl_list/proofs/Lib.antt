@@ -1,0 +1,11 @@
+pub mod Bits
+pub mod Masks
+pub mod Judging
+pub mod Mentioning
+pub mod Adding
+pub mod Allowing
+pub mod Verdicting
+pub mod Covering
+pub mod OneBit
+pub mod Watching
+pub mod BitByBit

@@ -1,0 +1,83 @@
+-- Which entry of a list decides a bit (RFC 8881, section 6.2.1).
+use Rattle.std.specs.Prelude.{ℕ, Bool, true, false, not, ◌==◌, ◌&&◌, if◌then◌else◌, List, Option, Some, None, find, bit_and}
+use Rattle.std.specs.List.{enumerate_from}
+use Rattle.acl_list.specs.Mask.{has_bit}
+use Rattle.acl_list.specs.Places.{inherit_only}
+use Rattle.rpc_record.specs.Identity.{Identity, is_member}
+use Rattle.acl_list.specs.declared.entry.Entry.{Entry}
+use Rattle.acl_list.specs.declared.entry.EntryKind.{EntryKind}
+use Rattle.acl_list.specs.declared.entry.EntryKind.TheVariants.{Allow, Deny, Audit, Alarm}
+use Rattle.acl_list.specs.declared.entry.Who.{Who}
+use Rattle.acl_list.specs.declared.entry.Who.TheVariants.{Owner, Group, Everyone, User, GroupOf}
+use Rattle.acl_list.specs.declared.answer.Mention.{Mention}
+use Rattle.acl_list.specs.declared.answer.Mention.TheVariants.{Unmentioned, AllowedBy, DeniedBy}
+
+-- Whether a who is true of the caller, for an object of this owner and group (section 6.2.1.5). Everyone is among
+-- EVERYONE@: the owner and the group's members too. The flags of the entry have no say in it.
+abbrev pub is_true_for : ℕ → ℕ → Identity → Who → Bool
+is_true_for owner group caller Owner = caller.uid == owner
+is_true_for owner group caller Group = is_member caller group
+is_true_for owner group caller Everyone = true
+is_true_for owner group caller (User uid) = caller.uid == uid
+is_true_for owner group caller (GroupOf gid) = is_member caller gid
+
+-- whether a who is this special one, or EVERYONE@
+abbrev pub is_class : Who → Who → Bool
+is_class Owner Owner = true
+is_class Group Group = true
+is_class class Everyone = true
+is_class class other = false
+
+-- AUDIT and ALARM entries watch, and have no say in what is granted (section 6.2.1.1)
+abbrev pub allows_or_denies : EntryKind → Bool
+allows_or_denies Allow = true
+allows_or_denies Deny = true
+allows_or_denies Audit = false
+allows_or_denies Alarm = false
+
+abbrev pub is_allow : EntryKind → Bool
+is_allow Allow = true
+is_allow Deny = false
+is_allow Audit = false
+is_allow Alarm = false
+
+abbrev pub is_deny : EntryKind → Bool
+is_deny Allow = false
+is_deny Deny = true
+is_deny Audit = false
+is_deny Alarm = false
+
+-- Below, names tells whose entries are asked: which whos are true.
+
+-- an entry of the object itself whose who is true: not one that is only there to be inherited (section 6.2.1.4.1)
+abbrev pub concerns : (Who → Bool) → Entry → Bool
+concerns names e = not (has_bit e.flags inherit_only) && names e.who
+
+-- an ALLOW or DENY entry that concerns the one who asks
+abbrev pub applies : (Who → Bool) → Entry → Bool
+applies names e = allows_or_denies e.kind && concerns names e
+
+-- it applies, and has the bit
+abbrev pub counts_for : (Who → Bool) → ℕ → Entry → Bool
+counts_for names bit e = applies names e && has_bit e.mask bit
+
+-- the first entry that counts for the bit, with its index
+abbrev pub mention : (Who → Bool) → List Entry → ℕ → Option (ℕ × Entry)
+mention names entries bit = find (λ p. counts_for names bit p.1) (enumerate_from 0 entries)
+
+-- the first entry that applies and has a bit of the mask, with its index: of a mask of one bit its first mention
+abbrev pub mention_of_mask : (Who → Bool) → List Entry → ℕ → Option (ℕ × Entry)
+mention_of_mask names entries mask = find (λ p. applies names p.1 && not (bit_and p.1.mask mask == 0)) (enumerate_from 0 entries)
+
+-- what was found, as an answer
+abbrev pub mentioned : Option (ℕ × Entry) → Mention
+mentioned None = Unmentioned
+mentioned (Some p) = if is_allow p.1.kind then AllowedBy p.0 else DeniedBy p.0
+
+abbrev pub is_allowed : Option (ℕ × Entry) → Bool
+is_allowed None = false
+is_allowed (Some p) = is_allow p.1.kind
+
+-- whether the bit is first mentioned by an ALLOW
+abbrev pub allows : (Who → Bool) → List Entry → ℕ → Bool
+allows names entries bit = is_allowed (mention names entries bit)

@@ -1,0 +1,26 @@
+//! Access control lists: what they hold, and what they decide (RFC 8881, sections 6.2.1 and 6.3.2).
+//!
+//! Nothing here but the making of lists takes memory: a decision always has an answer.
+#![tactic(auto)]
+
+mod answer;
+mod deciding;
+mod entry;
+pub mod flag;
+mod laws;
+mod list;
+pub mod mask;
+mod plain;
+mod summing;
+
+pub use answer::{Mention, Summary, Verdict};
+pub use deciding::{class_grant, concerns, judge, mention};
+pub use entry::{Entry, EntryKind, Kind, Who};
+pub use laws::{
+    bit_is_its_mention, constants_are_places, covered_is_granted, unwatched_writes_nothing,
+    verdict_is_by_bits,
+};
+pub use list::AclList;
+pub use plain::judge_bit_by_bit;
+pub use rpc_record::Caller;
+pub use summing::{summary, watched_bits};

@@ -1,0 +1,96 @@
+//! What a list comes to for a caller, and what its entries watch.
+ghost use Rattle.std.specs.Prelude.{◌≡◌, ℕ, ◌^◌, ◌&&◌};
+ghost use Rattle.acl_list.specs.Mask.{has_bit};
+ghost use Rattle.acl_list.specs.Deciding.{is_true_for};
+ghost use Rattle.acl_list.specs.Summaries.{IsSummary, told};
+ghost use Rattle.acl_list.specs.Summaries as specs;
+
+use crate::answer::Summary;
+use crate::deciding::concerns;
+use crate::entry::{Entry, EntryKind};
+use crate::flag;
+use crate::list::AclList;
+use rpc_record::Caller;
+use std::alloc::Allocator;
+
+/// The mask of an entry that has the flag, else no bits.
+fn mask_under(entry: &Entry, flag: u32) -> u32
+    ensures { (place : ℕ) → flag ≡ 2 ^ place → (bit : ℕ) → has_bit result bit ≡ has_bit entry.now.flags place && has_bit entry.now.mask bit }
+{
+    if entry.flags & flag == 0 {
+        0
+    } else {
+        entry.mask
+    }
+}
+
+/// The bits of the mask that an entry of the object's list watches, where the mask is granted to the caller or refused.
+///
+/// An AUDIT or ALARM entry watches that isn't INHERIT_ONLY, whose who is true of the caller, and that has the flag
+/// SUCCESSFUL for what is granted, FAILED for what is refused (RFC 8881, section 6.2.1.4.1). Any other entry watches no
+/// bit. The object has this owner and group.
+pub fn watched_bits(
+    entry: &Entry,
+    owner: u32,
+    group: u32,
+    caller: &Caller,
+    granted: bool,
+    mask: u32,
+) -> u32
+    ensures { result ≡ specs.watched_bits (is_true_for owner group caller.now) (told granted) mask entry.now }
+{
+    if is_watching(entry, owner, group, caller, granted) {
+        entry.mask & mask
+    } else {
+        0
+    }
+}
+
+/// Whether an entry tells of what is granted to the caller, or of what is refused.
+fn is_watching(entry: &Entry, owner: u32, group: u32, caller: &Caller, granted: bool) -> bool
+    ensures { result ≡ specs.is_watching (is_true_for owner group caller.now) (told granted) entry.now }
+{
+    let tells = if granted {
+        entry.tells_success()
+    } else {
+        entry.tells_failure()
+    };
+    matches!(entry.kind, EntryKind::Audit | EntryKind::Alarm)
+        && concerns(entry, owner, group, caller)
+        && tells
+}
+
+/// What the list of an object comes to for the caller: the bits that it grants, and the bits that it watches for
+/// success and for failure. The object has this owner and group. It takes no memory.
+///
+/// A mask is granted exactly where the bits `granted` cover it: [`crate::covered_is_granted`]. An entry writes a line on
+/// a mask exactly where the bits that are watched meet it: [`crate::unwatched_writes_nothing`].
+pub fn summary<A: Allocator>(list: &AclList<A>, owner: u32, group: u32, caller: &Caller) -> Summary
+    ensures exact { result ≡ specs.summary (is_true_for owner group caller.now) list.now }
+    ensures bitwise { IsSummary (is_true_for owner group caller.now) list.now result }
+{
+    summary_of(list.as_slice(), owner, group, caller)
+}
+
+fn summary_of(entries: &[Entry], owner: u32, group: u32, caller: &Caller) -> Summary
+    ensures { IsSummary (is_true_for owner group caller.now) entries.now result }
+{
+    let mut summary = Summary::default();
+    let mut decided = 0;
+    for entry in entries {
+        if concerns(entry, owner, group, caller) {
+            match entry.kind {
+                EntryKind::Allow => {
+                    summary.granted |= entry.mask & !decided;
+                    decided |= entry.mask;
+                }
+                EntryKind::Deny => decided |= entry.mask,
+                EntryKind::Audit | EntryKind::Alarm => {
+                    summary.watch_ok |= mask_under(entry, flag::SUCCESSFUL);
+                    summary.watch_fail |= mask_under(entry, flag::FAILED);
+                }
+            }
+        }
+    }
+    summary
+}
