@@ -1,0 +1,46 @@
+-- What becomes of a list that a client asks for (RFC 8881, sections 6.2.1 and 6.4.1.2).
+use Rattle.std.specs.Prelude.{◌==◌, nat_lt, not, ◌||◌, is_none, if◌then◌else◌, List, length, Option, Some, None, slice_get}
+use Rattle.std.specs.List.{filter_map}
+use Rattle.acl_list.specs.Kinds.{kind_of}
+use Rattle.acl_list.specs.Mask.{has_bit}
+use Rattle.acl_list.specs.Places.{inherit_only}
+use Rattle.acl_list.specs.declared.entry.Entry.{Entry}
+use Rattle.acl_list.specs.declared.entry.EntryKind.{EntryKind}
+use Rattle.acl_list.specs.declared.entry.Kind.{Kind}
+use Rattle.acl_list.specs.declared.entry.Who.{Who}
+use Rattle.acl_list.specs.declared.mask.TheConstants as mask
+use Rattle.acl_list.specs.declared.flag.TheConstants as flag
+use Rattle.acl_shape.specs.Mode.{without}
+use Rattle.acl_shape.specs.Inherited.{is_directory, settled}
+use Rattle.acl_shape.specs.declared.request.Raw.{Raw}
+use Rattle.acl_shape.specs.declared.request.AdmitFault.{AdmitFault}
+use Rattle.acl_shape.specs.declared.request.AdmitFault.TheVariants.{NoSpc, AttrNotSupp, Inval, BadOwner}
+
+-- what is wrong with an entry, if anything: its type (section 6.2.1.1), its flags and its mask (6.2.1.4, 6.2.1.3), its who (6.2.1.5)
+abbrev pub fault_of : Raw → Option AdmitFault
+fault_of raw =
+    if is_none (kind_of raw.kind) then Some AttrNotSupp
+    else if nat_lt flag.DEFINED raw.flags || not (without raw.mask mask.DEFINED == 0) then Some Inval
+    else if is_none raw.who then Some BadOwner
+    else None
+
+-- what is wrong with the whole: more entries than a new mode could keep, else the fault of the first entry that has one
+abbrev pub first_fault : List Raw → Option AdmitFault
+first_fault raws = if nat_lt 59 (length raws) then Some NoSpc else slice_get (filter_map fault_of raws) 0
+
+-- what an entry becomes on an object of this kind: what is there to be inherited is of use on a directory alone
+abbrev pub settled_on : Kind → Entry → Option Entry
+settled_on kind e = if is_directory kind then Some e else if has_bit e.flags inherit_only then None else Some (settled e)
+
+-- the entry that was sent, where its type and its who are known
+abbrev pub entry_with : Raw → Kind → Option EntryKind → Option Who → Option Entry
+entry_with raw kind None who = None
+entry_with raw kind (Some entry_kind) None = None
+entry_with raw kind (Some entry_kind) (Some who) = settled_on kind (record { kind = entry_kind; flags = raw.flags; mask = raw.mask; who = who })
+
+abbrev pub entry_of : Kind → Raw → Option Entry
+entry_of kind raw = entry_with raw kind (kind_of raw.kind) raw.who
+
+-- the list that is set: entry by entry, in order
+abbrev pub admitted : Kind → List Raw → List Entry
+admitted kind raws = filter_map (entry_of kind) raws

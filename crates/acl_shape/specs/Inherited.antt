@@ -1,0 +1,44 @@
+-- What a new object gets from its directory's list (RFC 8881, sections 6.2.1.4.1 and 6.4.3.1).
+use Rattle.std.specs.Prelude.{Bool, true, false, if◌then◌else◌, List, Option, Some, None, bit_and}
+use Rattle.std.specs.Int.{bit_not, w32}
+use Rattle.std.specs.List.{filter_map}
+use Rattle.acl_list.specs.Mask.{has_bit}
+use Rattle.acl_list.specs.Places.{file_inherit, directory_inherit, no_propagate}
+use Rattle.acl_list.specs.declared.entry.Entry.{Entry}
+use Rattle.acl_list.specs.declared.entry.Kind.{Kind}
+use Rattle.acl_list.specs.declared.entry.Kind.TheVariants.{File, Directory, Link}
+use Rattle.acl_list.specs.declared.flag.TheConstants as flag
+use Rattle.acl_shape.specs.Mode.{set_aside}
+
+abbrev pub is_directory : Kind → Bool
+is_directory File = false
+is_directory Directory = true
+is_directory Link = false
+
+-- the entry for the object alone: FILE_INHERIT, DIRECTORY_INHERIT, NO_PROPAGATE and INHERIT_ONLY cleared, the other four kept
+abbrev pub settled : Entry → Entry
+settled e = record e { flags = bit_and e.flags 0xf0 }
+
+-- the entry for the object itself, to be passed on as before
+abbrev pub passed_on : Entry → Entry
+passed_on e = record e { flags = bit_and e.flags (bit_not w32 flag.INHERIT_ONLY) }
+
+-- What a new directory gets of an entry. One that is for directories holds for it, and is passed on unless NO_PROPAGATE stops
+-- it. One that is for files alone doesn't hold for it; it is there to be passed on, so NO_PROPAGATE leaves nothing of it.
+abbrev pub directory_child : Entry → Option Entry
+directory_child e =
+    if has_bit e.flags directory_inherit then (if has_bit e.flags no_propagate then Some (settled e) else Some (passed_on e))
+    else if has_bit e.flags file_inherit then (if has_bit e.flags no_propagate then None else Some (set_aside e))
+    else None
+
+-- what a new file or link gets of an entry: one that is for files, for the object alone
+abbrev pub file_child : Entry → Option Entry
+file_child e = if has_bit e.flags file_inherit then Some (settled e) else None
+
+-- what a new object of this kind gets of an entry
+abbrev pub child : Kind → Entry → Option Entry
+child kind e = if is_directory kind then directory_child e else file_child e
+
+-- the inherited list: entry by entry, in order
+abbrev pub inherit : List Entry → Kind → List Entry
+inherit entries kind = filter_map (child kind) entries

@@ -1,0 +1,5 @@
+pub mod Mode
+pub mod Bounds
+pub mod Inherited
+pub mod Admitted
+pub mod Permissions

@@ -1,0 +1,86 @@
+//! What a new object inherits.
+ghost use Rattle.std.specs.Prelude.{◌≡◌, IfOk};
+ghost use Rattle.acl_shape.specs.Bounds.{IsBounded};
+ghost use Rattle.acl_shape.specs.Inherited as specs;
+
+use acl_list::{AclList, Entry, Kind, flag};
+use std::alloc::{AllocError, Allocator};
+
+/// The flags that don't speak of inheritance: SUCCESSFUL, FAILED, IDENTIFIER_GROUP and INHERITED.
+const OTHER_FLAGS: u32 = flag::SUCCESSFUL | flag::FAILED | flag::IDENTIFIER_GROUP | flag::INHERITED;
+
+/// The entry for the object alone.
+pub(crate) fn settled(entry: &Entry) -> Entry
+    ensures { result ≡ specs.settled entry.now }
+{
+    Entry {
+        flags: entry.flags & OTHER_FLAGS,
+        ..*entry
+    }
+}
+
+/// What a new object of this kind gets of an entry of its directory.
+fn child(entry: &Entry, kind: Kind) -> Option<Entry>
+    ensures { result ≡ specs.child kind entry.now }
+{
+    if kind != Kind::Directory {
+        return entry.is_for_files().then_some(settled(entry));
+    }
+    match (entry.is_for_directories(), entry.stops_below()) {
+        (true, true) => Some(settled(entry)),
+        (true, false) => Some(Entry {
+            flags: entry.flags & !flag::INHERIT_ONLY,
+            ..*entry
+        }),
+        (false, false) if entry.is_for_files() => Some(Entry {
+            flags: entry.flags | flag::INHERIT_ONLY,
+            ..*entry
+        }),
+        (false, _) => None,
+    }
+}
+
+/// What a new object of this kind inherits from the list of its directory: a list over `alloc` (RFC 8881, sections
+/// 6.2.1.4.1 and 6.4.3.1).
+///
+/// Each entry in turn gives the new object an entry or none. By its flags FILE_INHERIT (1), DIRECTORY_INHERIT (2) and
+/// NO_PROPAGATE (4), whether INHERIT_ONLY (8) is set or not:
+///
+/// | 1 | 2 | 4 | A new directory gets | A new file or link gets |
+/// |---|---|---|---|---|
+/// | – | – | – | nothing | nothing |
+/// | – | – | set | nothing | nothing |
+/// | set | – | – | the entry with 8 set | the entry with 1, 2, 4 and 8 cleared |
+/// | set | – | set | nothing | the entry with 1, 2, 4 and 8 cleared |
+/// | – | set | – | the entry with 8 cleared | nothing |
+/// | – | set | set | the entry with 1, 2, 4 and 8 cleared | nothing |
+/// | set | set | – | the entry with 8 cleared | the entry with 1, 2, 4 and 8 cleared |
+/// | set | set | set | the entry with 1, 2, 4 and 8 cleared | the entry with 1, 2, 4 and 8 cleared |
+///
+/// Every other flag, the type, the mask and the who are the entry's. `Err`: there is no memory for the list.
+pub fn inherit<A: Allocator, B: Allocator>(
+    alloc: A,
+    list: &AclList<B>,
+    kind: Kind,
+) -> Result<AclList<A>, AllocError>
+    ensures value { IfOk result (λ new. new ≡ specs.inherit list.now kind) }
+    ensures bounded { IsBounded list.now → IfOk result IsBounded }
+{
+    inherited_of(alloc, list.as_slice(), kind)
+}
+
+fn inherited_of<A: Allocator>(
+    alloc: A,
+    entries: &[Entry],
+    kind: Kind,
+) -> Result<AclList<A>, AllocError>
+    ensures { IfOk result (λ new. new ≡ specs.inherit entries.now kind) }
+{
+    let mut new = AclList::new(alloc);
+    for entry in entries {
+        if let Some(entry) = child(entry, kind) {
+            new.push(entry)?;
+        }
+    }
+    Ok(new)
+}

@@ -1,0 +1,45 @@
+//! What follows from the definitions alone.
+ghost use Rattle.std.specs.Prelude.{◌≡◌, ◌≤◌, ℕ, true, false, Option, List, All, length, is_some, IfSome, bit_and};
+ghost use Rattle.acl_list.specs.Deciding.{allows, is_true_for};
+ghost use Rattle.rpc_record.specs.Identity.{Identity};
+ghost use Rattle.acl_list.specs.Mask.{has_bit};
+ghost use Rattle.acl_list.specs.declared.entry.Entry.{Entry};
+ghost use Rattle.acl_list.specs.declared.entry.Kind.{Kind};
+ghost use Rattle.acl_shape.specs.Admitted.{admitted};
+ghost use Rattle.acl_shape.specs.Bounds.{IsBounded, keeps};
+ghost use Rattle.acl_shape.specs.Inherited.{inherit};
+ghost use Rattle.acl_shape.specs.Mode.{mode_of, set_mode, kept, class_mask, class_digit, is_named};
+ghost use Rattle.acl_shape.specs.Permissions.{created_list, changed_list};
+ghost use Rattle.acl_shape.specs.declared.request.Raw.{Raw};
+
+/// A list made for a mode stands for the lowest nine bits of that mode.
+pub fn mode_is_read_back()
+    ensures { (entries : List Entry) (kind : Kind) (mode : ℕ) → mode_of (set_mode entries kind mode) ≡ bit_and mode 0x1ff }
+{}
+
+/// To set a mode again changes nothing.
+pub fn mode_again_is_same()
+    ensures { (entries : List Entry) (kind : Kind) (mode : ℕ) → set_mode (set_mode entries kind mode) kind mode ≡ set_mode entries kind mode }
+{}
+
+/// Where no user or group of its own has an ALLOW or DENY entry for the object itself, a mode allows of the class bits exactly
+/// those of the caller's three bits: the owner's, else the group's for a member of the group, else those of the others.
+pub fn mode_gives_class_bits()
+    ensures { (entries : List Entry) (kind : Kind) (mode owner group : ℕ) (caller : Identity) (bit : ℕ) →
+        All (λ e. is_named e ≡ false) entries → has_bit (class_mask kind 7) bit ≡ true →
+        allows (is_true_for owner group caller) (set_mode entries kind mode) bit
+        ≡ has_bit (class_mask kind (class_digit owner group caller mode)) bit }
+{}
+
+/// Lists within the bounds stay within them, whatever is made of them, and what is admitted is within them. What the bounds
+/// count is what a new mode keeps.
+pub fn bounds_are_kept()
+    ensures mode { (entries : List Entry) (kind : Kind) (mode : ℕ) → IsBounded entries → IsBounded (set_mode entries kind mode) }
+    ensures inherited { (entries : List Entry) (kind : Kind) → IsBounded entries → IsBounded (inherit entries kind) }
+    ensures admitted { (kind : Kind) (raws : List Raw) → length raws ≤ 59 → IsBounded (admitted kind raws) }
+    ensures created { (parent : List Entry) (kind : Kind) (mode : Option ℕ) (list : Option (List Entry)) →
+        IsBounded parent → IfSome list IsBounded → IsBounded (created_list parent kind mode list) }
+    ensures changed { (old : List Entry) (kind : Kind) (mode : Option ℕ) (list : Option (List Entry)) →
+        IsBounded old → IfSome list IsBounded → IsBounded (changed_list old kind mode list) }
+    ensures counted { (lacking : ℕ) (e : Entry) → is_some (kept lacking e) ≡ keeps e }
+{}

@@ -1,0 +1,19 @@
+//! How the list of an object comes from a mode, from the list of its directory and from a request
+//! (RFC 8881, sections 6.3.2 and 6.4).
+#![tactic(auto)]
+
+mod admitting;
+mod bounds;
+mod inheriting;
+mod laws;
+mod modes;
+mod permissions;
+mod request;
+
+pub use admitting::admit;
+pub use bounds::{MAX_ENTRIES, MAX_KEPT, is_bounded};
+pub use inheriting::inherit;
+pub use laws::{bounds_are_kept, mode_again_is_same, mode_gives_class_bits, mode_is_read_back};
+pub use modes::{mode_of, set_mode};
+pub use permissions::{Given, Permissions, changed_permissions, created_permissions};
+pub use request::{AdmitFault, Raw};

@@ -1,0 +1,140 @@
+//! The list of an object with the high bits of its mode: as it is made, and as they are set.
+ghost use Rattle.std.specs.Prelude.{◌≡◌, IfOk, IfSome};
+ghost use Rattle.acl_shape.specs.Bounds.{IsBounded};
+ghost use Rattle.acl_shape.specs.Permissions.{changed_high, changed_list, created_high, created_list, default_list, high_bits};
+ghost use Rattle.acl_shape.specs.Permissions as specs;
+
+use crate::inheriting::inherit;
+use crate::modes::set_mode;
+use acl_list::{AclList, Kind};
+use std::alloc::{AllocError, Allocator, Global};
+
+/// The bits of a mode for which no entry stands: MODE4_SUID, MODE4_SGID and MODE4_SVTX (RFC 8881, section 6.2.4).
+const HIGH_BITS: u32 = 0o7000;
+
+/// What a client gives of a mode and a list.
+#[derive(Debug, Drop)]
+pub struct Given<A: Allocator = Global> {
+    /// A mode. Only its lowest twelve bits have a say.
+    pub mode: Option<u32>,
+    /// A list as [`crate::admit`] takes it, for an object of the same kind.
+    pub list: Option<AclList<A>>,
+}
+
+/// What an object has of them.
+#[derive(Debug, Drop)]
+pub struct Permissions<A: Allocator = Global> {
+    /// Its list, which the lowest nine bits of its mode are read from.
+    pub list: AclList<A>,
+    /// The bits 0o7000 of its mode.
+    pub high: u32,
+}
+
+/// The mode of what is made with no mode, no list and nothing inherited.
+fn default_mode(kind: Kind) -> u32
+    ensures { result ≡ specs.default_mode kind }
+{
+    match kind {
+        Kind::Directory => 0o700,
+        Kind::File | Kind::Link => 0o600,
+    }
+}
+
+/// The list of a new object where neither a mode nor a list is given.
+fn list_by_default<A: Allocator + Copy>(
+    alloc: A,
+    inherited: AclList<A>,
+    kind: Kind,
+) -> Result<AclList<A>, AllocError>
+    ensures { IfOk result (λ list. list ≡ default_list kind inherited) }
+{
+    if inherited.is_empty() {
+        set_mode(alloc, &inherited, kind, default_mode(kind))
+    } else {
+        Ok(inherited)
+    }
+}
+
+/// The list of a new object.
+fn list_of_new<A: Allocator + Copy, B: Allocator>(
+    alloc: A,
+    parent: &AclList<B>,
+    kind: Kind,
+    given: Given<A>,
+) -> Result<AclList<A>, AllocError>
+    ensures { IfOk result (λ list. list ≡ created_list parent.now kind given.mode given.list) }
+{
+    match (given.mode, given.list) {
+        (_, Some(list)) => Ok(list),
+        (Some(mode), None) => set_mode(alloc, &inherit(alloc, parent, kind)?, kind, mode),
+        (None, None) => list_by_default(alloc, inherit(alloc, parent, kind)?, kind),
+    }
+}
+
+/// What a new object of this kind has in a directory of this list (RFC 8881, section 6.4.3).
+///
+/// | Given | Its list |
+/// |---|---|
+/// | a mode | what it inherits, with that mode set |
+/// | a list, or both | the list |
+/// | neither | what it inherits; where that is empty, the list for the mode 0o600, on a directory 0o700 |
+///
+/// The high bits are those of the mode, and 0 where none is given. `Err`: there is no memory for the list; a list that
+/// was given is dropped.
+pub fn created_permissions<A: Allocator + Copy, B: Allocator>(
+    alloc: A,
+    parent: &AclList<B>,
+    kind: Kind,
+    given: Given<A>,
+) -> Result<Permissions<A>, AllocError>
+    ensures list { IfOk result (λ made. made.list ≡ created_list parent.now kind given.mode given.list) }
+    ensures high { IfOk result (λ made. made.high ≡ created_high given.mode) }
+    ensures bounded { IsBounded parent.now → IfSome given.list IsBounded → IfOk result (λ made. IsBounded made.list) }
+{
+    let high = given.mode.map_or(0, |mode| mode & HIGH_BITS);
+    let list = list_of_new(alloc, parent, kind, given)?;
+    Ok(Permissions { list, high })
+}
+
+/// The list of an object after a mode, a list or both were set.
+fn list_after<A: Allocator, B: Allocator>(
+    alloc: A,
+    list: &AclList<B>,
+    kind: Kind,
+    given: Given<A>,
+) -> Result<AclList<A>, AllocError>
+    ensures { IfOk result (λ after. after ≡ changed_list list.now kind given.mode given.list) }
+{
+    match (given.mode, given.list) {
+        (_, Some(new)) => Ok(new),
+        (Some(mode), None) => set_mode(alloc, list, kind, mode),
+        (None, None) => list.clone_in(alloc),
+    }
+}
+
+/// What an object of this kind has after a mode, a list or both were set, where it had this list and these high bits
+/// (RFC 8881, section 6.4.1).
+///
+/// | Given | Its list | Its high bits |
+/// |---|---|---|
+/// | a mode | its list with that mode set | the mode's |
+/// | a list | the list given | as they were |
+/// | both | the list given | the mode's |
+/// | neither | as it was | as they were |
+///
+/// `Err`: there is no memory for the list; a list that was given is dropped.
+pub fn changed_permissions<A: Allocator + Copy, B: Allocator>(
+    alloc: A,
+    list: &AclList<B>,
+    high: u32,
+    kind: Kind,
+    given: Given<A>,
+) -> Result<Permissions<A>, AllocError>
+    ensures list { IfOk result (λ now. now.list ≡ changed_list list.now kind given.mode given.list) }
+    ensures high { IfOk result (λ now. now.high ≡ changed_high high given.mode) }
+    ensures bounded { IsBounded list.now → IfSome given.list IsBounded → IfOk result (λ now. IsBounded now.list) }
+{
+    let high = given.mode.map_or(high, |mode| mode & HIGH_BITS);
+    let list = list_after(alloc, list, kind, given)?;
+    Ok(Permissions { list, high })
+}

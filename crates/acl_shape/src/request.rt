@@ -1,0 +1,37 @@
+//! What a client asks for, and why it is refused.
+
+use acl_list::Who;
+use thiserror::Error;
+
+/// An entry as a client sends it: nfsace4 (RFC 8881, section 6.2.1), any numbers in it.
+#[derive(Clone, Copy, Debug, PartialEq, Eq)]
+pub struct Raw {
+    /// acetype4: 0 to 3 are known.
+    pub kind: u32,
+    /// aceflag4: the lowest eight bits are known.
+    pub flags: u32,
+    /// acemask4: the bits of [`acl_list::mask::DEFINED`] are known.
+    pub mask: u32,
+    /// Whom the entry is about. `None`: nobody has the name that was sent.
+    pub who: Option<Who>,
+}
+
+/// Why a list isn't taken.
+#[derive(Clone, Copy, Debug, PartialEq, Eq, Error)]
+pub enum AdmitFault {
+    /// NFS4ERR_NOSPC: there are more than [`crate::MAX_KEPT`] entries.
+    #[error("a list of more than 59 entries")]
+    NoSpc,
+    /// NFS4ERR_ATTRNOTSUPP: the type of an entry is above 3.
+    #[error("an entry of an unknown type")]
+    AttrNotSupp,
+    /// NFS4ERR_INVAL: an entry has a flag or a bit of a mask that the standard doesn't define.
+    #[error("an entry with an undefined flag or mask bit")]
+    Inval,
+    /// NFS4ERR_BADOWNER: nobody has the name in an entry.
+    #[error("an entry about nobody known")]
+    BadOwner,
+    /// There is no memory for the list.
+    #[error("out of memory")]
+    Memory,
+}
