@@ -1,0 +1,181 @@
+ghost use Rattle.std.specs.Prelude.{◌≡◌};
+
+/// The outcome of an operation, `nfsstat4` (RFC 8881, section 15.1), as far as this server answers it.
+#[derive(Clone, Copy, Debug, PartialEq, Eq)]
+pub enum Status {
+    /// NFS4_OK: the operation was done.
+    Ok = 0,
+    /// NFS4ERR_PERM: the caller may not give an object away.
+    Perm = 1,
+    /// NFS4ERR_NOENT: no such name.
+    NoEnt = 2,
+    /// NFS4ERR_ACCESS: an access control list refuses.
+    Access = 13,
+    /// NFS4ERR_EXIST: the name is taken.
+    Exist = 17,
+    /// NFS4ERR_NOTDIR: not a directory.
+    NotDir = 20,
+    /// NFS4ERR_ISDIR: a directory.
+    IsDir = 21,
+    /// NFS4ERR_INVAL: an argument is invalid.
+    Inval = 22,
+    /// NFS4ERR_FBIG: the file would pass its greatest size.
+    FBig = 27,
+    /// NFS4ERR_NOSPC: a table, a list or a counter is full.
+    NoSpc = 28,
+    /// NFS4ERR_MLINK: the object has as many names as it may have.
+    MLink = 31,
+    /// NFS4ERR_NAMETOOLONG: a name or a link text is too long.
+    NameTooLong = 63,
+    /// NFS4ERR_NOTEMPTY: a directory isn't empty.
+    NotEmpty = 66,
+    /// NFS4ERR_STALE: the filehandle's object is gone.
+    Stale = 70,
+    /// NFS4ERR_BADHANDLE: the filehandle is malformed.
+    BadHandle = 10001,
+    /// NFS4ERR_BAD_COOKIE: no entry of a directory has had this cookie.
+    BadCookie = 10003,
+    /// NFS4ERR_NOTSUPP: the operation isn't supported.
+    NotSupp = 10004,
+    /// NFS4ERR_TOOSMALL: the reply has less room than the first entry, or a size is too small.
+    TooSmall = 10005,
+    /// NFS4ERR_SERVERFAULT: a fault of the server. This server never answers it.
+    ServerFault = 10006,
+    /// NFS4ERR_BADTYPE: no object of this type can be made.
+    BadType = 10007,
+    /// NFS4ERR_DELAY: no memory was found; the operation changed nothing, and may be tried again.
+    Delay = 10008,
+    /// NFS4ERR_SAME: the attributes are those that were sent.
+    Same = 10009,
+    /// NFS4ERR_CLID_INUSE: the client owner is in use by another user.
+    ClidInUse = 10017,
+    /// NFS4ERR_NOFILEHANDLE: there is no current or saved filehandle.
+    NoFileHandle = 10020,
+    /// NFS4ERR_MINOR_VERS_MISMATCH: another minor version than 1.
+    MinorVersMismatch = 10021,
+    /// NFS4ERR_STALE_CLIENTID: no such client.
+    StaleClientId = 10022,
+    /// NFS4ERR_OLD_STATEID: the stateid has been followed by another.
+    OldStateId = 10024,
+    /// NFS4ERR_BAD_STATEID: no such stateid.
+    BadStateId = 10025,
+    /// NFS4ERR_NOT_SAME: the attributes aren't those that were sent.
+    NotSame = 10027,
+    /// NFS4ERR_SYMLINK: a symbolic link.
+    Symlink = 10029,
+    /// NFS4ERR_ATTRNOTSUPP: an attribute, or a type of entry, isn't supported.
+    AttrNotSupp = 10032,
+    /// NFS4ERR_BADXDR: the arguments don't spell what they should.
+    BadXdr = 10036,
+    /// NFS4ERR_OPENMODE: the file isn't open for this.
+    OpenMode = 10038,
+    /// NFS4ERR_BADOWNER: nobody has this name.
+    BadOwner = 10039,
+    /// NFS4ERR_BADCHAR: a character can't stand in a name.
+    BadChar = 10040,
+    /// NFS4ERR_BADNAME: a name that no object can have.
+    BadName = 10041,
+    /// NFS4ERR_OP_ILLEGAL: no operation has this number.
+    OpIllegal = 10044,
+    /// NFS4ERR_BADSESSION: no such session.
+    BadSession = 10052,
+    /// NFS4ERR_BADSLOT: the session has no such slot.
+    BadSlot = 10053,
+    /// NFS4ERR_COMPLETE_ALREADY: the client has reclaimed already.
+    CompleteAlready = 10054,
+    /// NFS4ERR_SEQ_MISORDERED: neither the next number nor the last.
+    SeqMisordered = 10063,
+    /// NFS4ERR_SEQUENCE_POS: sEQUENCE isn't the first operation.
+    SequencePos = 10064,
+    /// NFS4ERR_REQ_TOO_BIG: the request is larger than the session takes.
+    ReqTooBig = 10065,
+    /// NFS4ERR_REP_TOO_BIG: the reply has no room for the result.
+    RepTooBig = 10066,
+    /// NFS4ERR_REP_TOO_BIG_TO_CACHE: the reply has no room for the result, and was to be cached.
+    RepTooBigToCache = 10067,
+    /// NFS4ERR_TOO_MANY_OPS: more operations than the session takes.
+    TooManyOps = 10070,
+    /// NFS4ERR_OP_NOT_IN_SESSION: the operation needs a session.
+    OpNotInSession = 10071,
+    /// NFS4ERR_CLIENTID_BUSY: the client has sessions or opens.
+    ClientIdBusy = 10074,
+    /// NFS4ERR_SEQ_FALSE_RETRY: the number of the last call, with another call.
+    SeqFalseRetry = 10076,
+    /// NFS4ERR_BAD_HIGH_SLOT: the highest slot isn't one of the session.
+    BadHighSlot = 10077,
+    /// NFS4ERR_NOT_ONLY_OP: the operation has to be the only one.
+    NotOnlyOp = 10081,
+    /// NFS4ERR_WRONG_TYPE: the object isn't of the type that the operation needs.
+    WrongType = 10083,
+}
+
+impl Status {
+    ghost use Rattle.nfs_types.specs.Status.{number_of, name_of};
+
+    /// The number that stands on the wire.
+    pub fn number(self) -> u32
+        ensures { result ≡ number_of self }
+    {
+        self as u32
+    }
+
+    /// The name, without `NFS4ERR_`.
+    pub fn name(self) -> &'static str
+        ensures { result.now ≡ name_of self }
+    {
+        match self {
+            Status::Ok => "OK",
+            Status::Perm => "PERM",
+            Status::NoEnt => "NOENT",
+            Status::Access => "ACCESS",
+            Status::Exist => "EXIST",
+            Status::NotDir => "NOTDIR",
+            Status::IsDir => "ISDIR",
+            Status::Inval => "INVAL",
+            Status::FBig => "FBIG",
+            Status::NoSpc => "NOSPC",
+            Status::MLink => "MLINK",
+            Status::NameTooLong => "NAMETOOLONG",
+            Status::NotEmpty => "NOTEMPTY",
+            Status::Stale => "STALE",
+            Status::BadHandle => "BADHANDLE",
+            Status::BadCookie => "BAD_COOKIE",
+            Status::NotSupp => "NOTSUPP",
+            Status::TooSmall => "TOOSMALL",
+            Status::ServerFault => "SERVERFAULT",
+            Status::BadType => "BADTYPE",
+            Status::Delay => "DELAY",
+            Status::Same => "SAME",
+            Status::ClidInUse => "CLID_INUSE",
+            Status::NoFileHandle => "NOFILEHANDLE",
+            Status::MinorVersMismatch => "MINOR_VERS_MISMATCH",
+            Status::StaleClientId => "STALE_CLIENTID",
+            Status::OldStateId => "OLD_STATEID",
+            Status::BadStateId => "BAD_STATEID",
+            Status::NotSame => "NOT_SAME",
+            Status::Symlink => "SYMLINK",
+            Status::AttrNotSupp => "ATTRNOTSUPP",
+            Status::BadXdr => "BADXDR",
+            Status::OpenMode => "OPENMODE",
+            Status::BadOwner => "BADOWNER",
+            Status::BadChar => "BADCHAR",
+            Status::BadName => "BADNAME",
+            Status::OpIllegal => "OP_ILLEGAL",
+            Status::BadSession => "BADSESSION",
+            Status::BadSlot => "BADSLOT",
+            Status::CompleteAlready => "COMPLETE_ALREADY",
+            Status::SeqMisordered => "SEQ_MISORDERED",
+            Status::SequencePos => "SEQUENCE_POS",
+            Status::ReqTooBig => "REQ_TOO_BIG",
+            Status::RepTooBig => "REP_TOO_BIG",
+            Status::RepTooBigToCache => "REP_TOO_BIG_TO_CACHE",
+            Status::TooManyOps => "TOO_MANY_OPS",
+            Status::OpNotInSession => "OP_NOT_IN_SESSION",
+            Status::ClientIdBusy => "CLIENTID_BUSY",
+            Status::SeqFalseRetry => "SEQ_FALSE_RETRY",
+            Status::BadHighSlot => "BAD_HIGH_SLOT",
+            Status::NotOnlyOp => "NOT_ONLY_OP",
+            Status::WrongType => "WRONG_TYPE",
+        }
+    }
+}
