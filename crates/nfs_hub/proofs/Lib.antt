@@ -1,0 +1,6 @@
+pub mod Running
+pub mod Pieces
+pub mod Rooms
+pub mod Lines
+pub mod Hubs
+pub mod TurnLaws

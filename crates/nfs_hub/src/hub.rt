@@ -1,0 +1,152 @@
+//! The server and its connections.
+ghost use Rattle.std.specs.Prelude.{◌≡◌, ◌≢◌, ◌↔◌, ◌≤◌, ◌<◌, ◌^◌, ℕ, List, [], ◌∷◌, ◌++◌, min, length, take, drop, true, false, Some, None, Ok, Err, IfOk, IsErrOf, IsNone, MatchOption, IfSome, IsTrue, option_map, is_err};
+ghost use Rattle.nfs_hub.specs.Machine.{Event, Connect, Piece, Take, Close};
+
+use crate::connection::{Connection, ConnectionFault};
+use crate::fault::HubFault;
+use crate::server::Bare;
+use nfs_types::Moment;
+use std::alloc::{AllocError, Allocator, Global};
+use std::collections::BTreeMap;
+use std::marker::Model;
+
+/// The most connections that are open at once, broken ones among them.
+pub const CONNECTIONS: usize = 1;
+
+/// No number of a connection reaches this one.
+const NUMBERS: u64 = 1 << 63;
+
+/// The number of a connection. None is used again.
+#[derive(Clone, Copy, Debug)]
+pub struct ConnId {
+    number: u64,
+}
+
+impl Model for ConnId {
+    ghost use Rattle.std.specs.Prelude.{ℕ};
+
+    ghost Value = { ℕ };
+
+    ghost view = { λ c. c.number };
+
+    ghost inverse = { λ n. record { number = n } };
+}
+
+/// A server and its connections.
+#[derive(Drop)]
+pub struct Hub<A: Allocator + Copy = Global> {
+    alloc: A,
+    server: Bare<A>,
+    connections: BTreeMap<u64, Connection<A>, A>,
+    next: u64,
+}
+
+impl<A: Allocator + Copy> Hub<A> {
+    ghost use Rattle.nfs_hub.specs.Machine.{State, Step};
+    ghost use Rattle.nfs_hub.specs.Served.{IsPending};
+    ghost use Rattle.nfs_hub.specs.Hub.{IsHub, LeadsTo, Goes, ConnectGives, TakeGives, broken_at};
+
+    /// A hub over the sample tree, without sessions: a root with the file `notes` and the directory `pub`.
+    pub fn bare(alloc: A) -> Result<Self, AllocError>
+        ensures { IfOk result (λ hub. LeadsTo [] hub) }
+    {
+        Ok(Hub {
+            alloc,
+            server: Bare::new(alloc)?,
+            connections: BTreeMap::new(alloc),
+            next: 1,
+        })
+    }
+
+    /// Opens a connection. `TooMany` exactly where as many are open as may be, else `Exhausted` exactly where no number
+    /// below 2^63 is left, else `Memory` where memory is refused; a refusal changes nothing.
+    pub fn connect(&mut self) -> Result<ConnId, HubFault>
+        ensures leads { (events : List Event) → LeadsTo events self.old → LeadsTo (Connect ∷ events) self.new }
+        ensures goes { Goes Connect self.old self.new }
+        ensures gives { ConnectGives CONNECTIONS result self.old self.new }
+    {
+        if self.connections.len() >= CONNECTIONS {
+            return Err(HubFault::TooMany);
+        }
+        if self.next >= NUMBERS {
+            return Err(HubFault::Exhausted);
+        }
+        let number = self.next;
+        let Ok(_) = self.connections.insert(number, Connection::new(self.alloc)) else {
+            return Err(HubFault::Memory);
+        };
+        self.next += 1;
+        Ok(ConnId { number })
+    }
+
+    /// Moves as many of a connection's first pending bytes as fit to the front of the buffer, and says how many. `NoSuch`
+    /// exactly where the number is no open connection's. A broken connection gives its bytes until it is closed.
+    pub fn take_out(&mut self, conn: ConnId, buf: &mut [u8]) -> Result<usize, HubFault>
+        ensures leads { IfOk result (λ n. (events : List Event) → LeadsTo events self.old → LeadsTo (Take conn n ∷ events) self.new) }
+        ensures goes { IfOk result (λ n. Goes (Take conn n) self.old self.new) }
+        ensures gives { TakeGives conn result self.old self.new buf.old buf.new }
+    {
+        let Some(connection) = self.connections.get_mut(&conn.number) else {
+            return Err(HubFault::NoSuch);
+        };
+        Ok(connection.take(buf))
+    }
+
+    /// Takes all that is pending on a connection; nothing where the number is no open connection's.
+    pub(crate) fn take_all(&mut self, conn: ConnId) -> Vec<u8, A>
+        ensures goes { (s : State) → IsHub self.old s → IsPending (s.connection conn) result.items × ((t : State) × Step (Take conn (length result.items)) s t × IsHub self.new t) }
+        ensures broken { broken_at self.new conn ≡ broken_at self.old conn }
+    {
+        match self.connections.get_mut(&conn.number) {
+            Some(connection) => connection.take_all(self.alloc),
+            None => Vec::new(self.alloc),
+        }
+    }
+
+    /// Whether a connection that isn't broken is inside a record.
+    pub(crate) fn is_inside(&self, conn: ConnId) -> bool
+        ensures { (s : State) → IsHub self.now s → broken_at self.now conn ≡ Some false → IfSome (s.connection conn) (λ c. IsTrue result ↔ (c.rest ≢ [])) }
+    {
+        match self.connections.get(&conn.number) {
+            Some(connection) => connection.framer.is_inside(),
+            None => false,
+        }
+    }
+
+    /// Closes a connection, and drops what it has read of an unfinished record and what is pending. `NoSuch` exactly
+    /// where the number is no open connection's.
+    pub fn close(&mut self, conn: ConnId) -> Result<(), HubFault>
+        ensures leads { (events : List Event) → LeadsTo events self.old → LeadsTo (Close conn ∷ events) self.new }
+        ensures goes { Goes (Close conn) self.old self.new }
+        ensures gives { MatchOption (broken_at self.old conn) (result ≡ Err HubFault.NoSuch) (λ was. result ≡ Ok tt) }
+        ensures closed { IsNone (broken_at self.new conn) }
+    {
+        match self.connections.remove(&conn.number) {
+            Some(_) => Ok(()),
+            None => Err(HubFault::NoSuch),
+        }
+    }
+
+    /// Takes the next piece of a connection's stream, all of whose calls have this moment. Each record that is whole
+    /// now is answered, and its reply is pending. `NoSuch` exactly where the number is no open connection's. Another
+    /// fault exactly where the connection is broken afterwards: `Broken` where its stream or a record of it breaks it,
+    /// or it was broken before; `Memory` where memory is refused, and the next record is not answered.
+    pub fn feed(&mut self, conn: ConnId, piece: &[u8], now: Moment) -> Result<(), HubFault>
+        ensures leads { (events : List Event) → LeadsTo events self.old → LeadsTo (Piece conn piece.now now ∷ events) self.new }
+        ensures goes { Goes (Piece conn piece.now now) self.old self.new }
+        ensures no_such { IsErrOf result HubFault.NoSuch ↔ IsNone (broken_at self.old conn) }
+        ensures broken { broken_at self.new conn ≡ option_map (λ was. is_err result) (broken_at self.old conn) }
+        ensures stays { broken_at self.old conn ≡ Some true → result ≡ Err HubFault.Broken }
+        ensures faults { (result ≢ Err HubFault.TooMany) × (result ≢ Err HubFault.Exhausted) }
+    {
+        let Some(connection) = self.connections.get_mut(&conn.number) else {
+            return Err(HubFault::NoSuch);
+        };
+        connection
+            .feed(&self.server, piece, now)
+            .map_err(|fault| match fault {
+                ConnectionFault::Broken => HubFault::Broken,
+                ConnectionFault::Memory => HubFault::Memory,
+            })
+    }
+}

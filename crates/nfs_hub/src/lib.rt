@@ -1,0 +1,16 @@
+//! Connections to the file server.
+#![tactic(auto)]
+
+mod compound;
+mod connection;
+mod fault;
+mod hub;
+mod object;
+mod operation;
+mod sample;
+mod serving;
+mod server;
+
+pub use fault::HubFault;
+pub use hub::{CONNECTIONS, ConnId, Hub};
+pub use serving::{Clock, ServeEnd, serve};

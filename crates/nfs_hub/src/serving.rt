@@ -1,0 +1,145 @@
+//! Serving one connection over a reader and a writer.
+ghost use Rattle.std.specs.Prelude.{◌≡◌, ◌≢◌, ◌⊎◌, List, [], true, false, Some, None};
+ghost use Rattle.std.specs.Bool.{OnTrue};
+ghost use Rattle.std.specs.Io.KnownBytes.{Appends};
+ghost use Rattle.nfs_hub.specs.Machine.{State, Event};
+ghost use Rattle.nfs_hub.specs.Hub.{IsHub, LeadsTo, broken_at};
+ghost use Rattle.nfs_hub.specs.Served.{PassGives, TurnsEnd, Serves, refused_end};
+ghost use Rattle.nfs_hub.specs.declared.serving.ServeEnd.TheVariants as end;
+
+use crate::fault::HubFault;
+use crate::hub::{ConnId, Hub};
+use nfs_types::Moment;
+use std::alloc::Allocator;
+use std::io::{Read, Write};
+
+/// The most bytes that are read in a turn.
+const PIECE: usize = 4096;
+
+/// Tells the moment.
+pub trait Clock {
+    /// The moment as it is.
+    fn now(&self) -> Moment;
+}
+
+/// How serving a connection ended.
+#[derive(Clone, Copy, Debug, PartialEq, Eq)]
+pub enum ServeEnd {
+    /// The input ended, behind a whole record.
+    Ended = 1,
+    /// The input ended inside a record.
+    Inside = 2,
+    /// The stream or a record of it broke the connection.
+    Broken = 3,
+    /// Memory was refused, for the connection or in a piece.
+    Memory = 4,
+    /// As many connections are open as may be, or no connection number is left.
+    TooMany = 5,
+    /// The reader failed.
+    Read = 6,
+    /// The writer failed, or took nothing. It isn't known how much it took before.
+    Write = 7,
+    /// The turns are used up.
+    Turns = 8,
+}
+
+/// Writes all of the bytes; or says that the writer failed or took nothing.
+fn write_out<W: Write>(writer: &mut W, bytes: &[u8]) -> bool
+    ensures { OnTrue result (Appends (W.contents writer.old) (W.contents writer.new) bytes.now) }
+{
+    let mut done = 0;
+    while done < bytes.len() {
+        match writer.write(&bytes[done..]) {
+            Ok(0) | Err(_) => return false,
+            Ok(n) => done += n,
+        }
+    }
+    true
+}
+
+/// Feeds a piece, and writes what is pending then. `None` where the connection can go on.
+fn pass<A: Allocator + Copy, W: Write>(
+    hub: &mut Hub<A>,
+    conn: ConnId,
+    piece: &[u8],
+    now: Moment,
+    writer: &mut W,
+) -> Option<ServeEnd>
+    requires open { broken_at hub.old conn ≡ Some false }
+    ensures { PassGives result conn (piece.now, now) hub.old hub.new (W.contents writer.old) (W.contents writer.new) }
+{
+    let fed = hub.feed(conn, piece, now);
+    let pending = hub.take_all(conn);
+    if !write_out(writer, &pending) {
+        return Some(ServeEnd::Write);
+    }
+    match fed {
+        Ok(()) => None,
+        Err(HubFault::Memory) => Some(ServeEnd::Memory),
+        Err(_) => Some(ServeEnd::Broken),
+    }
+}
+
+/// Serves an open connection for so many turns.
+fn turn_by_turn<A: Allocator + Copy, R: Read, W: Write, C: Clock>(
+    hub: &mut Hub<A>,
+    conn: ConnId,
+    reader: &mut R,
+    writer: &mut W,
+    clock: &C,
+    turns: u64,
+) -> ServeEnd
+    requires open { broken_at hub.old conn ≡ Some false }
+    ensures { result ≢ end.Write → (s : State) → IsHub hub.old s → TurnsEnd conn result s hub.new (R.remaining reader.old) (R.remaining reader.new) (W.contents writer.old) (W.contents writer.new) }
+{
+    for _ in 0..turns {
+        let mut buf = [0u8; PIECE];
+        let Ok(n) = reader.read(&mut buf) else {
+            return ServeEnd::Read;
+        };
+        if n == 0 {
+            return if hub.is_inside(conn) {
+                ServeEnd::Inside
+            } else {
+                ServeEnd::Ended
+            };
+        }
+        if let Some(end) = pass(hub, conn, &buf[..n], clock.now(), writer) {
+            return end;
+        }
+    }
+    ServeEnd::Turns
+}
+
+/// How serving a connection ends that is refused.
+fn refused(fault: HubFault) -> ServeEnd
+    ensures { result ≡ refused_end fault }
+{
+    match fault {
+        HubFault::Memory => ServeEnd::Memory,
+        HubFault::TooMany | HubFault::Exhausted | HubFault::NoSuch | HubFault::Broken => {
+            ServeEnd::TooMany
+        }
+    }
+}
+
+/// Opens a connection, and for so many turns reads at most 4,096 bytes, feeds them at the clock's moment, and writes what
+/// is pending then, also where the piece broke the connection; at the end it closes the connection. Says how it ended;
+/// nothing was read where the connection was refused.
+pub fn serve<A: Allocator + Copy, R: Read, W: Write, C: Clock>(
+    hub: &mut Hub<A>,
+    reader: &mut R,
+    writer: &mut W,
+    clock: &C,
+    turns: u64,
+) -> ServeEnd
+    ensures { result ≢ end.Write → (events : List Event) → LeadsTo events hub.old → Serves result events hub.old hub.new (R.remaining reader.old) (R.remaining reader.new) (W.contents writer.old) (W.contents writer.new) }
+{
+    let conn = match hub.connect() {
+        Ok(conn) => conn,
+        Err(fault) => return refused(fault),
+    };
+    let end = turn_by_turn(hub, conn, reader, writer, clock, turns);
+    let _ = hub.close(conn);
+    end
+}

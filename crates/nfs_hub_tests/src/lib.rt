@@ -1,0 +1,11 @@
+//! Tests of `nfs_hub`: calls and replies as bytes, in any cut, and streams that fail.
+#![tactic(auto)]
+
+#[cfg(test)]
+mod calls;
+#[cfg(test)]
+mod connections;
+#[cfg(test)]
+mod serving;
+#[cfg(test)]
+mod words;
