@@ -1,0 +1,37 @@
+use Rattle.std.proofs.lemmas.Bool.{or_from}
+use Rattle.who_book.specs.Outlines.{outline_of}
+use Rattle.who_book.proofs.Ranges.{fits, passed, up_to_more, filled, filled_book}
+use Rattle.who_book.proofs.book.Book.fill.Goals as goal
+
+pub build-requires-clause-in_range : goal.build-requires-clause-in_range
+build-requires-clause-in_range c = rw c.as_slice.ensures.value (fits _ c.requires.in_range).users
+
+pub build-requires-2-clause-in_range : goal.build-requires-2-clause-in_range
+build-requires-2-clause-in_range c = rw c.as_slice-2.ensures.value (fits _ c.requires.in_range).groups
+
+pub to_number-requires : goal.to_number-requires
+to_number-requires c = passed c.args.said.now.root_owner (fits _ c.requires.in_range).root_owner
+
+pub to_number-requires-2 : goal.to_number-requires-2
+to_number-requires-2 c = passed c.args.said.now.root_group (fits _ c.requires.in_range).root_group
+
+pub to_number-requires-3 : goal.to_number-requires-3
+to_number-requires-3 c = passed c.args.said.now.root_mode (up_to_more c.args.said.now.root_mode (fits _ c.requires.in_range).root_mode)
+
+pub returns-clause-answer : goal.returns-clause-answer
+returns-clause-answer c =
+    let users = rw c.as_slice.ensures.value at c.in_ok-users.ensures.built in
+    let groups = rw c.as_slice-2.ensures.value at c.in_ok-groups.ensures.built in
+    (filled (outline_of c.args.said.now) _ _ _ _ _ _ c.requires.in_range c.in_ok-domain.ensures.ok c.to_number.ensures c.to_number-2.ensures c.to_number-3.ensures users.0 groups.0, or_from _ _ users.1 groups.1)
+
+pub returns-clause-book : goal.returns-clause-book
+returns-clause-book c =
+    let users = rw c.as_slice.ensures.value at c.in_ok-users.ensures.built in
+    let groups = rw c.as_slice-2.ensures.value at c.in_ok-groups.ensures.built in
+    filled_book (outline_of c.args.said.now) _ _ _ _ _ _ c.requires.in_range c.in_ok-domain.ensures.ok c.to_number.ensures c.to_number-2.ensures c.to_number-3.ensures users.0 groups.0 c.in_ok-users.ensures.table c.in_ok-groups.ensures.table
+
+pub invariant_of-result : goal.invariant_of-result
+invariant_of-result c =
+    let users = rw c.as_slice.ensures.value at c.in_ok-users.ensures.built in
+    let groups = rw c.as_slice-2.ensures.value at c.in_ok-groups.ensures.built in
+    filled_book (outline_of c.args.said.now) _ _ _ _ _ _ c.requires.in_range c.in_ok-domain.ensures.ok c.to_number.ensures c.to_number-2.ensures c.to_number-3.ensures users.0 groups.0 c.in_ok-users.ensures.table c.in_ok-groups.ensures.table

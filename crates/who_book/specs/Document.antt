@@ -1,0 +1,147 @@
+-- What a TOML document says as a book, and the first fault where it says none.
+use Rattle.std.specs.Prelude.{◌≡◌, ◌⊎◌, ℕ, nat_le, Bool, true, false, not, ◌&&◌, ◌||◌, if◌then◌else◌, ℤ, pos, negsuc, List, [], ◌∷◌, map, length, codes, Option, Some, None, option_and_then, Result, Ok, Err}
+use Rattle.std.specs.List.{list_any, list_all}
+use Rattle.std.specs.Map.{values_of}
+use Rattle.std.specs.Bool.{nat_eq}
+use Rattle.std.specs.Str.{bytes_eq}
+use Rattle.toml.specs.Data.{Members, no_members, member, get_member, as_str, as_integer, as_table}
+use Rattle.toml.specs.Parse.{parse_document}
+use Rattle.who_book.specs.Content.{Content, is_domain}
+use Rattle.who_book.specs.Names.{Rows, is_name}
+use Rattle.who_book.specs.declared.fault.BookFault.{BookFault}
+use Rattle.who_book.specs.declared.fault.BookFault.TheVariants.{Text, Shape, Range, Twice, Memory}
+
+infixl 10 ◌>>=◌
+abbrev pub ◌>>=◌ : {A B : Type 0} → Option A → (A → Option B) → Option B
+o >>= f = option_and_then f o
+
+-- what the six keys hold, before any number or name is looked at
+pub record Outline : Type 0 where
+  pub domain : List ℕ
+  pub root_owner : ℤ
+  pub root_group : ℤ
+  pub root_mode : ℤ
+  pub users : List (List ℕ × ℤ)
+  pub groups : List (List ℕ × ℤ)
+
+-- Shape
+
+abbrev pub known_keys : List (List ℕ)
+known_keys =
+    codes "domain" ∷ codes "root_owner" ∷ codes "root_group" ∷ codes "root_mode" ∷ codes "users" ∷ codes "groups" ∷ []
+
+abbrev pub is_known : List ℕ → Bool
+is_known key = list_any (bytes_eq key) known_keys
+
+-- no key is another than these
+abbrev pub has_known_keys : Members → Bool
+has_known_keys no_members = true
+has_known_keys (member key value more) = is_known key && has_known_keys more
+
+-- the members of a table, if each is an integer
+abbrev pub integers : Members → Option (List (List ℕ × ℤ))
+integers no_members = Some []
+integers (member name value more) = do
+  number ← as_integer value
+  rows ← integers more
+  Some ((name, number) ∷ rows)
+
+abbrev pub text_at : List ℕ → Members → Option (List ℕ)
+text_at key document = get_member key document >>= as_str
+
+abbrev pub integer_at : List ℕ → Members → Option ℤ
+integer_at key document = get_member key document >>= as_integer
+
+abbrev pub table_at : List ℕ → Members → Option Members
+table_at key document = get_member key document >>= as_table
+
+abbrev pub integers_at : List ℕ → Members → Option (List (List ℕ × ℤ))
+integers_at key document = table_at key document >>= integers
+
+-- the six keys of a document, if each is there with its type and no other key is
+unfoldable pub outline : Members → Option Outline
+outline document = if not (has_known_keys document) then None else do
+  domain ← text_at (codes "domain") document
+  root_owner ← integer_at (codes "root_owner") document
+  root_group ← integer_at (codes "root_group") document
+  root_mode ← integer_at (codes "root_mode") document
+  users ← integers_at (codes "users") document
+  groups ← integers_at (codes "groups") document
+  Some (record { domain = domain; root_owner = root_owner; root_group = root_group; root_mode = root_mode; users = users; groups = groups })
+
+-- Range
+
+-- from 0 to the limit
+abbrev pub is_up_to : ℕ → ℤ → Bool
+is_up_to limit (pos n) = nat_le n limit
+is_up_to limit (negsuc n) = false
+
+abbrev pub is_row : List ℕ × ℤ → Bool
+is_row row = is_name row.0 && is_up_to 4294967295 row.1
+
+abbrev pub is_table : List (List ℕ × ℤ) → Bool
+is_table rows = nat_le (length rows) 1024 && list_all is_row rows
+
+-- 4095 is 07777 in octal
+unfoldable pub is_in_range : Outline → Bool
+is_in_range said =
+    (is_domain said.domain && (is_up_to 4294967295 said.root_owner && (is_up_to 4294967295 said.root_group && is_up_to 4095 said.root_mode)))
+    && (is_table said.users && is_table said.groups)
+
+-- Twice
+
+-- some number stands twice
+abbrev pub repeats : List ℕ → Bool
+repeats [] = false
+repeats (n ∷ ns) = list_any (nat_eq n) ns || repeats ns
+
+-- The book
+
+abbrev pub natural : ℤ → ℕ
+natural (pos n) = n
+natural (negsuc n) = 0
+
+abbrev pub naturals : List (List ℕ × ℤ) → Rows
+naturals rows = map (λ row. (row.0, natural row.1)) rows
+
+abbrev pub content : Outline → Content
+content said = record {
+  domain = said.domain;
+  root_owner = natural said.root_owner;
+  root_group = natural said.root_group;
+  root_mode = natural said.root_mode;
+  users = naturals said.users;
+  groups = naturals said.groups;
+}
+
+-- some table has two names of one number
+abbrev pub has_twins : Content → Bool
+has_twins said = repeats (values_of said.users) || repeats (values_of said.groups)
+
+abbrev pub said_by : Option Outline → Result Content BookFault
+said_by None = Err Shape
+said_by (Some said) =
+    if not (is_in_range said) then Err Range else if has_twins (content said) then Err Twice else Ok (content said)
+
+-- the book that a document is, or its first fault
+abbrev pub book_in : Option Members → Result Content BookFault
+book_in None = Err Text
+book_in (Some document) = said_by (outline document)
+
+-- the book that a text is, or its first fault
+abbrev pub book_of : List ℕ → Result Content BookFault
+book_of text = book_in (parse_document text)
+
+-- a reader's answer to a text: what the text says, or that memory ran out
+abbrev pub Answers : List ℕ → Result Content BookFault → Type 0
+Answers text (Ok book) = book_of text ≡ Ok book
+Answers text (Err fault) = (fault ≡ Memory) ⊎ (book_of text ≡ Err fault)
+
+-- the same answer of the reader's steps: that the text is TOML, and that no table has twins
+abbrev pub Parses : {T : Type 0} → (T → Members) → List ℕ → Result T BookFault → Type 0
+Parses shows text (Ok table) = parse_document text ≡ Some (shows table)
+Parses shows text (Err fault) = (fault ≡ Memory) ⊎ ((fault ≡ Text) × (parse_document text ≡ None))
+
+abbrev pub Fills : Content → Result Content BookFault → Type 0
+Fills said (Ok book) = (book ≡ said) × (has_twins said ≡ false)
+Fills said (Err fault) = (fault ≡ Memory) ⊎ ((fault ≡ Twice) × (has_twins said ≡ true))

@@ -1,0 +1,7 @@
+pub mod Names
+pub mod Content
+pub mod Document
+pub mod Outlines
+pub mod Indexes
+pub mod Books
+pub mod Spelling

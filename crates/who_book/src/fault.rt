@@ -1,0 +1,43 @@
+//! Why a text is no book.
+ghost use Rattle.std.specs.Prelude.{◌≡◌};
+ghost use Rattle.who_book.specs.declared.fault.BookFault.TheVariants.{Memory};
+
+use std::alloc::{AllocError, AllocFailed};
+use thiserror::Error;
+
+/// Why a text is no book: the first of these over the whole text, so that a wrong type at its end comes
+/// before a number out of range at its beginning. `Memory` may stand in place of any of them, and of a book.
+#[derive(Clone, Copy, Debug, PartialEq, Eq, Error)]
+pub enum BookFault {
+    /// The text is no TOML.
+    #[error("not a TOML document")]
+    Text = 1,
+    /// A key is missing or unknown, or a value has another type.
+    #[error("a key is missing or unknown, or a value has the wrong type")]
+    Shape = 2,
+    /// A number, a mode, the domain, a name or a table is out of range.
+    #[error("a number, the mode, the domain, a name or a table is out of range")]
+    Range = 3,
+    /// Two names of one table have one number.
+    #[error("two names of one number")]
+    Twice = 4,
+    /// Memory ran out.
+    #[error("out of memory")]
+    Memory = 5,
+}
+
+impl From<AllocError> for BookFault {
+    ghost from_gives = { λ _ fault. fault ≡ Memory };
+
+    fn from(_: AllocError) -> Self {
+        BookFault::Memory
+    }
+}
+
+impl<T: Drop> From<AllocFailed<T>> for BookFault {
+    ghost from_gives = { λ _ fault. fault ≡ Memory };
+
+    fn from(_: AllocFailed<T>) -> Self {
+        BookFault::Memory
+    }
+}

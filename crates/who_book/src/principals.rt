@@ -1,0 +1,203 @@
+//! How users, groups and whos are spelled, and how their texts are read (RFC 8881, sections 5.9 and 6.2.1.5).
+ghost use Rattle.std.specs.Prelude.{◌≡◌, ◌<◌, ◌≤◌, ◌^◌, ◌↔◌, ◌++◌, List, ℕ, decimal, Some, None, MatchOption, length, true, false, if◌then◌else◌, nat_lt, ◌&&◌};
+ghost use Rattle.std.specs.Str.{all_ascii_digits};
+ghost use Rattle.acl_list.specs.Mask.{has_bit};
+ghost use Rattle.who_book.specs.Spelling.{full_name, is_short, kind_of, number_in, special_in, principal_in, principal_text, value_after, who_in, who_text, Spells, IsUnder};
+
+use crate::book::Book;
+use crate::kind::NameKind;
+use crate::spelling::Spelling;
+use acl_list::Who;
+use itoa::Buffer;
+
+/// The flag of an entry whose who is a group: `ACE4_IDENTIFIER_GROUP` of RFC 8881, section 6.2.1.4.
+pub const IDENTIFIER_GROUP: u32 = 0x40;
+
+const OWNER: &[u8] = b"OWNER@";
+
+const GROUP: &[u8] = b"GROUP@";
+
+const EVERYONE: &[u8] = b"EVERYONE@";
+
+impl NameKind {
+    /// The table that an entry's who is looked up in: the groups under IDENTIFIER_GROUP, else the users.
+    pub fn of_flags(flags: u32) -> Self
+        ensures { result ≡ kind_of flags }
+    {
+        if flags & IDENTIFIER_GROUP == 0 {
+            NameKind::User
+        } else {
+            NameKind::Group
+        }
+    }
+}
+
+impl Book {
+    /// The user or the group that a text spells: `name@domain` with a name of the kind's table and the book's
+    /// domain, by their exact bytes, or the number in decimal digits without leading zeros, whether it has a
+    /// name or not. None where the text is neither, which an NFS server answers with NFS4ERR_BADOWNER.
+    #[tactic(auto, unfolding(crate::specs::Spelling::principal_in))]
+    pub fn principal(&self, kind: NameKind, text: &[u8]) -> Option<u32>
+        ensures value { result ≡ principal_in kind self.now text.now }
+        ensures spelled { (number : ℕ) → (result ≡ Some number) ↔ Spells kind self.now text.now number }
+    {
+        let domain = self.domain();
+        match number_in(text) {
+            Some(number) => Some(number),
+            None => match without_domain(text, domain.as_bytes()) {
+                Some(name) => self.number_of(kind, name),
+                None => None,
+            },
+        }
+    }
+
+    /// What is written for a user or a group: `name@domain` where the book has a name for the number, else
+    /// decimal digits. It is read back as the same number.
+    pub fn spell_principal(&self, kind: NameKind, number: u32) -> Spelling
+        ensures text { result ≡ principal_text kind self.now number }
+        ensures read_back { principal_in kind self.now result ≡ Some number }
+        ensures plain { special_in result ≡ None }
+        ensures short { length result ≤ 193 }
+    {
+        match self.name_of(kind, number) {
+            Some(name) => full_name(name, self.domain()),
+            None => digits(number),
+        }
+    }
+
+    /// The who that a text spells in an entry with these flags: `OWNER@`, `GROUP@` and `EVERYONE@` whatever the
+    /// flags, else a group under IDENTIFIER_GROUP and a user without it, as `principal` reads them.
+    #[tactic(auto, unfolding(crate::specs::Spelling::who_in))]
+    pub fn who(&self, flags: u32, text: &[u8]) -> Option<Who>
+        ensures { result ≡ who_in flags self.now text.now }
+    {
+        if let Some(who) = special_in(text) {
+            return Some(who);
+        }
+        let kind = NameKind::of_flags(flags);
+        let number = self.principal(kind, text)?;
+        Some(match kind {
+            NameKind::User => Who::User(number),
+            NameKind::Group => Who::GroupOf(number),
+        })
+    }
+
+    /// What is written for a who. It is read back as the same who, under flags that have IDENTIFIER_GROUP for a
+    /// group and haven't for a user.
+    pub fn spell_who(&self, who: Who) -> Spelling
+        ensures text { result ≡ who_text self.now who }
+        ensures read_back { (flags : ℕ) → flags < 2 ^ 32 → IsUnder flags who → who_in flags self.now result ≡ Some who }
+        ensures short { length result ≤ 193 }
+    {
+        match who {
+            Who::Owner => special(OWNER),
+            Who::Group => special(GROUP),
+            Who::Everyone => special(EVERYONE),
+            Who::User(uid) => self.spell_principal(NameKind::User, uid),
+            Who::GroupOf(gid) => self.spell_principal(NameKind::Group, gid),
+        }
+    }
+}
+
+/// A name with `@` and the domain.
+fn full_name(name: &str, domain: &str) -> Spelling
+    requires name { length name.now ≤ 64 }
+    requires domain { length domain.now ≤ 128 }
+    ensures { result ≡ full_name name.now domain.now }
+{
+    let mut spelling = Spelling::new();
+    spelling.push(name.as_bytes());
+    spelling.push(b"@");
+    spelling.push(domain.as_bytes());
+    spelling
+}
+
+/// A number in decimal digits.
+fn digits(number: u32) -> Spelling
+    ensures { result ≡ decimal number }
+{
+    let mut buffer = Buffer::new();
+    let mut spelling = Spelling::new();
+    spelling.push(buffer.format(number).as_bytes());
+    spelling
+}
+
+/// The special identifier that a text is, by its exact bytes.
+fn special_in(text: &[u8]) -> Option<Who>
+    ensures { result ≡ special_in text.now }
+{
+    if text == OWNER {
+        Some(Who::Owner)
+    } else if text == GROUP {
+        Some(Who::Group)
+    } else if text == EVERYONE {
+        Some(Who::Everyone)
+    } else {
+        None
+    }
+}
+
+/// The text of a special identifier.
+fn special(identifier: &[u8]) -> Spelling
+    requires { length identifier.now ≤ 193 }
+    ensures { result ≡ identifier.now }
+{
+    let mut spelling = Spelling::new();
+    spelling.push(identifier);
+    spelling
+}
+
+/// Whether digits have no leading zero, and there are some.
+fn is_short(digits: &[u8]) -> bool
+    ensures { result ≡ is_short digits.now }
+{
+    match digits {
+        [] => false,
+        [_] => true,
+        [first, ..] => *first != b'0',
+    }
+}
+
+/// The value of digits, none where a byte is no digit or the value has more than 32 bits.
+fn value_of(digits: &[u8]) -> Option<u32>
+    ensures { result ≡ (if all_ascii_digits digits.now && nat_lt (value_after 0 digits.now) 4294967296 then Some (value_after 0 digits.now) else None) }
+{
+    let mut value: u32 = 0;
+    for digit in digits {
+        if !digit.is_ascii_digit() {
+            return None;
+        }
+        value = value
+            .checked_mul(10)?
+            .checked_add(u32::from(*digit - b'0'))?;
+    }
+    Some(value)
+}
+
+/// The number that a text is in decimal digits without leading zeros.
+fn number_in(text: &[u8]) -> Option<u32>
+    ensures { result ≡ number_in text.now }
+{
+    if is_short(text) { value_of(text) } else { None }
+}
+
+/// What stands before the end of a text.
+fn strip_end<'a>(text: &'a [u8], end: &[u8]) -> Option<&'a [u8]>
+    ensures { MatchOption result
+        ((front : List ℕ) → text.now ≡ front ++ end.now → ⊥)
+        (λ front. text.now ≡ front.now ++ end.now) }
+{
+    text.strip_suffix(end)
+}
+
+/// The name before `@` and the domain.
+fn without_domain<'a>(text: &'a [u8], domain: &[u8]) -> Option<&'a [u8]>
+    ensures { MatchOption result
+        ((name : List ℕ) → text.now ≡ full_name name domain.now → ⊥)
+        (λ name. text.now ≡ full_name name.now domain.now) }
+{
+    match strip_end(text, domain) {
+        Some(front) => strip_end(front, b"@"),
+        None => None,
+    }
+}
