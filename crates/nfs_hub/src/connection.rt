@@ -94,12 +94,7 @@ impl<A: Allocator + Copy> Connection<A> {
         mem::replace(&mut self.pending, Vec::new(alloc))
     }
 
-    fn serve(
-        &mut self,
-        server: &Bare<A>,
-        piece: &[u8],
-        now: Moment,
-    ) -> Result<(), ConnectionFault>
+    fn serve(&mut self, server: &Bare<A>, piece: &[u8], now: Moment) -> Result<(), ConnectionFault>
         ensures { FeedGives result self.old self.new tt tt now piece.now }
     {
         let mut at = 0;

@@ -8,8 +8,8 @@ mod hub;
 mod object;
 mod operation;
 mod sample;
-mod serving;
 mod server;
+mod serving;
 
 pub use fault::HubFault;
 pub use hub::{CONNECTIONS, ConnId, Hub};

@@ -87,13 +87,13 @@ impl<A: Allocator + Copy> Bare<A> {
     #[tactic(auto, unfolding(crate::specs::Answer::RecordEnds))]
     pub(crate) fn answer(
         &self,
-        record: &[u8],
+        content: &[u8],
         _now: Moment,
         pending: &mut Vec<u8, A>,
     ) -> Result<(), ConnectionFault>
-        ensures { AnswerGives result tt tt _now record.now pending.old.items pending.new.items }
+        ensures { AnswerGives result tt tt _now content.now pending.old.items pending.new.items }
     {
-        match read_call(record) {
+        match read_call(content) {
             Ok(call) => match &call.caller {
                 None => self.reply(call.xid, Reply::Success, pending),
                 Some(caller) => self.compound(call.xid, caller, call.arguments, pending),
@@ -106,12 +106,7 @@ impl<A: Allocator + Copy> Bare<A> {
     }
 
     /// Sends a reply that is its header alone.
-    fn reply(
-        &self,
-        xid: u32,
-        reply: Reply,
-        pending: &mut Vec<u8, A>,
-    ) -> Result<(), ConnectionFault>
+    fn reply(&self, xid: u32, reply: Reply, pending: &mut Vec<u8, A>) -> Result<(), ConnectionFault>
         ensures { Sends result (reply_bytes xid reply) pending.old.items pending.new.items }
     {
         let Ok(mut head) = Writer::new(self.alloc, REPLY_HEADER_LIMIT) else {

@@ -10,9 +10,8 @@ use anyhow::Result;
 use clap::{Arg, ArgAction, Command};
 use clock::SystemClock;
 use nfs_hub::{Hub, HubFault, ServeEnd, serve};
-use std::env;
-use std::io;
 use std::process::ExitCode;
+use std::{env, io};
 
 /// The most turns of a connection: in each at most 4,096 bytes are read.
 const TURNS: u64 = 1_000_000;

@@ -31,7 +31,11 @@ pub fn count(max: usize, bytes: &[u8]) -> (Result<u32, XdrFault>, usize) {
 }
 
 /// What is written of a value into a buffer of this room, and the answer.
-pub fn written<T: Spell>(alloc: Global, room: usize, value: T) -> Result<(Vec<u8>, Result<(), Full>), AllocError> {
+pub fn written<T: Spell>(
+    alloc: Global,
+    room: usize,
+    value: T,
+) -> Result<(Vec<u8>, Result<(), Full>), AllocError> {
     let mut writer = Writer::new(alloc, room)?;
     let answer = value.write(&mut writer);
     Ok((writer.into_bytes(), answer))

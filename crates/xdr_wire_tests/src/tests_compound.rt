@@ -12,7 +12,8 @@ const CHANNEL: Channel = Channel {
     rdma: Some(5),
 };
 
-const CHANNEL_BYTES: &[u8] = b"\0\0\0\0\0\x02\0\0\0\x02\0\0\0\0\x10\0\0\0\0\x10\0\0\0\x08\0\0\0\x01\0\0\0\x05";
+const CHANNEL_BYTES: &[u8] =
+    b"\0\0\0\0\0\x02\0\0\0\x02\0\0\0\0\x10\0\0\0\0\x10\0\0\0\x08\0\0\0\x01\0\0\0\x05";
 
 /// A struct of seven fields: its bytes by hand.
 #[test]
@@ -38,10 +39,16 @@ fn channel_without_room(rt: HostRuntime) -> Result<(), Fail> {
 /// Fields of every plain type, written and read again.
 #[test]
 fn fields(rt: HostRuntime) -> Result<(), Fail> {
-    let value = (7u32, (8u64, (-9i64, (true, ([1u8, 2, 3], (Some(4u32), ()))))));
+    let value = (
+        7u32,
+        (8u64, (-9i64, (true, ([1u8, 2, 3], (Some(4u32), ()))))),
+    );
     let (bytes, answer) = given::written(rt.alloc(), 36, value)?;
     assert_eq!(rt; answer, Ok(()));
-    assert_eq!(rt; bytes.as_slice(), b"\0\0\0\x07\0\0\0\0\0\0\0\x08\xff\xff\xff\xff\xff\xff\xff\xf7\0\0\0\x01\x01\x02\x03\0\0\0\0\x01\0\0\0\x04".as_slice());
+    assert_eq!(rt;
+        bytes.as_slice(),
+        b"\0\0\0\x07\0\0\0\0\0\0\0\x08\xff\xff\xff\xff\xff\xff\xff\xf7\0\0\0\x01\x01\x02\x03\0\0\0\0\x01\0\0\0\x04".as_slice()
+    );
     assert_eq!(rt; given::read(&bytes), (Ok(value), 0));
     Ok(())
 }
@@ -97,7 +104,10 @@ fn union(rt: HostRuntime) -> Result<(), Fail> {
 fn union_is_written(rt: HostRuntime) -> Result<(), Fail> {
     if let Some(name) = Opaque::new(b"a.txt") {
         let (bytes, _) = given::written(rt.alloc(), 16, Claim::ByName(name))?;
-        assert_eq!(rt; bytes.as_slice(), b"\0\0\0\0\0\0\0\x05a.txt\0\0\0".as_slice());
+        assert_eq!(rt;
+            bytes.as_slice(),
+            b"\0\0\0\0\0\0\0\x05a.txt\0\0\0".as_slice()
+        );
     }
     let (bytes, _) = given::written(rt.alloc(), 4, Claim::ByHandle)?;
     assert_eq!(rt; bytes.as_slice(), b"\0\0\0\x04".as_slice());
@@ -109,9 +119,18 @@ fn union_is_written(rt: HostRuntime) -> Result<(), Fail> {
 fn ignored_field(rt: HostRuntime) -> Result<(), Fail> {
     let minus = Mark { time: Some(-1) };
     let (bytes, _) = given::written(rt.alloc(), 16, minus)?;
-    assert_eq!(rt; bytes.as_slice(), b"\0\0\0\0\0\0\0\x01\xff\xff\xff\xff\xff\xff\xff\xff".as_slice());
-    assert_eq!(rt; given::read(b"\0\0\0\x63\0\0\0\x01\xff\xff\xff\xff\xff\xff\xff\xff"), (Ok(minus), 0));
-    assert_eq!(rt; given::read(b"\0\0\0\x63\0\0\0\0"), (Ok(Mark { time: None }), 0));
+    assert_eq!(rt;
+        bytes.as_slice(),
+        b"\0\0\0\0\0\0\0\x01\xff\xff\xff\xff\xff\xff\xff\xff".as_slice()
+    );
+    assert_eq!(rt;
+        given::read(b"\0\0\0\x63\0\0\0\x01\xff\xff\xff\xff\xff\xff\xff\xff"),
+        (Ok(minus), 0)
+    );
+    assert_eq!(rt;
+        given::read(b"\0\0\0\x63\0\0\0\0"),
+        (Ok(Mark { time: None }), 0)
+    );
     Ok(())
 }
 
@@ -127,8 +146,14 @@ fn two_items(bytes: &[u8]) -> Option<(usize, Option<u32>, Option<u32>, bool)> {
 /// A bounded array: its items in order, one above the bound, and one item too few.
 #[test]
 fn array(rt: HostRuntime) {
-    assert_eq!(rt; two_items(b"\0\0\0\x02\0\0\0\x07\0\0\0\x08"), Some((2, Some(7), Some(8), true)));
-    assert_eq!(rt; two_items(b"\0\0\0\x03\0\0\0\x07\0\0\0\x08\0\0\0\x09"), None);
+    assert_eq!(rt;
+        two_items(b"\0\0\0\x02\0\0\0\x07\0\0\0\x08"),
+        Some((2, Some(7), Some(8), true))
+    );
+    assert_eq!(rt;
+        two_items(b"\0\0\0\x03\0\0\0\x07\0\0\0\x08\0\0\0\x09"),
+        None
+    );
     assert_eq!(rt; two_items(b"\0\0\0\x02\0\0\0\x07"), None);
 }
 
@@ -144,7 +169,8 @@ fn array_is_written(rt: HostRuntime) -> Result<(), Fail> {
 }
 
 /// Two entries by hand, of the cookies 3 and 4 and the names `a` and `bc`, and the end.
-const LISTING: &[u8] = b"\0\0\0\x01\0\0\0\0\0\0\0\x03\0\0\0\x01a\0\0\0\0\0\0\x01\0\0\0\0\0\0\0\x04\0\0\0\x02bc\0\0\0\0\0\0\0\0\0\x01";
+const LISTING: &[u8] =
+    b"\0\0\0\x01\0\0\0\0\0\0\0\x03\0\0\0\x01a\0\0\0\0\0\0\x01\0\0\0\0\0\0\0\x04\0\0\0\x02bc\0\0\0\0\0\0\0\0\0\x01";
 
 /// The cookies and the lengths of the names, in order.
 fn two_entries(bytes: &[u8]) -> Option<((u64, usize), (u64, usize), bool)> {
@@ -152,7 +178,11 @@ fn two_entries(bytes: &[u8]) -> Option<((u64, usize), (u64, usize), bool)> {
     let first = listing.entries.next()?;
     let second = listing.entries.next()?;
     let end = listing.entries.next().is_none() && listing.end;
-    Some(((first.cookie, first.name.bytes.len()), (second.cookie, second.name.bytes.len()), end))
+    Some((
+        (first.cookie, first.name.bytes.len()),
+        (second.cookie, second.name.bytes.len()),
+        end,
+    ))
 }
 
 /// A chain of two entries is read, and is refused where it is cut.
@@ -160,7 +190,10 @@ fn two_entries(bytes: &[u8]) -> Option<((u64, usize), (u64, usize), bool)> {
 fn chain(rt: HostRuntime) {
     assert_eq!(rt; two_entries(LISTING), Some(((3, 1), (4, 2), true)));
     for cut in 0..48usize {
-        assert!(rt; two_entries(LISTING.get(..cut).unwrap_or(b"")).is_none(), "cut at {cut}");
+        assert!(rt;
+            two_entries(LISTING.get(..cut).unwrap_or(b"")).is_none(),
+            "cut at {cut}"
+        );
     }
 }
 

@@ -21,12 +21,28 @@ fn unsigned_ints(rt: HostRuntime) {
 fn hypers(rt: HostRuntime) {
     let cases: [(&[u8], Result<u64, XdrFault>, Result<i64, XdrFault>); 4] = [
         (b"\0\0\0\x01\0\0\0\0", Ok(4294967296), Ok(4294967296)),
-        (b"\x7f\xff\xff\xff\xff\xff\xff\xff", Ok(9223372036854775807), Ok(9223372036854775807)),
-        (b"\xff\xff\xff\xff\xff\xff\xff\xfe", Ok(18446744073709551614), Ok(-2)),
-        (b"\0\0\0\0\0\0\0", Err(XdrFault::Short), Err(XdrFault::Short)),
+        (
+            b"\x7f\xff\xff\xff\xff\xff\xff\xff",
+            Ok(9223372036854775807),
+            Ok(9223372036854775807),
+        ),
+        (
+            b"\xff\xff\xff\xff\xff\xff\xff\xfe",
+            Ok(18446744073709551614),
+            Ok(-2),
+        ),
+        (
+            b"\0\0\0\0\0\0\0",
+            Err(XdrFault::Short),
+            Err(XdrFault::Short),
+        ),
     ];
     for (bytes, unsigned, signed) in cases {
-        assert_eq!(rt; given::read::<u64>(bytes).0, unsigned, "unsigned hyper {bytes:?}");
+        assert_eq!(rt;
+            given::read::<u64>(bytes).0,
+            unsigned,
+            "unsigned hyper {bytes:?}"
+        );
         assert_eq!(rt; given::read::<i64>(bytes).0, signed, "hyper {bytes:?}");
     }
 }
@@ -79,10 +95,18 @@ fn variable_opaque(rt: HostRuntime) {
         (4, b"\0\0\0\x04lis", (Err(XdrFault::Short), 7)),
         (4, b"\0\0\0\x03abc", (Err(XdrFault::Short), 7)),
         (4, b"\0\0\0\x03abc\x01", (Err(XdrFault::BadPad), 8)),
-        (9, b"\0\0\0\x09sillyprog\0\0\x01", (Err(XdrFault::BadPad), 16)),
+        (
+            9,
+            b"\0\0\0\x09sillyprog\0\0\x01",
+            (Err(XdrFault::BadPad), 16),
+        ),
     ];
     for (max, bytes, want) in cases {
-        assert_eq!(rt; given::opaque(max, bytes), want, "opaque<{max}> of {bytes:?}");
+        assert_eq!(rt;
+            given::opaque(max, bytes),
+            want,
+            "opaque<{max}> of {bytes:?}"
+        );
     }
 }
 
@@ -113,7 +137,11 @@ fn faults(rt: HostRuntime) -> Result<(), Fail> {
         (XdrFault::BadBool, 2, "a boolean is neither 0 nor 1"),
         (XdrFault::BadPad, 3, "padding is not zero"),
         (XdrFault::TooLong, 4, "an item is longer than its limit"),
-        (XdrFault::BadChoice, 5, "no arm of a union has this discriminant"),
+        (
+            XdrFault::BadChoice,
+            5,
+            "no arm of a union has this discriminant",
+        ),
     ];
     for (fault, number, text) in cases {
         assert_eq!(rt; fault as u32, number, "number of {fault:?}");

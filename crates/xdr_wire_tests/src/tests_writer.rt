@@ -4,7 +4,8 @@ use std::test::Fail;
 use xdr_wire::{Full, Opaque, Writer};
 
 /// The file of RFC 4506, section 7, by hand: its name, EXEC with its interpretor, its owner and its data.
-const FILE: &[u8] = b"\0\0\0\x09sillyprog\0\0\0\0\0\0\x02\0\0\0\x04lisp\0\0\0\x04john\0\0\0\x06(quit)\0\0";
+const FILE: &[u8] =
+    b"\0\0\0\x09sillyprog\0\0\0\0\0\0\x02\0\0\0\x04lisp\0\0\0\x04john\0\0\0\x06(quit)\0\0";
 
 type Text<'a> = Opaque<'a, 255>;
 
@@ -64,7 +65,10 @@ fn put_items(alloc: Global) -> Result<(Vec<u8>, bool), AllocError> {
 fn items(rt: HostRuntime) -> Result<(), Fail> {
     let (bytes, whole) = put_items(rt.alloc())?;
     assert!(rt; whole);
-    assert_eq!(rt; bytes.as_slice(), b"\0\0\x01\x02\0\0\0\x01\0\0\0\0\xff\xff\xff\xff\xff\xff\xff\xfe\0\0\0\x01\0\0\0\0abcde\0\0\0\0\0\0\x01\0\0\0\x02\0\0\0\x01a\0\0\0".as_slice());
+    assert_eq!(rt;
+        bytes.as_slice(),
+        b"\0\0\x01\x02\0\0\0\x01\0\0\0\0\xff\xff\xff\xff\xff\xff\xff\xfe\0\0\0\x01\0\0\0\0abcde\0\0\0\0\0\0\x01\0\0\0\x02\0\0\0\x01a\0\0\0".as_slice()
+    );
     Ok(())
 }
 
@@ -89,6 +93,9 @@ fn truncated(rt: HostRuntime) -> Result<(), Fail> {
     writer.truncate(1);
     assert_eq!(rt; writer.bytes(), b"\0".as_slice());
     assert_eq!(rt; writer.room(), 6);
-    assert_eq!(rt; format!(in rt.alloc(); "{}", Full)?.as_str(), "there is less room than the item takes");
+    assert_eq!(rt;
+        format!(in rt.alloc(); "{}", Full)?.as_str(),
+        "there is less room than the item takes"
+    );
     Ok(())
 }

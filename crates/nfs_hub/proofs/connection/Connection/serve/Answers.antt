@@ -24,8 +24,8 @@ pub returns-in-Err : goal.returns-in-Err
 returns-in-Err g c =
     let asked = c.deref.ensures.value ∙ c.in-Ok-extend_from_slice.ensures.items in
     feed_faults c.in-Err.fault _ _ tt tt c.args.now c.args.piece.now (λ rest s.
-        came_to_fault rest c.args.piece.now c.loop-from.at (c.loop-from.invariant.came rest s) c.in-Err.fault c.in-Record.from c.in-Record.to c.feed.new.self tt _ (omega (arith, c.in-Record.ensures.within)) c.in-Record.ensures.gives
-        (rw asked at c.in-Err.ensures))
+    came_to_fault rest c.args.piece.now c.loop-from.at (c.loop-from.invariant.came rest s) c.in-Err.fault c.in-Record.from c.in-Record.to c.feed.new.self tt _ (omega (arith, c.in-Record.ensures.within)) c.in-Record.ensures.gives
+    (rw asked at c.in-Err.ensures))
 
 pub loop-from-preserved : goal.loop-from-preserved
 loop-from-preserved g c = record {
