@@ -1,6 +1,6 @@
 //! How many entries there may be.
 
-use crate::entries::{allow, deny};
+use crate::entries::{allow, deny, entry};
 use acl_list::{AclList, Kind, Who};
 use acl_shape::{Raw, admit, is_bounded, set_mode};
 use std::test::Fail;
@@ -25,24 +25,27 @@ fn a_mode_on_the_longest_list(rt: HostRuntime) -> Result<(), Fail> {
     Ok(())
 }
 
+/// Plain entries, entries that a mode keeps, and whether a list may have them.
+static COUNTS: [(usize, usize, bool); 6] = [
+    (0, 0, true),
+    (5, 59, true),
+    (4, 60, false),
+    (64, 0, true),
+    (65, 0, false),
+    (6, 59, false),
+];
+
 #[test]
 fn bounds(rt: HostRuntime) -> Result<(), Fail> {
-    for (plain, kept, want) in [
-        (0usize, 0usize, true),
-        (5, 59, true),
-        (4, 60, false),
-        (64, 0, true),
-        (65, 0, false),
-        (6, 59, false),
-    ] {
+    for (plain, kept, want) in &COUNTS {
         let mut list = AclList::new(rt.alloc());
-        for _ in 0..plain {
-            list.push(allow(0, 1, Who::Everyone))?;
+        for _ in 0..*plain {
+            list.push(allow!(0, 1, Who::Everyone))?;
         }
-        for _ in 0..kept {
-            list.push(deny(0, 1, Who::User(5)))?;
+        for _ in 0..*kept {
+            list.push(deny!(0, 1, Who::User(5)))?;
         }
-        assert_eq!(rt; is_bounded(&list), want, "{plain} and {kept}");
+        assert_eq!(rt; is_bounded(&list), *want, "{plain} and {kept}");
     }
     Ok(())
 }

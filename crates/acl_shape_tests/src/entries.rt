@@ -1,39 +1,49 @@
-//! What entries are written as.
+//! How entries are written.
 
-use acl_list::{Entry, EntryKind, Who};
-
-pub fn allow(flags: u32, mask: u32, who: Who) -> Entry {
-    entry(EntryKind::Allow, flags, mask, who)
+macro_rules! entry {
+    ($kind:ident, $flags:expr, $mask:expr, $who:expr) => {
+        acl_list::Entry {
+            kind: acl_list::EntryKind::$kind,
+            flags: $flags,
+            mask: $mask,
+            who: $who,
+        }
+    };
 }
 
-pub fn deny(flags: u32, mask: u32, who: Who) -> Entry {
-    entry(EntryKind::Deny, flags, mask, who)
+macro_rules! allow {
+    ($flags:expr, $mask:expr, $who:expr) => {
+        entry!(Allow, $flags, $mask, $who)
+    };
 }
 
-pub fn audit(flags: u32, mask: u32, who: Who) -> Entry {
-    entry(EntryKind::Audit, flags, mask, who)
+macro_rules! deny {
+    ($flags:expr, $mask:expr, $who:expr) => {
+        entry!(Deny, $flags, $mask, $who)
+    };
 }
 
-pub fn alarm(flags: u32, mask: u32, who: Who) -> Entry {
-    entry(EntryKind::Alarm, flags, mask, who)
-}
-
-fn entry(kind: EntryKind, flags: u32, mask: u32, who: Who) -> Entry {
-    Entry {
-        kind,
-        flags,
-        mask,
-        who,
-    }
+macro_rules! audit {
+    ($flags:expr, $mask:expr, $who:expr) => {
+        entry!(Audit, $flags, $mask, $who)
+    };
 }
 
 /// The list of an object that has had a mode set on the empty list: the owner's two entries, the group's two, everyone's.
-pub fn five(owner: [u32; 2], group: [u32; 2], everyone: u32) -> [Entry; 5] {
-    [
-        allow(0, owner[0], Who::Owner),
-        deny(0, owner[1], Who::Owner),
-        allow(0, group[0], Who::Group),
-        deny(0, group[1], Who::Group),
-        allow(0, everyone, Who::Everyone),
-    ]
+macro_rules! five {
+    ($owner:expr, $others_of_owner:expr, $group:expr, $others_of_group:expr, $everyone:expr) => {
+        [
+            allow!(0, $owner, acl_list::Who::Owner),
+            deny!(0, $others_of_owner, acl_list::Who::Owner),
+            allow!(0, $group, acl_list::Who::Group),
+            deny!(0, $others_of_group, acl_list::Who::Group),
+            allow!(0, $everyone, acl_list::Who::Everyone),
+        ]
+    };
 }
+
+pub(crate) use allow;
+pub(crate) use audit;
+pub(crate) use deny;
+pub(crate) use entry;
+pub(crate) use five;

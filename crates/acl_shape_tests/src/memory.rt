@@ -1,6 +1,6 @@
 //! Each call that takes memory, over each size of a heap: it is whole or refused, and then nothing is left behind.
 
-use crate::entries::allow;
+use crate::entries::{allow, entry};
 use acl_list::{AclList, Kind, Who};
 use acl_shape::{Given, Raw, admit, changed_permissions, created_permissions, inherit, set_mode};
 use linked_list_allocator::LocalHeap;
@@ -11,88 +11,74 @@ enum Call {
     SetMode,
     Inherit,
     Admit,
-    CreateWithMode,
-    CreateWithNeither,
-    CreateByDefault,
-    ChangeMode,
-    ChangeNothing,
+    Create(Option<u32>),
+    Change(Option<u32>),
 }
 
-/// The list that a call makes over the heap, if there is memory for it.
-fn made<'a>(
-    call: Call,
-    heap: &'a LocalHeap,
-    list: &AclList,
-    barren: &AclList,
-    raws: &[Raw],
-) -> Option<AclList<&'a LocalHeap>> {
-    let mode = Given {
-        mode: Some(0o640),
-        list: None,
-    };
-    let nothing = Given {
-        mode: None,
-        list: None,
-    };
-    match call {
-        Call::SetMode => set_mode(heap, list, Kind::File, 0o640).ok(),
-        Call::Inherit => inherit(heap, list, Kind::Directory).ok(),
-        Call::Admit => admit(heap, raws, Kind::Directory).ok(),
-        Call::CreateWithMode => created_permissions(heap, list, Kind::File, mode)
-            .ok()
-            .map(|p| p.list),
-        Call::CreateWithNeither => created_permissions(heap, list, Kind::File, nothing)
-            .ok()
-            .map(|p| p.list),
-        Call::CreateByDefault => created_permissions(heap, barren, Kind::File, nothing)
-            .ok()
-            .map(|p| p.list),
-        Call::ChangeMode => changed_permissions(heap, list, 0, Kind::File, mode)
-            .ok()
-            .map(|p| p.list),
-        Call::ChangeNothing => changed_permissions(heap, list, 0, Kind::File, nothing)
-            .ok()
-            .map(|p| p.list),
-    }
+/// How long the list is that a new object gets.
+fn created(heap: &LocalHeap, parent: &AclList, mode: Option<u32>) -> Option<usize> {
+    let given = Given { mode, list: None };
+    let made = created_permissions(heap, parent, Kind::File, given).ok()?;
+    Some(made.list.len())
 }
+
+/// How long the list is that an object has.
+fn changed(heap: &LocalHeap, list: &AclList, mode: Option<u32>) -> Option<usize> {
+    let given = Given { mode, list: None };
+    let now = changed_permissions(heap, list, 0, Kind::File, given).ok()?;
+    Some(now.list.len())
+}
+
+/// How long the list is that a call makes over the heap, if there is memory for it.
+fn made(call: Call, heap: &LocalHeap, list: &AclList, raws: &[Raw]) -> Option<usize> {
+    let new = match call {
+        Call::SetMode => set_mode(heap, list, Kind::File, 0o640).ok()?,
+        Call::Inherit => inherit(heap, list, Kind::Directory).ok()?,
+        Call::Admit => admit(heap, raws, Kind::Directory).ok()?,
+        Call::Create(mode) => return created(heap, list, mode),
+        Call::Change(mode) => return changed(heap, list, mode),
+    };
+    Some(new.len())
+}
+
+/// How long the list of each call is over a list of 20 entries, and over an empty one.
+static CALLS: [(Call, usize, usize); 7] = [
+    (Call::SetMode, 25, 5),
+    (Call::Inherit, 20, 0),
+    (Call::Admit, 20, 20),
+    (Call::Create(Some(0o640)), 25, 5),
+    (Call::Create(None), 20, 5),
+    (Call::Change(Some(0o640)), 25, 5),
+    (Call::Change(None), 20, 0),
+];
 
 #[test]
 fn whole_or_refused(rt: HostRuntime) -> Result<(), Fail> {
-    let entries = [allow(0x03, 1, Who::User(5)); 20];
-    let list = AclList::from_slice(rt.alloc(), &entries)?;
-    let barren = AclList::new(rt.alloc());
-    let raw = Raw {
+    let full = AclList::from_slice(rt.alloc(), &[allow!(0x03, 1, Who::User(5)); 20])?;
+    let empty = AclList::new(rt.alloc());
+    let raws = [Raw {
         kind: 0,
         flags: 0x03,
         mask: 1,
         who: Some(Who::User(5)),
-    };
-    let raws = [raw; 20];
-    for (call, len) in [
-        (Call::SetMode, 25usize),
-        (Call::Inherit, 20),
-        (Call::Admit, 20),
-        (Call::CreateWithMode, 25),
-        (Call::CreateWithNeither, 20),
-        (Call::CreateByDefault, 5),
-        (Call::ChangeMode, 25),
-        (Call::ChangeNothing, 20),
-    ] {
+    }; 20];
+    for (call, of_full, of_empty) in &CALLS {
         let mut refused = 0u32;
-        let mut whole = 0u32;
         for size in 0..3072usize {
             let heap = LocalHeap::new(rt.alloc(), size)?;
-            match made(call, &heap, &list, &barren, &raws) {
-                Some(list) => {
-                    whole = whole.saturating_add(1);
-                    assert_eq!(rt; list.len(), len, "{call:?} at {size}");
-                }
+            match made(*call, &heap, &full, &raws) {
+                Some(len) => assert_eq!(rt; len, *of_full, "{call:?} at {size}"),
                 None => refused = refused.saturating_add(1),
             }
             assert_eq!(rt; heap.used(), 0, "{call:?} at {size}");
         }
-        assert!(rt; refused > 50, "{call:?}: refused {refused}");
-        assert!(rt; whole > 100, "{call:?}: whole {whole}");
+        assert!(rt;
+            refused > 50 && refused < 2900,
+            "{call:?}: refused {refused}"
+        );
+        let heap = LocalHeap::new(rt.alloc(), 3072)?;
+        let len = made(*call, &heap, &empty, &raws);
+        assert_eq!(rt; len, Some(*of_empty), "{call:?}");
     }
     Ok(())
 }

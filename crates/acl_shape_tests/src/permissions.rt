@@ -1,142 +1,119 @@
 //! What new objects have, and what objects have after a mode, a list or both were set: by hand from RFC 8881, sections 6.4.1
 //! and 6.4.3.
 
-use crate::entries::{allow, deny, five};
+use crate::entries::{allow, deny, entry, five};
+use Kind::{Directory, File, Link};
+use Who::{Everyone, Group, Owner, User};
 use acl_list::{AclList, Entry, Kind, Who};
 use acl_shape::{Given, changed_permissions, created_permissions};
+use std::alloc::{AllocError, Global};
 use std::test::Fail;
 
-const PASSED_ON: Entry = Entry {
-    kind: acl_list::EntryKind::Allow,
-    flags: 0x0b,
-    mask: 0x27,
-    who: Who::User(1002),
-};
+/// The list that is given.
+const ASKED: &[Entry] = &[allow!(0, 0x1, Everyone)];
 
-/// Under a directory whose list has one entry to be inherited, and under one whose list has none.
+/// A mode and whether `ASKED` is given.
+fn given(alloc: Global, mode: Option<u32>, with_list: bool) -> Result<Given, AllocError> {
+    let list = if with_list {
+        Some(AclList::from_slice(alloc, ASKED)?)
+    } else {
+        None
+    };
+    Ok(Given { mode, list })
+}
+
+/// A directory's list with an entry to be inherited, and one without.
+const PARENT: &[Entry] = &[allow!(0x0b, 0x27, User(1002)), allow!(0, 0x67, Everyone)];
+
+const BARREN: &[Entry] = &[allow!(0, 0x67, Everyone)];
+
+const WITH_MODE: &[Entry] = &[
+    allow!(0, 0x1e01e7, Owner),
+    deny!(0, 0, Owner),
+    allow!(0x03, 0x21, User(1002)),
+    allow!(0, 0x21, Group),
+    deny!(0, 0x46, Group),
+    allow!(0, 0x120080, Everyone),
+];
+
+/// The directory's list, the kind, the mode, whether a list is given; the new object's list and high bits.
+#[derive(Clone, Copy)]
+struct Creation<'a> {
+    name: &'a str,
+    parent: &'a [Entry],
+    kind: Kind,
+    mode: Option<u32>,
+    with_list: bool,
+    list: &'a [Entry],
+    high: u32,
+}
+
+macro_rules! creation {
+    ($name:expr, $parent:expr, $kind:expr, $mode:expr, $with_list:expr => $list:expr, $high:expr) => {
+        Creation {
+            name: $name,
+            parent: $parent,
+            kind: $kind,
+            mode: $mode,
+            with_list: $with_list,
+            list: $list,
+            high: $high,
+        }
+    };
+}
+
+static CREATIONS: [Creation<'static>; 8] = [
+    creation!("a mode", PARENT, Directory, Some(0o2750), false => WITH_MODE, 0o2000),
+    creation!("a list", PARENT, Directory, None, true => ASKED, 0),
+    creation!("both", PARENT, File, Some(0o7777), true => ASKED, 0o7000),
+    creation!("neither, a directory", PARENT, Directory, None, false => &[allow!(0x03, 0x27, User(1002))], 0),
+    creation!("neither, a file", PARENT, File, None, false => &[allow!(0, 0x27, User(1002))], 0),
+    creation!("nothing, a directory", BARREN, Directory, None, false => &five!(0x1e01e7, 0, 0, 0x67, 0x120080), 0),
+    creation!("nothing, a file", BARREN, File, None, false => &five!(0x1e0187, 0x20, 0, 0x27, 0x120080), 0),
+    creation!("nothing, a link", BARREN, Link, None, false => &five!(0x1e0187, 0x20, 0, 0x27, 0x120080), 0),
+];
+
 #[test]
 fn new_objects(rt: HostRuntime) -> Result<(), Fail> {
-    let parent = AclList::from_slice(rt.alloc(), &[PASSED_ON, allow(0, 0x67, Who::Everyone)])?;
-    let barren = AclList::from_slice(rt.alloc(), &[allow(0, 0x67, Who::Everyone)])?;
-    let asked = [allow(0, 0x1, Who::Everyone)];
-    let with_mode = [
-        allow(0, 0x1e01e7, Who::Owner),
-        deny(0, 0, Who::Owner),
-        allow(0x03, 0x21, Who::User(1002)),
-        allow(0, 0x21, Who::Group),
-        deny(0, 0x46, Who::Group),
-        allow(0, 0x120080, Who::Everyone),
-    ];
-    let directory = five([0x1e01e7, 0], [0, 0x67], 0x120080);
-    let other = five([0x1e0187, 0x20], [0, 0x27], 0x120080);
-    let cases: [(&str, &AclList, Kind, Option<u32>, bool, &[Entry], u32); 8] = [
-        (
-            "a mode",
-            &parent,
-            Kind::Directory,
-            Some(0o2750),
-            false,
-            &with_mode,
-            0o2000,
-        ),
-        ("a list", &parent, Kind::Directory, None, true, &asked, 0),
-        (
-            "both",
-            &parent,
-            Kind::File,
-            Some(0o7777),
-            true,
-            &asked,
-            0o7000,
-        ),
-        (
-            "neither, a directory",
-            &parent,
-            Kind::Directory,
-            None,
-            false,
-            &[allow(0x03, 0x27, Who::User(1002))],
-            0,
-        ),
-        (
-            "neither, a file",
-            &parent,
-            Kind::File,
-            None,
-            false,
-            &[allow(0, 0x27, Who::User(1002))],
-            0,
-        ),
-        (
-            "nothing, a directory",
-            &barren,
-            Kind::Directory,
-            None,
-            false,
-            &directory,
-            0,
-        ),
-        (
-            "nothing, a file",
-            &barren,
-            Kind::File,
-            None,
-            false,
-            &other,
-            0,
-        ),
-        (
-            "nothing, a link",
-            &barren,
-            Kind::Link,
-            None,
-            false,
-            &other,
-            0,
-        ),
-    ];
-    for (name, parent, kind, mode, has_list, want, high) in cases {
-        let list = if has_list {
-            Some(AclList::from_slice(rt.alloc(), &asked)?)
-        } else {
-            None
-        };
-        let made = created_permissions(rt.alloc(), parent, kind, Given { mode, list })?;
-        assert_eq!(rt; made.list.as_slice(), want, "{name}");
-        assert_eq!(rt; made.high, high, "{name}");
+    for case in &CREATIONS {
+        let name = case.name;
+        let parent = AclList::from_slice(rt.alloc(), case.parent)?;
+        let given = given(rt.alloc(), case.mode, case.with_list)?;
+        let made = created_permissions(rt.alloc(), &parent, case.kind, given)?;
+        assert_eq!(rt; made.list.as_slice(), case.list, "{name}");
+        assert_eq!(rt; made.high, case.high, "{name}");
     }
     Ok(())
 }
 
-/// A file with one named entry, and the high bit 0o4000.
+/// A file's list with one entry of a user of its own.
+const NAMED: &[Entry] = &[allow!(0, 0x07, User(5))];
+
+const NAMED_WITH_MODE: &[Entry] = &[
+    allow!(0, 0x1e0187, Owner),
+    deny!(0, 0x20, Owner),
+    allow!(0, 0x01, User(5)),
+    allow!(0, 0x01, Group),
+    deny!(0, 0x26, Group),
+    allow!(0, 0x120080, Everyone),
+];
+
+/// The mode and whether a list is given; the list and the high bits after it, where they were 0o4000.
+static CHANGES: [(&str, Option<u32>, bool, &[Entry], u32); 4] = [
+    ("a mode", Some(0o1640), false, NAMED_WITH_MODE, 0o1000),
+    ("a list", None, true, ASKED, 0o4000),
+    ("both", Some(0o640), true, ASKED, 0),
+    ("neither", None, false, NAMED, 0o4000),
+];
+
 #[test]
 fn changed_objects(rt: HostRuntime) -> Result<(), Fail> {
-    let before = [allow(0, 0x07, Who::User(5))];
-    let old = AclList::from_slice(rt.alloc(), &before)?;
-    let asked = [allow(0, 0x1, Who::Everyone)];
-    let with_mode = [
-        allow(0, 0x1e0187, Who::Owner),
-        deny(0, 0x20, Who::Owner),
-        allow(0, 0x01, Who::User(5)),
-        allow(0, 0x01, Who::Group),
-        deny(0, 0x26, Who::Group),
-        allow(0, 0x120080, Who::Everyone),
-    ];
-    let cases: [(&str, Option<u32>, bool, &[Entry], u32); 4] = [
-        ("a mode", Some(0o1640), false, &with_mode, 0o1000),
-        ("a list", None, true, &asked, 0o4000),
-        ("both", Some(0o640), true, &asked, 0),
-        ("neither", None, false, &before, 0o4000),
-    ];
-    for (name, mode, has_list, want, high) in cases {
-        let list = if has_list {
-            Some(AclList::from_slice(rt.alloc(), &asked)?)
-        } else {
-            None
-        };
-        let now = changed_permissions(rt.alloc(), &old, 0o4000, Kind::File, Given { mode, list })?;
-        assert_eq!(rt; now.list.as_slice(), want, "{name}");
-        assert_eq!(rt; now.high, high, "{name}");
+    let old = AclList::from_slice(rt.alloc(), NAMED)?;
+    for (name, mode, with_list, want, high) in &CHANGES {
+        let given = given(rt.alloc(), *mode, *with_list)?;
+        let now = changed_permissions(rt.alloc(), &old, 0o4000, File, given)?;
+        assert_eq!(rt; now.list.as_slice(), *want, "{name}");
+        assert_eq!(rt; now.high, *high, "{name}");
     }
     Ok(())
 }
