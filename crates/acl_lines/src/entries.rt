@@ -1,10 +1,15 @@
 //! Lists of entries as text: `TYPE:FLAGS:MASK:WHO`, joined by commas, or `-` for none.
 
+ghost use Rattle.std.specs.Prelude.{◌≤◌};
+
 use acl_list::{AclList, Entry, EntryKind, Who, flag};
 use std::alloc::{AllocError, Global};
 
 /// A number in digits of this base, at most this many of them.
-pub(crate) fn number(text: &str, radix: u32, most: usize) -> Option<u32> {
+pub(crate) fn number(text: &str, radix: u32, most: usize) -> Option<u32>
+    requires least { 2 ≤ radix }
+    requires most { radix ≤ 36 }
+{
     if text.is_empty() || text.len() > most || !text.bytes().all(|b| b.is_ascii_alphanumeric()) {
         return None;
     }
