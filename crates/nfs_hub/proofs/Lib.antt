@@ -4,3 +4,5 @@ pub mod Rooms
 pub mod Lines
 pub mod Hubs
 pub mod TurnLaws
+pub mod Exact
+pub mod Rights

@@ -1,5 +1,5 @@
 -- What fits into a reply.
-use Rattle.std.proofs.Common.{◌≡◌, ℕ, ◌+◌, ◌*◌, ◌-◌, ◌%◌, ◌≤◌, List, ◌++◌, length, replicate, Result, Ok, Err, refl, arith}
+use Rattle.std.proofs.Common.{◌≡◌, ℕ, ◌+◌, ◌*◌, ◌-◌, ◌%◌, ◌≤◌, List, length, replicate, Result, Ok, Err, refl, arith}
 use Rattle.std.specs.Result.{IsOk}
 use Rattle.std.proofs.lemmas.List.{length-append, length-replicate}
 use Rattle.xdr_wire.specs.Buffer.{Buffer, Puts}

@@ -1,5 +1,5 @@
 -- The hub as the machine: each of its connections is the machine's of that number.
-use Rattle.std.specs.Prelude.{◌≡◌, ◌+◌, ◌^◌, ◌<◌, ◌≤◌, ℕ, Bool, false, List, [], length, drop, take, min, Option, Some, None, MatchOption, Result, Ok, Err}
+use Rattle.std.specs.Prelude.{◌≡◌, ◌^◌, ◌<◌, ◌≤◌, ℕ, Bool, false, List, [], length, drop, take, min, Option, Some, None, MatchOption, Result, Ok, Err}
 use Rattle.nfs_hub.specs.declared.fault.HubFault.{HubFault}
 use Rattle.nfs_hub.specs.declared.fault.HubFault.TheVariants.{TooMany, NoSuch, Broken, Memory, Exhausted}
 use Rattle.std.specs.Option.{option_map}

@@ -3,6 +3,7 @@ pub mod Granting
 pub mod Operations
 pub mod OpViews
 pub mod Compound
+pub mod Exact
 pub mod Runs
 pub mod Answer
 pub mod Machine

@@ -1,5 +1,5 @@
 -- The operations that are built, and how they stand in a COMPOUND's arguments (RFC 8881, sections 16.2 and 18).
-use Rattle.std.specs.Prelude.{ℕ, Bool, true, false, ◌==◌, ◌&&◌, nat_le, if◌then◌else◌, List, Result, Ok, Err}
+use Rattle.std.specs.Prelude.{ℕ, Bool, true, false, ◌==◌, ◌&&◌, nat_le, if◌then◌else◌, List, Ok, Err}
 use Rattle.xdr_wire.specs.Xdr.{Xdr, uint, opaque}
 use Rattle.xdr_wire.specs.Reading.{Read, read_at}
 

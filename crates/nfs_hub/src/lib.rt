@@ -5,6 +5,7 @@ mod compound;
 mod connection;
 mod fault;
 mod hub;
+mod laws;
 mod object;
 mod operation;
 mod sample;
@@ -13,4 +14,5 @@ mod serving;
 
 pub use fault::HubFault;
 pub use hub::{CONNECTIONS, ConnId, Hub};
+pub use laws::{access_is_exact, lookup_is_exact};
 pub use serving::{Clock, ServeEnd, serve};

@@ -1,8 +1,7 @@
-use Rattle.std.proofs.Common.{◌≡◌, ℕ, Ok, Err, ap, subst, sym, refl, ◌∙◌, arith}
+use Rattle.std.proofs.Common.{ℕ, ap, refl, ◌∙◌}
 use Rattle.rpc_record.specs.Identity.{Identity}
-use Rattle.xdr_wire.specs.Buffer.{Appends}
 use Rattle.nfs_hub.specs.OpViews.{view_of_op}
-use Rattle.nfs_hub.specs.Compound.{answered, result_bytes, step, stepped}
+use Rattle.nfs_hub.specs.Compound.{step}
 use Rattle.nfs_hub.proofs.Running.{ran_more, ran_to_refusal}
 use Rattle.nfs_hub.proofs.compound.Compound.run.Goals as goal
 

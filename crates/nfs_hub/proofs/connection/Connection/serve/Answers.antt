@@ -1,6 +1,5 @@
-use Rattle.std.proofs.Common.{ℕ, List, ◌++◌, subst, sym, ◌∙◌, arith}
+use Rattle.std.proofs.Common.{ℕ, List, subst, ◌∙◌, arith}
 use Rattle.nfs_hub.specs.Answer.{Replied, RecordEnds}
-use Rattle.nfs_hub.specs.Connection.{AnswerGives}
 use Rattle.nfs_hub.proofs.Pieces.{came_start, came_part, came_record, came_to_end, came_to_break, came_to_fault, feed_faults, stopped}
 use Rattle.nfs_hub.proofs.connection.Connection.serve.Goals as goal
 

@@ -1,0 +1,140 @@
+-- The bits of ACCESS's granted word.
+use Rattle.std.proofs.Common.{if◌then◌else◌, ◌≡◌, ℕ, ◌+◌, ◌^◌, ◌<◌, ◌≤◌, ◌∙◌, Bool, true, false, not, ◌&&◌, nat_eq, bit_and, refl, ap, arith}
+use Rattle.std.proofs.lemmas.Nat.Bits.{bit_at_above}
+use Rattle.std.proofs.lemmas.Bool.{and_parts}
+use Rattle.rpc_record.specs.Identity.{Identity}
+use Rattle.acl_list.specs.Mask.{has_bit}
+use Rattle.acl_list.proofs.Bits.{bit_by_test}
+use Rattle.nfs_hub.specs.declared.object.Object.{Object}
+use Rattle.nfs_hub.specs.Granting.{is_granted}
+use Rattle.nfs_hub.specs.Compound.{right, granted_rights}
+use Rattle.nfs_hub.specs.Exact.{RightsAre}
+
+abbrev term : Bool → ℕ → ℕ
+term true n = n
+term false n = 0
+
+abbrev sum : Bool → Bool → Bool → Bool → Bool → Bool → ℕ
+sum a b c d e f = term a 1 + term b 2 + term c 4 + term d 8 + term e 16 + term f 32
+
+-- what each of six truth values does
+abbrev for_both : (Bool → Bool) → Bool
+for_both p = p true && p false
+
+abbrev for_all : (Bool → Bool → Bool → Bool → Bool → Bool → Bool) → Bool
+for_all p = for_both (λ a. for_both (λ b. for_both (λ c. for_both (λ d. for_both (λ e. for_both (λ f. p a b c d e f))))))
+
+from_both : (p : Bool → Bool) → for_both p ≡ true → (b : Bool) → p b ≡ true
+from_both p h true = (and_parts (p true) (p false) h).0
+from_both p h false = (and_parts (p true) (p false) h).1
+
+from_all : (p : Bool → Bool → Bool → Bool → Bool → Bool → Bool) → for_all p ≡ true → (a b c d e f : Bool) → p a b c d e f ≡ true
+from_all p h a b c d e f =
+    from_both (λ z. p a b c d e z)
+    (from_both (λ y. for_both (λ z. p a b c d y z))
+    (from_both (λ x. for_both (λ y. for_both (λ z. p a b c x y z)))
+    (from_both (λ w. for_both (λ x. for_both (λ y. for_both (λ z. p a b w x y z))))
+    (from_both (λ v. for_both (λ w. for_both (λ x. for_both (λ y. for_both (λ z. p a v w x y z)))))
+    (from_both (λ u. for_both (λ v. for_both (λ w. for_both (λ x. for_both (λ y. for_both (λ z. p u v w x y z)))))) h a) b) c) d) e) f
+
+abbrev same : Bool → Bool → Bool
+same true b = b
+same false b = not b
+
+from_same : (a b : Bool) → same a b ≡ true → a ≡ b
+from_same true true h = refl
+from_same true false h = absurd (cc)
+from_same false true h = absurd (cc)
+from_same false false h = refl
+
+bit_0 : (a b c d e f : Bool) → has_bit (sum a b c d e f) 0 ≡ a
+unfolding has_bit
+bit_0 a b c d e f = from_same _ _ (from_all (λ a b c d e f. same (has_bit (sum a b c d e f) 0) a) refl a b c d e f)
+
+bit_1 : (a b c d e f : Bool) → has_bit (sum a b c d e f) 1 ≡ b
+unfolding has_bit
+bit_1 a b c d e f = from_same _ _ (from_all (λ a b c d e f. same (has_bit (sum a b c d e f) 1) b) refl a b c d e f)
+
+bit_2 : (a b c d e f : Bool) → has_bit (sum a b c d e f) 2 ≡ c
+unfolding has_bit
+bit_2 a b c d e f = from_same _ _ (from_all (λ a b c d e f. same (has_bit (sum a b c d e f) 2) c) refl a b c d e f)
+
+bit_3 : (a b c d e f : Bool) → has_bit (sum a b c d e f) 3 ≡ d
+unfolding has_bit
+bit_3 a b c d e f = from_same _ _ (from_all (λ a b c d e f. same (has_bit (sum a b c d e f) 3) d) refl a b c d e f)
+
+bit_4 : (a b c d e f : Bool) → has_bit (sum a b c d e f) 4 ≡ e
+unfolding has_bit
+bit_4 a b c d e f = from_same _ _ (from_all (λ a b c d e f. same (has_bit (sum a b c d e f) 4) e) refl a b c d e f)
+
+bit_5 : (a b c d e f : Bool) → has_bit (sum a b c d e f) 5 ≡ f
+unfolding has_bit
+bit_5 a b c d e f = from_same _ _ (from_all (λ a b c d e f. same (has_bit (sum a b c d e f) 5) f) refl a b c d e f)
+
+term_small : (b : Bool) (n : ℕ) → term b n ≤ n
+term_small true n = omega arith
+term_small false n = omega arith
+
+above : (a b c d e f : Bool) → sum a b c d e f < 2 ^ 6
+above a b c d e f =
+    let p : term a 1 ≤ 1 = term_small a 1 in
+    let q : term b 2 ≤ 2 = term_small b 2 in
+    let r : term c 4 ≤ 4 = term_small c 4 in
+    let s : term d 8 ≤ 8 = term_small d 8 in
+    let t : term e 16 ≤ 16 = term_small e 16 in
+    let u : term f 32 ≤ 32 = term_small f 32 in
+    omega arith
+
+right_is : (supported granted : Bool) (n : ℕ) (empty : Bool) → empty ≡ not supported → (if empty then 0 else if granted then n else 0) ≡ term (supported && granted) n
+right_is true true n empty h = rw h refl
+right_is true false n empty h = rw h refl
+right_is false granted n empty h = rw h refl
+
+empty_is : (supported place : ℕ) → nat_eq (bit_and supported (2 ^ place)) 0 ≡ not (has_bit supported place)
+empty_is supported place = turn _ _ (bit_by_test supported place)
+  where
+    turn : (x y : Bool) → x ≡ not y → y ≡ not x
+    turn true false h = refl
+    turn true true h = absurd (cc)
+    turn false true h = refl
+    turn false false h = absurd (cc)
+
+module _ (caller : Identity) (object : Object) (supported : ℕ) where
+  abbrev has : ℕ → ℕ → Bool
+  has place mask = has_bit supported place && is_granted caller object mask
+
+  rights_are : granted_rights caller object supported ≡ sum (has 0 0x01) (has 1 0x20) (has 2 0x02) (has 3 0x04) (has 4 0x40) (has 5 0x20)
+  rights_are = cc (one 0 0x01, one 1 0x20, one 2 0x02, one 3 0x04, one 4 0x40, one 5 0x20)
+    where
+      one : (place mask : ℕ) → right caller object supported (2 ^ place) mask ≡ term (has place mask) (2 ^ place)
+      one place mask = right_is (has_bit supported place) (is_granted caller object mask) (2 ^ place) _ (empty_is supported place)
+
+  pub rights_bits : RightsAre (λ bit. is_granted caller object (2 ^ bit)) supported (granted_rights caller object supported)
+  unfolding has_bit
+  rights_bits = record {
+    read = ap (λ n. has_bit n 0) rights_are ∙ bit_0 a b c d e f;
+    lookup = ap (λ n. has_bit n 1) rights_are ∙ bit_1 a b c d e f;
+    modify = ap (λ n. has_bit n 2) rights_are ∙ bit_2 a b c d e f;
+    extend = ap (λ n. has_bit n 3) rights_are ∙ bit_3 a b c d e f;
+    delete = ap (λ n. has_bit n 4) rights_are ∙ bit_4 a b c d e f;
+    execution = ap (λ n. has_bit n 5) rights_are ∙ bit_5 a b c d e f;
+    others = λ place h. ap (λ n. has_bit n place) rights_are ∙ ap (λ n. nat_eq n 1) (bit_at_above (sum a b c d e f) 6 place (above a b c d e f) h);
+  }
+    where
+      a : Bool
+      a = has 0 0x01
+
+      b : Bool
+      b = has 1 0x20
+
+      c : Bool
+      c = has 2 0x02
+
+      d : Bool
+      d = has 3 0x04
+
+      e : Bool
+      e = has 4 0x40
+
+      f : Bool
+      f = has 5 0x20
