@@ -1,5 +1,8 @@
 ghost use Rattle.std.specs.Prelude.{◌≡◌, ◌<◌, ◌+◌, ◌*◌, ◌^◌};
 
+use std::alloc::Allocator;
+use xdr_wire::{Full, Spell, Writer};
+
 /// A moment since the epoch, `nfstime4` (RFC 8881, section 3.3.1).
 #[derive(Clone, Copy, Debug, PartialEq, Eq)]
 pub struct Moment {
@@ -8,4 +11,24 @@ pub struct Moment {
     /// Nanoseconds on top of them, below 1,000,000,000.
     pub nanoseconds: u32,
     ghost is_fraction: { nanoseconds < 1000000000 },
+}
+
+impl Spell for Moment {
+    ghost use Rattle.std.specs.Prelude.{None};
+    ghost use Rattle.nfs_types.specs.Forms.{time};
+    ghost use Rattle.nfs_types.specs.Views.{moment_value};
+
+    ghost form = { time };
+
+    ghost view = { moment_value };
+
+    ghost normal = { None };
+
+    fn write<A: Allocator>(self, writer: &mut Writer<A>) -> Result<(), Full> {
+        let Moment {
+            seconds,
+            nanoseconds,
+        } = self;
+        (seconds, nanoseconds).write(writer)
+    }
 }

@@ -1,0 +1,36 @@
+-- The XDR types that every operation speaks in (RFC 5662).
+use Rattle.std.specs.Prelude.{ℕ, List, [], ◌∷◌, ◌==◌, if◌then◌else◌}
+use Rattle.xdr_wire.specs.Xdr.{Xdr, Value, uint, signed_hyper, fixed, opaque, array, fields}
+
+-- nfs_fh4
+abbrev pub handle : Xdr
+handle = opaque 128
+
+-- stateid4
+abbrev pub stateid : Xdr
+stateid = fields (uint ∷ fixed 12 ∷ [])
+
+-- nfstime4
+abbrev pub time : Xdr
+time = fields (signed_hyper ∷ uint ∷ [])
+
+-- bitmap4, of at most eight words
+abbrev pub bitmap : Xdr
+bitmap = array 8 uint
+
+-- fattr4
+abbrev pub attributes : Xdr
+attributes = fields (bitmap ∷ opaque 0xffff_ffff ∷ [])
+
+-- the words of a bitmap without the zero words at its end, which say nothing
+abbrev pub front_word : ℕ → List ℕ → List ℕ
+front_word w [] = if w == 0 then [] else w ∷ []
+front_word w (v ∷ ws) = w ∷ v ∷ ws
+
+abbrev pub trimmed : List ℕ → List ℕ
+trimmed [] = []
+trimmed (w ∷ ws) = front_word w (trimmed ws)
+
+-- attributes with such a bitmap
+abbrev pub trimmed_set : Value attributes → Value attributes
+trimmed_set v = (trimmed v.0, v.1)

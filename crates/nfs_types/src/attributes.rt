@@ -1,0 +1,36 @@
+use crate::bitmap::Bitmap;
+use std::alloc::Allocator;
+use xdr_wire::{Full, Opaque, Reader, Spell, Wire, Writer, XdrFault};
+
+/// Attributes as they are sent, `fattr4` (RFC 8881, section 3.3.9): which they are, and the bytes of their values in the
+/// order of their numbers. The bytes are lent, and have no bound but the record's.
+#[derive(Clone, Copy, Debug)]
+pub struct Attributes<'a> {
+    /// Which attributes they are.
+    pub set: Bitmap,
+    /// Their values, one behind the other.
+    pub values: Opaque<'a, 0xffff_ffff>,
+}
+
+impl<'a> Spell for Attributes<'a> {
+    ghost use Rattle.std.specs.Prelude.{Some};
+    ghost use Rattle.nfs_types.specs.Forms.{attributes, trimmed_set};
+    ghost use Rattle.nfs_types.specs.Views.{attributes_value};
+
+    ghost form = { attributes };
+
+    ghost view = { attributes_value };
+
+    ghost normal = { Some trimmed_set };
+
+    fn write<A: Allocator>(self, writer: &mut Writer<A>) -> Result<(), Full> {
+        (self.set, self.values).write(writer)
+    }
+}
+
+impl<'a> Wire<'a> for Attributes<'a> {
+    fn read(reader: &mut Reader<'a>) -> Result<Self, XdrFault> {
+        let (set, values) = Wire::read(reader)?;
+        Ok(Attributes { set, values })
+    }
+}

@@ -1,0 +1,93 @@
+ghost use Rattle.std.specs.Prelude.{◌≡◌, ◌≤◌, ◌<◌, ◌||◌, ◌==◌, ℕ, [], length};
+ghost use Rattle.nfs_types.specs.Forms as forms;
+
+use std::alloc::Allocator;
+use xdr_wire::{Full, Reader, Spell, Wire, Writer, XdrFault};
+
+/// A set of attribute numbers below 256, `bitmap4` (RFC 8881, section 3.3.7), by words of 32 bits. Zero words at the end
+/// say nothing: they are read, and not written.
+#[derive(Clone, Copy, Debug, PartialEq, Eq)]
+pub struct Bitmap {
+    words: [u32; 8],
+    ghost whole: { length words ≡ 8 },
+}
+
+/// The words without zero words at the end.
+fn trimmed(words: &[u32]) -> &[u32]
+    ensures { result.now ≡ forms.trimmed words.now }
+{
+    let mut len = words.len();
+    while len > 0 && words[len - 1] == 0 {
+        len -= 1;
+    }
+    &words[..len]
+}
+
+impl Bitmap {
+    ghost use Rattle.nfs_types.specs.Sets.{has_number};
+    ghost use Rattle.nfs_types.specs.Views.{bitmap_value};
+
+    /// The set of no number.
+    pub fn empty() -> Self
+        ensures { bitmap_value result ≡ [] }
+    {
+        Bitmap { words: [0; 8] }
+    }
+
+    /// Whether the attribute of this number is in the set.
+    pub fn has(&self, number: u32) -> bool
+        ensures { result ≡ has_number (bitmap_value self.now) number }
+    {
+        let index = (number / 32) as usize;
+        index < 8 && (self.words[index] >> (number % 32)) & 1 == 1
+    }
+
+    /// The set with the attribute of this number, which is below 256.
+    pub fn with(self, number: u32) -> Self
+        requires { number < 256 }
+        ensures { (m : ℕ) → has_number (bitmap_value result) m ≡ has_number (bitmap_value self) m || (m == number) }
+    {
+        let mut words = self.words;
+        words[(number / 32) as usize] |= 1 << (number % 32);
+        Bitmap { words }
+    }
+}
+
+impl Spell for Bitmap {
+    ghost use Rattle.std.specs.Prelude.{Some};
+    ghost use Rattle.nfs_types.specs.Forms.{bitmap, trimmed};
+    ghost use Rattle.nfs_types.specs.Views.{bitmap_value};
+
+    ghost form = { bitmap };
+
+    ghost view = { bitmap_value };
+
+    ghost normal = { Some trimmed };
+
+    fn write<A: Allocator>(self, writer: &mut Writer<A>) -> Result<(), Full> {
+        let start = writer.len();
+        let Bitmap { words: all } = self;
+        let words = trimmed(&all);
+        writer.put_u32(words.len() as u32)?;
+        for word in words {
+            if word.write(writer).is_err() {
+                writer.truncate(start);
+                return Err(Full);
+            }
+        }
+        Ok(())
+    }
+}
+
+impl<'a> Wire<'a> for Bitmap {
+    fn read(reader: &mut Reader<'a>) -> Result<Self, XdrFault> {
+        let mut ahead = reader.fork();
+        let count = ahead.count(8)?;
+        let mut words = [0; 8];
+        for index in 0..count as usize {
+            words[index] = ahead.u32()?;
+        }
+        *reader = ahead;
+        Ok(Bitmap { words })
+    }
+}
