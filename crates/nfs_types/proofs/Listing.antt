@@ -4,7 +4,7 @@ use Rattle.std.specs.Prelude.{OnOk}
 use Rattle.std.specs.Int.{w32, to_be_bytes}
 use Rattle.std.specs.List.{flat_map, AllByRecursion}
 use Rattle.std.proofs.lemmas.List.{length-append, length-map}
-use Rattle.xdr_wire.specs.Xdr.{spelling}
+use Rattle.xdr_wire.specs.Xdr.{Value, HasSpelling, spelling}
 use Rattle.xdr_wire.specs.Buffer.{Buffer, Appends, Puts}
 use Rattle.xdr_wire.proofs.Going.{Going, step, cut_back}
 use Rattle.acl_list.specs.declared.entry.Entry.{Entry}
@@ -61,3 +61,31 @@ pub list_bytes : (book : Content) (entries : List Entry) → spelling acl (map (
 list_bytes book entries =
     let count : length (map (ace_of book) entries) ≡ length entries = simp length-map in
     rw (count, mapped (ace_of book) (spelling ace) entries) refl
+
+-- ---- the same with any fact of each item
+
+put_ok : {X E : Type 0} (bytes_of : X → List ℕ) (P : X → Type 0) (now then : Buffer) (x : X) (r : Result (Unit {0}) E) → is_err r ≡ false → OnOk r (P x) → Puts now then (bytes_of x) r → P x × Appends now then (bytes_of x)
+put_ok bytes_of P now then x (Ok u) is fits puts = (fits, puts)
+put_ok bytes_of P now then x (Err e) is fits puts = absurd cc
+
+pub one_written : {X E : Type 0} (bytes_of : X → List ℕ) (P : X → Type 0) (old now then : Buffer) (begin : List ℕ) (xs : List X) (i : ℕ) (x d : X) (r : Result (Unit {0}) E) → i < length xs → x ≡ get_or xs i d
+    → is_err r ≡ false → OnOk r (P x) → Puts now then (bytes_of x) r → Going bytes_of P old begin xs now (drop i xs) → Going bytes_of P old begin xs then (drop (i + 1) xs)
+one_written bytes_of P old now then begin xs i x d r lt at is fits puts h =
+    let w = put_ok bytes_of P now then x r is fits puts in
+    step bytes_of P old now then begin xs (drop i xs) (drop (i + 1) xs) x (next_of xs i x d lt at) h w.1 w.0
+
+pub one_unwritten : {X E : Type 0} (bytes_of : X → List ℕ) (P : X → Type 0) (old now after cut : Buffer) (begin : List ℕ) (xs : List X) (i start : ℕ) (x d : X) (r : Result (Unit {0}) E) → i < length xs → x ≡ get_or xs i d
+    → start ≡ length old.bytes → Going bytes_of P old begin xs now (drop i xs) → Puts now after (bytes_of x) r → is_err r ≡ true → cut.bytes ≡ take start after.bytes → cut.room + start ≡ after.room + length after.bytes
+    → (old.room < length (begin ++ flat_map bytes_of xs)) × (cut ≡ old)
+one_unwritten bytes_of P old now after cut begin xs i start x d r lt at from h put err bytes room =
+    cut_back bytes_of P old now after cut begin xs (drop i xs) (drop (i + 1) xs) x r start from (next_of xs i x d lt at) h put err bytes room
+
+-- a list that is sent, as its entries are written
+pub sent_bytes : {X : Type 0} (f : X → Value ace) (xs : List X) → spelling acl (map f xs) ≡ to_be_bytes w32 (length xs) ++ flat_map (λ x. spelling ace (f x)) xs
+sent_bytes f xs =
+    let count : length (map f xs) ≡ length xs = simp length-map in
+    rw (count, mapped f (spelling ace) xs) refl
+
+pub all_mapped : {X : Type 0} (f : X → Value ace) (xs : List X) → AllByRecursion (λ x. HasSpelling ace (f x)) xs → AllByRecursion (HasSpelling ace) (map f xs)
+all_mapped f [] h = tt
+all_mapped f (x ∷ xs) h = (h.0, all_mapped f xs h.1)

@@ -15,3 +15,4 @@ pub mod Common
 pub mod Given
 pub mod Seen
 pub mod SeenViews
+pub mod ShownViews

@@ -1,4 +1,4 @@
-ghost use Rattle.std.specs.Prelude.{◌≡◌, ◌≤◌, ◌<◌, ◌||◌, ◌==◌, ℕ, [], length};
+ghost use Rattle.std.specs.Prelude.{◌≡◌, ◌≤◌, ◌<◌, ◌||◌, ◌==◌, ℕ, [], ◌∷◌, length};
 ghost use Rattle.nfs_types.specs.Forms as forms;
 
 use std::alloc::Allocator;
@@ -92,6 +92,15 @@ impl Bitmap {
     {
         Bitmap {
             words: [0xe818_3fff, 0x00b0_003a, 0x0000_0800, 0, 0, 0, 0, 0],
+        }
+    }
+
+    /// The set of these first two words.
+    pub(crate) fn of_words(first: u32, second: u32) -> Self
+        ensures { bitmap_value result ≡ forms.trimmed (first ∷ second ∷ []) }
+    {
+        Bitmap {
+            words: [first, second, 0, 0, 0, 0, 0, 0],
         }
     }
 

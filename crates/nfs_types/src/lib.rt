@@ -3,6 +3,7 @@
 #![tactic(auto)]
 
 mod ace;
+mod aces;
 mod attribute;
 mod attributes;
 mod attrs;
@@ -15,10 +16,12 @@ mod moment;
 mod name;
 mod seen;
 mod sent;
+mod shown;
 mod stateid;
 mod status;
 
 pub use ace::Ace;
+pub use aces::Aces;
 pub use attribute::Attribute;
 pub use attributes::Attributes;
 pub use attrs::{Attrs, AttrsFault, read_attrs};
@@ -29,5 +32,6 @@ pub use handle::Handle;
 pub use moment::Moment;
 pub use name::{MAX_NAME, check_name};
 pub use seen::{SeenAttributes, read_given};
+pub use shown::{ShownAttributes, write_given};
 pub use stateid::StateId;
 pub use status::Status;
