@@ -53,10 +53,7 @@ fn bit_if<T>(value: &Option<T>, bit: u32) -> u32
 }
 
 /// Writes a value, if it is there.
-fn write_shown<T: Spell, A: Allocator>(
-    value: Option<T>,
-    writer: &mut Writer<A>,
-) -> Result<(), Full>
+fn write_shown<T: Spell, A: Allocator>(value: Option<T>, writer: &mut Writer<A>) -> Result<(), Full>
     ensures { Puts writer.old writer.new (shown T.form (option_map T.view value)) result }
 {
     match value {
@@ -74,8 +71,9 @@ impl<'a> ShownAttributes<'a> {
             + bit_if(&self.size, 0x10)
             + bit_if(&self.error, 0x800)
             + bit_if(&self.entries, 0x1000);
-        let second =
-            bit_if(&self.mode, 0x2) + bit_if(&self.owner, 0x10) + bit_if(&self.group, 0x20);
+        let second = bit_if(&self.mode, 0x2)
+            + bit_if(&self.owner, 0x10)
+            + bit_if(&self.group, 0x20);
         Bitmap::of_words(first, second)
     }
 

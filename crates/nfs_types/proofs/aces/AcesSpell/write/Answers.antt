@@ -14,7 +14,7 @@ returns-then-is_err-clause-puts g c =
     let entries = c.args.self.entries.now in
     subst (λ (b : List ℕ). (c.args.writer.now.room < length b) × (c.truncate.new.self ≡ c.args.writer.now)) (sym (sent_bytes ace_value entries))
     (one_unwritten (λ e. spelling ace (ace_value e)) (λ e. HasSpelling ace (ace_value e)) c.args.writer.now c.loop-entry.writer c.write.new.writer c.truncate.new.self (to_be_bytes w32 (length entries)) entries c.loop-entry.entry-index c.len-start.result c.entry-item.result c.entry-item.result c.write.result
-      c.loop-entry-test.true c.entry-item.is c.len-start.ensures c.loop-entry.invariant c.write.ensures.puts (sym c.if-is_err.ensures.value) c.truncate.ensures.bytes c.truncate.ensures.room)
+    c.loop-entry-test.true c.entry-item.is c.len-start.ensures c.loop-entry.invariant c.write.ensures.puts (sym c.if-is_err.ensures.value) c.truncate.ensures.bytes c.truncate.ensures.room)
 
 pub loop-entry-preserved : goal.loop-entry-preserved
 loop-entry-preserved g c =
