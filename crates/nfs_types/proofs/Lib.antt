@@ -1,4 +1,12 @@
 pub mod Utf8
 pub mod Trim
+pub mod Refusing
+pub mod Shared
+pub mod Tables
+pub mod Within
 pub mod Words
+pub mod Aligned
+pub mod Placing
+pub mod Measured
+pub mod Listing
 pub mod Numbers

@@ -24,7 +24,7 @@ trimmed_at [] i = refl
 trimmed_at (w ∷ ws) zero = front_at w (trimmed ws) zero
 trimmed_at (w ∷ ws) (suc i) = front_at w (trimmed ws) (suc i) ∙ trimmed_at ws i
 
-by_word : (ws : List ℕ) (n : ℕ) → has_number (trimmed ws) n ≡ nat_eq (bit_at (get_or ws (n / 32) 0) (n % 32)) 1
+pub by_word : (ws : List ℕ) (n : ℕ) → has_number (trimmed ws) n ≡ nat_eq (bit_at (get_or ws (n / 32) 0) (n % 32)) 1
 unfolding has_number
 by_word ws n = ap (λ (w : ℕ). nat_eq (bit_at w (n % 32)) 1) (trimmed_at ws (n / 32))
 

@@ -4,4 +4,15 @@ pub mod Forms
 pub mod Handles
 pub mod StateIds
 pub mod Sets
+pub mod Attributes
+pub mod Sent
+pub mod AceView
+pub mod SentViews
+pub mod SentFaults
+pub mod MomentView
 pub mod Views
+pub mod Common
+pub mod Given
+pub mod Seen
+pub mod SeenViews
+pub mod ShownViews

@@ -1,11 +1,11 @@
 -- What a value of each type spells.
 use Rattle.xdr_wire.specs.Xdr.{Value}
-use Rattle.nfs_types.specs.Forms.{handle, stateid, time, bitmap, attributes, trimmed}
+use Rattle.nfs_types.specs.Forms.{handle, stateid, bitmap, attributes, trimmed}
 use Rattle.nfs_types.specs.Handles.{object_handle}
 use Rattle.nfs_types.specs.declared.handle.Handle.{Handle}
 use Rattle.nfs_types.specs.declared.handle.Handle.TheVariants.{Sent, Object}
 use Rattle.nfs_types.specs.declared.stateid.StateId.{StateId}
-use Rattle.nfs_types.specs.declared.moment.Moment.{Moment}
+pub use Rattle.nfs_types.specs.MomentView.{moment_value}
 use Rattle.nfs_types.specs.declared.bitmap.Bitmap.{Bitmap}
 use Rattle.nfs_types.specs.declared.attributes.Attributes.{Attributes}
 
@@ -15,9 +15,6 @@ handle_value (Object number) = object_handle number
 
 abbrev pub stateid_value : StateId → Value stateid
 stateid_value s = (s.seqid, s.other)
-
-abbrev pub moment_value : Moment → Value time
-moment_value m = (m.seconds, m.nanoseconds)
 
 abbrev pub bitmap_value : Bitmap → Value bitmap
 bitmap_value b = trimmed b.words

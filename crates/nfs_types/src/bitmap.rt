@@ -1,4 +1,4 @@
-ghost use Rattle.std.specs.Prelude.{◌≡◌, ◌≤◌, ◌<◌, ◌||◌, ◌==◌, ℕ, [], length};
+ghost use Rattle.std.specs.Prelude.{◌≡◌, ◌≤◌, ◌<◌, ◌||◌, ◌==◌, ℕ, [], ◌∷◌, length};
 ghost use Rattle.nfs_types.specs.Forms as forms;
 
 use std::alloc::Allocator;
@@ -24,6 +24,10 @@ fn trimmed(words: &[u32]) -> &[u32]
 }
 
 impl Bitmap {
+    ghost use Rattle.std.specs.Prelude.{not};
+    ghost use Rattle.nfs_types.specs.Attributes as specs;
+    ghost use Rattle.nfs_types.specs.Common.{common};
+    ghost use Rattle.nfs_types.specs.Seen.{seen_words};
     ghost use Rattle.nfs_types.specs.Sets.{has_number};
     ghost use Rattle.nfs_types.specs.Views.{bitmap_value};
 
@@ -50,6 +54,72 @@ impl Bitmap {
         let mut words = self.words;
         words[(number / 32) as usize] |= 1 << (number % 32);
         Bitmap { words }
+    }
+
+    /// Whether this number is in the other set if it is in this one.
+    fn keeps_within(&self, other: &Bitmap, number: u32) -> bool
+        ensures { result ≡ not (has_number (bitmap_value self.now) number) || has_number (bitmap_value other.now) number }
+    {
+        !self.has(number) || other.has(number)
+    }
+
+    /// Whether each number of the set is in the other one.
+    pub fn is_within(&self, other: &Bitmap) -> bool
+        ensures { result ≡ specs.is_within (bitmap_value self.now) (bitmap_value other.now) }
+    {
+        for number in 0..256 {
+            if !self.keeps_within(other, number) {
+                return false;
+            }
+        }
+        true
+    }
+
+    /// The numbers that both sets have.
+    pub fn common(&self, other: &Bitmap) -> Self
+        ensures { bitmap_value result ≡ forms.trimmed (common (bitmap_value self.now) (bitmap_value other.now)) }
+    {
+        let mut words = self.words;
+        for index in 0..8 {
+            words[index] &= other.words[index];
+        }
+        Bitmap { words }
+    }
+
+    /// The attributes that are supported.
+    pub fn supported() -> Self
+        ensures { bitmap_value result ≡ specs.supported_words }
+    {
+        Bitmap {
+            words: [0xe818_3fff, 0x00b0_003a, 0x0000_0800, 0, 0, 0, 0, 0],
+        }
+    }
+
+    /// The set of these first two words.
+    pub(crate) fn of_words(first: u32, second: u32) -> Self
+        ensures { bitmap_value result ≡ forms.trimmed (first ∷ second ∷ []) }
+    {
+        Bitmap {
+            words: [first, second, 0, 0, 0, 0, 0, 0],
+        }
+    }
+
+    /// The attributes that a client asks for: 1, 4, 11, 12, 33, 36 and 37.
+    pub fn seen() -> Self
+        ensures { bitmap_value result ≡ seen_words }
+    {
+        Bitmap {
+            words: [0x0000_1812, 0x0000_0032, 0, 0, 0, 0, 0, 0],
+        }
+    }
+
+    /// The attributes that CREATE, OPEN and SETATTR can set.
+    pub fn settable() -> Self
+        ensures { bitmap_value result ≡ specs.settable_words }
+    {
+        Bitmap {
+            words: [0x0000_1010, 0x0000_0032, 0, 0, 0, 0, 0, 0],
+        }
     }
 }
 

@@ -2,19 +2,38 @@
 //! (RFC 8881).
 #![tactic(auto)]
 
+mod ace;
+mod aces;
+mod attribute;
 mod attributes;
+mod attrs;
 mod bitmap;
+mod facts;
 mod filled;
+mod given;
 mod handle;
+mod laws;
 mod moment;
 mod name;
+mod seen;
+mod sent;
+mod shown;
 mod stateid;
 mod status;
 
+pub use ace::Ace;
+pub use aces::Aces;
+pub use attribute::Attribute;
 pub use attributes::Attributes;
+pub use attrs::{Attrs, AttrsFault, read_attrs};
 pub use bitmap::Bitmap;
+pub use facts::ObjectFacts;
+pub use given::GivenAttributes;
 pub use handle::Handle;
+pub use laws::{given_is_asked_and_supported, sets_are_the_table};
 pub use moment::Moment;
 pub use name::{MAX_NAME, check_name};
+pub use seen::{SeenAttributes, read_given};
+pub use shown::{ShownAttributes, write_given};
 pub use stateid::StateId;
 pub use status::Status;

@@ -16,7 +16,7 @@ pub struct Moment {
 impl Spell for Moment {
     ghost use Rattle.std.specs.Prelude.{None};
     ghost use Rattle.nfs_types.specs.Forms.{time};
-    ghost use Rattle.nfs_types.specs.Views.{moment_value};
+    ghost use Rattle.nfs_types.specs.MomentView.{moment_value};
 
     ghost form = { time };
 

@@ -1,0 +1,81 @@
+-- Attributes as a client sees them: those that it asks for, and those that it sets.
+use Rattle.std.specs.Prelude.{ℕ, ◌+◌, not, if◌then◌else◌, List, [], ◌∷◌, Option, Some, None, is_some, Result, Ok, Err}
+use Rattle.std.specs.List.{flat_map}
+use Rattle.xdr_wire.specs.Xdr.{Xdr, Value, uint, hyper, spelling}
+use Rattle.xdr_wire.specs.Reading.{◌>>=◌, Read}
+use Rattle.xdr_wire.specs.declared.fault.XdrFault.{XdrFault}
+use Rattle.xdr_wire.specs.declared.fault.XdrFault.TheVariants.{TooLong, BadChoice}
+use Rattle.nfs_types.specs.Forms.{trimmed}
+use Rattle.nfs_types.specs.Sets.{has_number}
+use Rattle.nfs_types.specs.Attributes.{text, ace, acl, is_within}
+use Rattle.nfs_types.specs.Sent.{chosen_at}
+use Rattle.nfs_types.specs.declared.attribute.Attribute.{Attribute}
+use Rattle.nfs_types.specs.declared.attribute.Attribute.TheVariants.{ObjectType, Size, RdattrError, Acl, Mode, Owner, OwnerGroup}
+
+-- the values, each if it is there
+pub record Seen : Type 0 where
+  pub kind : Option ℕ
+  pub size : Option ℕ
+  pub error : Option ℕ
+  pub entries : Option (List (Value ace))
+  pub mode : Option ℕ
+  pub owner : Option (List ℕ)
+  pub group : Option (List ℕ)
+
+-- the set of these: 1 type, 4 size, 11 rdattr_error, 12 acl, 33 mode, 36 owner, 37 owner_group
+abbrev pub seen_words : List ℕ
+seen_words = 0x0000_1812 ∷ 0x0000_0032 ∷ []
+
+-- one value behind the other, by rising number
+abbrev pub seen_at : List ℕ → List ℕ → Read Seen
+seen_at set bytes =
+    chosen_at (has_number set 1) uint bytes >>= λ a.
+    chosen_at (has_number set 4) hyper a.1 >>= λ b.
+    chosen_at (has_number set 11) uint b.1 >>= λ c.
+    chosen_at (has_number set 12) acl c.1 >>= λ d.
+    chosen_at (has_number set 33) uint d.1 >>= λ e.
+    chosen_at (has_number set 36) text e.1 >>= λ f.
+    chosen_at (has_number set 37) text f.1 >>= λ g.
+    Ok (record { kind = a.0; size = b.0; error = c.0; entries = d.0; mode = e.0; owner = f.0; group = g.0 }, g.1)
+
+-- nothing stands behind the values
+abbrev pub ended : Read Seen → Result Seen XdrFault
+ended (Ok (seen, [])) = Ok seen
+ended (Ok (seen, b ∷ bytes)) = Err TooLong
+ended (Err fault) = Err fault
+
+-- the values that the bytes spell, all of the bytes; a client knows no other attribute
+abbrev pub seen_of : List ℕ → List ℕ → Result Seen XdrFault
+seen_of set bytes = if not (is_within set seen_words) then Err BadChoice else ended (seen_at set bytes)
+
+-- ---- the same, as a client writes them
+
+-- these attributes, by rising number
+abbrev pub seen_all : List Attribute
+seen_all = ObjectType ∷ Size ∷ RdattrError ∷ Acl ∷ Mode ∷ Owner ∷ OwnerGroup ∷ []
+
+abbrev pub shown : (t : Xdr) → Option (Value t) → List ℕ
+shown t None = []
+shown t (Some v) = spelling t v
+
+-- the bytes of an attribute, if it is there
+abbrev pub shown_part : Seen → Attribute → List ℕ
+shown_part s ObjectType = shown uint s.kind
+shown_part s Size = shown hyper s.size
+shown_part s RdattrError = shown uint s.error
+shown_part s Acl = shown acl s.entries
+shown_part s Mode = shown uint s.mode
+shown_part s Owner = shown text s.owner
+shown_part s OwnerGroup = shown text s.group
+shown_part s _ = []
+
+-- the values, one behind the other
+unfoldable pub shown_values : Seen → List ℕ
+shown_values s = flat_map (shown_part s) seen_all
+
+abbrev pub bit_if : {X : Type 0} → Option X → ℕ → ℕ
+bit_if value bit = if is_some value then bit else 0
+
+-- the set of those that are there
+abbrev pub shown_set : Seen → List ℕ
+shown_set s = trimmed ((bit_if s.kind 0x2 + bit_if s.size 0x10 + bit_if s.error 0x800 + bit_if s.entries 0x1000) ∷ (bit_if s.mode 0x2 + bit_if s.owner 0x10 + bit_if s.group 0x20) ∷ [])

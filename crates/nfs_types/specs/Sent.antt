@@ -1,0 +1,124 @@
+-- Attributes that an operation sets, as they are sent (RFC 8881, sections 5.8, 5.9 and 6.2).
+use Rattle.std.specs.Prelude.{ℕ, nat_lt, Bool, true, false, not, if◌then◌else◌, List, [], ◌∷◌, map, Option, Some, None, Result, Ok, Err}
+use Rattle.xdr_wire.specs.Xdr.{Xdr, Value, uint, hyper}
+use Rattle.xdr_wire.specs.Reading.{◌>>=◌, Read, read_at}
+use Rattle.acl_list.specs.declared.entry.Entry.{Entry}
+use Rattle.acl_list.specs.declared.entry.Kind.{Kind}
+use Rattle.acl_shape.specs.Admitted.{first_fault, admitted}
+use Rattle.acl_shape.specs.declared.request.Raw.{Raw}
+use Rattle.acl_shape.specs.declared.request.AdmitFault.{AdmitFault}
+use Rattle.acl_shape.specs.declared.request.AdmitFault.TheVariants as faults
+use Rattle.who_book.specs.Content.{Content}
+use Rattle.who_book.specs.Spelling.{principal_in, who_in}
+use Rattle.who_book.specs.declared.kind.NameKind.{NameKind}
+use Rattle.who_book.specs.declared.kind.NameKind.TheVariants as kinds
+use Rattle.nfs_types.specs.Sets.{has_number}
+use Rattle.nfs_types.specs.Attributes.{text, ace, acl, supported_words, settable_words, is_within}
+use Rattle.nfs_types.specs.declared.status.Status.{Status}
+use Rattle.nfs_types.specs.declared.status.Status.TheVariants as status
+
+-- the value of an attribute that is among those sent, or nothing
+abbrev pub chosen_at : Bool → (t : Xdr) → List ℕ → Read (Option (Value t))
+chosen_at true t bytes = read_at t bytes >>= λ x. Ok (Some x.0, x.1)
+chosen_at false t bytes = Ok (None, bytes)
+
+-- the values that were sent
+pub record Sent : Type 0 where
+  pub size : Option ℕ
+  pub entries : Option (List (Value ace))
+  pub mode : Option ℕ
+  pub owner : Option (List ℕ)
+  pub group : Option (List ℕ)
+
+-- One value behind the other, by rising number: 4 size, 12 acl, 33 mode, 36 owner, 37 owner_group.
+abbrev pub sent_at : List ℕ → List ℕ → Read Sent
+sent_at set bytes =
+    chosen_at (has_number set 4) hyper bytes >>= λ a.
+    chosen_at (has_number set 12) acl a.1 >>= λ b.
+    chosen_at (has_number set 33) uint b.1 >>= λ c.
+    chosen_at (has_number set 36) text c.1 >>= λ d.
+    chosen_at (has_number set 37) text d.1 >>= λ e.
+    Ok (record { size = a.0; entries = b.0; mode = c.0; owner = d.0; group = e.0 }, e.1)
+
+-- the values that the bytes spell, all of the bytes
+abbrev pub whole : Read Sent → Option Sent
+whole (Ok (sent, [])) = Some sent
+whole (Ok (sent, b ∷ bytes)) = None
+whole (Err fault) = None
+
+-- an entry, its who looked up
+abbrev pub raw_of : Content → Value ace → Raw
+raw_of book e = record { kind = e.0; flags = e.1.0; mask = e.1.1.0; who = who_in e.1.0 book e.1.1.1 }
+
+-- what an operation sets
+pub record Wanted : Type 0 where
+  pub size : Option ℕ
+  pub list : Option (List Entry)
+  pub mode : Option ℕ
+  pub owner : Option ℕ
+  pub group : Option ℕ
+
+abbrev pub made : Option ℕ → Option (List Entry) → Option ℕ → Option ℕ → Option ℕ → Wanted
+made size list mode owner group = record { size = size; list = list; mode = mode; owner = owner; group = group }
+
+infixl 10 ◌>>◌
+abbrev pub ◌>>◌ : {A B : Type 0} → Result A Status → (A → Result B Status) → Result B Status
+(Ok x) >> f = f x
+(Err status) >> f = Err status
+
+-- the status of a list that isn't taken
+abbrev pub status_of : AdmitFault → Status
+status_of faults.NoSpc = status.NoSpc
+status_of faults.AttrNotSupp = status.AttrNotSupp
+status_of faults.Inval = status.Inval
+status_of faults.BadOwner = status.BadOwner
+status_of faults.Memory = status.Delay
+
+-- each value, or what is wrong with it
+abbrev pub unless : Option AdmitFault → List Entry → Result (Option (List Entry)) Status
+unless None list = Ok (Some list)
+unless (Some fault) list = Err (status_of fault)
+
+abbrev pub taken_list : Content → Kind → Option (List (Value ace)) → Result (Option (List Entry)) Status
+taken_list book kind None = Ok None
+taken_list book kind (Some entries) = unless (first_fault (map (raw_of book) entries)) (admitted kind (map (raw_of book) entries))
+
+-- 4095 is 07777 in octal
+abbrev pub taken_mode : Option ℕ → Result (Option ℕ) Status
+taken_mode None = Ok None
+taken_mode (Some mode) = if nat_lt 4095 mode then Err status.Inval else Ok (Some mode)
+
+abbrev pub known : Option ℕ → Result (Option ℕ) Status
+known None = Err status.BadOwner
+known (Some number) = Ok (Some number)
+
+abbrev pub taken_name : Content → NameKind → Option (List ℕ) → Result (Option ℕ) Status
+taken_name book kind None = Ok None
+taken_name book kind (Some name) = known (principal_in kind book name)
+
+-- the values behind the list
+abbrev pub Plain : Type 0
+Plain = Option ℕ × (Option ℕ × Option ℕ)
+
+abbrev pub taken_plain : Content → Option ℕ → Option (List ℕ) → Option (List ℕ) → Result Plain Status
+taken_plain book mode owner group =
+    taken_mode mode >> λ m. taken_name book kinds.User owner >> λ o. taken_name book kinds.Group group >> λ g. Ok (m, (o, g))
+
+-- all values, or the first that is wrong, by rising number
+abbrev pub taken : Content → Kind → Sent → Result Wanted Status
+taken book kind sent =
+    taken_list book kind sent.entries >> λ list.
+    taken_plain book sent.mode sent.owner sent.group >> λ plain.
+    Ok (made sent.size list plain.0 plain.1.0 plain.1.1)
+
+abbrev pub spelled : Content → Kind → Option Sent → Result Wanted Status
+spelled book kind None = Err status.BadXdr
+spelled book kind (Some sent) = taken book kind sent
+
+-- What attributes that were sent set on an object of this kind, or the first fault over the whole set: an attribute that
+-- isn't supported; one that can't be set; bytes that aren't exactly the values; then a value.
+abbrev pub wanted_of : Content → Kind → List ℕ → List ℕ → Result Wanted Status
+wanted_of book kind set bytes =
+    if not (is_within set supported_words) then Err status.AttrNotSupp
+    else if not (is_within set settable_words) then Err status.Inval
+    else spelled book kind (whole (sent_at set bytes))

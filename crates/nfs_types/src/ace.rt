@@ -1,0 +1,43 @@
+use std::alloc::Allocator;
+use xdr_wire::{Full, Opaque, Reader, Spell, Wire, Writer, XdrFault};
+
+/// An entry of a list as it is sent, `nfsace4` (RFC 8881, section 6.2.1): any numbers, and the who as text.
+#[derive(Clone, Copy, Debug)]
+pub struct Ace<'a> {
+    /// Its type, `acetype4`.
+    pub kind: u32,
+    /// Its flags, `aceflag4`.
+    pub flags: u32,
+    /// Its mask, `acemask4`.
+    pub mask: u32,
+    /// Whom it is about, as text. It has no bound but the record's.
+    pub who: Opaque<'a, 0xffff_ffff>,
+}
+
+impl<'a> Spell for Ace<'a> {
+    ghost use Rattle.std.specs.Prelude.{None};
+    ghost use Rattle.nfs_types.specs.Attributes.{ace};
+    ghost use Rattle.nfs_types.specs.AceView.{ace_value};
+
+    ghost form = { ace };
+
+    ghost view = { ace_value };
+
+    ghost normal = { None };
+
+    fn write<A: Allocator>(self, writer: &mut Writer<A>) -> Result<(), Full> {
+        (self.kind, (self.flags, (self.mask, self.who))).write(writer)
+    }
+}
+
+impl<'a> Wire<'a> for Ace<'a> {
+    fn read(reader: &mut Reader<'a>) -> Result<Self, XdrFault> {
+        let (kind, (flags, (mask, who))) = Wire::read(reader)?;
+        Ok(Ace {
+            kind,
+            flags,
+            mask,
+            who,
+        })
+    }
+}

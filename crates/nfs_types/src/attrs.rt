@@ -1,0 +1,265 @@
+//! What CREATE, OPEN and SETATTR set.
+ghost use Rattle.std.specs.Prelude.{◌≡◌, ◌++◌, ◌≤◌, ℕ, length, map, take, Some, None, Ok, Err, MatchResult, IfOk, IfSome, option_map};
+ghost use Rattle.acl_shape.specs.Admitted.{admitted, first_fault};
+ghost use Rattle.acl_shape.specs.Bounds.{IsBounded};
+ghost use Rattle.acl_shape.specs.declared.request.AdmitFault.{AdmitFault};
+ghost use Rattle.acl_shape.specs.declared.request.AdmitFault.TheVariants as faults;
+ghost use Rattle.xdr_wire.specs.Wire.{array_values};
+ghost use Rattle.nfs_types.specs.Attributes.{ace};
+ghost use Rattle.nfs_types.specs.AceView.{ace_value};
+ghost use Rattle.nfs_types.specs.Sent as specs;
+ghost use Rattle.nfs_types.specs.Sent.{made, taken, taken_list, taken_mode, taken_name, taken_plain, wanted_of};
+ghost use Rattle.nfs_types.specs.SentFaults.{Answers};
+ghost use Rattle.nfs_types.specs.SentViews.{sent_value};
+ghost use Rattle.nfs_types.specs.Views.{bitmap_value};
+
+use crate::ace::Ace;
+use crate::attributes::Attributes;
+use crate::bitmap::Bitmap;
+use crate::sent::Sent;
+use crate::status::Status;
+use acl_list::{AclList, Kind};
+use acl_shape::{AdmitFault, MAX_KEPT, Raw, admit};
+use std::alloc::{Allocator, Global};
+use thiserror::Error;
+use who_book::{Book, NameKind};
+use xdr_wire::{Array, Opaque};
+
+/// The most bits of a mode.
+const MAX_MODE: u32 = 0o7777;
+
+/// What CREATE, OPEN or SETATTR sets (RFC 8881, sections 5.8.2 and 6.2): each attribute that was sent.
+#[derive(Debug, Drop)]
+pub struct Attrs<A: Allocator = Global> {
+    /// 4, size: how many bytes the file is to have.
+    pub size: Option<u64>,
+    /// 12, acl: the list as it is taken for the kind of object.
+    pub list: Option<AclList<A>>,
+    /// 33, mode: at most 0o7777.
+    pub mode: Option<u32>,
+    /// 36, owner: the number of the user.
+    pub owner: Option<u32>,
+    /// 37, owner_group: the number of the group.
+    pub group: Option<u32>,
+}
+
+/// Why attributes aren't set.
+#[derive(Clone, Copy, Debug, PartialEq, Eq, Error)]
+pub enum AttrsFault {
+    /// What was sent is refused with this status.
+    #[error("the attributes are refused")]
+    Refused(Status),
+    /// There is no memory for the list.
+    #[error("out of memory")]
+    Memory,
+}
+
+impl From<AdmitFault> for AttrsFault {
+    ghost use Rattle.nfs_types.specs.SentFaults.{attrs_fault};
+
+    ghost from_gives = { λ fault new. new ≡ attrs_fault fault };
+
+    fn from(fault: AdmitFault) -> Self {
+        match fault {
+            AdmitFault::NoSpc => AttrsFault::Refused(Status::NoSpc),
+            AdmitFault::AttrNotSupp => AttrsFault::Refused(Status::AttrNotSupp),
+            AdmitFault::Inval => AttrsFault::Refused(Status::Inval),
+            AdmitFault::BadOwner => AttrsFault::Refused(Status::BadOwner),
+            AdmitFault::Memory => AttrsFault::Memory,
+        }
+    }
+}
+
+impl From<Status> for AttrsFault {
+    ghost use Rattle.std.specs.Prelude.{◌≡◌};
+    ghost use Rattle.nfs_types.specs.declared.attrs.AttrsFault.TheVariants.{Refused};
+
+    ghost from_gives = { λ status fault. fault ≡ Refused status };
+
+    fn from(status: Status) -> Self {
+        AttrsFault::Refused(status)
+    }
+}
+
+/// An entry that was sent, its who looked up.
+fn raw_of(book: &Book, ace: &Ace<'_>) -> Raw
+    ensures { result ≡ specs.raw_of book.now (ace_value ace.now) }
+{
+    Raw {
+        kind: ace.kind,
+        flags: ace.flags,
+        mask: ace.mask,
+        who: book.who(ace.flags, ace.who.bytes),
+    }
+}
+
+/// Puts the entries in, of which there are few enough, and counts them.
+fn fill<'a>(book: &Book, entries: Array<'a, Ace<'a>, 0xffff_ffff>, raws: &mut [Raw]) -> usize
+    requires { length (array_values ace None entries.count entries.bytes.now) ≤ length raws.old }
+    ensures count { result ≤ length raws.new }
+    ensures raws { take result raws.new ≡ map (specs.raw_of book.now) (array_values ace None entries.entry.count entries.entry.bytes.now) }
+{
+    let mut left = entries;
+    let mut count = 0;
+    while let Some(entry) = left.next() {
+        raws[count] = raw_of(book, &entry);
+        count += 1;
+    }
+    count
+}
+
+/// The list that the entries ask for, on an object of this kind. It has as few as it may, before any is looked at.
+fn admit_all<'a, A: Allocator>(
+    alloc: A,
+    book: &Book,
+    kind: Kind,
+    entries: Array<'a, Ace<'a>, 0xffff_ffff>,
+) -> Result<AclList<A>, AdmitFault>
+    ensures refused { (fault : AdmitFault) → first_fault (map (specs.raw_of book.now) (array_values ace None entries.entry.count entries.entry.bytes.now)) ≡ Some fault → result ≡ Err fault }
+    ensures taken { first_fault (map (specs.raw_of book.now) (array_values ace None entries.entry.count entries.entry.bytes.now)) ≡ None →
+        MatchResult result (λ new. new ≡ admitted kind (map (specs.raw_of book.now) (array_values ace None entries.entry.count entries.entry.bytes.now))) (λ fault. fault ≡ faults.Memory) }
+    ensures bounded { IfOk result IsBounded }
+{
+    if entries.len() > MAX_KEPT {
+        return Err(AdmitFault::NoSpc);
+    }
+    let mut raws = [Raw {
+        kind: 0,
+        flags: 0,
+        mask: 0,
+        who: None,
+    }; MAX_KEPT];
+    let count = fill(book, entries, &mut raws);
+    admit(alloc, &raws[..count], kind)
+}
+
+/// The list that was sent, if one was.
+fn list_of<'a, A: Allocator>(
+    alloc: A,
+    book: &Book,
+    kind: Kind,
+    entries: Option<Array<'a, Ace<'a>, 0xffff_ffff>>,
+) -> Result<Option<AclList<A>>, AttrsFault>
+    ensures list { Answers (λ list. list) (taken_list book.now kind (option_map (λ a. array_values ace None a.count a.bytes.now) entries.entry)) result }
+    ensures bounded { IfOk result (λ list. IfSome list IsBounded) }
+{
+    let Some(entries) = entries else {
+        return Ok(None);
+    };
+    let list = admit_all(alloc, book, kind, entries)?;
+    Ok(Some(list))
+}
+
+/// The mode that was sent, if one was.
+fn mode_of(mode: Option<u32>) -> Result<Option<u32>, Status>
+    ensures { result ≡ taken_mode mode }
+{
+    match mode {
+        None => Ok(None),
+        Some(bits) => {
+            if bits > MAX_MODE {
+                return Err(Status::Inval);
+            }
+            Ok(Some(bits))
+        }
+    }
+}
+
+/// The number of the user or the group that was sent, if one was.
+fn number_of(
+    book: &Book,
+    kind: NameKind,
+    name: Option<Opaque<'_, 0xffff_ffff>>,
+) -> Result<Option<u32>, Status>
+    ensures { result ≡ taken_name book.now kind (option_map (λ t. t.bytes.now) name.entry) }
+{
+    let Some(name) = name else {
+        return Ok(None);
+    };
+    match book.principal(kind, name.bytes) {
+        None => Err(Status::BadOwner),
+        Some(number) => Ok(Some(number)),
+    }
+}
+
+/// The mode and the numbers that were sent, in their order.
+type Plain = (Option<u32>, (Option<u32>, Option<u32>));
+
+/// What the values behind the list set.
+fn plain_of(
+    book: &Book,
+    mode: Option<u32>,
+    owner: Option<Opaque<'_, 0xffff_ffff>>,
+    group: Option<Opaque<'_, 0xffff_ffff>>,
+) -> Result<Plain, Status>
+    ensures { result ≡ taken_plain book.now mode (option_map (λ t. t.bytes.now) owner.entry) (option_map (λ t. t.bytes.now) group.entry) }
+{
+    let mode = mode_of(mode)?;
+    let owner = number_of(book, NameKind::User, owner)?;
+    let group = number_of(book, NameKind::Group, group)?;
+    Ok((mode, (owner, group)))
+}
+
+/// What values that are spelled set.
+fn attrs_of<'a, A: Allocator>(
+    alloc: A,
+    book: &Book,
+    kind: Kind,
+    sent: Sent<'a>,
+) -> Result<Attrs<A>, AttrsFault>
+    ensures attrs { Answers (λ new. made new.size new.list new.mode new.owner new.group) (taken book.now kind (sent_value sent.entry)) result }
+    ensures bounded { IfOk result (λ new. IfSome new.list IsBounded) }
+{
+    let Sent {
+        size,
+        entries,
+        mode,
+        owner,
+        group,
+    } = sent;
+    match list_of(alloc, book, kind, entries) {
+        Err(AttrsFault::Refused(status)) => Err(AttrsFault::Refused(status)),
+        Err(AttrsFault::Memory) => {
+            plain_of(book, mode, owner, group)?;
+            Err(AttrsFault::Memory)
+        }
+        Ok(list) => {
+            let (mode, (owner, group)) = plain_of(book, mode, owner, group)?;
+            Ok(Attrs {
+                size,
+                list,
+                mode,
+                owner,
+                group,
+            })
+        }
+    }
+}
+
+/// What attributes that were sent set on an object of this kind, with the list over `alloc` (RFC 8881, sections 5.8, 5.9 and
+/// 6.2): any of 4 size, 12 acl, 33 mode, 36 owner and 37 owner_group.
+///
+/// They are refused for the first of these over the whole set: an attribute that isn't supported, `AttrNotSupp`; one that
+/// can't be set, `Inval`; bytes that don't spell exactly the values, `BadXdr`; then by rising number: a list as
+/// [`acl_shape::admit`] refuses it; a mode above 0o7777, `Inval`; an owner or a group that the book doesn't know,
+/// `BadOwner`. `Memory` comes only to what isn't refused.
+pub fn read_attrs<A: Allocator>(
+    alloc: A,
+    book: &Book,
+    kind: Kind,
+    sent: &Attributes<'_>,
+) -> Result<Attrs<A>, AttrsFault>
+    ensures attrs { Answers (λ new. made new.size new.list new.mode new.owner new.group) (wanted_of book.now kind (bitmap_value sent.now.set) sent.now.values.bytes.now) result }
+    ensures bounded { IfOk result (λ new. IfSome new.list IsBounded) }
+{
+    if !sent.set.is_within(&Bitmap::supported()) {
+        return Err(AttrsFault::Refused(Status::AttrNotSupp));
+    }
+    if !sent.set.is_within(&Bitmap::settable()) {
+        return Err(AttrsFault::Refused(Status::Inval));
+    }
+    let Some(values) = Sent::read(sent) else {
+        return Err(AttrsFault::Refused(Status::BadXdr));
+    };
+    attrs_of(alloc, book, kind, values)
+}

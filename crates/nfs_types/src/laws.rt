@@ -1,0 +1,18 @@
+//! What follows from the definitions alone.
+ghost use Rattle.std.specs.Prelude.{◌≡◌, ◌==◌, ◌&&◌, ℕ, List};
+ghost use Rattle.std.specs.List.{list_any};
+ghost use Rattle.nfs_types.specs.Attributes.{all, number_of, row, settable_words, supported_words};
+ghost use Rattle.nfs_types.specs.Given.{given_set};
+ghost use Rattle.nfs_types.specs.Sets.{has_number};
+
+/// The words of the supported attributes are the numbers of the table, and those of the settable ones the numbers of its rows
+/// that can be set.
+pub fn sets_are_the_table()
+    ensures supported { (n : ℕ) → has_number supported_words n ≡ list_any (λ a. number_of a == n) all }
+    ensures settable { (n : ℕ) → has_number settable_words n ≡ list_any (λ a. (row a).settable && (number_of a == n)) all }
+{}
+
+/// What is given of an object is what is asked and supported.
+pub fn given_is_asked_and_supported()
+    ensures { (asked : List ℕ) (n : ℕ) → has_number (given_set asked) n ≡ has_number asked n && has_number supported_words n }
+{}

@@ -1,0 +1,73 @@
+//! Attributes as a client sees them.
+ghost use Rattle.std.specs.Prelude.{◌≡◌, Ok, Err, MatchResult};
+ghost use Rattle.xdr_wire.specs.Reading.{Gives};
+ghost use Rattle.nfs_types.specs.Seen.{seen_at, seen_of};
+ghost use Rattle.nfs_types.specs.SeenViews.{seen_value};
+ghost use Rattle.nfs_types.specs.Views.{bitmap_value};
+
+use crate::ace::Ace;
+use crate::attribute::Attribute;
+use crate::attributes::Attributes;
+use crate::bitmap::Bitmap;
+use crate::sent::chosen;
+use xdr_wire::{Array, Opaque, Reader, XdrFault};
+
+/// The attributes that a client asks for, as they were given: each if it is there.
+#[derive(Drop)]
+pub struct SeenAttributes<'a> {
+    /// 1, type, `nfs_ftype4`.
+    pub kind: Option<u32>,
+    /// 4, size.
+    pub size: Option<u64>,
+    /// 11, rdattr_error: a status.
+    pub error: Option<u32>,
+    /// 12, acl.
+    pub entries: Option<Array<'a, Ace<'a>, 0xffff_ffff>>,
+    /// 33, mode.
+    pub mode: Option<u32>,
+    /// 36, owner, as text.
+    pub owner: Option<Opaque<'a, 0xffff_ffff>>,
+    /// 37, owner_group, as text.
+    pub group: Option<Opaque<'a, 0xffff_ffff>>,
+}
+
+/// The values of this set, one behind the other.
+fn values<'a>(set: &Bitmap, reader: &mut Reader<'a>) -> Result<SeenAttributes<'a>, XdrFault>
+    ensures { Gives seen_value reader.old reader.new result (seen_at (bitmap_value set.now) reader.old) }
+{
+    let mut ahead = reader.fork();
+    let kind = chosen(set, Attribute::ObjectType.number(), &mut ahead)?;
+    let size = chosen(set, Attribute::Size.number(), &mut ahead)?;
+    let error = chosen(set, Attribute::RdattrError.number(), &mut ahead)?;
+    let entries = chosen(set, Attribute::Acl.number(), &mut ahead)?;
+    let mode = chosen(set, Attribute::Mode.number(), &mut ahead)?;
+    let owner = chosen(set, Attribute::Owner.number(), &mut ahead)?;
+    let group = chosen(set, Attribute::OwnerGroup.number(), &mut ahead)?;
+    *reader = ahead;
+    Ok(SeenAttributes {
+        kind,
+        size,
+        error,
+        entries,
+        mode,
+        owner,
+        group,
+    })
+}
+
+/// Reads what a server gave of an object (RFC 8881, sections 3.3.9, 18.7 and 18.23), lent: any of the attributes 1, 4, 11,
+/// 12, 33, 36 and 37. `BadChoice`: another attribute is there. Else the first fault of a value; `TooLong`: there are more
+/// bytes than the values take.
+pub fn read_given<'a>(given: &Attributes<'a>) -> Result<SeenAttributes<'a>, XdrFault>
+    ensures { MatchResult result (λ seen. seen_of (bitmap_value given.now.set) given.now.values.bytes.now ≡ Ok (seen_value seen)) (λ fault. seen_of (bitmap_value given.now.set) given.now.values.bytes.now ≡ Err fault) }
+{
+    if !given.set.is_within(&Bitmap::seen()) {
+        return Err(XdrFault::BadChoice);
+    }
+    let mut reader = Reader::new(given.values.bytes);
+    let seen = values(&given.set, &mut reader)?;
+    if !reader.is_empty() {
+        return Err(XdrFault::TooLong);
+    }
+    Ok(seen)
+}

@@ -1,0 +1,74 @@
+//! The values of attributes that an operation sets, as they are sent.
+ghost use Rattle.std.specs.Prelude.{◌≡◌, Some, None, MatchResult, option_map};
+ghost use Rattle.xdr_wire.specs.Reading.{Gives};
+ghost use Rattle.xdr_wire.specs.Wire.{in_normal_form, within};
+ghost use Rattle.nfs_types.specs.Sent.{chosen_at, sent_at, whole};
+ghost use Rattle.nfs_types.specs.SentViews.{sent_value};
+ghost use Rattle.nfs_types.specs.Sets.{has_number};
+ghost use Rattle.nfs_types.specs.Views.{bitmap_value};
+
+use crate::ace::Ace;
+use crate::attribute::Attribute;
+use crate::attributes::Attributes;
+use crate::bitmap::Bitmap;
+use xdr_wire::{Array, Opaque, Reader, Wire, XdrFault};
+
+/// The values that were sent, those that can be set.
+#[derive(Drop)]
+pub(crate) struct Sent<'a> {
+    pub size: Option<u64>,
+    pub entries: Option<Array<'a, Ace<'a>, 0xffff_ffff>>,
+    pub mode: Option<u32>,
+    pub owner: Option<Opaque<'a, 0xffff_ffff>>,
+    pub group: Option<Opaque<'a, 0xffff_ffff>>,
+}
+
+/// The value of an attribute, if it is in the set.
+pub(crate) fn chosen<'a, T: Wire<'a>>(
+    set: &Bitmap,
+    number: u32,
+    reader: &mut Reader<'a>,
+) -> Result<Option<T>, XdrFault>
+    ensures { Gives (λ o. option_map T.view o) reader.old reader.new result (in_normal_form (within T.normal) (chosen_at (has_number (bitmap_value set.now) number) T.form reader.old)) }
+{
+    if set.has(number) {
+        Ok(Some(T::read(reader)?))
+    } else {
+        Ok(None)
+    }
+}
+
+/// The values of this set, one behind the other.
+fn values<'a>(set: &Bitmap, reader: &mut Reader<'a>) -> Result<Sent<'a>, XdrFault>
+    ensures { Gives sent_value reader.old reader.new result (sent_at (bitmap_value set.now) reader.old) }
+{
+    let mut ahead = reader.fork();
+    let size = chosen(set, Attribute::Size.number(), &mut ahead)?;
+    let entries = chosen(set, Attribute::Acl.number(), &mut ahead)?;
+    let mode = chosen(set, Attribute::Mode.number(), &mut ahead)?;
+    let owner = chosen(set, Attribute::Owner.number(), &mut ahead)?;
+    let group = chosen(set, Attribute::OwnerGroup.number(), &mut ahead)?;
+    *reader = ahead;
+    Ok(Sent {
+        size,
+        entries,
+        mode,
+        owner,
+        group,
+    })
+}
+
+impl<'a> Sent<'a> {
+    /// The values that the bytes spell, all of the bytes; or none.
+    pub fn read(sent: &Attributes<'a>) -> Option<Sent<'a>>
+        ensures { option_map sent_value result ≡ whole (sent_at (bitmap_value sent.now.set) sent.now.values.bytes.now) }
+    {
+        let mut reader = Reader::new(sent.values.bytes);
+        let values = values(&sent.set, &mut reader).ok()?;
+        if reader.is_empty() {
+            Some(values)
+        } else {
+            None
+        }
+    }
+}

@@ -1,0 +1,118 @@
+//! Attributes as a client writes them.
+ghost use Rattle.std.specs.Prelude.{◌≡◌, ◌≤◌, option_map};
+ghost use Rattle.xdr_wire.specs.Buffer.{Puts};
+ghost use Rattle.nfs_types.specs.Seen.{bit_if, shown, shown_part, shown_set, shown_values};
+ghost use Rattle.nfs_types.specs.ShownViews.{shown_value};
+ghost use Rattle.nfs_types.specs.Views.{bitmap_value};
+
+use crate::aces::Aces;
+use crate::attribute::Attribute;
+use crate::bitmap::Bitmap;
+use std::alloc::Allocator;
+use xdr_wire::{Full, Opaque, Spell, Writer};
+
+/// The attributes that a client writes, by rising number.
+const SHOWN: [Attribute; 7] = [
+    Attribute::ObjectType,
+    Attribute::Size,
+    Attribute::RdattrError,
+    Attribute::Acl,
+    Attribute::Mode,
+    Attribute::Owner,
+    Attribute::OwnerGroup,
+];
+
+/// The attributes that a client sends: each if it is there.
+#[derive(Clone, Copy, Debug)]
+pub struct ShownAttributes<'a> {
+    /// 1, type, `nfs_ftype4`.
+    pub kind: Option<u32>,
+    /// 4, size.
+    pub size: Option<u64>,
+    /// 11, rdattr_error: a status.
+    pub error: Option<u32>,
+    /// 12, acl.
+    pub entries: Option<Aces<'a>>,
+    /// 33, mode.
+    pub mode: Option<u32>,
+    /// 36, owner, as text.
+    pub owner: Option<Opaque<'a, 0xffff_ffff>>,
+    /// 37, owner_group, as text.
+    pub group: Option<Opaque<'a, 0xffff_ffff>>,
+}
+
+/// The bit of a value that is there.
+fn bit_if<T>(value: &Option<T>, bit: u32) -> u32
+    ensures value { result ≡ bit_if value.now bit }
+    ensures small { result ≤ bit }
+{
+    match value {
+        Some(_) => bit,
+        None => 0,
+    }
+}
+
+/// Writes a value, if it is there.
+fn write_shown<T: Spell, A: Allocator>(value: Option<T>, writer: &mut Writer<A>) -> Result<(), Full>
+    ensures { Puts writer.old writer.new (shown T.form (option_map T.view value)) result }
+{
+    match value {
+        None => Ok(()),
+        Some(item) => item.write(writer),
+    }
+}
+
+impl<'a> ShownAttributes<'a> {
+    /// Which attributes there are.
+    pub fn set(&self) -> Bitmap
+        ensures { bitmap_value result ≡ shown_set (shown_value self.now) }
+    {
+        let first = bit_if(&self.kind, 0x2)
+            + bit_if(&self.size, 0x10)
+            + bit_if(&self.error, 0x800)
+            + bit_if(&self.entries, 0x1000);
+        let second = bit_if(&self.mode, 0x2)
+            + bit_if(&self.owner, 0x10)
+            + bit_if(&self.group, 0x20);
+        Bitmap::of_words(first, second)
+    }
+
+    /// Writes the value of an attribute, if it is there.
+    fn write_part<A: Allocator>(
+        &self,
+        attribute: Attribute,
+        writer: &mut Writer<A>,
+    ) -> Result<(), Full>
+        ensures { Puts writer.old writer.new (shown_part (shown_value self.now) attribute) result }
+    {
+        match attribute {
+            Attribute::ObjectType => write_shown(self.kind, writer),
+            Attribute::Size => write_shown(self.size, writer),
+            Attribute::RdattrError => write_shown(self.error, writer),
+            Attribute::Acl => write_shown(self.entries, writer),
+            Attribute::Mode => write_shown(self.mode, writer),
+            Attribute::Owner => write_shown(self.owner, writer),
+            Attribute::OwnerGroup => write_shown(self.group, writer),
+            _ => Ok(()),
+        }
+    }
+}
+
+/// Writes the values of the attributes that a client sends (RFC 8881, section 3.3.9), one behind the other by rising number,
+/// or nothing: `Full` exactly where the room is less than they take. With [`ShownAttributes::set`] they make an
+/// [`crate::Attributes`].
+pub fn write_given<A: Allocator>(
+    values: &ShownAttributes<'_>,
+    writer: &mut Writer<A>,
+) -> Result<(), Full>
+    ensures { Puts writer.old writer.new (shown_values (shown_value values.now)) result }
+{
+    let start = writer.len();
+    for attribute in &SHOWN {
+        if values.write_part(*attribute, writer).is_err() {
+            writer.truncate(start);
+            return Err(Full);
+        }
+    }
+    Ok(())
+}

@@ -1,0 +1,114 @@
+//! Filehandles, stateids, bitmaps and moments, word by word.
+use crate::given;
+use nfs_types::{Bitmap, Handle, Moment, StateId, Status};
+use std::test::Fail;
+use xdr_wire::XdrFault;
+
+static HANDLES: [(&[u32], Result<u64, Status>); 6] = [
+    (&[16, 0, 0, 0, 2], Ok(2)),
+    (&[16, 0, 0, 0x8000_0000, 0], Ok(0x8000_0000_0000_0000)),
+    (&[16, 0, 1, 0, 2], Err(Status::BadHandle)),
+    (&[12, 0, 0, 0], Err(Status::BadHandle)),
+    (&[20, 0, 0, 0, 2, 0], Err(Status::BadHandle)),
+    (&[0], Err(Status::BadHandle)),
+];
+
+/// What handles name that are sent, and this server's own are written.
+#[test]
+fn handles(rt: HostRuntime) -> Result<(), Fail> {
+    for (words, names) in &HANDLES {
+        let bytes = given::bytes(rt.alloc(), words)?;
+        let (handle, left) = given::read::<Handle>(&bytes);
+        assert_eq!(rt; left, 0, "{words:?}");
+        assert_eq!(rt;
+            handle.map(|handle| handle.object()),
+            Ok(*names),
+            "{words:?}"
+        );
+        if let Ok(number) = names {
+            let own = Handle::Object(*number);
+            assert_eq!(rt; own.object(), Ok(*number));
+            let (again, answer) = given::written(rt.alloc(), 20, own)?;
+            assert_eq!(rt; answer, Ok(()));
+            assert_eq!(rt; again, bytes);
+        }
+    }
+    let long = given::bytes(rt.alloc(), &[129; 40])?;
+    let (handle, left) = given::read::<Handle>(&long);
+    assert_eq!(rt; handle.err(), Some(XdrFault::TooLong));
+    assert_eq!(rt; left, 160);
+    Ok(())
+}
+
+static STATEIDS: [([u32; 4], bool, Option<u64>); 6] = [
+    ([0, 0, 0, 0], true, Some(0)),
+    ([u32::MAX; 4], true, None),
+    ([u32::MAX, 0, 0, 0], false, Some(0)),
+    ([0, u32::MAX, u32::MAX, u32::MAX], false, None),
+    ([3, 0, 0, 9], false, Some(9)),
+    ([3, 1, 0, 9], false, None),
+];
+
+/// Which stateids are special, and what open the others name.
+#[test]
+fn stateids(rt: HostRuntime) -> Result<(), Fail> {
+    for (words, special, open) in &STATEIDS {
+        let bytes = given::bytes(rt.alloc(), words)?;
+        let (read, left) = given::read::<StateId>(&bytes);
+        assert_eq!(rt; left, 0);
+        let stateid = read?;
+        assert_eq!(rt; stateid.is_special(), *special, "{words:?}");
+        assert_eq!(rt; stateid.open_number(), *open, "{words:?}");
+        let (again, answer) = given::written(rt.alloc(), 16, stateid)?;
+        assert_eq!(rt; answer, Ok(()));
+        assert_eq!(rt; again, bytes);
+    }
+    assert_eq!(rt; StateId::of_open(3, 9).open_number(), Some(9));
+    assert_eq!(rt; StateId::closed().seqid, u32::MAX);
+    assert!(rt; StateId::anonymous().is_special() && StateId::read_bypass().is_special());
+    Ok(())
+}
+
+/// What is read, and the words that are written of it.
+static BITMAPS: [(&[u32], &[u32]); 5] = [
+    (&[0], &[0]),
+    (&[1, 0], &[0]),
+    (&[3, 2, 0, 0], &[1, 2]),
+    (&[8, 0, 0, 0, 0, 0, 0, 0, 1], &[8, 0, 0, 0, 0, 0, 0, 0, 1]),
+    (
+        &[3, 0xe818_3fff, 0x00b0_003a, 0x0000_0800],
+        &[3, 0xe818_3fff, 0x00b0_003a, 0x0000_0800],
+    ),
+];
+
+/// Zero words at the end are read and not written, and nine words are too many.
+#[test]
+fn bitmaps(rt: HostRuntime) -> Result<(), Fail> {
+    for (sent, written) in &BITMAPS {
+        let bytes = given::bytes(rt.alloc(), sent)?;
+        let (read, left) = given::read::<Bitmap>(&bytes);
+        assert_eq!(rt; left, 0, "{sent:?}");
+        let (again, answer) = given::written(rt.alloc(), 64, read?)?;
+        assert_eq!(rt; answer, Ok(()));
+        assert_eq!(rt; again, given::bytes(rt.alloc(), written)?, "{sent:?}");
+    }
+    let nine = given::bytes(rt.alloc(), &[9, 0, 0, 0, 0, 0, 0, 0, 0, 0])?;
+    assert_eq!(rt; given::read::<Bitmap>(&nine), (Err(XdrFault::TooLong), 40));
+    let three = given::only(33);
+    assert!(rt; three.has(33) && !three.has(32) && !three.has(1) && !three.has(289));
+    Ok(())
+}
+
+/// A moment before the epoch.
+#[test]
+fn moments(rt: HostRuntime) -> Result<(), Fail> {
+    let moment = Moment {
+        seconds: -2,
+        nanoseconds: 999_999_999,
+    };
+    let (bytes, answer) = given::written(rt.alloc(), 12, moment)?;
+    assert_eq!(rt; answer, Ok(()));
+    let want = given::bytes(rt.alloc(), &[u32::MAX, 0xffff_fffe, 0x3b9a_c9ff])?;
+    assert_eq!(rt; bytes, want);
+    Ok(())
+}

@@ -1,0 +1,53 @@
+//! What the tests call: functions with no contract, so that the prover doesn't compute on a test's words.
+use acl_list::Kind;
+use nfs_types::{Attributes, Attrs, AttrsFault, Bitmap, Status, read_attrs};
+use std::alloc::{AllocError, Allocator, Global};
+use who_book::Book;
+use xdr_wire::{Full, Reader, Spell, Wire, Writer, XdrFault};
+
+/// The bytes of these words.
+pub fn bytes(alloc: Global, words: &[u32]) -> Result<Vec<u8>, AllocError> {
+    let mut writer = Writer::new(alloc, 16_384)?;
+    let _written = writer.put_words(words);
+    Ok(writer.into_bytes())
+}
+
+/// What `read` gives of the bytes, and how many are left.
+pub fn read<'a, T: Wire<'a>>(bytes: &'a [u8]) -> (Result<T, XdrFault>, usize) {
+    let mut reader = Reader::new(bytes);
+    let read = T::read(&mut reader);
+    (read, reader.len())
+}
+
+/// What is written of a value into a buffer of this room, and the answer.
+pub fn written<T: Spell>(
+    alloc: Global,
+    room: usize,
+    value: T,
+) -> Result<(Vec<u8>, Result<(), Full>), AllocError> {
+    let mut writer = Writer::new(alloc, room)?;
+    let answer = value.write(&mut writer);
+    Ok((writer.into_bytes(), answer))
+}
+
+/// The set of one number.
+pub fn only(number: u32) -> Bitmap {
+    if number < 256 {
+        Bitmap::empty().with(number)
+    } else {
+        Bitmap::empty()
+    }
+}
+
+/// What attributes that are sent set, or why they don't. What is no `fattr4` is `BadXdr` here too.
+pub fn attrs<A: Allocator>(
+    alloc: A,
+    book: &Book,
+    kind: Kind,
+    bytes: &[u8],
+) -> Result<Attrs<A>, AttrsFault> {
+    match read::<Attributes>(bytes) {
+        (Ok(sent), 0) => read_attrs(alloc, book, kind, &sent),
+        _ => Err(AttrsFault::Refused(Status::BadXdr)),
+    }
+}

@@ -1,0 +1,13 @@
+//! Tests of `nfs_types`.
+#![tactic(auto)]
+
+#[cfg(test)]
+mod forms;
+#[cfg(test)]
+mod given;
+#[cfg(test)]
+mod object;
+#[cfg(test)]
+mod seen;
+#[cfg(test)]
+mod sent;

@@ -1,0 +1,119 @@
+//! Attributes as a client reads and writes them.
+use crate::{given, object};
+use nfs_types::{
+    Ace, Aces, Attributes, GivenAttributes, SeenAttributes, ShownAttributes, Status, read_given,
+    write_given,
+};
+use std::alloc::{AllocError, Global};
+use std::test::Fail;
+use who_book::Book;
+use xdr_wire::{Full, Opaque, Writer, XdrFault};
+
+/// What a client sees of an `fattr4`.
+fn seen(bytes: &[u8]) -> Result<SeenAttributes<'_>, XdrFault> {
+    match given::read::<Attributes>(bytes) {
+        (Ok(sent), _) => read_given(&sent),
+        (Err(fault), _) => Err(fault),
+    }
+}
+
+/// What a client writes into a buffer of this room, with its set before it.
+fn shown(
+    alloc: Global,
+    room: usize,
+    values: &ShownAttributes<'_>,
+) -> Result<(Vec<u8>, Result<(), Full>), AllocError> {
+    let mut writer = Writer::new(alloc, room)?;
+    let answer = write_given(values, &mut writer);
+    Ok((writer.into_bytes(), answer))
+}
+
+/// What a server gives is what a client reads.
+#[test]
+fn what_is_given_is_seen(rt: HostRuntime) -> Result<(), Fail> {
+    let book = Book::default(rt.alloc());
+    let mut facts = object::facts();
+    facts.error = Status::Access;
+    let mut asked = given::only(1);
+    for number in [4, 11, 12, 33, 36, 37] {
+        asked = asked.with(number);
+    }
+    let given = GivenAttributes {
+        book: &book,
+        facts: &facts,
+        asked,
+    };
+    let (bytes, _) = given::written(rt.alloc(), 512, given)?;
+    let mut seen = seen(&bytes)?;
+    assert_eq!(rt; seen.kind, Some(1));
+    assert_eq!(rt; seen.size, Some(2));
+    assert_eq!(rt; seen.error, Some(13));
+    assert_eq!(rt; seen.mode, Some(0o640));
+    assert_eq!(rt; seen.owner.map(|text| text.bytes), Some(b"1001".as_slice()));
+    assert_eq!(rt; seen.group.map(|text| text.bytes), Some(b"100".as_slice()));
+    let first = seen.entries.as_mut().and_then(|entries| entries.next());
+    assert_eq!(rt; first.map(|ace| ace.who.bytes), Some(b"OWNER@".as_slice()));
+    Ok(())
+}
+
+/// Why a client doesn't take what was given.
+static UNSEEN: [(&[u32], XdrFault); 5] = [
+    (&[1, 0x8, 8, 0, 7], XdrFault::BadChoice),
+    (&[2, 0, 0x4, 0], XdrFault::BadChoice),
+    (&[1, 0x2, 8, 1, 0], XdrFault::TooLong),
+    (&[1, 0x12, 8, 1, 0], XdrFault::Short),
+    (&[2, 0, 0x10, 8, 1, 1], XdrFault::BadPad),
+];
+
+#[test]
+fn what_is_not_seen(rt: HostRuntime) -> Result<(), Fail> {
+    for (words, fault) in &UNSEEN {
+        let bytes = given::bytes(rt.alloc(), words)?;
+        assert_eq!(rt; seen(&bytes).err(), Some(*fault), "{words:?}");
+    }
+    Ok(())
+}
+
+/// What a client writes, in the order of the numbers; with a byte less of room, nothing.
+#[test]
+fn what_is_shown(rt: HostRuntime) -> Result<(), Fail> {
+    let aces = [Ace {
+        kind: 1,
+        flags: 2,
+        mask: 3,
+        who: Opaque::new(b"7").ok_or(XdrFault::TooLong)?,
+    }];
+    let all = ShownAttributes {
+        kind: Some(2),
+        size: Some(5),
+        error: Some(13),
+        entries: Aces::new(&aces),
+        mode: Some(0o640),
+        owner: Opaque::new(b"0"),
+        group: Opaque::new(b"100"),
+    };
+    let words = [
+        2,
+        0,
+        5,
+        13,
+        1,
+        1,
+        2,
+        3,
+        1,
+        0x3700_0000,
+        0x1a0,
+        1,
+        0x3000_0000,
+        3,
+        0x3130_3000,
+    ];
+    let want = given::bytes(rt.alloc(), &words)?;
+    assert_eq!(rt; shown(rt.alloc(), 60, &all)?, (want, Ok(())));
+    let (nothing, refused) = shown(rt.alloc(), 59, &all)?;
+    assert!(rt; nothing.is_empty() && refused.is_err());
+    let (set, _) = given::written(rt.alloc(), 12, all.set())?;
+    assert_eq!(rt; set, given::bytes(rt.alloc(), &[2, 0x1812, 0x32])?);
+    Ok(())
+}
