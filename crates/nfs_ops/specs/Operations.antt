@@ -1,5 +1,5 @@
 -- An operation with its arguments as it stands in a COMPOUND, and how the next one is read (RFC 8881, sections 16.2 and 18).
-use Rattle.std.specs.Prelude.{ℕ, Bool, ◌==◌, ◌&&◌, ◌||◌, nat_le, if◌then◌else◌, List, Result, Ok, Err, is_ok, Option, Some, None}
+use Rattle.std.specs.Prelude.{ℕ, Bool, ◌==◌, ◌&&◌, ◌||◌, nat_le, nat_lt, if◌then◌else◌, List, Result, Ok, Err, is_ok, Option, Some, None}
 use Rattle.xdr_wire.specs.Xdr.{Xdr, Value, uint, pair}
 use Rattle.xdr_wire.specs.Reading.{◌>>=◌, Read as ReadOf, read_at}
 use Rattle.xdr_wire.specs.Wire.{in_normal_form}
@@ -172,9 +172,13 @@ exchange_id_from bytes (Err fault) = if is_ok (read_at exchange_id_protected byt
 abbrev pub exchange_id_at : List ℕ → ReadOf Operation
 exchange_id_at bytes = exchange_id_from bytes (read_at exchange_id_args bytes)
 
--- Behind an operation's number: its arguments. Those of an operation that isn't supported aren't read.
-abbrev pub arguments_at : ℕ → List ℕ → ReadOf Operation
-arguments_at n bytes =
+-- a number whose operation isn't supported, whose arguments aren't read, or one that no operation has
+abbrev pub no_operation : ℕ → Operation
+no_operation n = if nat_le 3 n && nat_le n 58 then Unsupported n else Illegal
+
+-- behind the number of an operation up to OPEN: its arguments
+abbrev pub to_open_at : ℕ → List ℕ → ReadOf Operation
+to_open_at n bytes =
     if n == 3 then made Access (read_at access_args bytes)
     else if n == 4 then made Close (read_at close_args bytes)
     else if n == 5 then made Commit (read_at commit_args bytes)
@@ -186,7 +190,12 @@ arguments_at n bytes =
     else if n == 16 then Ok (LookupP, bytes)
     else if n == 17 then made NVerify (in_normal_form (Some trimmed_set) (read_at nverify_args bytes))
     else if n == 18 then open_at bytes
-    else if n == 22 then made PutFh (read_at putfh_args bytes)
+    else Ok (no_operation n, bytes)
+
+-- behind the number of an operation from PUTFH to SAVEFH: its arguments
+abbrev pub to_savefh_at : ℕ → List ℕ → ReadOf Operation
+to_savefh_at n bytes =
+    if n == 22 then made PutFh (read_at putfh_args bytes)
     else if n == 24 then Ok (PutRootFh, bytes)
     else if n == 25 then made Read (read_at read_args bytes)
     else if n == 26 then made ReadDir (in_normal_form (Some readdir_normal) (read_at readdir_args bytes))
@@ -195,7 +204,12 @@ arguments_at n bytes =
     else if n == 29 then made Rename (read_at rename_args bytes)
     else if n == 31 then Ok (RestoreFh, bytes)
     else if n == 32 then Ok (SaveFh, bytes)
-    else if n == 34 then made SetAttr (in_normal_form (Some setattr_normal) (read_at setattr_args bytes))
+    else Ok (no_operation n, bytes)
+
+-- behind the number of an operation from SETATTR on: its arguments
+abbrev pub to_reclaim_complete_at : ℕ → List ℕ → ReadOf Operation
+to_reclaim_complete_at n bytes =
+    if n == 34 then made SetAttr (in_normal_form (Some setattr_normal) (read_at setattr_args bytes))
     else if n == 37 then made Verify (in_normal_form (Some trimmed_set) (read_at verify_args bytes))
     else if n == 38 then made Write (read_at write_args bytes)
     else if n == 42 then exchange_id_at bytes
@@ -204,8 +218,14 @@ arguments_at n bytes =
     else if n == 53 then made Sequence (read_at sequence_args bytes)
     else if n == 57 then made DestroyClientId (read_at destroy_clientid_args bytes)
     else if n == 58 then made ReclaimComplete (read_at reclaim_complete_args bytes)
-    else if nat_le 3 n && nat_le n 58 then Ok (Unsupported n, bytes)
-    else Ok (Illegal, bytes)
+    else Ok (no_operation n, bytes)
+
+-- behind an operation's number: its arguments
+abbrev pub arguments_at : ℕ → List ℕ → ReadOf Operation
+arguments_at n bytes =
+    if nat_lt n 22 then to_open_at n bytes
+    else if nat_lt n 34 then to_savefh_at n bytes
+    else to_reclaim_complete_at n bytes
 
 abbrev pub or_bad : ℕ → List ℕ → ReadOf Operation → Operation × List ℕ
 or_bad n bytes (Ok x) = x
