@@ -21,12 +21,19 @@ zeros = fields (always 0 ∷ always 0 ∷ [])
 abbrev pub change_info : Xdr
 change_info = fields (always 1 ∷ hyper ∷ hyper ∷ [])
 
+-- The most bytes of a result, with its number and its status; this is all of one that is these two.
+abbrev pub plain_size : ℕ
+plain_size = 8
+
 -- 3 ACCESS (18.1): the rights asked; those of them that have a meaning, and those granted
 abbrev pub access_args : Xdr
 access_args = uint
 
 abbrev pub access_result : Xdr
 access_result = fields (uint ∷ uint ∷ [])
+
+abbrev pub access_size : ℕ
+access_size = 16
 
 -- 4 CLOSE (18.2): a number that is ignored, the open; what the open has become
 abbrev pub close_args : Xdr
@@ -35,12 +42,18 @@ close_args = fields (uint ∷ stateid ∷ [])
 abbrev pub close_result : Xdr
 close_result = stateid
 
+abbrev pub close_size : ℕ
+close_size = 24
+
 -- 5 COMMIT (18.3): offset, count; a verifier
 abbrev pub commit_args : Xdr
 commit_args = fields (hyper ∷ uint ∷ [])
 
 abbrev pub commit_result : Xdr
 commit_result = zeros
+
+abbrev pub commit_size : ℕ
+commit_size = 16
 
 -- specdata4: the two numbers of a device
 abbrev pub device : Xdr
@@ -60,6 +73,9 @@ create_normal v = (v.0, (v.1.0, trimmed_set v.1.1))
 
 abbrev pub create_result : Xdr
 create_result = fields (change_info ∷ bitmap ∷ [])
+
+abbrev pub create_size : ℕ
+create_size = 64
 
 abbrev pub create_result_normal : Value create_result → Value create_result
 create_result_normal v = (v.0, trimmed v.1)
@@ -81,6 +97,9 @@ link_args = bytes
 
 abbrev pub link_result : Xdr
 link_result = change_info
+
+abbrev pub link_size : ℕ
+link_size = 28
 
 -- 15 LOOKUP (18.13): the name
 abbrev pub lookup_args : Xdr
@@ -116,6 +135,9 @@ open_normal v = (v.0, (v.1.0, (v.1.1.0, (v.1.1.1.0, (v.1.1.1.1.0, (open_how_norm
 
 abbrev pub open_result : Xdr
 open_result = fields (stateid ∷ change_info ∷ always 0 ∷ bitmap ∷ always 0 ∷ [])
+
+abbrev pub open_size : ℕ
+open_size = 88
 
 abbrev pub open_result_normal : Value open_result → Value open_result
 open_result_normal v = (v.0, (v.1.0, (v.1.1.0, (trimmed v.1.1.1.0, v.1.1.1.1))))
@@ -177,12 +199,18 @@ remove_args = bytes
 abbrev pub remove_result : Xdr
 remove_result = change_info
 
+abbrev pub remove_size : ℕ
+remove_size = 28
+
 -- 29 RENAME (18.26): the old name, the new one; the changes of the source's directory and of the target's
 abbrev pub rename_args : Xdr
 rename_args = fields (bytes ∷ bytes ∷ [])
 
 abbrev pub rename_result : Xdr
 rename_result = fields (change_info ∷ change_info ∷ [])
+
+abbrev pub rename_size : ℕ
+rename_size = 48
 
 -- 34 SETATTR (18.30): stateid, attributes; the attributes that were set, which stand there after a refusal too
 abbrev pub setattr_args : Xdr
@@ -193,6 +221,12 @@ setattr_normal v = (v.0, trimmed_set v.1)
 
 abbrev pub setattr_result : Xdr
 setattr_result = bitmap
+
+abbrev pub setattr_size : ℕ
+setattr_size = 44
+
+abbrev pub setattr_refused_size : ℕ
+setattr_refused_size = 12
 
 -- 37 VERIFY (18.31): the attributes that are to be the same
 abbrev pub verify_args : Xdr
@@ -208,6 +242,9 @@ write_args = fields (stateid ∷ hyper ∷ stable_how ∷ bytes ∷ [])
 
 abbrev pub write_result : Xdr
 write_result = fields (uint ∷ always 2 ∷ zeros ∷ [])
+
+abbrev pub write_size : ℕ
+write_size = 24
 
 -- nfs_impl_id4: domain, name, a moment of any nanoseconds
 abbrev pub implementation : Xdr

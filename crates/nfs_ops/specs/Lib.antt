@@ -1,4 +1,5 @@
 pub mod Forms
+pub mod Items
 pub mod ItemViews
 pub mod UnsupportedViews
 pub mod Views

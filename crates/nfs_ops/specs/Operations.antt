@@ -1,9 +1,10 @@
 -- An operation with its arguments as it stands in a COMPOUND, and how the next one is read (RFC 8881, sections 16.2 and 18).
-use Rattle.std.specs.Prelude.{ℕ, Bool, ◌==◌, ◌&&◌, ◌||◌, nat_le, nat_lt, if◌then◌else◌, List, Result, Ok, Err, is_ok, Option, Some, None}
-use Rattle.xdr_wire.specs.Xdr.{Xdr, Value, uint, pair}
+use Rattle.std.specs.Prelude.{ℕ, Bool, true, false, ◌==◌, ◌&&◌, ◌||◌, nat_le, nat_lt, if◌then◌else◌, List, Result, Ok, Err, is_ok, Option, Some, None}
+use Rattle.xdr_wire.specs.Xdr.{Value, uint}
 use Rattle.xdr_wire.specs.Reading.{◌>>=◌, Read as ReadOf, read_at}
 use Rattle.xdr_wire.specs.Wire.{in_normal_form}
 use Rattle.nfs_types.specs.Forms.{trimmed, trimmed_set}
+use Rattle.nfs_ops.specs.Items.{Item, numbered, numbered_as, number}
 use Rattle.nfs_ops.specs.Forms.{access_args, close_args, commit_args, create_args, getattr_args, link_args, lookup_args, nverify_args, open_args, putfh_args, read_args, readdir_args, remove_args, rename_args, setattr_args, verify_args, write_args, exchange_id_args, create_session_args, destroy_session_args, sequence_args, destroy_clientid_args, reclaim_complete_args, create_normal, open_normal, open_exclusive, open_by_other_claim, readdir_normal, setattr_normal, exchange_id_protected}
 
 -- an operation with the values of its arguments, or why there is none
@@ -84,73 +85,46 @@ number_of Illegal = illegal
 number_of (Bad n) = n
 
 -- the number and the arguments: what is written of it. Of what is no operation the number alone is.
-abbrev pub op_form : Operation → Xdr
-op_form (Access v) = pair uint access_args
-op_form (Close v) = pair uint close_args
-op_form (Commit v) = pair uint commit_args
-op_form (Create v) = pair uint create_args
-op_form (GetAttr v) = pair uint getattr_args
-op_form GetFh = uint
-op_form (Link v) = pair uint link_args
-op_form (Lookup v) = pair uint lookup_args
-op_form LookupP = uint
-op_form (NVerify v) = pair uint nverify_args
-op_form (Open v) = pair uint open_args
-op_form (PutFh v) = pair uint putfh_args
-op_form PutRootFh = uint
-op_form (Read v) = pair uint read_args
-op_form (ReadDir v) = pair uint readdir_args
-op_form ReadLink = uint
-op_form (Remove v) = pair uint remove_args
-op_form (Rename v) = pair uint rename_args
-op_form RestoreFh = uint
-op_form SaveFh = uint
-op_form (SetAttr v) = pair uint setattr_args
-op_form (Verify v) = pair uint verify_args
-op_form (Write v) = pair uint write_args
-op_form (ExchangeId v) = pair uint exchange_id_args
-op_form (CreateSession v) = pair uint create_session_args
-op_form (DestroySession v) = pair uint destroy_session_args
-op_form (Sequence v) = pair uint sequence_args
-op_form (DestroyClientId v) = pair uint destroy_clientid_args
-op_form (ReclaimComplete v) = pair uint reclaim_complete_args
-op_form (Unsupported n) = uint
-op_form Illegal = uint
-op_form (Bad n) = uint
+abbrev pub op_item : Operation → Item
+op_item (Access v) = numbered 3 access_args v
+op_item (Close v) = numbered 4 close_args v
+op_item (Commit v) = numbered 5 commit_args v
+op_item (Create v) = numbered_as 6 create_args create_normal v
+op_item (GetAttr v) = numbered_as 9 getattr_args trimmed v
+op_item GetFh = number 10
+op_item (Link v) = numbered 11 link_args v
+op_item (Lookup v) = numbered 15 lookup_args v
+op_item LookupP = number 16
+op_item (NVerify v) = numbered_as 17 nverify_args trimmed_set v
+op_item (Open v) = numbered_as 18 open_args open_normal v
+op_item (PutFh v) = numbered 22 putfh_args v
+op_item PutRootFh = number 24
+op_item (Read v) = numbered 25 read_args v
+op_item (ReadDir v) = numbered_as 26 readdir_args readdir_normal v
+op_item ReadLink = number 27
+op_item (Remove v) = numbered 28 remove_args v
+op_item (Rename v) = numbered 29 rename_args v
+op_item RestoreFh = number 31
+op_item SaveFh = number 32
+op_item (SetAttr v) = numbered_as 34 setattr_args setattr_normal v
+op_item (Verify v) = numbered_as 37 verify_args trimmed_set v
+op_item (Write v) = numbered 38 write_args v
+op_item (ExchangeId v) = numbered 42 exchange_id_args v
+op_item (CreateSession v) = numbered 43 create_session_args v
+op_item (DestroySession v) = numbered 44 destroy_session_args v
+op_item (Sequence v) = numbered 53 sequence_args v
+op_item (DestroyClientId v) = numbered 57 destroy_clientid_args v
+op_item (ReclaimComplete v) = numbered 58 reclaim_complete_args v
+op_item (Unsupported n) = number n
+op_item Illegal = number illegal
+op_item (Bad n) = number n
 
-abbrev pub op_value : (o : Operation) → Value (op_form o)
-op_value (Access v) = (3, v)
-op_value (Close v) = (4, v)
-op_value (Commit v) = (5, v)
-op_value (Create v) = (6, v)
-op_value (GetAttr v) = (9, v)
-op_value GetFh = 10
-op_value (Link v) = (11, v)
-op_value (Lookup v) = (15, v)
-op_value LookupP = 16
-op_value (NVerify v) = (17, v)
-op_value (Open v) = (18, v)
-op_value (PutFh v) = (22, v)
-op_value PutRootFh = 24
-op_value (Read v) = (25, v)
-op_value (ReadDir v) = (26, v)
-op_value ReadLink = 27
-op_value (Remove v) = (28, v)
-op_value (Rename v) = (29, v)
-op_value RestoreFh = 31
-op_value SaveFh = 32
-op_value (SetAttr v) = (34, v)
-op_value (Verify v) = (37, v)
-op_value (Write v) = (38, v)
-op_value (ExchangeId v) = (42, v)
-op_value (CreateSession v) = (43, v)
-op_value (DestroySession v) = (44, v)
-op_value (Sequence v) = (53, v)
-op_value (DestroyClientId v) = (57, v)
-op_value (ReclaimComplete v) = (58, v)
-op_value (Unsupported n) = n
-op_value Illegal = illegal
-op_value (Bad n) = n
+-- whether it is an operation
+abbrev pub is_built : Operation → Bool
+is_built (Unsupported n) = false
+is_built Illegal = false
+is_built (Bad n) = false
+is_built _ = true
 
 abbrev pub made : {V : Type 0} → (V → Operation) → ReadOf V → ReadOf Operation
 made op read = read >>= λ x. Ok (op x.0, x.1)
@@ -177,7 +151,7 @@ abbrev pub no_operation : ℕ → Operation
 no_operation n = if nat_le 3 n && nat_le n 58 then Unsupported n else Illegal
 
 -- behind the number of an operation up to OPEN: its arguments
-abbrev pub to_open_at : ℕ → List ℕ → ReadOf Operation
+unfoldable pub to_open_at : ℕ → List ℕ → ReadOf Operation
 to_open_at n bytes =
     if n == 3 then made Access (read_at access_args bytes)
     else if n == 4 then made Close (read_at close_args bytes)
@@ -193,7 +167,7 @@ to_open_at n bytes =
     else Ok (no_operation n, bytes)
 
 -- behind the number of an operation from PUTFH to SAVEFH: its arguments
-abbrev pub to_savefh_at : ℕ → List ℕ → ReadOf Operation
+unfoldable pub to_savefh_at : ℕ → List ℕ → ReadOf Operation
 to_savefh_at n bytes =
     if n == 22 then made PutFh (read_at putfh_args bytes)
     else if n == 24 then Ok (PutRootFh, bytes)
@@ -207,7 +181,7 @@ to_savefh_at n bytes =
     else Ok (no_operation n, bytes)
 
 -- behind the number of an operation from SETATTR on: its arguments
-abbrev pub to_reclaim_complete_at : ℕ → List ℕ → ReadOf Operation
+unfoldable pub to_reclaim_complete_at : ℕ → List ℕ → ReadOf Operation
 to_reclaim_complete_at n bytes =
     if n == 34 then made SetAttr (in_normal_form (Some setattr_normal) (read_at setattr_args bytes))
     else if n == 37 then made Verify (in_normal_form (Some trimmed_set) (read_at verify_args bytes))
@@ -221,7 +195,7 @@ to_reclaim_complete_at n bytes =
     else Ok (no_operation n, bytes)
 
 -- behind an operation's number: its arguments
-abbrev pub arguments_at : ℕ → List ℕ → ReadOf Operation
+unfoldable pub arguments_at : ℕ → List ℕ → ReadOf Operation
 arguments_at n bytes =
     if nat_lt n 22 then to_open_at n bytes
     else if nat_lt n 34 then to_savefh_at n bytes

@@ -2,7 +2,7 @@
 use Rattle.std.specs.Prelude.{ℕ}
 use Rattle.nfs_ops.specs.declared.op_result.OpResult.{OpResult}
 use Rattle.nfs_ops.specs.declared.op_result.OpResult.TheVariants as code
-use Rattle.nfs_ops.specs.Results.{Outcome, Access, Close, Commit, Create, GetAttr, GetFh, Link, Lookup, LookupP, NVerify, Open, PutFh, PutRootFh, Read, ReadDir, ReadLink, Remove, Rename, RestoreFh, SaveFh, SetAttr, Verify, Write, ExchangeId, CreateSession, DestroySession, Sequence, DestroyClientId, ReclaimComplete, refused}
+use Rattle.nfs_ops.specs.Results.{Outcome, Access, Close, Commit, Create, GetAttr, GetFh, Link, Lookup, LookupP, NVerify, Open, PutFh, PutRootFh, Read, ReadDir, ReadLink, Remove, Rename, RestoreFh, SaveFh, SetAttr, Verify, Write, ExchangeId, CreateSession, DestroySession, Sequence, DestroyClientId, ReclaimComplete, refused, refusal}
 use Rattle.nfs_ops.specs.Views.{zeros_value, access_result_value, close_result_value, create_result_value, getattr_result_value, getfh_result_value, link_result_value, open_result_value, read_result_value, readdir_result_value, readlink_result_value, remove_result_value, rename_result_value, setattr_result_value, write_result_value, exchange_id_result_value, create_session_result_value, sequence_result_value}
 
 abbrev pub result_view : OpResult → Outcome
@@ -35,4 +35,4 @@ result_view code.DestroySession = DestroySession
 result_view (code.Sequence r) = Sequence (sequence_result_value r)
 result_view code.DestroyClientId = DestroyClientId
 result_view code.ReclaimComplete = ReclaimComplete
-result_view (code.Refused n status) = refused n status
+result_view (code.Refused n status) = refused n (refusal status)

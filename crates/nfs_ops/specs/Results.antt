@@ -1,12 +1,14 @@
 -- The result of an operation as it stands in a COMPOUND's (RFC 8881, sections 16.2 and 18): its number, its status and,
 -- where that is OK, what its form says.
-use Rattle.std.specs.Prelude.{ℕ, ◌==◌, if◌then◌else◌, List, [], ◌∷◌}
-use Rattle.xdr_wire.specs.Xdr.{Xdr, Value, uint, fields}
+use Rattle.std.specs.Prelude.{ℕ, ◌==◌, if◌then◌else◌, List, [], ◌∷◌, length, Some}
+use Rattle.xdr_wire.specs.Xdr.{Value, uint, fields}
 use Rattle.nfs_types.specs.Forms.{bitmap}
+use Rattle.nfs_ops.specs.Items.{Item, done, done_as, plain, item_spelling}
 use Rattle.nfs_types.specs.Status as statuses
 use Rattle.nfs_types.specs.declared.status.Status.{Status}
 use Rattle.nfs_types.specs.declared.status.Status.TheVariants.{ServerFault}
-use Rattle.nfs_ops.specs.Forms.{access_result, close_result, commit_result, create_result, getattr_result, getfh_result, link_result, open_result, read_result, readdir_result, readlink_result, remove_result, rename_result, setattr_result, write_result, exchange_id_result, create_session_result, sequence_result}
+use Rattle.nfs_types.specs.Forms.{trimmed, trimmed_set}
+use Rattle.nfs_ops.specs.Forms.{access_result, close_result, commit_result, create_result, getattr_result, getfh_result, link_result, open_result, read_result, readdir_result, readlink_result, remove_result, rename_result, setattr_result, write_result, exchange_id_result, create_session_result, sequence_result, create_result_normal, open_result_normal, readdir_result_normal, access_size, close_size, commit_size, create_size, link_size, open_size, remove_size, rename_size, setattr_size, write_size, plain_size, setattr_refused_size}
 
 pub data Outcome : Type 0 where
   Access : Value access_result → Outcome
@@ -43,83 +45,78 @@ pub data Outcome : Type 0 where
   -- SETATTR has, and nothing was set
   SetAttrRefused : ℕ → Outcome
 
--- number, status and result
-abbrev pub done : Xdr → Xdr
-done t = fields (uint ∷ uint ∷ t ∷ [])
+-- what is written of it
+abbrev pub outcome_item : Outcome → Item
+outcome_item (Access v) = done 3 access_result v
+outcome_item (Close v) = done 4 close_result v
+outcome_item (Commit v) = done 5 commit_result v
+outcome_item (Create v) = done_as 6 create_result create_result_normal v
+outcome_item (GetAttr v) = done_as 9 getattr_result trimmed_set v
+outcome_item (GetFh v) = done 10 getfh_result v
+outcome_item (Link v) = done 11 link_result v
+outcome_item Lookup = plain 15 0
+outcome_item LookupP = plain 16 0
+outcome_item NVerify = plain 17 0
+outcome_item (Open v) = done_as 18 open_result open_result_normal v
+outcome_item PutFh = plain 22 0
+outcome_item PutRootFh = plain 24 0
+outcome_item (Read v) = done 25 read_result v
+outcome_item (ReadDir v) = done_as 26 readdir_result readdir_result_normal v
+outcome_item (ReadLink v) = done 27 readlink_result v
+outcome_item (Remove v) = done 28 remove_result v
+outcome_item (Rename v) = done 29 rename_result v
+outcome_item RestoreFh = plain 31 0
+outcome_item SaveFh = plain 32 0
+outcome_item (SetAttr v) = done_as 34 setattr_result trimmed v
+outcome_item Verify = plain 37 0
+outcome_item (Write v) = done 38 write_result v
+outcome_item (ExchangeId v) = done 42 exchange_id_result v
+outcome_item (CreateSession v) = done 43 create_session_result v
+outcome_item DestroySession = plain 44 0
+outcome_item (Sequence v) = done 53 sequence_result v
+outcome_item DestroyClientId = plain 57 0
+outcome_item ReclaimComplete = plain 58 0
+outcome_item (Refused n status) = plain n status
+outcome_item (SetAttrRefused status) = record { form = fields (uint ∷ uint ∷ bitmap ∷ []); normal = Some (λ v. (v.0, (v.1.0, []))); value = (34, (status, [])) }
 
-abbrev pub plain : Xdr
-plain = fields (uint ∷ uint ∷ [])
-
-abbrev pub outcome_form : Outcome → Xdr
-outcome_form (Access v) = done access_result
-outcome_form (Close v) = done close_result
-outcome_form (Commit v) = done commit_result
-outcome_form (Create v) = done create_result
-outcome_form (GetAttr v) = done getattr_result
-outcome_form (GetFh v) = done getfh_result
-outcome_form (Link v) = done link_result
-outcome_form Lookup = plain
-outcome_form LookupP = plain
-outcome_form NVerify = plain
-outcome_form (Open v) = done open_result
-outcome_form PutFh = plain
-outcome_form PutRootFh = plain
-outcome_form (Read v) = done read_result
-outcome_form (ReadDir v) = done readdir_result
-outcome_form (ReadLink v) = done readlink_result
-outcome_form (Remove v) = done remove_result
-outcome_form (Rename v) = done rename_result
-outcome_form RestoreFh = plain
-outcome_form SaveFh = plain
-outcome_form (SetAttr v) = done setattr_result
-outcome_form Verify = plain
-outcome_form (Write v) = done write_result
-outcome_form (ExchangeId v) = done exchange_id_result
-outcome_form (CreateSession v) = done create_session_result
-outcome_form DestroySession = plain
-outcome_form (Sequence v) = done sequence_result
-outcome_form DestroyClientId = plain
-outcome_form ReclaimComplete = plain
-outcome_form (Refused n status) = plain
-outcome_form (SetAttrRefused status) = done bitmap
-
-abbrev pub outcome_value : (o : Outcome) → Value (outcome_form o)
-outcome_value (Access v) = (3, (0, v))
-outcome_value (Close v) = (4, (0, v))
-outcome_value (Commit v) = (5, (0, v))
-outcome_value (Create v) = (6, (0, v))
-outcome_value (GetAttr v) = (9, (0, v))
-outcome_value (GetFh v) = (10, (0, v))
-outcome_value (Link v) = (11, (0, v))
-outcome_value Lookup = (15, 0)
-outcome_value LookupP = (16, 0)
-outcome_value NVerify = (17, 0)
-outcome_value (Open v) = (18, (0, v))
-outcome_value PutFh = (22, 0)
-outcome_value PutRootFh = (24, 0)
-outcome_value (Read v) = (25, (0, v))
-outcome_value (ReadDir v) = (26, (0, v))
-outcome_value (ReadLink v) = (27, (0, v))
-outcome_value (Remove v) = (28, (0, v))
-outcome_value (Rename v) = (29, (0, v))
-outcome_value RestoreFh = (31, 0)
-outcome_value SaveFh = (32, 0)
-outcome_value (SetAttr v) = (34, (0, v))
-outcome_value Verify = (37, 0)
-outcome_value (Write v) = (38, (0, v))
-outcome_value (ExchangeId v) = (42, (0, v))
-outcome_value (CreateSession v) = (43, (0, v))
-outcome_value DestroySession = (44, 0)
-outcome_value (Sequence v) = (53, (0, v))
-outcome_value DestroyClientId = (57, 0)
-outcome_value ReclaimComplete = (58, 0)
-outcome_value (Refused n status) = (n, status)
-outcome_value (SetAttrRefused status) = (34, (status, []))
+-- The most bytes that are written of it. What takes as many bytes as an object has, or as a client asks for, is measured.
+abbrev pub most : Outcome → ℕ
+most (Access v) = access_size
+most (Close v) = close_size
+most (Commit v) = commit_size
+most (Create v) = create_size
+most (GetAttr v) = length (item_spelling (outcome_item (GetAttr v)))
+most (GetFh v) = length (item_spelling (outcome_item (GetFh v)))
+most (Link v) = link_size
+most Lookup = plain_size
+most LookupP = plain_size
+most NVerify = plain_size
+most (Open v) = open_size
+most PutFh = plain_size
+most PutRootFh = plain_size
+most (Read v) = length (item_spelling (outcome_item (Read v)))
+most (ReadDir v) = length (item_spelling (outcome_item (ReadDir v)))
+most (ReadLink v) = length (item_spelling (outcome_item (ReadLink v)))
+most (Remove v) = remove_size
+most (Rename v) = rename_size
+most RestoreFh = plain_size
+most SaveFh = plain_size
+most (SetAttr v) = setattr_size
+most Verify = plain_size
+most (Write v) = write_size
+most (ExchangeId v) = length (item_spelling (outcome_item (ExchangeId v)))
+most (CreateSession v) = length (item_spelling (outcome_item (CreateSession v)))
+most DestroySession = plain_size
+most (Sequence v) = length (item_spelling (outcome_item (Sequence v)))
+most DestroyClientId = plain_size
+most ReclaimComplete = plain_size
+most (Refused n status) = plain_size
+most (SetAttrRefused status) = setattr_refused_size
 
 -- A refusal isn't OK: in its place stands SERVERFAULT, which is answered nowhere else.
 abbrev pub refusal : Status → ℕ
 refusal status = if statuses.number_of status == 0 then statuses.number_of ServerFault else statuses.number_of status
 
--- the refusal of the operation of this number
-abbrev pub refused : ℕ → Status → Outcome
-refused n status = if n == 34 then SetAttrRefused (refusal status) else Refused n (refusal status)
+-- the operation of this number has this status, which isn't OK
+abbrev pub refused : ℕ → ℕ → Outcome
+refused n status = if n == 34 then SetAttrRefused status else Refused n status

@@ -41,6 +41,7 @@ fn no_operation<'a>(number: u32) -> Op<'a>
 }
 
 /// Reads the arguments of an operation up to OPEN.
+#[tactic(auto, unfolding(crate::specs::Operations::to_open_at))]
 fn read_to_open<'a>(number: u32, reader: &mut Reader<'a>) -> Result<Op<'a>, XdrFault>
     ensures { Gives op_view reader.old reader.new result (to_open_at number reader.old) }
 {
@@ -61,6 +62,7 @@ fn read_to_open<'a>(number: u32, reader: &mut Reader<'a>) -> Result<Op<'a>, XdrF
 }
 
 /// Reads the arguments of an operation from PUTFH to SAVEFH.
+#[tactic(auto, unfolding(crate::specs::Operations::to_savefh_at))]
 fn read_to_savefh<'a>(number: u32, reader: &mut Reader<'a>) -> Result<Op<'a>, XdrFault>
     ensures { Gives op_view reader.old reader.new result (to_savefh_at number reader.old) }
 {
@@ -79,6 +81,7 @@ fn read_to_savefh<'a>(number: u32, reader: &mut Reader<'a>) -> Result<Op<'a>, Xd
 }
 
 /// Reads the arguments of an operation from SETATTR on.
+#[tactic(auto, unfolding(crate::specs::Operations::to_reclaim_complete_at))]
 fn read_to_reclaim_complete<'a>(number: u32, reader: &mut Reader<'a>) -> Result<Op<'a>, XdrFault>
     ensures { Gives op_view reader.old reader.new result (to_reclaim_complete_at number reader.old) }
 {
@@ -97,6 +100,7 @@ fn read_to_reclaim_complete<'a>(number: u32, reader: &mut Reader<'a>) -> Result<
 }
 
 /// Reads the arguments of the operation of this number.
+#[tactic(auto, unfolding(crate::specs::Operations::arguments_at))]
 fn read_arguments<'a>(number: u32, reader: &mut Reader<'a>) -> Result<Op<'a>, XdrFault>
     ensures { Gives op_view reader.old reader.new result (arguments_at number reader.old) }
 {
