@@ -1,20 +1,20 @@
 -- An operation is read exactly where a spelling of it stands at the front.
-use Rattle.std.proofs.Common.{◌≡◌, ℕ, Bool, true, false, cond, List, Option, Some, None, Result, Ok, Err, refl, sym, ap, subst, ◌∙◌, inl, inr}
+use Rattle.std.proofs.Common.{◌≡◌, ℕ, Bool, true, false, cond, List, ◌++◌, Option, Some, None, Result, Ok, Err, refl, sym, ap, subst, ◌∙◌, inl, inr}
 use Rattle.std.proofs.lemmas.Bool.{ne_eqb, cases_eq}
 use Rattle.xdr_wire.specs.declared.fault.XdrFault.{XdrFault}
 use Rattle.xdr_wire.specs.Xdr.{Xdr, Value, uint, pair, Begins}
 use Rattle.xdr_wire.specs.Reading.{◌>>=◌, Read as ReadOf, read_at}
 use Rattle.xdr_wire.specs.Wire.{Normal, normalized, in_normal_form, both}
-use Rattle.xdr_wire.proofs.Spelling.{begins_from_read, read_from_begins}
+use Rattle.xdr_wire.proofs.Spelling.{begins_from_read, read_from_begins, again, spelled}
 use Rattle.xdr_wire.proofs.Normal.{normal_ok, to_normal, both_is}
 use Rattle.xdr_wire.proofs.Steps.{bind_ok, ok_is}
 use Rattle.nfs_types.specs.Forms.{trimmed, trimmed_set}
-use Rattle.nfs_ops.specs.Items.{Item, numbered, numbered_as, number, Stands}
+use Rattle.nfs_ops.specs.Items.{Item, numbered, numbered_as, number, Stands, ItemHasSpelling, ItemIsNormal, item_spelling}
 use Rattle.nfs_ops.specs.Forms.{access_args, close_args, commit_args, create_args, getattr_args, link_args, lookup_args, nverify_args, open_args, putfh_args, read_args, readdir_args, remove_args, rename_args, setattr_args, verify_args, write_args, exchange_id_args, create_session_args, destroy_session_args, sequence_args, destroy_clientid_args, reclaim_complete_args, create_normal, open_normal, readdir_normal, setattr_normal}
 use Rattle.nfs_ops.specs.Operations.{Operation, Access, Close, Commit, Create, GetAttr, GetFh, Link, Lookup, LookupP, NVerify, Open, PutFh, PutRootFh, Read, ReadDir, ReadLink, Remove, Rename, RestoreFh, SaveFh, SetAttr, Verify, Write, ExchangeId, CreateSession, DestroySession, Sequence, DestroyClientId, ReclaimComplete, Unsupported, Illegal, Bad, op_item, is_built, made, no_operation, next_at, next_from, or_bad, arguments_at, to_open_at, to_savefh_at, to_reclaim_complete_at, open_at, open_from, exchange_id_at, exchange_id_from}
 
 -- a number and what stands behind it, with any normal form
-abbrev item : ℕ → (t : Xdr) → Normal (Value t) → Value t → Item
+abbrev pub item : ℕ → (t : Xdr) → Normal (Value t) → Value t → Item
 item k t normal w = record { form = pair uint t; normal = both None normal; value = (k, w) }
 
 -- what two fields are read from
@@ -79,3 +79,8 @@ next_is (ReclaimComplete v) bytes rest built s = numbered_next 58 reclaim_comple
 next_is (Unsupported n) bytes rest built s = absurd cc
 next_is Illegal bytes rest built s = absurd cc
 next_is (Bad n) bytes rest built s = absurd cc
+
+pub written_is_next : (o : Operation) (rest : List ℕ) → is_built o ≡ true → ItemHasSpelling (op_item o) → ItemIsNormal (op_item o) → next_at (item_spelling (op_item o) ++ rest) ≡ (o, rest)
+written_is_next o rest built fits normal =
+    let i : Item = op_item o in
+    next_is o (item_spelling i ++ rest) rest built (i.value, begins_from_read i.form i.value (item_spelling i ++ rest) rest (again i.form i.value (item_spelling i) rest (spelled i.form i.value fits)), normal)

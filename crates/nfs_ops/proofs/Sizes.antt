@@ -32,7 +32,7 @@ pub other_is_whole : (other : List ℕ) → length other ≡ 12 → length (padd
 other_is_whole other whole = length-append other (replicate (padding (length other)) 0) ∙ rw whole refl
 
 pub open_short : (seqid : ℕ) (other : List ℕ) (before after : ℕ) (ws : List ℕ) → length other ≡ 12 → length ws ≡ 8
-  → length (item_spelling (done 18 open_result ((seqid, other), ((inl tt, (before, after)), (inl tt, (trimmed ws, inl tt)))))) ≤ 88
+    → length (item_spelling (done 18 open_result ((seqid, other), ((inl tt, (before, after)), (inl tt, (trimmed ws, inl tt)))))) ≤ 88
 open_short seqid other before after ws other_whole whole =
     let words : List ℕ = flat_map (to_be_bytes w32) (trimmed ws) in
     let last : List ℕ = spelling (always 0) (inl tt) in

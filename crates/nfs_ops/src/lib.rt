@@ -56,7 +56,7 @@ pub use exchange_id::{ExchangeIdArgs, ExchangeIdResult, MAX_SERVER};
 pub use getattr::{GetAttrArgs, GetAttrResult};
 pub use getfh::GetFhResult;
 pub use implementation::Implementation;
-pub use laws::an_operation_that_stands_is_read;
+pub use laws::{reading_is_spelling, reading_looks_no_further, what_is_written_is_read};
 pub use link::{LinkArgs, LinkResult};
 pub use lookup::LookupArgs;
 pub use nverify::NVerifyArgs;
