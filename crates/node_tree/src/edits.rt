@@ -1,11 +1,12 @@
 //! Edits of the objects and of the names.
-ghost use Rattle.std.specs.Prelude.{◌≡◌, ◌+◌, ◌<◌, ◌≤◌, ◌^◌, if◌then◌else◌, length, filter, not, OnOk, OnErr, IsOk, IfSome};
+ghost use Rattle.std.specs.Prelude.{◌≡◌, ◌+◌, ◌<◌, ◌≤◌, ◌^◌, ◌==◌, if◌then◌else◌, [], length, find, OnOk, OnErr, IsOk};
+ghost use Rattle.std.specs.Option.{option_map, option_map_or};
 ghost use Rattle.std.specs.Map.{lookup};
 ghost use Rattle.std.specs.BTreeMap.{is_at};
 ghost use Rattle.std.specs.Ordering.{nat_cmp};
 ghost use Rattle.std.specs.Vec.{vec_len, vec_capacity};
-ghost use Rattle.node_tree.specs.World.{is_named, has_name};
-ghost use Rattle.node_tree.specs.Changes.{changed, touched, retold, without, other_names, written, resized};
+ghost use Rattle.node_tree.specs.World.{has_name};
+ghost use Rattle.node_tree.specs.Changes.{changed, touched, retold, without, released, other_names, written, resized};
 
 use crate::at::At;
 use crate::entry::DirEntry;
@@ -30,6 +31,16 @@ pub fn has_name<A: Allocator>(names: &[DirEntry<A>], number: u64) -> bool
     ensures { result ≡ has_name names.now number }
 {
     names.iter().any(|entry| entry.child() == number)
+}
+
+/// The directory of the first name that an object has.
+pub fn directory_of<A: Allocator>(names: &[DirEntry<A>], number: u64) -> Option<u64>
+    ensures { result ≡ option_map (λ n. n.directory) (find (λ n. n.child == number) names.now) }
+{
+    names
+        .iter()
+        .find(|entry| entry.child() == number)
+        .map(|entry| entry.directory())
 }
 
 // ---- objects
@@ -72,6 +83,20 @@ pub fn release<A: Allocator>(
     }
 }
 
+/// An object that may be there has lost a name.
+pub fn release_target<A: Allocator>(
+    objects: &mut BTreeMap<u64, Node<A>, A>,
+    target: Option<u64>,
+    names: &[DirEntry<A>],
+    at: At,
+)
+    ensures { objects.new.entries ≡ option_map_or (λ t. released names.now t at objects.old.entries) target objects.old.entries }
+{
+    if let Some(target) = target {
+        release(objects, target, has_name(names, target), at);
+    }
+}
+
 /// Writes data into a file. `Err`: there is no memory, and nothing has changed.
 #[tactic(auto, using(std::proofs::lemmas::Map::Steps::set_value_same))]
 pub fn write<A: Allocator>(
@@ -99,7 +124,7 @@ pub fn resize<A: Allocator>(
     size: usize,
     at: At,
 ) -> Result<(), AllocError>
-    ensures shrinks { IfSome (lookup (is_at (nat_cmp number)) objects.old.entries) (λ o. size ≤ length o.bytes → IsOk result) }
+    ensures shrinks { size ≤ length (option_map_or (λ o. o.bytes) (lookup (is_at (nat_cmp number)) objects.old.entries) []) → IsOk result }
     ensures ok { OnOk result (objects.new.entries ≡ changed number (λ o. touched at (record o { bytes = resized o.bytes size })) objects.old.entries) }
     ensures err { OnErr result (objects.new.entries ≡ objects.old.entries) }
 {

@@ -8,8 +8,8 @@ ghost use Rattle.node_tree.specs.Changes.{alone, made, changed, touched, retold,
 ghost use Rattle.node_tree.specs.Refusals.{has_left, has_room};
 
 use crate::at::At;
-use crate::edits::{has_name, release, remove_name, retell, touch};
 use crate::edits;
+use crate::edits::{directory_of, has_name, release, release_target, remove_name, retell, touch};
 use crate::entry::DirEntry;
 use crate::limits::{MAX_LINKS, MAX_NAMES, MAX_OBJECTS, ROOT};
 use crate::node::{NewObject, Node};
@@ -122,10 +122,24 @@ impl<A: Allocator + Copy> Store<A> {
         if !self.is_directory(number) {
             return None;
         }
-        self.names
-            .iter()
-            .find(|entry| entry.child() == number)
-            .map(|entry| entry.directory())
+        directory_of(&self.names, number)
+    }
+
+    /// Whether an object is a directory or lies below it.
+    pub fn is_within(&self, directory: u64, number: u64) -> bool
+        ensures { result ≡ is_within self.now directory number }
+    {
+        let mut here = number;
+        for _ in 0..self.next_number {
+            if here == directory {
+                return true;
+            }
+            let Some(parent) = self.parent(here) else {
+                return false;
+            };
+            here = parent;
+        }
+        true
     }
 }
 
@@ -274,10 +288,7 @@ impl<A: Allocator + Copy> Store<A> {
         self.names.reserve(1)?;
         remove_name(&mut self.names, from, old);
         remove_name(&mut self.names, to, new);
-        if let Some(target) = target {
-            let stays = has_name(&self.names, target);
-            release(&mut self.objects, target, stays, at);
-        }
+        release_target(&mut self.objects, target, &self.names, at);
         retell(&mut self.objects, child, at);
         touch(&mut self.objects, from, at);
         touch(&mut self.objects, to, at);
