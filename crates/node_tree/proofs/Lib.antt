@@ -8,3 +8,5 @@ pub mod Setting
 pub mod Adding
 pub mod Unlinking
 pub mod Listing
+pub mod Ways
+pub mod Moving
