@@ -10,3 +10,4 @@ pub mod Unlinking
 pub mod Listing
 pub mod Ways
 pub mod Moving
+pub mod Starting

@@ -1,21 +1,23 @@
 -- A sound world stays sound where a child comes under another name.
 use Rattle.std.proofs.Common.{◌≡◌, ◌≢◌, ℕ, ◌+◌, ◌<◌, ◌≤◌, ◌^◌, Bool, true, false, not, ◌&&◌, ◌||◌, cond, List, ◌++◌, ◌∷◌, [], length, refl, ap, sym, ◌∙◌, subst, arith, Some, None, inl, inr}
-use Rattle.std.specs.Prelude.{Option, IsSome, IfSome, MatchOption, is_some, find, ◌==◌, ◌⊎◌}
+use Rattle.std.specs.Prelude.{Option, IsSome, IfSome, MatchOption, is_some, find, ◌==◌, ◌⊎◌, nat_eq}
 use Rattle.std.specs.Ordering.{nat_cmp}
 use Rattle.std.specs.Map.{lookup}
 use Rattle.std.specs.BTreeMap.{is_at}
 use Rattle.std.specs.List.{filter}
-use Rattle.std.specs.Option.{option_map, option_map_or}
+use Rattle.std.specs.Option.{option_map, option_map_or, option_eq}
 use Rattle.std.proofs.Math.Logic.{⊎_elim}
-use Rattle.std.proofs.lemmas.Bool.Decides.{Decides-eqb}
+use Rattle.std.proofs.lemmas.Bool.Decides.{Decides-eqb, Decides-ltb}
 use Rattle.acl_list.specs.declared.entry.Kind.{Kind}
 use Rattle.acl_list.specs.declared.entry.Kind.TheVariants.{Directory}
 use Rattle.acl_shape.specs.Inherited.{is_directory}
 use Rattle.node_tree.specs.declared.at.At.{At}
 use Rattle.node_tree.specs.declared.limits.TheConstants.{ROOT}
-use Rattle.node_tree.specs.World.{World, Object, Name, object, kind_of, is_named, has_name, child_named, is_directory_at, parent_of, name_count, link_count}
+use Rattle.node_tree.specs.World.{World, Object, Name, object, kind_of, is_named, has_name, has_entries, child_named, is_directory_at, parent_of, name_count, link_count}
 use Rattle.node_tree.specs.Ways.{is_met, is_within}
 use Rattle.node_tree.specs.Changes.{changed, touched, retold, released, other_names, named, with_move}
+use Rattle.node_tree.specs.Refusals.{goes_below_itself, may_replace, has_left, has_room, place_refusal, replace_refusal, move_refusal}
+use Rattle.node_tree.specs.declared.fault.TreeFault.TheVariants.{Inval, Exist, NoSpc}
 use Rattle.node_tree.specs.Judged.{judged, judged_of, KeepsJudged}
 use Rattle.node_tree.specs.Sound.{stamp_of, IsIn, IsRooted, IsSound, IsTick}
 use Rattle.node_tree.proofs.Objects.{by_number, option_map-changed}
@@ -258,3 +260,90 @@ KeepsJudged-with_move w from old to new child target at = record {
   stamps_rise = omega arith;
   same = λ k j is _. moved_some (other_names to new (other_names from old w.names)) target (judged_of w) k j (sym (read_moved judged from to child (other_names to new (other_names from old w.names)) target at w.objects (λ o. refl) (λ o. refl) k) ∙ is);
 }
+
+-- ---- what no refusal says
+
+pub record MayMove (w : World) (from to child : ℕ) (target : Option ℕ) : Type 0 where
+  pub clear : kind_of w child ≡ Some Directory → is_within w child to ≡ false
+  pub empty : IfSome target (λ t. (n : Name) → IsIn n w.names → n.directory ≡ t → ⊥)
+  pub room : Room w from to target
+  pub cookie : w.next_cookie < 2 ^ 63
+
+cleared : (w : World) (child to : ℕ) → goes_below_itself w child to ≡ false → kind_of w child ≡ Some Directory → is_within w child to ≡ false
+cleared w child to not_below is = ap (λ b. b && is_within w child to) (sym (directory_at w child is)) ∙ not_below
+
+left_below : (next : ℕ) → has_left next ≡ true → next < 2 ^ 63
+left_below next is = (Decides-ltb next (2 ^ 63)).0 is
+
+roomy : (w : World) (from to : ℕ) → ((from == to) || has_room w.names to) ≡ true → Room w from to None
+roomy w from to is = elim (from == to) as (λ b. (from == to) ≡ b → (b || has_room w.names to) ≡ true → Room w from to None) [
+  | true ↦ λ at _. same ((Decides-eqb from to).0 at)
+  | false ↦ λ _ h. wide ((Decides-ltb (name_count w.names to) 4096).0 h)
+] refl is
+
+emptied : (w : World) → IsSound w → (child target : ℕ) → may_replace w child target ≡ true → (n : Name) → IsIn n w.names → n.directory ≡ target → ⊥
+emptied w sound child target may n stands at =
+    let is_directory : is_directory_at w target ≡ true = directory_at w target (subst (λ k. kind_of w k ≡ Some Directory) at (sound.rooted.ends n stands).0) in
+    elim (is_directory_at w child) as (λ b. cond b (is_directory_at w target && not (has_entries w.names target)) (not (is_directory_at w target)) ≡ true → ⊥) [
+      | true ↦ λ h. none_passes (λ n. n.directory == target) w.names (last (is_directory_at w target) (has_entries w.names target) h) n stands ((Decides-eqb n.directory target).1 at)
+      | false ↦ λ h. let f : not (is_directory_at w target) ≡ false = ap not is_directory in cc
+    ] may
+  where
+    last : (a b : Bool) → (a && not b) ≡ true → b ≡ false
+    last true true h = cc
+    last true false h = refl
+    last false b h = cc
+
+may_place : (w : World) (from to child : ℕ) → place_refusal w from to child ≡ None → MayMove w from to child None
+may_place w from to child none =
+    elim (goes_below_itself w child to) as (λ b. goes_below_itself w child to ≡ b → cond b (Some Inval) (cond (((from == to) || has_room w.names to) && has_left w.next_cookie) None (Some NoSpc)) ≡ None → MayMove w from to child None) [
+      | true ↦ λ _ h. cc
+      | false ↦ λ below. elim ((from == to) || has_room w.names to) as (λ b. ((from == to) || has_room w.names to) ≡ b → cond (b && has_left w.next_cookie) None (Some NoSpc) ≡ None → MayMove w from to child None) [
+        | true ↦ λ room. elim (has_left w.next_cookie) as (λ b. has_left w.next_cookie ≡ b → cond b None (Some NoSpc) ≡ None → MayMove w from to child None) [
+          | true ↦ λ cookie _. record { clear = cleared w child to below; empty = tt; room = roomy w from to room; cookie = left_below w.next_cookie cookie }
+          | false ↦ λ _ h. cc
+        ] refl
+        | false ↦ λ _ h. cc
+      ] refl
+    ] refl none
+
+may_take : (w : World) → IsSound w → (from to child target : ℕ) → child ≢ target → replace_refusal w to child target ≡ None → MayMove w from to child (Some target)
+may_take w sound from to child target apart none =
+    elim (child == target) as (λ b. (child == target) ≡ b → cond b None (cond (goes_below_itself w child to) (Some Inval) (cond (not (may_replace w child target)) (Some Exist) (cond (has_left w.next_cookie) None (Some NoSpc)))) ≡ None → MayMove w from to child (Some target)) [
+      | true ↦ λ at _. absurd (apart ((Decides-eqb child target).0 at))
+      | false ↦ λ _. elim (goes_below_itself w child to) as (λ b. goes_below_itself w child to ≡ b → cond b (Some Inval) (cond (not (may_replace w child target)) (Some Exist) (cond (has_left w.next_cookie) None (Some NoSpc))) ≡ None → MayMove w from to child (Some target)) [
+        | true ↦ λ _ h. cc
+        | false ↦ λ below. elim (may_replace w child target) as (λ b. may_replace w child target ≡ b → cond (not b) (Some Exist) (cond (has_left w.next_cookie) None (Some NoSpc)) ≡ None → MayMove w from to child (Some target)) [
+          | false ↦ λ _ h. cc
+          | true ↦ λ may. elim (has_left w.next_cookie) as (λ b. has_left w.next_cookie ≡ b → cond b None (Some NoSpc) ≡ None → MayMove w from to child (Some target)) [
+            | true ↦ λ cookie _. record { clear = cleared w child to below; empty = emptied w sound child target may; room = replaced refl; cookie = left_below w.next_cookie cookie }
+            | false ↦ λ _ h. cc
+          ] refl
+        ] refl
+      ] refl
+    ] refl none
+
+pub may_move : (w : World) → IsSound w → (from to child : ℕ) (target : Option ℕ) → IfSome target (λ t. child ≢ t) → move_refusal w from to child target ≡ None → MayMove w from to child target
+may_move w sound from to child None apart none = may_place w from to child none
+may_move w sound from to child (Some target) apart none = may_take w sound from to child target apart none
+
+pub not_same : (target : Option ℕ) (child : ℕ) → false ≡ option_eq nat_eq target (Some child) → target ≡ Some child → ⊥
+not_same target child differs equal =
+    let t : option_eq nat_eq target (Some child) ≡ true = ap (λ o. option_eq nat_eq o (Some child)) equal ∙ (Decides-eqb child child).1 refl in cc
+
+pub target_apart : (child : ℕ) (target : Option ℕ) → (target ≡ Some child → ⊥) → IfSome target (λ t. child ≢ t)
+target_apart child None apart = tt
+target_apart child (Some t) apart = λ same. apart (ap Some (sym same))
+
+-- a move that isn't refused keeps the tree sound
+pub IsSound-may_move : (w : World) → IsSound w → (from : ℕ) (old : List ℕ) (to : ℕ) (new : List ℕ) (child : ℕ) (target : Option ℕ) (at : At) → IsTick w at.tick
+    → kind_of w to ≡ Some Directory → length new ≤ 255 → child_named w from old ≡ Some child → child_named w to new ≡ target → (target ≡ Some child → ⊥)
+    → None ≡ move_refusal w from to child target → IsSound (with_move w from old to new child target at)
+IsSound-may_move w sound from old to new child target at tick live short leads taken apart none =
+    let apart_so = target_apart child target apart in
+    let may = may_move w sound from to child target apart_so (sym none) in
+    IsSound-with_move w sound from old to new child target at tick live leads taken apart_so may.empty may.clear short may.room may.cookie
+
+-- what the move takes
+pub has_cookie : (w : World) → IsSound w → (from to child : ℕ) (target : Option ℕ) → (target ≡ Some child → ⊥) → None ≡ move_refusal w from to child target → w.next_cookie < 2 ^ 63
+has_cookie w sound from to child target apart none = (may_move w sound from to child target (target_apart child target apart) (sym none)).cookie
