@@ -10,4 +10,6 @@ pub mod Unlinking
 pub mod Listing
 pub mod Ways
 pub mod Moving
+pub mod Epoch
 pub mod Starting
+pub mod Sampling

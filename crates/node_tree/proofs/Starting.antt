@@ -1,6 +1,6 @@
 -- A root alone is sound.
-use Rattle.std.proofs.Common.{◌≡◌, ◌≢◌, ℕ, zero, suc, ◌+◌, ◌<◌, ◌≤◌, ◌^◌, Bool, true, false, cond, List, [], ◌∷◌, length, refl, ap, sym, ◌∙◌, subst, arith, Some, None, lit<, lit≤}
-use Rattle.std.specs.Prelude.{Option, IsSome, is_some, pos}
+use Rattle.std.proofs.Common.{◌≡◌, ◌≢◌, ℕ, zero, suc, ◌+◌, ◌<◌, ◌≤◌, ◌^◌, Bool, true, false, cond, List, [], ◌∷◌, length, refl, ap, sym, ◌∙◌, subst, arith, Some, None, lit≤}
+use Rattle.std.specs.Prelude.{Option, IsSome, is_some}
 use Rattle.std.specs.Ordering.{nat_cmp}
 use Rattle.std.specs.Map.{lookup}
 use Rattle.std.specs.BTreeMap.{is_at}
@@ -8,16 +8,10 @@ use Rattle.std.specs.Option.{option_map}
 use Rattle.acl_list.specs.declared.entry.Kind.{Kind}
 use Rattle.acl_list.specs.declared.entry.Kind.TheVariants.{Directory}
 use Rattle.acl_shape.specs.Bounds.{IsBounded}
-use Rattle.nfs_types.specs.declared.moment.Moment.{Moment}
-use Rattle.std.proofs.Math.Bridge.{le_prop}
 use Rattle.node_tree.specs.World.{Object, Name, World, object, kind_of}
-use Rattle.node_tree.specs.Changes.{alone, epoch}
+use Rattle.node_tree.specs.Changes.{alone}
 use Rattle.node_tree.specs.Sound.{stamp_of, IsIn, IsRooted, IsStamped, IsFit, IsLimited, IsCounted, IsSound}
 use Rattle.node_tree.proofs.Objects.{is_same}
-
--- the epoch, however its nanoseconds are shown to be few
-pub epoch_is : (few : 0 < 1000000000) → (let m : Moment = record { seconds = pos 0; nanoseconds = 0; is_fraction = few } in m ≡ epoch)
-epoch_is few = ap (λ (p : 0 < 1000000000). let m : Moment = record { seconds = pos 0; nanoseconds = 0; is_fraction = p } in m) (le_prop few (lit< tt))
 
 -- what there is in it is the root
 only : {X : Type 0} (read : Object → X) (o : Object) (k : ℕ) (x : X) → option_map read (object (alone o) k) ≡ Some x → (k ≡ 1) × (read o ≡ x)

@@ -1,5 +1,5 @@
 //! The sample tree.
-ghost use Rattle.std.specs.Prelude.{◌≡◌, IfOk};
+ghost use Rattle.std.specs.Prelude.{◌≡◌, IfOk, [], codes};
 ghost use Rattle.node_tree.specs.Sample.{sample, sample_object};
 
 use crate::at::from_start;
@@ -12,53 +12,55 @@ use acl_shape::set_mode;
 use std::alloc::{AllocError, Allocator};
 use std::collections::BTreeMap;
 
-/// What an object of the sample is.
-struct Plan {
-    kind: Kind,
-    owner: u32,
-    group: u32,
-    mode: u32,
-}
-
-const OF_ROOT: Plan = Plan {
-    kind: Kind::Directory,
-    owner: 0,
-    group: 0,
-    mode: 0o755,
-};
-
-const OF_NOTES: Plan = Plan {
-    kind: Kind::File,
-    owner: 1001,
-    group: 100,
-    mode: 0o640,
-};
-
-const OF_PUB: Plan = Plan {
-    kind: Kind::Directory,
-    owner: 0,
-    group: 0,
-    mode: 0o777,
-};
-
-/// An object of the sample: its stamp and its last change are its number.
-fn sample_node<A: Allocator + Copy>(
-    alloc: A,
-    number: u64,
-    plan: Plan,
-    bytes: &[u8],
-) -> Result<Node<A>, AllocError>
-    ensures { IfOk result (λ node. node ≡ sample_object number plan.kind bytes.now plan.owner plan.group plan.mode) }
+/// The file of the sample. Its stamp and its last change are its number.
+fn file<A: Allocator + Copy>(alloc: A) -> Result<Node<A>, AllocError>
+    ensures { IfOk result (λ node. node ≡ sample_object 2 Kind.File (codes "hi") 1001 100 0x1a0) }
 {
     let new = NewObject {
-        kind: plan.kind,
-        bytes: Vec::from_slice(alloc, bytes)?,
-        owner: plan.owner,
-        group: plan.group,
-        list: set_mode(alloc, &AclList::new(alloc), plan.kind, plan.mode)?,
+        kind: Kind::File,
+        bytes: Vec::from_slice(alloc, b"hi")?,
+        owner: 1001,
+        group: 100,
+        list: set_mode(alloc, &AclList::new(alloc), Kind::File, 0o640)?,
+        high: 0,
+    };
+    Ok(Node::made(new, 2, from_start(2)))
+}
+
+/// A directory of the sample. Its stamp and its last change are its number.
+fn directory<A: Allocator + Copy>(
+    alloc: A,
+    number: u64,
+    mode: u32,
+) -> Result<Node<A>, AllocError>
+    ensures { IfOk result (λ node. node ≡ sample_object number Kind.Directory [] 0 0 mode) }
+{
+    let new = NewObject {
+        kind: Kind::Directory,
+        bytes: Vec::new(alloc),
+        owner: 0,
+        group: 0,
+        list: set_mode(alloc, &AclList::new(alloc), Kind::Directory, mode)?,
         high: 0,
     };
     Ok(Node::made(new, number, from_start(number)))
+}
+
+/// A name in the root.
+fn entry<A: Allocator + Copy>(
+    alloc: A,
+    cookie: u64,
+    name: &[u8],
+    child: u64,
+) -> Result<DirEntry<A>, AllocError>
+    ensures { IfOk result (λ entry. entry ≡ record { cookie = cookie; directory = ROOT; name = name.now; child = child }) }
+{
+    Ok(DirEntry::new(
+        cookie,
+        ROOT,
+        Vec::from_slice(alloc, name)?,
+        child,
+    ))
 }
 
 impl<A: Allocator + Copy> Store<A> {
@@ -66,9 +68,13 @@ impl<A: Allocator + Copy> Store<A> {
     pub fn sample(alloc: A) -> Result<Self, AllocError>
         ensures { IfOk result (λ store. store ≡ sample) }
     {
-        let mut store = Store::new(alloc, sample_node(alloc, ROOT, OF_ROOT, b"")?)?;
-        store.place(b"notes", sample_node(alloc, 2, OF_NOTES, b"hi")?)?;
-        store.place(b"pub", sample_node(alloc, 3, OF_PUB, b"")?)?;
-        Ok(store)
+        let mut objects = BTreeMap::new(alloc);
+        objects.insert(ROOT, directory(alloc, ROOT, 0o755)?)?;
+        objects.insert(2, file(alloc)?)?;
+        objects.insert(3, directory(alloc, 3, 0o777)?)?;
+        let mut names = Vec::new(alloc);
+        names.push(entry(alloc, 3, b"notes", 2)?)?;
+        names.push(entry(alloc, 4, b"pub", 3)?)?;
+        Ok(Store::from_start(alloc, objects, names, 4, 5))
     }
 }

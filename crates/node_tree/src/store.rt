@@ -293,15 +293,28 @@ impl<A: Allocator + Copy> Store<A> {
     {
         let mut objects = BTreeMap::new(alloc);
         objects.insert(ROOT, root)?;
-        Ok(Store {
+        Ok(Store::from_start(alloc, objects, Vec::new(alloc), 2, 3))
+    }
+
+    /// What is there from the start. Its numbers, ticks and stamps go on from one number.
+    pub fn from_start(
+        alloc: A,
+        objects: BTreeMap<u64, Node<A>, A>,
+        names: Vec<DirEntry<A>, A>,
+        next: u64,
+        next_cookie: u64,
+    ) -> Self
+        ensures { result ≡ record { objects = objects.entries; names = names.items; next_number = next; next_tick = next; next_stamp = next; next_cookie = next_cookie } }
+    {
+        Store {
             alloc,
             objects,
-            names: Vec::new(alloc),
-            next_number: 2,
-            next_tick: 2,
-            next_stamp: 2,
-            next_cookie: 3,
-        })
+            names,
+            next_number: next,
+            next_tick: next,
+            next_stamp: next,
+            next_cookie,
+        }
     }
 
     /// A new object under a new name.
