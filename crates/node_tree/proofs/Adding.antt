@@ -1,20 +1,19 @@
 -- A sound world stays sound where an object gets a name: a new object, or one that is no directory.
-use Rattle.std.proofs.Common.{◌≡◌, ◌≢◌, ℕ, ◌+◌, ◌<◌, ◌≤◌, ◌^◌, Bool, true, false, cond, List, [], ◌∷◌, ◌++◌, length, refl, ap, sym, ◌∙◌, subst, arith, Some, None}
+use Rattle.std.proofs.Common.{◌≡◌, ◌≢◌, ℕ, ◌+◌, ◌<◌, ◌≤◌, ◌^◌, Bool, true, false, cond, List, length, refl, ap, sym, ◌∙◌, subst, arith, Some, None}
 use Rattle.std.specs.Prelude.{Option, IsSome, is_some, ◌==◌, ◌&&◌, not, nat_lt}
 use Rattle.std.specs.Ordering.{nat_cmp}
 use Rattle.std.specs.Map.{lookup}
 use Rattle.std.specs.BTreeMap.{is_at, insert_entry}
 use Rattle.std.specs.Option.{option_map}
 use Rattle.std.proofs.lemmas.Bool.Decides.{Decides-eqb, Decides-ltb}
-use Rattle.acl_list.specs.declared.entry.Kind.{Kind}
 use Rattle.acl_list.specs.declared.entry.Kind.TheVariants.{Directory}
 use Rattle.node_tree.specs.declared.at.At.{At}
-use Rattle.node_tree.specs.World.{World, Object, Name, object, kind_of, child_named, name_count, link_count}
+use Rattle.node_tree.specs.World.{World, Object, object, kind_of, child_named, name_count, link_count}
 use Rattle.node_tree.specs.Changes.{changed, touched, retold, with_new, with_link}
 use Rattle.node_tree.specs.Refusals.{has_left, has_room, add_refusal, link_refusal}
 use Rattle.node_tree.specs.declared.fault.TreeFault.TheVariants.{Exist, MLink, NoSpc}
 use Rattle.node_tree.specs.Judged.{Judged, judged, judged_of, KeepsJudged}
-use Rattle.node_tree.specs.Sound.{stamp_of, IsIn, IsRooted, IsStamped, IsFit, IsSound, IsTick}
+use Rattle.node_tree.specs.Sound.{stamp_of, IsRooted, IsStamped, IsFit, IsSound, IsTick}
 use Rattle.node_tree.proofs.Objects.{is_at-same, is_at-apart, by_number, lookup-inserted, option_map-changed}
 use Rattle.node_tree.proofs.Rising.{Rises-push, number-below}
 use Rattle.node_tree.proofs.Names.{count_by-none, IsLimited-push}
@@ -51,7 +50,7 @@ pub IsSound-with_new : (w : World) → IsSound w → (directory : ℕ) (name : L
 IsSound-with_new w sound directory name o at tick live none short fit stamped room few number stamp cookie =
     let due : at.tick < at.tick + 1 = omega arith in
     let held = IsHeld-touched directory at _ (w.next_number + 1) (at.tick + 1) due
-        (IsHeld-inserted w.objects w.next_number (at.tick + 1) o fit few (IsHeld-later w.objects w.next_number w.next_tick (at.tick + 1) tick.fresh (held_in w sound))) in
+    (IsHeld-inserted w.objects w.next_number (at.tick + 1) o fit few (IsHeld-later w.objects w.next_number w.next_tick (at.tick + 1) tick.fresh (held_in w sound))) in
     let no_links : link_count w.names w.next_number ≡ 0 = count_by-none (λ n. n.child == w.next_number) w.names (λ n stands is. fresh_number w sound n.child (sound.rooted.ends n stands).1 (sym ((Decides-eqb n.child w.next_number).0 is))) in
     record {
       rooted = IsRooted-joined (kind_of w) _ w.names w.next_number w.next_cookie directory name o.kind sound.rooted (joins_new (λ o. o.kind) w.objects w.next_number directory o at (λ o. refl)) (fresh_number w sound) live none;
@@ -76,9 +75,9 @@ KeepsJudged-with_new w directory name o at stamped =
     record {
       stamps_rise = omega arith;
       same = λ k j is low. by_number w.next_number k
-        (λ here. let t : judged_of (with_new w directory name o at) k ≡ Some (judged o) = subst (λ k. judged_of (with_new w directory name o at) k ≡ Some (judged o)) here joins.there in
-            let same : judged o ≡ j = cc in let e : o.stamp ≡ j.stamp = ap (λ (j : Judged). j.stamp) same in absurd (omega arith))
-        (λ apart. sym (joins.elsewhere k apart) ∙ is);
+          (λ here. let t : judged_of (with_new w directory name o at) k ≡ Some (judged o) = subst (λ k. judged_of (with_new w directory name o at) k ≡ Some (judged o)) here joins.there in
+          let same : judged o ≡ j = cc in let e : o.stamp ≡ j.stamp = ap (λ (j : Judged). j.stamp) same in absurd (omega arith))
+          (λ apart. sym (joins.elsewhere k apart) ∙ is);
     }
 
 -- ---- a further name
@@ -97,7 +96,7 @@ IsSound-with_link w sound directory name number at tick live there plain none sh
     let kinds : kind_of (with_link w directory name number at) ≡ kind_of w = fun_ext (read_linked (λ o. o.kind) directory number at w.objects (λ o. refl) (λ o. refl)) in
     let stamps : stamp_of (with_link w directory name number at) ≡ stamp_of w = fun_ext (read_linked (λ o. o.stamp) directory number at w.objects (λ o. refl) (λ o. refl)) in
     let held = IsHeld-touched directory at _ w.next_number (at.tick + 1) due (IsHeld-retold number at w.objects w.next_number (at.tick + 1) due
-        (IsHeld-later w.objects w.next_number w.next_tick (at.tick + 1) tick.fresh (held_in w sound))) in
+    (IsHeld-later w.objects w.next_number w.next_tick (at.tick + 1) tick.fresh (held_in w sound))) in
     record {
       rooted = subst (λ k. IsRooted k (with_link w directory name number at).names) (sym kinds) (IsRooted-linked (kind_of w) w.names number w.next_cookie directory name sound.rooted live (alive (object w number) there) plain none);
       stamped = subst (λ s. IsStamped s w.next_stamp) (sym stamps) sound.stamped;

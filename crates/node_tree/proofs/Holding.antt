@@ -1,11 +1,10 @@
 -- Objects that stand by rising number, few and within the limits, stay so.
-use Rattle.std.proofs.Common.{◌≡◌, ℕ, suc, ◌+◌, ◌<◌, ◌≤◌, Bool, true, false, not, cond, List, [], ◌∷◌, ◌++◌, length, refl, ap, sym, ◌∙◌, subst, rules, arith, Some, None, append_assoc, length-append}
-use Rattle.std.specs.Prelude.{Option, ◌⊎◌}
+use Rattle.std.proofs.Common.{◌≡◌, ℕ, suc, ◌+◌, ◌<◌, ◌≤◌, Bool, true, false, not, cond, List, [], ◌∷◌, ◌++◌, length, refl, ap, sym, ◌∙◌, subst, arith, Some, None, length-append}
+use Rattle.std.specs.Prelude.{Option}
 use Rattle.std.specs.Ordering.{nat_cmp}
 use Rattle.std.specs.Map.{lookup}
 use Rattle.std.specs.BTreeMap.{is_at, insert_entry}
 use Rattle.std.specs.List.{filter}
-use Rattle.std.specs.Option.{option_map_or}
 use Rattle.std.proofs.Math.Logic.{⊎_elim}
 use Rattle.node_tree.specs.declared.at.At.{At}
 use Rattle.node_tree.specs.World.{Object, Name, has_name}
@@ -79,6 +78,7 @@ IsHeld-inserted es n t o fit room held = record {
   where
     last : insert_entry nat_cmp es n o ≡ es ++ (n, o) ∷ []
     last = inserted_last 1 n es o held.numbered
+
     there : (b : Bool) (found : Option Object) (k : ℕ) (p : Object) → lookup (is_at (nat_cmp k)) es ≡ found → cond b (Some o) found ≡ Some p → IsFit t p
     there true found k p stood is = let same : o ≡ p = cc in subst (IsFit t) same fit
     there false found k p stood is = held.fit k p (stood ∙ is)

@@ -1,10 +1,9 @@
 -- The look-ups of names in a sound world.
-use Rattle.std.proofs.Common.{◌≡◌, ◌≢◌, ℕ, ◌+◌, ◌<◌, ◌≤◌, Bool, true, false, ◌&&◌, cond, List, [], ◌∷◌, length, refl, ap, sym, ◌∙◌, subst, arith, Some, None, inl, inr}
-use Rattle.std.specs.Prelude.{Option, IsSome, IfSome, is_some, find, ◌==◌, nat_lt, ◌⊎◌}
+use Rattle.std.proofs.Common.{◌≡◌, ℕ, ◌+◌, ◌≤◌, Bool, true, false, ◌&&◌, cond, List, [], ◌∷◌, refl, sym, ◌∙◌, subst, arith, Some, None, inl, inr}
+use Rattle.std.specs.Prelude.{Option, IfSome, find, ◌==◌, nat_lt}
 use Rattle.std.specs.Option.{option_map}
 use Rattle.std.proofs.Math.Logic.{⊎_elim}
 use Rattle.std.proofs.lemmas.Bool.Decides.{Decides-eqb, Decides-ltb}
-use Rattle.acl_list.specs.declared.entry.Kind.{Kind}
 use Rattle.acl_list.specs.declared.entry.Kind.TheVariants.{Directory}
 use Rattle.node_tree.specs.World.{World, Name, kind_of, is_directory_at, name_after, parent_of}
 use Rattle.node_tree.specs.Sound.{IsIn, IsSound, Rises, IsNextName}
@@ -28,16 +27,16 @@ first p low high [] n rises is = cc
 first p low high (m ∷ names) n rises is =
     elim (p m) as (λ b. p m ≡ b → cond b (Some m) (find p names) ≡ Some n → First p (m ∷ names) n) [
       | true ↦ λ at h. let same : m ≡ n = cc in subst (First p (m ∷ names)) same (record {
-          stands = inl refl;
-          passes = at;
-          least = λ k stands _. ⊎_elim (λ same. subst (λ (k : Name). m.cookie ≤ k.cookie) (sym same) (let goal : m.cookie ≤ m.cookie = omega arith in goal))
-              (λ later. let a : m.cookie + 1 ≤ k.cookie = above (m.cookie + 1) high names k rises.1 later in let goal : m.cookie ≤ k.cookie = omega arith in goal) stands;
-        })
+        stands = inl refl;
+        passes = at;
+        least = λ k stands _. ⊎_elim (λ same. subst (λ (k : Name). m.cookie ≤ k.cookie) (sym same) (let goal : m.cookie ≤ m.cookie = omega arith in goal))
+            (λ later. let a : m.cookie + 1 ≤ k.cookie = above (m.cookie + 1) high names k rises.1 later in let goal : m.cookie ≤ k.cookie = omega arith in goal) stands;
+      })
       | false ↦ λ at h. let r = first p (m.cookie + 1) high names n rises.1 h in record {
-          stands = inr r.stands;
-          passes = r.passes;
-          least = λ k stands passes. ⊎_elim (λ same. let t : p m ≡ true = subst (λ k. p k ≡ true) same passes in cc) (λ later. r.least k later passes) stands;
-        }
+        stands = inr r.stands;
+        passes = r.passes;
+        least = λ k stands passes. ⊎_elim (λ same. let t : p m ≡ true = subst (λ k. p k ≡ true) same passes in cc) (λ later. r.least k later passes) stands;
+      }
     ] refl is
 
 both : (a b : Bool) → (a && b) ≡ true → (a ≡ true) × (b ≡ true)

@@ -1,12 +1,11 @@
 -- A sound world stays sound where a child comes under another name.
-use Rattle.std.proofs.Common.{◌≡◌, ◌≢◌, ℕ, ◌+◌, ◌<◌, ◌≤◌, ◌^◌, Bool, true, false, not, ◌&&◌, ◌||◌, cond, List, ◌++◌, ◌∷◌, [], length, refl, ap, sym, ◌∙◌, subst, arith, Some, None, inl, inr}
-use Rattle.std.specs.Prelude.{Option, IsSome, IfSome, MatchOption, is_some, find, ◌==◌, ◌⊎◌, nat_eq}
+use Rattle.std.proofs.Common.{◌≡◌, ◌≢◌, ℕ, ◌+◌, ◌<◌, ◌≤◌, ◌^◌, Bool, true, false, not, ◌&&◌, ◌||◌, cond, List, length, refl, ap, sym, ◌∙◌, subst, arith, Some, None}
+use Rattle.std.specs.Prelude.{Option, IsSome, IfSome, is_some, find, ◌==◌, nat_eq}
 use Rattle.std.specs.Ordering.{nat_cmp}
 use Rattle.std.specs.Map.{lookup}
 use Rattle.std.specs.BTreeMap.{is_at}
 use Rattle.std.specs.List.{filter}
 use Rattle.std.specs.Option.{option_map, option_map_or, option_eq}
-use Rattle.std.proofs.Math.Logic.{⊎_elim}
 use Rattle.std.proofs.lemmas.Bool.Decides.{Decides-eqb, Decides-ltb}
 use Rattle.acl_list.specs.declared.entry.Kind.{Kind}
 use Rattle.acl_list.specs.declared.entry.Kind.TheVariants.{Directory}
@@ -14,15 +13,15 @@ use Rattle.acl_shape.specs.Inherited.{is_directory}
 use Rattle.node_tree.specs.declared.at.At.{At}
 use Rattle.node_tree.specs.declared.limits.TheConstants.{ROOT}
 use Rattle.node_tree.specs.World.{World, Object, Name, object, kind_of, is_named, has_name, has_entries, child_named, is_directory_at, parent_of, name_count, link_count}
-use Rattle.node_tree.specs.Ways.{is_met, is_within}
-use Rattle.node_tree.specs.Changes.{changed, touched, retold, released, other_names, named, with_move}
+use Rattle.node_tree.specs.Ways.{is_within}
+use Rattle.node_tree.specs.Changes.{changed, touched, retold, released, other_names, with_move}
 use Rattle.node_tree.specs.Refusals.{goes_below_itself, may_replace, has_left, has_room, place_refusal, replace_refusal, move_refusal}
 use Rattle.node_tree.specs.declared.fault.TreeFault.TheVariants.{Inval, Exist, NoSpc}
 use Rattle.node_tree.specs.Judged.{judged, judged_of, KeepsJudged}
 use Rattle.node_tree.specs.Sound.{stamp_of, IsIn, IsRooted, IsSound, IsTick}
-use Rattle.node_tree.proofs.Objects.{by_number, option_map-changed}
+use Rattle.node_tree.proofs.Objects.{option_map-changed}
 use Rattle.node_tree.proofs.Rising.{Rises-filter, Rises-push}
-use Rattle.node_tree.proofs.Names.{in_filter, from_filter, any_passes, none_passes, not_found, Found, found, named_directory, named_name, named_at, flipped, flipped_back, count_by-filter, count_by-filter_out, IsLimited-filter, IsLimited-push}
+use Rattle.node_tree.proofs.Names.{in_filter, from_filter, any_passes, none_passes, not_found, Found, named_directory, named_at, flipped, count_by-filter, count_by-filter_out, IsLimited-filter, IsLimited-push}
 use Rattle.node_tree.proofs.Holding.{IsHeld, IsHeld-later, IsHeld-touched, IsHeld-retold, IsHeld-released}
 use Rattle.node_tree.proofs.Stamps.{IsStamped-fewer}
 use Rattle.node_tree.proofs.Rooted.{Moves, IsRooted-moved}
@@ -150,7 +149,7 @@ left_of names target at es = option_map_or (λ t. released names t at es) target
 read_moved : {X : Type 0} (read : Object → X) (from to child : ℕ) (names : List Name) (target : Option ℕ) (at : At) (es : List (ℕ × Object))
     → ((o : Object) → read (touched at o) ≡ read o) → ((o : Object) → read (retold at o) ≡ read o)
     → (k : ℕ) → option_map read (lookup (is_at (nat_cmp k)) (changed to (touched at) (changed from (touched at) (changed child (retold at) (left_of names target at es)))))
-      ≡ option_map_or (λ t. after (has_name names t) (λ k. option_map read (lookup (is_at (nat_cmp k)) es)) t k) target (option_map read (lookup (is_at (nat_cmp k)) es))
+    ≡ option_map_or (λ t. after (has_name names t) (λ k. option_map read (lookup (is_at (nat_cmp k)) es)) t k) target (option_map read (lookup (is_at (nat_cmp k)) es))
 read_moved read from to child names target at es touching retelling k =
     option_map-changed read to (touched at) (changed from (touched at) (changed child (retold at) (left_of names target at es))) touching k
     ∙ option_map-changed read from (touched at) (changed child (retold at) (left_of names target at es)) touching k
@@ -200,7 +199,7 @@ IsSound-with_move w sound from old to new child target at tick live leads taken 
     let alive : (ℕ → Option Kind) = λ k. option_map_or (λ t. after (has_name names t) (kind_of w) t k) target (kind_of w k) in
     let kinds : kind_of (with_move w from old to new child target at) ≡ alive = fun_ext (read_moved (λ o. o.kind) from to child names target at w.objects (λ o. refl) (λ o. refl)) in
     let held = IsHeld-touched to at _ w.next_number (at.tick + 1) due (IsHeld-touched from at _ w.next_number (at.tick + 1) due (IsHeld-retold child at _ w.next_number (at.tick + 1) due
-        (IsHeld-left names target at w.objects w.next_number (at.tick + 1) due (IsHeld-later w.objects w.next_number w.next_tick (at.tick + 1) tick.fresh (held_in w sound))))) in
+    (IsHeld-left names target at w.objects w.next_number (at.tick + 1) due (IsHeld-later w.objects w.next_number w.next_tick (at.tick + 1) tick.fresh (held_in w sound))))) in
     let moves_so = moves (kind_of w) w.names sound.rooted from old to new child leads live target taken apart empty in
     let goes_first = goes (kind_of w) w.names sound.rooted from old child leads in
     let first_out : not (is_named from old goes_first.name) ≡ false = ap not goes_first.passes in
@@ -210,7 +209,7 @@ IsSound-with_move w sound from old to new child target at tick live leads taken 
     record {
       rooted = subst (λ k. IsRooted k (with_move w from old to new child target at).names) (sym kinds)
           (IsRooted-moved (kind_of w) alive w.names names child to w.next_cookie new (parent_of w) w.next_number sound.rooted moves_so (parents_of w)
-            (λ is. clear (moved_some names target (kind_of w) child Directory is)));
+          (λ is. clear (moved_some names target (kind_of w) child Directory is)));
       stamped = IsStamped-fewer (stamp_of w) _ w.next_stamp (λ k s is. moved_some names target (stamp_of w) k s (sym (read_moved (λ o. o.stamp) from to child names target at w.objects (λ o. refl) (λ o. refl) k) ∙ is)) sound.stamped;
       numbered = held.numbered;
       listed = Rises-push (λ n. n.cookie) 3 w.next_cookie names _ refl (Rises-filter (λ n. n.cookie) _ 3 w.next_cookie _ (Rises-filter (λ n. n.cookie) _ 3 w.next_cookie w.names sound.listed));
@@ -227,12 +226,16 @@ IsSound-with_move w sound from old to new child target at tick live leads taken 
   where
     first : List Name
     first = other_names from old w.names
+
     names_le : name_count (other_names to new (other_names from old w.names)) to ≤ name_count (other_names from old w.names) to
     names_le = count_by-filter (λ n. n.directory == to) (λ n. not (is_named to new n)) (other_names from old w.names)
+
     first_le : name_count (other_names from old w.names) to ≤ name_count w.names to
     first_le = count_by-filter (λ n. n.directory == to) (λ n. not (is_named from old n)) w.names
+
     all_le : name_count w.names to ≤ 4096
     all_le = sound.limited.directories to
+
     space : Room w from to target → name_count (other_names to new (other_names from old w.names)) to < 4096
     space (same at) =
         let it = goes (kind_of w) w.names sound.rooted from old child leads in
@@ -248,10 +251,10 @@ IsSound-with_move w sound from old to new child target at tick live leads taken 
             let it = goes (kind_of w) w.names sound.rooted to new t taken in
             let out : not (is_named to new it.name) ≡ false = ap not it.passes in
             let stays : IsIn it.name (other_names from old w.names) = in_filter (λ n. not (is_named from old n)) it.name w.names it.stands
-                (elim (not (is_named from old it.name)) as (λ b. not (is_named from old it.name) ≡ b → b ≡ true) [
-                  | true ↦ λ _. refl
-                  | false ↦ λ gone. absurd (apart (sym (its_child (kind_of w) w.names sound.rooted from old child leads it.name it.stands gone) ∙ it.leads))
-                ] refl) in
+            (elim (not (is_named from old it.name)) as (λ b. not (is_named from old it.name) ≡ b → b ≡ true) [
+              | true ↦ λ _. refl
+              | false ↦ λ gone. absurd (apart (sym (its_child (kind_of w) w.names sound.rooted from old child leads it.name it.stands gone) ∙ it.leads))
+            ] refl) in
             let less : name_count (other_names to new (other_names from old w.names)) to < name_count (other_names from old w.names) to = count_by-filter_out (λ n. n.directory == to) (λ n. not (is_named to new n)) (other_names from old w.names) it.name stays ((Decides-eqb it.name.directory to).1 (named_directory to new it.name it.passes)) out in
             omega (arith, first_le, all_le, less)
 

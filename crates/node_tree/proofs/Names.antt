@@ -1,9 +1,9 @@
 -- Names: which are there after a filter or a push, and how many.
-use Rattle.std.proofs.Common.{◌≡◌, ◌≢◌, ℕ, zero, suc, ◌+◌, ◌<◌, ◌≤◌, Bool, true, false, not, ◌&&◌, ◌||◌, cond, List, [], ◌∷◌, ◌++◌, length, refl, ap, sym, ◌∙◌, subst, rules, arith, Some, None, inl, inr, nat_eq, add_comm}
-use Rattle.std.specs.Prelude.{Option, ◌⊎◌, find, ◌==◌, count_by}
+use Rattle.std.proofs.Common.{◌≡◌, ℕ, ◌+◌, ◌<◌, ◌≤◌, Bool, true, false, not, ◌&&◌, ◌||◌, cond, List, [], ◌∷◌, ◌++◌, length, refl, ap, sym, ◌∙◌, subst, arith, Some, None, inl, inr, add_comm}
+use Rattle.std.specs.Prelude.{◌⊎◌, find, ◌==◌, count_by}
 use Rattle.std.specs.List.{filter, list_any}
 use Rattle.std.specs.Option.{option_map}
-use Rattle.std.specs.Cmp.Lexicographic.{pointwise, bytes_decides}
+use Rattle.std.specs.Cmp.Lexicographic.{bytes_decides}
 use Rattle.std.proofs.Math.Logic.{⊎_elim}
 use Rattle.std.proofs.lemmas.Bool.Decides.{Decides-eqb}
 use Rattle.std.proofs.lemmas.List.Sums.{sum_by-cons}
@@ -140,15 +140,15 @@ count_by-filter_out q p (m ∷ names) n stands counts out =
     let all : count_by q (m ∷ names) ≡ cond (q m) 1 0 + count_by q names = step q m names in
     let kept : count_by q (m ∷ filter p names) ≡ cond (q m) 1 0 + count_by q (filter p names) = step q m (filter p names) in
     ⊎_elim
-      (λ same. let one : cond {A = ℕ} (q m) 1 0 ≡ 1 = ap (λ (b : Bool). cond {A = ℕ} b 1 0) (subst (λ n. q n ≡ true) same counts) in
-        subst (λ b. count_by q (cond b (m ∷ filter p names) (filter p names)) < count_by q (m ∷ names)) (sym (subst (λ n. p n ≡ false) same out))
-          (let goal : count_by q (filter p names) < count_by q (m ∷ names) = omega (arith, one) in goal))
-      (λ later. let less : count_by q (filter p names) < count_by q names = count_by-filter_out q p names n later counts out in
-        elim (p m) as (λ b. count_by q (cond b (m ∷ filter p names) (filter p names)) < count_by q (m ∷ names)) [
-          | true ↦ let goal : count_by q (m ∷ filter p names) < count_by q (m ∷ names) = omega arith in goal
-          | false ↦ let goal : count_by q (filter p names) < count_by q (m ∷ names) = omega arith in goal
-        ])
-      stands
+    (λ same. let one : cond {A = ℕ} (q m) 1 0 ≡ 1 = ap (λ (b : Bool). cond {A = ℕ} b 1 0) (subst (λ n. q n ≡ true) same counts) in
+    subst (λ b. count_by q (cond b (m ∷ filter p names) (filter p names)) < count_by q (m ∷ names)) (sym (subst (λ n. p n ≡ false) same out))
+    (let goal : count_by q (filter p names) < count_by q (m ∷ names) = omega (arith, one) in goal))
+    (λ later. let less : count_by q (filter p names) < count_by q names = count_by-filter_out q p names n later counts out in
+    elim (p m) as (λ b. count_by q (cond b (m ∷ filter p names) (filter p names)) < count_by q (m ∷ names)) [
+      | true ↦ let goal : count_by q (m ∷ filter p names) < count_by q (m ∷ names) = omega arith in goal
+      | false ↦ let goal : count_by q (filter p names) < count_by q (m ∷ names) = omega arith in goal
+    ])
+    stands
 
 pub count_by-push : (q : Name → Bool) (names : List Name) (n : Name) → count_by q (names ++ n ∷ []) ≡ count_by q names + cond (q n) 1 0
 count_by-push q [] n = step q n [] ∙ add_comm (cond (q n) 1 0) 0

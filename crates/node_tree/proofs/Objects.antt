@@ -1,15 +1,13 @@
 -- Objects by number, after a change.
-use Rattle.std.proofs.Common.{◌≡◌, ◌≢◌, ℕ, zero, suc, ◌+◌, ◌<◌, ◌≤◌, Bool, true, false, not, cond, List, [], ◌∷◌, ◌++◌, length, refl, ap, sym, ◌∙◌, subst, rules, arith, Some, None, inl, inr}
-use Rattle.std.specs.Prelude.{Option, IsSome, is_some, ◌⊎◌}
+use Rattle.std.proofs.Common.{◌≡◌, ◌≢◌, ℕ, Bool, true, false, not, cond, List, [], ◌∷◌, length, refl, ap, sym, ◌∙◌, subst, Some, None, inl, inr}
+use Rattle.std.specs.Prelude.{Option, is_some, ◌⊎◌}
 use Rattle.std.specs.Ordering.{nat_cmp, match_ordering, is_eq}
 use Rattle.std.specs.declared.cmp.Ordering.TheVariants.{Less, Equal, Greater}
 use Rattle.std.specs.Map.{lookup, set_value, remove_entry, keys_of}
 use Rattle.std.specs.BTreeMap.{is_at, insert_entry}
-use Rattle.std.specs.List.{filter}
 use Rattle.std.specs.Option.{option_map, option_map_or}
 use Rattle.std.specs.List.Sorted.{IsStrictlySortedBy}
 use Rattle.std.specs.Cmp.{nat_cmp_total, eq_by_cmp_equiv, Equal-is}
-use Rattle.std.proofs.Math.Logic.{⊎_elim}
 use Rattle.std.proofs.lemmas.Map.{lookup-none, lookup-set_value, length-set_value}
 use Rattle.std.proofs.lemmas.Map.Keys.{sorted_tail, IsDistinct-from_sorted}
 use Rattle.std.proofs.lemmas.Map.Entries.{none_past_head, lookup-filter-keys}
@@ -91,10 +89,12 @@ lookup-inserted k q v (e ∷ es) =
     shadowed : (b : Bool) (x y z : Option Object) → cond b x z ≡ cond b x (cond b y z)
     shadowed true x y z = refl
     shadowed false x y z = refl
+
     swapped : (a b : Bool) (x y z : Option Object) → (a ≡ true → b ≡ true → ⊥) → cond a x (cond b y z) ≡ cond b y (cond a x z)
     swapped true true x y z no_both = absurd (no_both refl refl)
     swapped true false x y z no_both = refl
     swapped false b x y z no_both = refl
+
     apart : nat_cmp k e.0 ≡ Greater → q ≡ k → q ≡ e.0 → ⊥
     apart is a b = let t : is_eq (nat_cmp k e.0) ≡ true = subst (λ n. is_at (nat_cmp k) n ≡ true) (sym a ∙ b) (is_at-same k) in let f : is_eq (nat_cmp k e.0) ≡ false = ap is_eq is in cc
 

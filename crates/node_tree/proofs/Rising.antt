@@ -1,6 +1,5 @@
 -- Keys that rise, and stay below the next.
-use Rattle.std.proofs.Common.{◌≡◌, ℕ, ◌+◌, ◌<◌, ◌≤◌, Bool, true, false, not, cond, List, [], ◌∷◌, ◌++◌, length, refl, ap, sym, ◌∙◌, subst, rules, arith, Some, None}
-use Rattle.std.specs.Prelude.{Option}
+use Rattle.std.proofs.Common.{◌≡◌, ℕ, ◌+◌, ◌<◌, ◌≤◌, Bool, true, false, cond, List, [], ◌∷◌, ◌++◌, refl, ap, subst, arith, Some, None}
 use Rattle.std.specs.Ordering.{nat_cmp, match_ordering}
 use Rattle.std.specs.declared.cmp.Ordering.TheVariants.{Greater}
 use Rattle.std.specs.Cmp.{nat_cmp_is}
@@ -9,7 +8,7 @@ use Rattle.std.specs.BTreeMap.{is_at, insert_entry}
 use Rattle.std.specs.List.{filter}
 use Rattle.std.specs.Option.{option_map_or}
 use Rattle.node_tree.specs.World.{Object}
-use Rattle.node_tree.specs.Changes.{changed, without}
+use Rattle.node_tree.specs.Changes.{changed}
 use Rattle.node_tree.specs.Sound.{Rises}
 use Rattle.node_tree.proofs.Objects.{is_same}
 
@@ -64,4 +63,4 @@ inserted_last low next (e ∷ es) o rises =
     let top : e.0 + 1 ≤ next = Rises-ends (e.0 + 1) next es rises.1 in
     let below : e.0 < next = omega arith in
     subst (λ r. match_ordering r ((next, o) ∷ e ∷ es) ((e.0, o) ∷ es) (e ∷ insert_entry nat_cmp es next o) ≡ e ∷ (es ++ (next, o) ∷ [])) (nat_cmp_is next e.0 Greater below)
-      (ap (λ l. e ∷ l) (inserted_last (e.0 + 1) next es o rises.1))
+    (ap (λ l. e ∷ l) (inserted_last (e.0 + 1) next es o rises.1))

@@ -1,6 +1,6 @@
 -- One tree of directories stays one, where a name comes, goes or moves.
-use Rattle.std.proofs.Common.{◌≡◌, ◌≢◌, ℕ, zero, suc, ◌+◌, Bool, true, false, not, ◌||◌, cond, List, [], ◌∷◌, ◌++◌, refl, ap, sym, ◌∙◌, subst, Some, None, inl, inr}
-use Rattle.std.specs.Prelude.{Option, IsSome, is_some, ◌⊎◌, find, ◌==◌}
+use Rattle.std.proofs.Common.{◌≡◌, ◌≢◌, ℕ, zero, suc, Bool, true, false, ◌||◌, List, [], ◌∷◌, ◌++◌, refl, ap, sym, ◌∙◌, subst, Some, None}
+use Rattle.std.specs.Prelude.{Option, IsSome, is_some, find, ◌==◌}
 use Rattle.std.specs.List.{filter}
 use Rattle.std.specs.Option.{option_map, option_map_or}
 use Rattle.std.proofs.Math.Logic.{⊎_elim}
@@ -12,7 +12,7 @@ use Rattle.node_tree.specs.World.{Name, is_named}
 use Rattle.node_tree.specs.Ways.{is_met}
 use Rattle.node_tree.specs.Sound.{IsIn, Climbs, IsRooted}
 use Rattle.node_tree.proofs.Objects.{by_number}
-use Rattle.node_tree.proofs.Names.{in_filter, from_filter, Found, found, not_found, in_front, in_last, from_push, named_at}
+use Rattle.node_tree.proofs.Names.{in_filter, from_filter, found, not_found, in_front, in_last, from_push, named_at}
 use Rattle.node_tree.proofs.Stamps.{Joins}
 
 -- a directory has no other kind
@@ -50,11 +50,11 @@ IsRooted-joined kinds new names number cookie directory name kind rooted joins f
           (λ a. ⊎_elim (λ b. absurd (old_child n b (sym (ap (λ (n : Name). n.child) a) ∙ same))) (λ b. a ∙ sym b) (from_push n it names i))
           (from_push m it names h);
       held = λ k h not_root. by_number number k
-        (λ at. (it, in_last it names, at))
-        (λ apart. let r = rooted.held k (was k apart h) not_root in (r.0, in_front r.0 names (it ∷ []) r.1, r.2));
+          (λ at. (it, in_last it names, at))
+          (λ apart. let r = rooted.held k (was k apart h) not_root in (r.0, in_front r.0 names (it ∷ []) r.1, r.2));
       reaches_root = λ k is. by_number number k
-        (λ at. let way = rooted.reaches_root directory live in (suc way.0, (it, in_last it names, at, climbs_lift names (it ∷ []) way.0 directory way.1)))
-        (λ apart. let way = rooted.reaches_root k (sym (joins.elsewhere k apart) ∙ is) in (way.0, climbs_lift names (it ∷ []) way.0 k way.1));
+          (λ at. let way = rooted.reaches_root directory live in (suc way.0, (it, in_last it names, at, climbs_lift names (it ∷ []) way.0 directory way.1)))
+          (λ apart. let way = rooted.reaches_root k (sym (joins.elsewhere k apart) ∙ is) in (way.0, climbs_lift names (it ∷ []) way.0 k way.1));
     }
 
 -- ---- a further name of an object that is no directory
@@ -145,6 +145,7 @@ way_kept kinds alive names rest child to new parents rooted moves up (suc fuel) 
   where
     was : kinds k ≡ Some Directory
     was = sym (moves.was k (ap is_some is)) ∙ is
+
     climb : child ≢ k → (o : Option Name) → find (λ n. n.child == k) names ≡ o → ((k : ℕ) → alive k ≡ Some Directory → is_met parents fuel child k ≡ false → (steps : ℕ) × Climbs rest steps k) → option_map_or (λ parent. is_met parents fuel child parent) (parents k) false ≡ false → (steps : ℕ) × Climbs rest steps k
     climb apart None none again h = by_number k ROOT
         (λ root. (0, root))
@@ -168,12 +169,12 @@ climb_moved kinds alive names rest child to cookie new rooted moves way zero k i
 climb_moved kinds alive names rest child to cookie new rooted moves way (suc steps) k is (n, stands, at, up) =
     let it : Name = record { cookie = cookie; directory = to; name = new; child = child } in
     by_number child k
-      (λ same. let w = way (ap alive same ∙ is) in (suc w.0, (it, in_last it rest, same, climbs_lift rest (it ∷ []) w.0 to w.1)))
-      (λ apart.
-        let here : IsIn n rest = moves.stays n stands (ap alive at ∙ is) (λ same. apart (same ∙ at)) in
-        let next : alive n.directory ≡ Some Directory = (moves.ends n here).0 ∙ (rooted.ends n stands).0 in
-        let r = climb_moved kinds alive names rest child to cookie new rooted moves way steps n.directory next up in
-        (suc r.0, (n, in_front n rest (it ∷ []) here, at, r.1)))
+    (λ same. let w = way (ap alive same ∙ is) in (suc w.0, (it, in_last it rest, same, climbs_lift rest (it ∷ []) w.0 to w.1)))
+    (λ apart.
+    let here : IsIn n rest = moves.stays n stands (ap alive at ∙ is) (λ same. apart (same ∙ at)) in
+    let next : alive n.directory ≡ Some Directory = (moves.ends n here).0 ∙ (rooted.ends n stands).0 in
+    let r = climb_moved kinds alive names rest child to cookie new rooted moves way steps n.directory next up in
+    (suc r.0, (n, in_front n rest (it ∷ []) here, at, r.1)))
 
 pub IsRooted-moved : (kinds alive : ℕ → Option Kind) (names rest : List Name) (child to cookie : ℕ) (new : List ℕ) (parents : ℕ → Option ℕ) (fuel : ℕ) → IsRooted kinds names → Moves kinds alive names rest child to new
     → ((k : ℕ) → kinds k ≡ Some Directory → parents k ≡ option_map (λ (n : Name). n.directory) (find (λ n. n.child == k) names))

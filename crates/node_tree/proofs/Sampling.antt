@@ -1,16 +1,15 @@
 -- The sample tree is sound: it is what two additions make of a root, but for the root's last change.
-use Rattle.std.proofs.Common.{◌≡◌, ◌≢◌, ℕ, ◌+◌, ◌<◌, ◌≤◌, ◌^◌, Bool, List, [], ◌∷◌, length, refl, ap, sym, ◌∙◌, subst, arith, Some, None, lit<, lit≤}
+use Rattle.std.proofs.Common.{◌≡◌, ℕ, ◌<◌, List, [], refl, sym, subst, lit<, lit≤}
 use Rattle.std.specs.Prelude.{codes}
 use Rattle.acl_list.specs.declared.entry.Entry.{Entry}
 use Rattle.acl_list.specs.declared.entry.Kind.{Kind}
 use Rattle.acl_list.specs.declared.entry.Kind.TheVariants.{File, Directory}
 use Rattle.acl_shape.specs.Bounds.{IsBounded}
 use Rattle.acl_shape.specs.Mode.{set_mode}
-use Rattle.node_tree.specs.declared.at.At.{At}
 use Rattle.node_tree.specs.World.{World, Object, kind_of}
 use Rattle.node_tree.specs.Changes.{changed, alone, root_of, epoch, with_new}
-use Rattle.node_tree.specs.Sample.{sample, sample_object}
-use Rattle.node_tree.specs.Sound.{stamp_of, IsRooted, IsStamped, IsFit, IsSound}
+use Rattle.node_tree.specs.Sample.{sample}
+use Rattle.node_tree.specs.Sound.{stamp_of, IsRooted, IsStamped, IsSound}
 use Rattle.node_tree.proofs.Objects.{option_map-changed}
 use Rattle.node_tree.proofs.Holding.{IsHeld-changed}
 use Rattle.node_tree.proofs.Setting.{held_in}
@@ -54,9 +53,9 @@ module _ (of_root of_notes of_pub : List Entry) (root_bounded : IsBounded of_roo
   is_sound =
       let root = IsSound-alone (root_of 0 0 of_root 0) refl refl root_bounded refl refl in
       let one = IsSound-with_new (alone (root_of 0 0 of_root 0)) root 1 (codes "notes") (thing 2 File (codes "hi") 1001 100 of_notes) (record { tick = 2; moment = epoch }) (record { due = lit≤ tt; fresh = lit≤ tt; left = lit< tt }) refl refl (lit≤ tt)
-            (record { list = notes_bounded; bytes = lit≤ tt; change = lit< tt }) refl (lit< tt) (lit< tt) (lit< tt) (lit< tt) (lit< tt) in
+      (record { list = notes_bounded; bytes = lit≤ tt; change = lit< tt }) refl (lit< tt) (lit< tt) (lit< tt) (lit< tt) (lit< tt) in
       let two = IsSound-with_new first one 1 (codes "pub") (thing 3 Directory [] 0 0 of_pub) (record { tick = 3; moment = epoch }) (record { due = lit≤ tt; fresh = lit≤ tt; left = lit< tt }) refl refl (lit≤ tt)
-            (record { list = pub_bounded; bytes = lit≤ tt; change = lit< tt }) refl (lit< tt) (lit< tt) (lit< tt) (lit< tt) (lit< tt) in
+      (record { list = pub_bounded; bytes = lit≤ tt; change = lit< tt }) refl (lit< tt) (lit< tt) (lit< tt) (lit< tt) (lit< tt) in
       IsSound-with_change second 1 1 two (lit< tt)
 
 pub IsSound-sample : ((entries : List Entry) (kind : Kind) (mode : ℕ) → IsBounded entries → IsBounded (set_mode entries kind mode)) → IsSound sample

@@ -1,26 +1,21 @@
 -- A sound world stays sound where the bytes, the list or the owner of an object is set.
-use Rattle.std.proofs.Common.{◌≡◌, ◌≢◌, ℕ, ◌+◌, ◌-◌, ◌<◌, ◌≤◌, ◌^◌, Bool, List, [], length, max, refl, ap, sym, ◌∙◌, subst, arith, Some, None, inl, inr, length-append}
-use Rattle.std.specs.Prelude.{Option, ◌⊎◌, take, replicate}
-use Rattle.std.specs.Ordering.{nat_cmp}
-use Rattle.std.specs.Map.{lookup}
-use Rattle.std.specs.BTreeMap.{is_at}
+use Rattle.std.proofs.Common.{◌≡◌, ℕ, ◌+◌, ◌<◌, ◌≤◌, ◌^◌, List, [], length, max, refl, ap, sym, ◌∙◌, subst, arith, Some, None, inl, inr}
+use Rattle.std.specs.Prelude.{Option}
 use Rattle.std.specs.Option.{option_map, option_map_or}
-use Rattle.std.specs.List.{range_with_len}
 use Rattle.std.proofs.Math.Logic.{⊎_elim}
 use Rattle.std.proofs.lemmas.Grind.{common_steps}
 use Rattle.std.proofs.lemmas.List.FromFn.{length-range_with_len}
 use Rattle.acl_list.specs.declared.entry.Entry.{Entry}
-use Rattle.acl_list.specs.declared.entry.Kind.{Kind}
 use Rattle.acl_list.specs.declared.entry.Kind.TheVariants.{File}
 use Rattle.acl_shape.specs.Bounds.{IsBounded}
 use Rattle.node_tree.specs.declared.at.At.{At}
 use Rattle.node_tree.specs.World.{World, Object, object, kind_of, bytes_of}
 use Rattle.node_tree.specs.Changes.{changed, touched, retold, written, resized, with_bytes, with_size, with_list, with_owner}
-use Rattle.node_tree.specs.Judged.{Judged, judged, judged_of, KeepsJudged}
-use Rattle.node_tree.specs.Sound.{stamp_of, IsRooted, IsStamped, IsFit, IsCounted, IsSound, IsTick, most_bytes}
+use Rattle.node_tree.specs.Judged.{Judged, judged, KeepsJudged}
+use Rattle.node_tree.specs.Sound.{stamp_of, IsRooted, IsStamped, IsFit, IsSound, IsTick, most_bytes}
 use Rattle.node_tree.proofs.Objects.{option_map-changed, Changed, Kept, changed_cases, read_off}
 use Rattle.node_tree.proofs.Holding.{IsHeld, IsHeld-later, IsHeld-changed}
-use Rattle.node_tree.proofs.Stamps.{Restamped, IsStamped-restamped}
+use Rattle.node_tree.proofs.Stamps.{IsStamped-restamped}
 use mathlib.Core.Path.{fun_ext}
 
 pub held_in : (w : World) → IsSound w → IsHeld w.objects w.next_number w.next_tick
@@ -39,13 +34,13 @@ IsSound-with_new_bytes w file bytes at sound tick is_file fits =
     let kinds : kind_of (with_new_bytes w file bytes at) ≡ kind_of w = fun_ext (option_map-changed (λ o. o.kind) file f w.objects (λ o. refl)) in
     let stamps : stamp_of (with_new_bytes w file bytes at) ≡ stamp_of w = fun_ext (option_map-changed (λ o. o.stamp) file f w.objects (λ o. refl)) in
     let held = IsHeld-changed file f w.objects w.next_number (at.tick + 1)
-        (λ o is fit. record {
-          list = fit.list;
-          bytes = let kind : o.kind ≡ File = is_kind o (sym (ap (option_map (λ (o : Object). o.kind)) is) ∙ is_file) in
-              subst (λ k. length (bytes o.bytes) ≤ most_bytes k) (sym kind) (fits o.bytes (subst (λ k. length o.bytes ≤ most_bytes k) kind fit.bytes));
-          change = let goal : at.tick < at.tick + 1 = omega arith in goal;
-        })
-        (IsHeld-later w.objects w.next_number w.next_tick (at.tick + 1) tick.fresh (held_in w sound)) in
+    (λ o is fit. record {
+      list = fit.list;
+      bytes = let kind : o.kind ≡ File = is_kind o (sym (ap (option_map (λ (o : Object). o.kind)) is) ∙ is_file) in
+          subst (λ k. length (bytes o.bytes) ≤ most_bytes k) (sym kind) (fits o.bytes (subst (λ k. length o.bytes ≤ most_bytes k) kind fit.bytes));
+      change = let goal : at.tick < at.tick + 1 = omega arith in goal;
+    })
+    (IsHeld-later w.objects w.next_number w.next_tick (at.tick + 1) tick.fresh (held_in w sound)) in
     record {
       rooted = subst (λ k. IsRooted k w.names) (sym kinds) sound.rooted;
       stamped = subst (λ s. IsStamped s w.next_stamp) (sym stamps) sound.stamped;
@@ -111,8 +106,8 @@ IsSound-with_new_stamp w number f at sound tick left kind stamp fits =
       stamped = IsStamped-restamped (stamp_of w) _ number w.next_stamp sound.stamped (λ k s is.
           let r = read_off (λ (o : Object). o.stamp) (object (with_new_stamp w number f at) k) s is in
           ⊎_elim (λ (c : Changed number f w.objects k r.value). inl (record { old = c.old.stamp; had = ap (option_map (λ o. o.stamp)) c.stood; new = sym r.gives ∙ ap (λ (o : Object). o.stamp) c.new ∙ stamp c.old; here = c.here }))
-            (λ (c : Kept number w.objects k r.value). inr (ap (option_map (λ o. o.stamp)) c.stood ∙ ap Some r.gives))
-            (changed_cases number f w.objects k r.value r.is));
+          (λ (c : Kept number w.objects k r.value). inr (ap (option_map (λ o. o.stamp)) c.stood ∙ ap Some r.gives))
+          (changed_cases number f w.objects k r.value r.is));
       numbered = held.numbered;
       listed = sound.listed;
       few = held.few;
@@ -127,14 +122,14 @@ KeepsJudged-with_new_stamp w number f at stamp = record {
   same = λ k j is low.
       let r = read_off judged (object (with_new_stamp w number f at) k) j is in
       ⊎_elim (λ (c : Changed number f w.objects k r.value). let new : j.stamp ≡ w.next_stamp = sym (ap (λ (j : Judged). j.stamp) r.gives) ∙ ap (λ (o : Object). o.stamp) c.new ∙ stamp c.old in absurd (omega arith))
-        (λ (c : Kept number w.objects k r.value). ap (option_map judged) c.stood ∙ ap Some r.gives)
-        (changed_cases number f w.objects k r.value r.is);
+      (λ (c : Kept number w.objects k r.value). ap (option_map judged) c.stood ∙ ap Some r.gives)
+      (changed_cases number f w.objects k r.value r.is);
 }
 
 pub IsSound-with_list : (w : World) (number : ℕ) (list : List Entry) (high : ℕ) (at : At) → IsSound w → IsTick w at.tick → w.next_stamp < 2 ^ 63 → IsBounded list → IsSound (with_list w number list high at)
 IsSound-with_list w number list high at sound tick left bounded =
     IsSound-with_new_stamp w number (λ o. retold at (record o { list = list; high = high; stamp = w.next_stamp })) at sound tick left (λ o. refl) (λ o. refl)
-      (λ o fit. record { list = bounded; bytes = fit.bytes; change = let goal : at.tick < at.tick + 1 = omega arith in goal })
+    (λ o fit. record { list = bounded; bytes = fit.bytes; change = let goal : at.tick < at.tick + 1 = omega arith in goal })
 
 pub KeepsJudged-with_list : (w : World) (number : ℕ) (list : List Entry) (high : ℕ) (at : At) → KeepsJudged w (with_list w number list high at)
 KeepsJudged-with_list w number list high at = KeepsJudged-with_new_stamp w number (λ o. retold at (record o { list = list; high = high; stamp = w.next_stamp })) at (λ o. refl)
@@ -142,7 +137,7 @@ KeepsJudged-with_list w number list high at = KeepsJudged-with_new_stamp w numbe
 pub IsSound-with_owner : (w : World) (number owner group : ℕ) (at : At) → IsSound w → IsTick w at.tick → w.next_stamp < 2 ^ 63 → IsSound (with_owner w number owner group at)
 IsSound-with_owner w number owner group at sound tick left =
     IsSound-with_new_stamp w number (λ o. retold at (record o { owner = owner; group = group; stamp = w.next_stamp })) at sound tick left (λ o. refl) (λ o. refl)
-      (λ o fit. record { list = fit.list; bytes = fit.bytes; change = let goal : at.tick < at.tick + 1 = omega arith in goal })
+    (λ o fit. record { list = fit.list; bytes = fit.bytes; change = let goal : at.tick < at.tick + 1 = omega arith in goal })
 
 pub KeepsJudged-with_owner : (w : World) (number owner group : ℕ) (at : At) → KeepsJudged w (with_owner w number owner group at)
 KeepsJudged-with_owner w number owner group at = KeepsJudged-with_new_stamp w number (λ o. retold at (record o { owner = owner; group = group; stamp = w.next_stamp })) at (λ o. refl)

@@ -1,5 +1,5 @@
 -- Stamps stay apart and below the next.
-use Rattle.std.proofs.Common.{◌≡◌, ◌≢◌, ℕ, ◌+◌, ◌<◌, ◌≤◌, refl, ap, sym, ◌∙◌, subst, arith, Some, None}
+use Rattle.std.proofs.Common.{◌≡◌, ◌≢◌, ℕ, ◌+◌, ◌<◌, sym, ◌∙◌, subst, arith, Some}
 use Rattle.std.specs.Prelude.{Option, ◌⊎◌}
 use Rattle.std.proofs.Math.Logic.{⊎_elim}
 use Rattle.node_tree.specs.Sound.{IsStamped}
@@ -48,5 +48,6 @@ IsStamped-joined stamps new number next stamped joins =
   where
     first : (k s : ℕ) → number ≡ k → new k ≡ Some s → s ≡ next
     first k s at is = let t : new k ≡ Some next = subst (λ k. new k ≡ Some next) at joins.there in cc
+
     later : (k s : ℕ) → stamps k ≡ Some s → s ≡ next → ⊥
     later k s is e = let b : s < next = stamped.below k s is in omega arith

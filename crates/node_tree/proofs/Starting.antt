@@ -1,16 +1,15 @@
 -- A root alone is sound.
-use Rattle.std.proofs.Common.{◌≡◌, ◌≢◌, ℕ, zero, suc, ◌+◌, ◌<◌, ◌≤◌, ◌^◌, Bool, true, false, cond, List, [], ◌∷◌, length, refl, ap, sym, ◌∙◌, subst, arith, Some, None, lit≤}
+use Rattle.std.proofs.Common.{◌≡◌, ℕ, ◌<◌, true, false, cond, [], refl, ap, sym, ◌∙◌, subst, arith, Some, None, lit≤}
 use Rattle.std.specs.Prelude.{Option, IsSome, is_some}
 use Rattle.std.specs.Ordering.{nat_cmp}
-use Rattle.std.specs.Map.{lookup}
 use Rattle.std.specs.BTreeMap.{is_at}
 use Rattle.std.specs.Option.{option_map}
 use Rattle.acl_list.specs.declared.entry.Kind.{Kind}
 use Rattle.acl_list.specs.declared.entry.Kind.TheVariants.{Directory}
 use Rattle.acl_shape.specs.Bounds.{IsBounded}
-use Rattle.node_tree.specs.World.{Object, Name, World, object, kind_of}
+use Rattle.node_tree.specs.World.{Object, object, kind_of}
 use Rattle.node_tree.specs.Changes.{alone}
-use Rattle.node_tree.specs.Sound.{stamp_of, IsIn, IsRooted, IsStamped, IsFit, IsLimited, IsCounted, IsSound}
+use Rattle.node_tree.specs.Sound.{IsFit, IsSound}
 use Rattle.node_tree.proofs.Objects.{is_same}
 
 -- what there is in it is the root

@@ -1,5 +1,5 @@
 -- A sound world stays sound where a name is taken away whose child is no directory with names.
-use Rattle.std.proofs.Common.{◌≡◌, ◌≢◌, ℕ, ◌+◌, ◌<◌, ◌≤◌, ◌^◌, Bool, true, false, not, cond, List, length, refl, ap, sym, ◌∙◌, subst, arith, Some, None}
+use Rattle.std.proofs.Common.{◌≡◌, ◌≢◌, ℕ, ◌+◌, ◌<◌, ◌≤◌, ◌^◌, Bool, true, false, not, cond, List, refl, ap, sym, ◌∙◌, subst, arith, Some, None}
 use Rattle.std.specs.Prelude.{Option, IsSome, IfSome, is_some, find, ◌==◌}
 use Rattle.std.specs.Ordering.{nat_cmp}
 use Rattle.std.specs.Map.{lookup}
@@ -8,12 +8,11 @@ use Rattle.std.specs.List.{filter}
 use Rattle.std.specs.Option.{option_map}
 use Rattle.std.proofs.lemmas.Bool.Decides.{Decides-eqb}
 use Rattle.acl_list.specs.declared.entry.Kind.{Kind}
-use Rattle.acl_list.specs.declared.entry.Kind.TheVariants.{Directory}
 use Rattle.node_tree.specs.declared.at.At.{At}
 use Rattle.node_tree.specs.declared.limits.TheConstants.{ROOT}
 use Rattle.node_tree.specs.World.{World, Object, Name, object, kind_of, is_named, has_name, has_entries, child_named}
 use Rattle.node_tree.specs.Changes.{changed, without, touched, retold, released, other_names, without_name}
-use Rattle.node_tree.specs.Judged.{judged, judged_of, KeepsJudged}
+use Rattle.node_tree.specs.Judged.{judged, KeepsJudged}
 use Rattle.node_tree.specs.Sound.{stamp_of, IsIn, IsRooted, IsSound, IsTick}
 use Rattle.node_tree.proofs.Objects.{is_same, is_at-same, lookup-without, option_map-changed}
 use Rattle.node_tree.proofs.Rising.{Rises-filter}
@@ -79,8 +78,8 @@ module _ (kinds : ℕ → Option Kind) (names : List Name) (rooted : IsRooted ki
   is_goes n stands out =
       let named : is_named directory name n ≡ true = flipped _ out in
       rooted.one_child n goes.name stands goes.stands
-        (named_directory directory name n named ∙ sym (named_directory directory name goes.name goes.passes))
-        (named_name directory name n named ∙ sym (named_name directory name goes.name goes.passes))
+      (named_directory directory name n named ∙ sym (named_directory directory name goes.name goes.passes))
+      (named_name directory name n named ∙ sym (named_name directory name goes.name goes.passes))
 
   pub its_child : (n : Name) → IsIn n names → kept n ≡ false → n.child ≡ child
   its_child n stands out = ap (λ (n : Name). n.child) (is_goes n stands out) ∙ goes.leads
@@ -114,9 +113,10 @@ module _ (kinds : ℕ → Option Kind) (names : List Name) (rooted : IsRooted ki
       record {
         was = λ k h. after_was false kinds child k h;
         root = after_elsewhere kinds child ROOT (λ same. rooted.root_has_no_name goes.name goes.stands (goes.leads ∙ same));
-        ends = λ n stands passes.
-            (after_elsewhere kinds child n.directory (λ same. none_passes (λ n. n.directory == child) names empty n stands ((Decides-eqb n.directory child).1 (sym same))),
-            after_elsewhere kinds child n.child (λ same. none_passes (λ n. n.child == child) (filter kept names) none n (in_filter kept n names stands passes) ((Decides-eqb n.child child).1 (sym same))));
+        ends = λ n stands passes. (
+          after_elsewhere kinds child n.directory (λ same. none_passes (λ n. n.directory == child) names empty n stands ((Decides-eqb n.directory child).1 (sym same))),
+          after_elsewhere kinds child n.child (λ same. none_passes (λ n. n.child == child) (filter kept names) none n (in_filter kept n names stands passes) ((Decides-eqb n.child child).1 (sym same))),
+        );
         held = λ k h not_root. let r = rooted.held k (ap is_some (sym (after_was false kinds child k h)) ∙ h) not_root in
             elim (kept r.0) as (λ b. kept r.0 ≡ b → (n : Name) × IsIn n (filter kept names) × (n.child ≡ k)) [
               | true ↦ λ is. (r.0, in_filter kept r.0 names r.1 is, r.2)
@@ -130,9 +130,9 @@ module _ (kinds : ℕ → Option Kind) (names : List Name) (rooted : IsRooted ki
 
   rooted_without : has_entries names child ≡ false → IsRooted (after (has_name (filter kept names) child) kinds child) (filter kept names)
   rooted_without empty = elim (has_name (filter kept names) child) as (λ s. has_name (filter kept names) child ≡ s → IsRooted (after s kinds child) (filter kept names)) [
-      | true ↦ λ has. subst (λ k. IsRooted k (filter kept names)) (sym (fun_ext (after_stays kinds child))) (IsRooted-pruned _ _ _ _ rooted (prunes_name has))
-      | false ↦ λ has. IsRooted-pruned _ _ _ _ rooted (prunes_child empty has)
-    ] refl
+    | true ↦ λ has. subst (λ k. IsRooted k (filter kept names)) (sym (fun_ext (after_stays kinds child))) (IsRooted-pruned _ _ _ _ rooted (prunes_name has))
+    | false ↦ λ has. IsRooted-pruned _ _ _ _ rooted (prunes_child empty has)
+  ] refl
 
 -- what is read of the objects after the change
 read_without : {X : Type 0} (read : Object → X) (directory : ℕ) (names : List Name) (child : ℕ) (at : At) (es : List (ℕ × Object))
@@ -149,7 +149,7 @@ IsSound-without_name w sound directory name child at tick leads empty =
     let stays = has_name names child in
     let kinds : kind_of (without_name w directory name child at) ≡ after stays (kind_of w) child = fun_ext (read_without (λ o. o.kind) directory names child at w.objects (λ o. refl) (λ o. refl)) in
     let held = IsHeld-touched directory at _ w.next_number (at.tick + 1) due (IsHeld-released names child at w.objects w.next_number (at.tick + 1) due
-        (IsHeld-later w.objects w.next_number w.next_tick (at.tick + 1) tick.fresh (held_in w sound))) in
+    (IsHeld-later w.objects w.next_number w.next_tick (at.tick + 1) tick.fresh (held_in w sound))) in
     record {
       rooted = subst (λ k. IsRooted k names) (sym kinds) (rooted_without (kind_of w) w.names sound.rooted directory name child leads empty);
       stamped = IsStamped-fewer (stamp_of w) _ w.next_stamp (λ k s is. after_some stays (stamp_of w) child k s (sym (read_without (λ o. o.stamp) directory names child at w.objects (λ o. refl) (λ o. refl) k) ∙ is)) sound.stamped;

@@ -4,7 +4,7 @@ use Rattle.acl_list.specs.declared.entry.Kind.{Kind}
 use Rattle.acl_list.specs.declared.entry.Kind.TheVariants.{File, Directory}
 use Rattle.acl_shape.specs.Mode.{set_mode}
 use Rattle.node_tree.specs.declared.limits.TheConstants.{ROOT}
-use Rattle.node_tree.specs.World.{World, Object, Name}
+use Rattle.node_tree.specs.World.{World, Object}
 use Rattle.node_tree.specs.Changes.{epoch}
 
 -- an object of the sample: its stamp and its last change are its number

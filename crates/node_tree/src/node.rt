@@ -48,16 +48,16 @@ impl<A: Allocator> Model for Node<A> {
     ghost Value = { Object };
 
     ghost view = { λ n. record {
-        kind = n.kind;
-        bytes = n.bytes.items;
-        owner = n.owner;
-        group = n.group;
-        list = n.list;
-        high = n.high;
-        change = n.change;
-        time_modify = n.time_modify;
-        time_metadata = n.time_metadata;
-        stamp = n.stamp;
+      kind = n.kind;
+      bytes = n.bytes.items;
+      owner = n.owner;
+      group = n.group;
+      list = n.list;
+      high = n.high;
+      change = n.change;
+      time_modify = n.time_modify;
+      time_metadata = n.time_metadata;
+      stamp = n.stamp;
     } };
 }
 

@@ -28,11 +28,7 @@ fn file<A: Allocator + Copy>(alloc: A) -> Result<Node<A>, AllocError>
 }
 
 /// A directory of the sample. Its stamp and its last change are its number.
-fn directory<A: Allocator + Copy>(
-    alloc: A,
-    number: u64,
-    mode: u32,
-) -> Result<Node<A>, AllocError>
+fn directory<A: Allocator + Copy>(alloc: A, number: u64, mode: u32) -> Result<Node<A>, AllocError>
     ensures { IfOk result (λ node. node ≡ sample_object number Kind.Directory [] 0 0 mode) }
 {
     let new = NewObject {
@@ -55,12 +51,7 @@ fn entry<A: Allocator + Copy>(
 ) -> Result<DirEntry<A>, AllocError>
     ensures { IfOk result (λ entry. entry ≡ record { cookie = cookie; directory = ROOT; name = name.now; child = child }) }
 {
-    Ok(DirEntry::new(
-        cookie,
-        ROOT,
-        Vec::from_slice(alloc, name)?,
-        child,
-    ))
+    Ok(DirEntry::new(cookie, ROOT, Vec::from_slice(alloc, name)?, child))
 }
 
 impl<A: Allocator + Copy> Store<A> {

@@ -42,12 +42,12 @@ impl<A: Allocator> Model for Store<A> {
     ghost Value = { World };
 
     ghost view = { λ s. record {
-        objects = s.objects.entries;
-        names = s.names.items;
-        next_number = s.next_number;
-        next_tick = s.next_tick;
-        next_stamp = s.next_stamp;
-        next_cookie = s.next_cookie;
+      objects = s.objects.entries;
+      names = s.names.items;
+      next_number = s.next_number;
+      next_tick = s.next_tick;
+      next_stamp = s.next_stamp;
+      next_cookie = s.next_cookie;
     } };
 }
 
@@ -84,9 +84,7 @@ impl<A: Allocator + Copy> Store<A> {
     pub fn list_after(&self, directory: u64, cookie: u64) -> Option<&DirEntry<A>>
         ensures { option_copied result ≡ name_after self.now directory cookie }
     {
-        self.names
-            .iter()
-            .find(|entry| entry.directory() == directory && cookie < entry.cookie())
+        self.names.iter().find(|entry| entry.directory() == directory && cookie < entry.cookie())
     }
 
     /// Whether a directory has names.
@@ -339,7 +337,8 @@ impl<A: Allocator + Copy> Store<A> {
         self.objects.insert(self.next_number, node)?;
         touch(&mut self.objects, directory, at);
         let number = self.next_number;
-        self.names.push_reserved(DirEntry::new(self.next_cookie, directory, name, number));
+        self.names
+            .push_reserved(DirEntry::new(self.next_cookie, directory, name, number));
         self.next_number += 1;
         self.next_tick = at.tick + 1;
         self.next_stamp += 1;
@@ -364,7 +363,8 @@ impl<A: Allocator + Copy> Store<A> {
         self.names.reserve(1)?;
         retell(&mut self.objects, number, at);
         touch(&mut self.objects, directory, at);
-        self.names.push_reserved(DirEntry::new(self.next_cookie, directory, name, number));
+        self.names
+            .push_reserved(DirEntry::new(self.next_cookie, directory, name, number));
         self.next_tick = at.tick + 1;
         self.next_cookie += 1;
         Ok(())
@@ -402,7 +402,8 @@ impl<A: Allocator + Copy> Store<A> {
         self.names.reserve(1)?;
         remove_names(&mut self.names, from, old, to, new);
         move_child(&mut self.objects, &self.names, from, to, child, target, at);
-        self.names.push_reserved(DirEntry::new(self.next_cookie, to, name, child));
+        self.names
+            .push_reserved(DirEntry::new(self.next_cookie, to, name, child));
         self.next_tick = at.tick + 1;
         self.next_cookie += 1;
         Ok(())
@@ -420,13 +421,7 @@ impl<A: Allocator + Copy> Store<A> {
     }
 
     /// Writes bytes into a file, and zeros between its end and them.
-    pub fn write(
-        &mut self,
-        file: u64,
-        offset: usize,
-        more: &[u8],
-        at: At,
-    ) -> Result<(), AllocError>
+    pub fn write(&mut self, file: u64, offset: usize, more: &[u8], at: At) -> Result<(), AllocError>
         requires ticks { at.tick < 2 ^ 63 }
         requires few { offset + length more.now < 2 ^ 32 }
         ensures ok { OnOk result (self.new ≡ with_bytes self.old file offset more.now at) }

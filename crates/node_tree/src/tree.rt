@@ -292,13 +292,7 @@ impl<A: Allocator + Copy> Tree<A> {
     /// set. No data change nothing, at any offset.
     ///
     /// Refused: the data would end above [`crate::MAX_BYTES`], [`TreeFault::FBig`]; [`TreeFault::Memory`].
-    pub fn write(
-        &mut self,
-        file: u64,
-        offset: u64,
-        more: &[u8],
-        at: At,
-    ) -> Result<(), TreeFault>
+    pub fn write(&mut self, file: u64, offset: u64, more: &[u8], at: At) -> Result<(), TreeFault>
         requires tick { IsTick self.old at.tick }
         requires file { kind_of self.old file ≡ Some Kind.File }
         ensures refused { MatchOption (write_refusal offset more.now) (IsOkUnless result TreeFault.Memory) (λ fault. result ≡ Err fault) }

@@ -1,4 +1,4 @@
-use Rattle.std.proofs.Common.{zero, suc, refl, ◌≡◌, ◌+◌, ◌<◌, ℕ, ◌≤◌, ◌-◌, ◌&&◌, nat_le, nat_lt, if◌then◌else◌, slice_index, length, max, List, [], ◌∷◌, ◌++◌, get_or, take, drop, replicate, ◌∙◌, ap, sym, arith, take_all}
+use Rattle.std.proofs.Common.{zero, suc, refl, ◌≡◌, ◌+◌, ℕ, ◌≤◌, ◌-◌, ◌&&◌, nat_le, nat_lt, if◌then◌else◌, slice_index, length, List, [], ◌∷◌, ◌++◌, get_or, take, drop, replicate, ◌∙◌, ap, arith, take_all}
 use Rattle.std.proofs.lemmas.Grind.{common_steps}
 use Rattle.std.proofs.lemmas.List.FromFn.{fill_by_all}
 use Rattle.node_tree.proofs.bytes.write_at.Goals as goal
@@ -22,5 +22,5 @@ pub returns-clause-ok : goal.returns-clause-ok
 returns-clause-ok g c =
     whole _ _ _ (grind (arith, common_steps)) (grind (arith, common_steps))
     ∙ fill_by_all (λ i. if nat_le c.args.offset i && nat_lt i (c.args.offset + length c.args.more.now) then slice_index c.args.more.now (i - c.args.offset) else slice_index c.args.bytes.now.items i) c.overwrite.new.bytes _ 0 (grind (arith, common_steps))
-      (λ k inside. c.overwrite.ensures k ∙ ap (λ (old : ℕ). if nat_le c.args.offset k && nat_lt k (c.args.offset + length c.args.more.now) then slice_index c.args.more.now (k - c.args.offset) else old)
-        (filled c.args.bytes.now.items c.resize.new.self.items c.deref_mut.result.now c.max.result _ k c.deref_mut.ensures.value c.in_ok-resize.ensures.items (omega arith)))
+    (λ k inside. c.overwrite.ensures k ∙ ap (λ (old : ℕ). if nat_le c.args.offset k && nat_lt k (c.args.offset + length c.args.more.now) then slice_index c.args.more.now (k - c.args.offset) else old)
+    (filled c.args.bytes.now.items c.resize.new.self.items c.deref_mut.result.now c.max.result _ k c.deref_mut.ensures.value c.in_ok-resize.ensures.items (omega arith)))

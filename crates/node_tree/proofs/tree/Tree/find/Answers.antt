@@ -1,4 +1,3 @@
-use Rattle.node_tree.specs.World.{child_named}
 use Rattle.node_tree.proofs.Unlinking.{live_child}
 use Rattle.node_tree.proofs.tree.Tree.find.Goals as goal
 

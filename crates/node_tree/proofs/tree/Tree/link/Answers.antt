@@ -1,4 +1,4 @@
-use Rattle.node_tree.proofs.Adding.{MayLink, may_link, IsSound-with_link, KeepsJudged-with_link}
+use Rattle.node_tree.proofs.Adding.{may_link, IsSound-with_link, KeepsJudged-with_link}
 use Rattle.node_tree.proofs.tree.Tree.link.Goals as goal
 
 pub link-requires : goal.link-requires
