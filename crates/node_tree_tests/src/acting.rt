@@ -21,8 +21,8 @@ pub enum Outcome {
     Misused,
 }
 
-fn outcome(result: Result<(), TreeFault>) -> Outcome {
-    match result {
+fn came_to(answer: Result<(), TreeFault>) -> Outcome {
+    match answer {
         Ok(()) => Outcome::Done,
         Err(fault) => Outcome::Refused(fault),
     }
@@ -101,14 +101,14 @@ pub fn link<A: Allocator + Copy>(
     if name.len() > 255 {
         return Outcome::Misused;
     }
-    outcome(tree.link(directory, name, number, at))
+    came_to(tree.link(directory, name, number, at))
 }
 
 pub fn unlink<A: Allocator + Copy>(tree: &mut Tree<A>, directory: u64, name: &[u8]) -> Outcome {
     let Some(at) = now(tree) else {
         return Outcome::Misused;
     };
-    outcome(tree.unlink(directory, name, at))
+    came_to(tree.unlink(directory, name, at))
 }
 
 pub fn rename<A: Allocator + Copy>(
@@ -127,7 +127,7 @@ pub fn rename<A: Allocator + Copy>(
     if new.len() > 255 {
         return Outcome::Misused;
     }
-    outcome(tree.rename(from, old, to, new, at))
+    came_to(tree.rename(from, old, to, new, at))
 }
 
 pub fn write<A: Allocator + Copy>(
@@ -142,7 +142,7 @@ pub fn write<A: Allocator + Copy>(
     let Some(Kind::File) = kind(tree, file) else {
         return Outcome::Misused;
     };
-    outcome(tree.write(file, offset, more, at))
+    came_to(tree.write(file, offset, more, at))
 }
 
 pub fn resize<A: Allocator + Copy>(tree: &mut Tree<A>, file: u64, size: u64) -> Outcome {
@@ -152,7 +152,7 @@ pub fn resize<A: Allocator + Copy>(tree: &mut Tree<A>, file: u64, size: u64) -> 
     let Some(Kind::File) = kind(tree, file) else {
         return Outcome::Misused;
     };
-    outcome(tree.resize(file, size, at))
+    came_to(tree.resize(file, size, at))
 }
 
 pub fn set_list<A: Allocator + Copy>(tree: &mut Tree<A>, number: u64, list: AclList<A>) -> Outcome {
@@ -199,8 +199,7 @@ pub fn stamp<A: Allocator + Copy>(tree: &Tree<A>, number: u64) -> Option<u64> {
 
 /// The seconds of its two times.
 pub fn times<A: Allocator + Copy>(tree: &Tree<A>, number: u64) -> Option<(i64, i64)> {
-    tree.object(number)
-        .map(|node| (node.time_modify().seconds, node.time_metadata().seconds))
+    tree.object(number).map(|node| (node.time_modify().seconds, node.time_metadata().seconds))
 }
 
 /// The cookie and the child of the next name of a directory.

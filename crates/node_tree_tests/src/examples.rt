@@ -47,8 +47,14 @@ fn objects_go_with_their_last_name(rt: HostRuntime) -> Result<(), Fail> {
     assert_eq!(rt; unlink(&mut tree, 1, b"pub"), refused(TreeFault::NotEmpty));
     assert_eq!(rt; unlink(&mut tree, 3, b"b"), Outcome::Done);
     assert_eq!(rt; tree.object(2).is_none(), true);
-    assert_eq!(rt; add(&mut tree, rt.alloc(), 1, b"notes", Kind::File), Outcome::Made(4));
-    assert_eq!(rt; add(&mut tree, rt.alloc(), 1, b"notes", Kind::File), refused(TreeFault::Exist));
+    assert_eq!(rt;
+        add(&mut tree, rt.alloc(), 1, b"notes", Kind::File),
+        Outcome::Made(4)
+    );
+    assert_eq!(rt;
+        add(&mut tree, rt.alloc(), 1, b"notes", Kind::File),
+        refused(TreeFault::Exist)
+    );
     assert_eq!(rt; after(&tree, 1, 0), Some((4, 3)));
     assert_eq!(rt; after(&tree, 1, 4), Some((6, 4)));
     Ok(())
@@ -86,14 +92,38 @@ fn lists_and_owners_take_stamps(rt: HostRuntime) -> Result<(), Fail> {
 #[test]
 fn names_change_or_are_refused(rt: HostRuntime) -> Result<(), Fail> {
     let mut tree = Tree::sample(rt.alloc())?;
-    assert_eq!(rt; add(&mut tree, rt.alloc(), 3, b"d", Kind::Directory), Outcome::Made(4));
-    assert_eq!(rt; add(&mut tree, rt.alloc(), 1, b"e", Kind::Directory), Outcome::Made(5));
-    assert_eq!(rt; rename(&mut tree, 1, b"none", 3, b"x"), refused(TreeFault::NoEnt));
-    assert_eq!(rt; rename(&mut tree, 1, b"pub", 3, b"x"), refused(TreeFault::Inval));
-    assert_eq!(rt; rename(&mut tree, 1, b"pub", 4, b"x"), refused(TreeFault::Inval));
-    assert_eq!(rt; rename(&mut tree, 1, b"e", 1, b"pub"), refused(TreeFault::Exist));
-    assert_eq!(rt; rename(&mut tree, 1, b"notes", 1, b"e"), refused(TreeFault::Exist));
-    assert_eq!(rt; rename(&mut tree, 1, b"e", 1, b"notes"), refused(TreeFault::Exist));
+    assert_eq!(rt;
+        add(&mut tree, rt.alloc(), 3, b"d", Kind::Directory),
+        Outcome::Made(4)
+    );
+    assert_eq!(rt;
+        add(&mut tree, rt.alloc(), 1, b"e", Kind::Directory),
+        Outcome::Made(5)
+    );
+    assert_eq!(rt;
+        rename(&mut tree, 1, b"none", 3, b"x"),
+        refused(TreeFault::NoEnt)
+    );
+    assert_eq!(rt;
+        rename(&mut tree, 1, b"pub", 3, b"x"),
+        refused(TreeFault::Inval)
+    );
+    assert_eq!(rt;
+        rename(&mut tree, 1, b"pub", 4, b"x"),
+        refused(TreeFault::Inval)
+    );
+    assert_eq!(rt;
+        rename(&mut tree, 1, b"e", 1, b"pub"),
+        refused(TreeFault::Exist)
+    );
+    assert_eq!(rt;
+        rename(&mut tree, 1, b"notes", 1, b"e"),
+        refused(TreeFault::Exist)
+    );
+    assert_eq!(rt;
+        rename(&mut tree, 1, b"e", 1, b"notes"),
+        refused(TreeFault::Exist)
+    );
     assert_eq!(rt; tree.next_tick(), 6);
     assert_eq!(rt; rename(&mut tree, 1, b"pub", 1, b"pub"), Outcome::Done);
     assert_eq!(rt; tree.next_tick(), 6);
@@ -107,7 +137,10 @@ fn names_change_or_are_refused(rt: HostRuntime) -> Result<(), Fail> {
     assert_eq!(rt; rename(&mut tree, 1, b"notes", 5, b"n"), Outcome::Done);
     assert_eq!(rt; tree.find(5, b"n"), Some(2));
     assert_eq!(rt; tree.find(1, b"notes"), None);
-    assert_eq!(rt; (tree.parent(1), tree.parent(2), tree.root()), (None, None, 1));
+    assert_eq!(rt;
+        (tree.parent(1), tree.parent(2), tree.root()),
+        (None, None, 1)
+    );
     assert_eq!(rt; tree.has_entries(5), true);
     assert_eq!(rt; tree.has_entries(2), false);
     Ok(())

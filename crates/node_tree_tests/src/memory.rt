@@ -8,8 +8,8 @@ use node_tree::{Kind, Tree, TreeFault};
 use std::test::Fail;
 
 /// What is looked at before and after a call: the counters, and of each object how it stands.
-#[derive(Debug, PartialEq, Eq)]
-struct Look {
+#[derive(Debug, Drop, PartialEq, Eq)]
+struct Picture {
     tick: u64,
     stamp: u64,
     changes: [Option<u64>; 4],
@@ -18,14 +18,24 @@ struct Look {
     names: [Option<(u64, u64)>; 4],
 }
 
-fn look(tree: &Tree<&LocalHeap>) -> Look {
-    Look {
+fn look(tree: &Tree<&LocalHeap>) -> Picture {
+    Picture {
         tick: tree.next_tick(),
         stamp: tree.next_stamp(),
-        changes: [change(tree, 1), change(tree, 2), change(tree, 3), change(tree, 4)],
+        changes: [
+            change(tree, 1),
+            change(tree, 2),
+            change(tree, 3),
+            change(tree, 4),
+        ],
         sizes: [size(tree, 1), size(tree, 2), size(tree, 3), size(tree, 4)],
         links: [tree.links(1), tree.links(2), tree.links(3), tree.links(4)],
-        names: [after(tree, 1, 0), after(tree, 1, 3), after(tree, 1, 4), after(tree, 3, 0)],
+        names: [
+            after(tree, 1, 0),
+            after(tree, 1, 3),
+            after(tree, 1, 4),
+            after(tree, 3, 0),
+        ],
     }
 }
 
@@ -62,7 +72,10 @@ fn refused_growth_changes_nothing(rt: HostRuntime) -> Result<(), Fail> {
         }
         assert_eq!(rt; resize(&mut tree, 2, 1), Outcome::Done);
         assert_eq!(rt; set_owner(&mut tree, 2, 1, 1), Outcome::Done);
-        assert_eq!(rt; unlink(&mut tree, 1, b"nothing"), Outcome::Refused(TreeFault::NoEnt));
+        assert_eq!(rt;
+            unlink(&mut tree, 1, b"nothing"),
+            Outcome::Refused(TreeFault::NoEnt)
+        );
     }
     assert!(rt; refused > 5, "refused {refused}");
     assert!(rt; done > 50, "done {done}");

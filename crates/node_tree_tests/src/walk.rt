@@ -5,13 +5,26 @@ use crate::acting::{
 };
 use node_tree::{Kind, Tree, TreeFault};
 use std::alloc::Global;
+use std::process::Abort;
 use std::test::Fail;
 
 /// A directory and a file are made, the file is linked, moved, cut and given away, and both go.
-fn round(rt: HostRuntime, tree: &mut Tree<Global>, directory: u64, file: u64) -> Result<(), Fail> {
+fn round(
+    rt: &impl Abort,
+    alloc: Global,
+    tree: &mut Tree<Global>,
+    directory: u64,
+    file: u64,
+) -> Result<(), Fail> {
     let done = Outcome::Done;
-    assert_eq!(rt; add(tree, rt.alloc(), 1, b"d", Kind::Directory), Outcome::Made(directory));
-    assert_eq!(rt; add(tree, rt.alloc(), directory, b"f", Kind::File), Outcome::Made(file));
+    assert_eq!(rt;
+        add(tree, alloc, 1, b"d", Kind::Directory),
+        Outcome::Made(directory)
+    );
+    assert_eq!(rt;
+        add(tree, alloc, directory, b"f", Kind::File),
+        Outcome::Made(file)
+    );
     assert_eq!(rt; write(tree, file, 1, b"abc"), done);
     assert_eq!(rt; link(tree, 1, b"x", file), done);
     assert_eq!(rt; rename(tree, directory, b"f", 1, b"y"), done);
@@ -39,7 +52,13 @@ fn rounds_take_what_they_should(rt: HostRuntime) -> Result<(), Fail> {
     let mut stamps = 4u64;
     let mut cookies = 5u64;
     for _ in 0..20 {
-        round(rt, &mut tree, numbers, numbers.saturating_add(1))?;
+        round(
+            &rt,
+            rt.alloc(),
+            &mut tree,
+            numbers,
+            numbers.saturating_add(1),
+        )?;
         numbers = numbers.saturating_add(2);
         ticks = ticks.saturating_add(10);
         stamps = stamps.saturating_add(3);
@@ -53,8 +72,14 @@ fn rounds_take_what_they_should(rt: HostRuntime) -> Result<(), Fail> {
         assert_eq!(rt; after(&tree, 1, 3), Some((4, 3)));
         assert_eq!(rt; after(&tree, 1, 4), None);
     }
-    assert_eq!(rt; add(&mut tree, rt.alloc(), 1, b"last", Kind::File), Outcome::Made(44));
+    assert_eq!(rt;
+        add(&mut tree, rt.alloc(), 1, b"last", Kind::File),
+        Outcome::Made(44)
+    );
     assert_eq!(rt; after(&tree, 1, 4), Some((85, 44)));
-    assert_eq!(rt; unlink(&mut tree, 1, b"none"), Outcome::Refused(TreeFault::NoEnt));
+    assert_eq!(rt;
+        unlink(&mut tree, 1, b"none"),
+        Outcome::Refused(TreeFault::NoEnt)
+    );
     Ok(())
 }
