@@ -1,0 +1,13 @@
+//! Tests of `node_tree`.
+#![tactic(auto)]
+
+#[cfg(test)]
+mod acting;
+#[cfg(test)]
+mod examples;
+#[cfg(test)]
+mod limits;
+#[cfg(test)]
+mod memory;
+#[cfg(test)]
+mod walk;
