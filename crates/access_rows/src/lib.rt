@@ -1,0 +1,12 @@
+//! What each operation asks of access control lists (RFC 8881, sections 6.2.1.3 and 18).
+#![tactic(auto)]
+
+mod demand;
+mod facts;
+mod rights;
+mod rows;
+
+pub use demand::Demand;
+pub use facts::{Facts, Object};
+pub use rights::{Rights, rights_of};
+pub use rows::{Phases, demands};

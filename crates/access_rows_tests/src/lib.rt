@@ -1,0 +1,5 @@
+//! Tests of `access_rows`.
+#![tactic(auto)]
+
+#[cfg(test)]
+mod rows;

@@ -1,0 +1,120 @@
+//! What operations ask, and what ACCESS tells, worked out by hand from RFC 8881, sections 6.2.1.3.1 and 18.1.
+
+use access_rows::{Demand, Facts, Object, demands, rights_of};
+use acl_list::Kind;
+use nfs_ops::{Op, RenameArgs, StableHow, WriteArgs};
+use nfs_types::StateId;
+use std::test::Fail;
+use xdr_wire::Opaque;
+
+const FILE: Object = Object {
+    number: 2,
+    kind: Kind::File,
+};
+
+const ROOM: Object = Object {
+    number: 3,
+    kind: Kind::Directory,
+};
+
+const ATTIC: Object = Object {
+    number: 4,
+    kind: Kind::Directory,
+};
+
+/// What one demand asks of an object, written down as text.
+fn asked(demand: Option<Demand>) -> (u64, u64, u32) {
+    match demand {
+        None => (0, 0, 0),
+        Some(Demand::Bits { object, mask }) => (object, 0, mask),
+        Some(Demand::Removal { parent, target }) => (parent, target, 0),
+    }
+}
+
+/// A WRITE of so many bytes at an offset of a file of a size, and the bits that it takes.
+static WRITES: [(u64, u64, usize, u32); 12] = [
+    (0, 0, 0, 0x2),
+    (0, 9, 0, 0x2),
+    (3, 3, 0, 0x2),
+    (0, 0, 1, 0x4),
+    (3, 3, 1, 0x4),
+    (3, 0, 3, 0x2),
+    (3, 2, 1, 0x2),
+    (3, 0, 4, 0x6),
+    (3, 2, 2, 0x6),
+    (3, 4, 1, 0x6),
+    (0, 1, 1, 0x6),
+    (3, u64::MAX, 4, 0x6),
+];
+
+#[test]
+fn writing(rt: HostRuntime) -> Result<(), Fail> {
+    for (size, offset, count, mask) in &WRITES {
+        let bytes = [7; 4];
+        let Some(data) = Opaque::new(&bytes[..*count.min(&4)]) else {
+            unreachable!()
+        };
+        let op = Op::Write(WriteArgs {
+            stateid: StateId::anonymous(),
+            offset: *offset,
+            stable: StableHow::Unstable,
+            data,
+        });
+        let mut facts = Facts::none();
+        facts.current = Some(FILE);
+        facts.size = Some(*size);
+        assert_eq!(rt;
+            asked(demands(&op, &facts).first[0]),
+            (2, 0, *mask),
+            "{size} {offset} {count}"
+        );
+    }
+    Ok(())
+}
+
+/// A RENAME of a child onto another, and what it asks, each demand as an object, a target and bits.
+#[test]
+fn renaming(rt: HostRuntime) -> Result<(), Fail> {
+    let (Some(old), Some(new)) = (Opaque::new(b"a"), Opaque::new(b"b")) else {
+        unreachable!()
+    };
+    let op = Op::Rename(RenameArgs { old, new });
+    let mut facts = Facts::none();
+    facts.saved = Some(ROOM);
+    facts.current = Some(ATTIC);
+    facts.child = Some(FILE);
+    facts.replaced = Some(FILE);
+    let two = demands(&op, &facts);
+    assert_eq!(rt; two.first.map(asked), [(3, 0, 0x20), (4, 0, 0x20)]);
+    assert_eq!(rt; two.second.map(asked), [(3, 2, 0), (4, 0, 0x2), (4, 2, 0)]);
+    facts.current = Some(ROOM);
+    facts.child = Some(ATTIC);
+    facts.replaced = None;
+    let one = demands(&op, &facts);
+    assert_eq!(rt; one.first.map(asked), [(3, 0, 0x20), (0, 0, 0)]);
+    assert_eq!(rt; one.second.map(asked), [(3, 4, 0), (3, 0, 0x4), (0, 0, 0)]);
+    Ok(())
+}
+
+/// A kind, the rights asked, the bits granted, and the two words of ACCESS.
+static RIGHTS: [(Kind, u32, u32, u32, u32); 6] = [
+    (Kind::File, 0xffff_ffff, 0xffff_ffff, 0x2d, 0x2d),
+    (Kind::Directory, 0xffff_ffff, 0xffff_ffff, 0x1f, 0x1f),
+    (Kind::Link, 0xffff_ffff, 0xffff_ffff, 0x01, 0x01),
+    (Kind::File, 0x3f, 0x21, 0x2d, 0x21),
+    (Kind::Directory, 0x3f, 0x62, 0x1f, 0x16),
+    (Kind::File, 0, 0xffff_ffff, 0, 0),
+];
+
+#[test]
+fn telling(rt: HostRuntime) -> Result<(), Fail> {
+    for (kind, asks, grants, supported, granted) in &RIGHTS {
+        let told = rights_of(*kind, *asks, *grants);
+        assert_eq!(rt;
+            (told.supported, told.granted),
+            (*supported, *granted),
+            "{kind:?} {asks:x}"
+        );
+    }
+    Ok(())
+}
