@@ -1,0 +1,7 @@
+use Rattle.std.proofs.Common.{◌≡◌, refl, sym, ap, ◌∙◌, append-nil}
+use Rattle.access_guard.specs.Log.{Log, held}
+use Rattle.access_guard.specs.State.{State}
+use Rattle.access_guard.proofs.guard.Guard.decide.Goals as goal
+
+pub returns-then-tells-clause-lines : goal.returns-then-tells-clause-lines
+returns-then-tells-clause-lines g c = rw (c.if-tells.ensures.silent refl c.args.op) (rw append-nil (ap (λ (s : State). s.log) c.self.view_is))
