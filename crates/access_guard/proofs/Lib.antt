@@ -2,3 +2,4 @@ pub mod Lines
 pub mod Bounds
 pub mod Telling
 pub mod Remembering
+pub mod Calls

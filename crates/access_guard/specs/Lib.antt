@@ -5,3 +5,5 @@ pub mod Log
 pub mod Keys
 pub mod Memory
 pub mod State
+pub mod Text
+pub mod History

@@ -10,7 +10,9 @@ ghost use Rattle.access_guard.specs.Lists.{granted_at};
 ghost use Rattle.access_guard.specs.Decisions.{decision};
 ghost use Rattle.access_guard.specs.Lines.{lines, most_lines};
 ghost use Rattle.access_guard.specs.Log.{held, settled};
+ghost use Rattle.node_tree.specs.World.{World};
 ghost use Rattle.access_guard.specs.Memory.{Agrees, Decides, LooksUpAt};
+ghost use Rattle.access_guard.specs.State.{fresh};
 
 use crate::decision::Decision;
 use crate::line::Line;
@@ -40,12 +42,11 @@ impl<A: Allocator> Model for Guard<A> {
 }
 
 impl<A: Allocator + Copy> Guard<A> {
-    /// A guard that has decided nothing yet.
+    /// A guard that has decided nothing yet. It remembers at most `capacity` summaries, and hashes their keys by `hasher`. It
+    /// agrees with every tree. `Err`: there is no memory for it.
     pub fn new(alloc: A, capacity: NonZeroUsize, hasher: RandomState) -> Result<Self, AllocError>
-        ensures { IfOk result (λ guard. guard ≡ record {
-            memory = record { capacity = non_zero_usize_get capacity; remembered = []; examined = 0 };
-            log = record { held = []; trail = []; total = 0 };
-        }) }
+        ensures value { IfOk result (λ guard. guard ≡ fresh (non_zero_usize_get capacity)) }
+        ensures agrees { IfOk result (λ guard. (w : World) → Agrees guard.memory.remembered w) }
     {
         Ok(Guard {
             memory: Summaries::new(alloc, capacity, hasher)?,
@@ -53,7 +54,28 @@ impl<A: Allocator + Copy> Guard<A> {
         })
     }
 
-    /// Whether the lists grant a demand.
+    /// Whether the lists of the tree, as they are now, grant a demand to the caller (RFC 8881, section 6.2.1). `op` is the number
+    /// of the operation that asks. It takes no memory that it needs.
+    ///
+    /// [`Demand::Bits`] is granted where the object's list grants each bit of the mask, by first mention. Else the refusal names
+    /// the first entry that denies one, else the lowest bit that no entry allows. An object that isn't there grants nothing.
+    ///
+    /// [`Demand::Removal`] goes by this table (RFC 8881, section 6.2.1.3.2). The rows are what the target's list says of DELETE,
+    /// the columns what the parent's says of DELETE_CHILD.
+    ///
+    /// | | ALLOW | DENY | not mentioned |
+    /// |---|---|---|---|
+    /// | ALLOW | granted | granted | granted |
+    /// | DENY | granted | refused by the parent's DENY | refused by the target's DENY |
+    /// | not mentioned | granted | refused by the parent's DENY | as the parent's list answers ADD_FILE |
+    ///
+    /// Its lines are held until [`Guard::settle`]. First come those of the AUDIT and ALARM entries that watch, entry by entry:
+    /// of a removal the target's with DELETE, then the parent's with DELETE_CHILD, and with ADD_FILE too where neither DELETE nor
+    /// DELETE_CHILD is mentioned. Then on refusal comes the DENY line.
+    ///
+    /// What lists come to is remembered, if there is memory for it: the answer and the lines are the same without. Each object is
+    /// looked up once, of a removal the target first. Where what is remembered tells that the demand is granted and that no entry
+    /// watches it, no list is walked; a removal by ADD_FILE is never told so.
     pub fn decide<B: Allocator + Copy>(
         &mut self,
         demand: Demand,
@@ -75,7 +97,8 @@ impl<A: Allocator + Copy> Guard<A> {
         self.trail.decide(demand, tree, caller, op)
     }
 
-    /// The bits that an object's list grants the caller, of all 32. No line is written.
+    /// The bits that an object's list grants the caller, of all 32: none where there is no such object. No line is written. The
+    /// object is looked up once, as in [`Guard::decide`].
     pub fn grants<B: Allocator + Copy>(
         &mut self,
         object: u64,
@@ -101,7 +124,8 @@ impl<A: Allocator + Copy> Guard<A> {
         self.memory.iter()
     }
 
-    /// How many entries of lists were looked at. It stays at 2^64 - 1.
+    /// How many entries of lists were looked at. It stays at 2^64 - 1. A list counts whole where a look-up doesn't find what it
+    /// comes to, and once more where a decision walks it.
     pub fn examined(&self) -> u64
         ensures { result ≡ self.now.memory.examined }
     {
@@ -123,7 +147,7 @@ impl<A: Allocator + Copy> Guard<A> {
         self.trail.total()
     }
 
-    /// Ends an operation: its lines go to the trail, or are dropped.
+    /// Ends an operation: its lines go to the trail in their order, or are dropped. It takes no memory.
     pub fn settle(&mut self, keep: bool)
         ensures { self.new ≡ record self.old { log = settled keep self.old.log } }
     {

@@ -4,13 +4,17 @@
 mod deciding;
 mod decision;
 mod guard;
+mod laws;
 mod line;
 mod memory;
+mod text;
 mod trail;
 
 pub use access_rows::Demand;
 pub use decision::{Cause, Decision};
 pub use guard::Guard;
+pub use laws::{calls_are_their_look_ups, changes_keep_agreement, only_misses_are_counted};
 pub use line::{Line, LineKind};
 pub use memory::Key;
+pub use text::{LineText, MOST_TEXT, write_line};
 pub use trail::{MOST_HELD, MOST_KEPT};
