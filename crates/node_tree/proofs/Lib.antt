@@ -1,0 +1,10 @@
+pub mod Objects
+pub mod Rising
+pub mod Names
+pub mod Holding
+pub mod Stamps
+pub mod Rooted
+pub mod Setting
+pub mod Adding
+pub mod Unlinking
+pub mod Listing

@@ -1,0 +1,192 @@
+-- Names: which are there after a filter or a push, and how many.
+use Rattle.std.proofs.Common.{◌≡◌, ◌≢◌, ℕ, zero, suc, ◌+◌, ◌<◌, ◌≤◌, Bool, true, false, not, ◌&&◌, ◌||◌, cond, List, [], ◌∷◌, ◌++◌, length, refl, ap, sym, ◌∙◌, subst, rules, arith, Some, None, inl, inr, nat_eq, add_comm}
+use Rattle.std.specs.Prelude.{Option, ◌⊎◌, find, ◌==◌, count_by}
+use Rattle.std.specs.List.{filter, list_any}
+use Rattle.std.specs.Option.{option_map}
+use Rattle.std.specs.Cmp.Lexicographic.{pointwise, bytes_decides}
+use Rattle.std.proofs.Math.Logic.{⊎_elim}
+use Rattle.std.proofs.lemmas.Bool.Decides.{Decides-eqb}
+use Rattle.std.proofs.lemmas.List.Sums.{sum_by-cons}
+use Rattle.node_tree.specs.World.{Name, is_named, name_count, link_count}
+use Rattle.node_tree.specs.Sound.{IsIn, IsLimited}
+
+-- ---- a filter
+
+pub in_filter : (p : Name → Bool) (n : Name) (names : List Name) → IsIn n names → p n ≡ true → IsIn n (filter p names)
+in_filter p n [] stands passes = absurd stands
+in_filter p n (m ∷ names) stands passes =
+    elim (p m) as (λ b. p m ≡ b → (n ≡ m) ⊎ IsIn n names → IsIn n (cond b (m ∷ filter p names) (filter p names))) [
+      | true ↦ λ is. ⊎_elim (λ same. inl same) (λ later. inr (in_filter p n names later passes))
+      | false ↦ λ is. ⊎_elim (λ same. let t : p m ≡ true = subst (λ x. p x ≡ true) same passes in cc) (λ later. in_filter p n names later passes)
+    ] refl stands
+
+-- what a filter keeps
+pub record Stays (p : Name → Bool) (n : Name) (names : List Name) : Type 0 where
+  pub stood : IsIn n names
+  pub passes : p n ≡ true
+
+pub from_filter : (p : Name → Bool) (n : Name) (names : List Name) → IsIn n (filter p names) → Stays p n names
+from_filter p n [] stands = absurd stands
+from_filter p n (m ∷ names) stands =
+    elim (p m) as (λ b. p m ≡ b → IsIn n (cond b (m ∷ filter p names) (filter p names)) → Stays p n (m ∷ names)) [
+      | true ↦ λ is. ⊎_elim (λ same. record { stood = inl same; passes = subst (λ x. p x ≡ true) (sym same) is }) (λ later. let r = from_filter p n names later in record { stood = inr r.stood; passes = r.passes })
+      | false ↦ λ is later. let r = from_filter p n names later in record { stood = inr r.stood; passes = r.passes }
+    ] refl stands
+
+-- ---- some name passes, or none does
+
+pub record Passing (p : Name → Bool) (names : List Name) : Type 0 where
+  pub name : Name
+  pub stands : IsIn name names
+  pub passes : p name ≡ true
+
+pub any_passes : (p : Name → Bool) (names : List Name) → list_any p names ≡ true → Passing p names
+any_passes p [] some = cc
+any_passes p (m ∷ names) some =
+    elim (p m) as (λ b. p m ≡ b → (b || list_any p names) ≡ true → Passing p (m ∷ names)) [
+      | true ↦ λ is _. record { name = m; stands = inl refl; passes = is }
+      | false ↦ λ is rest. let r = any_passes p names rest in record { name = r.name; stands = inr r.stands; passes = r.passes }
+    ] refl some
+
+pub none_passes : (p : Name → Bool) (names : List Name) → list_any p names ≡ false → (n : Name) → IsIn n names → p n ≡ true → ⊥
+none_passes p [] none n stands passes = stands
+none_passes p (m ∷ names) none n stands passes =
+    elim (p m) as (λ b. p m ≡ b → (b || list_any p names) ≡ false → (n ≡ m) ⊎ IsIn n names → ⊥) [
+      | true ↦ λ is h _. cc
+      | false ↦ λ is h. ⊎_elim (λ same. let t : p m ≡ true = subst (λ x. p x ≡ true) same passes in cc) (λ later. none_passes p names h n later passes)
+    ] refl none stands
+
+-- what a search for a name found
+pub record Found {X : Type 0} (read : Name → X) (p : Name → Bool) (names : List Name) (x : X) : Type 0 where
+  pub name : Name
+  pub stands : IsIn name names
+  pub passes : p name ≡ true
+  pub leads : read name ≡ x
+
+pub found : {X : Type 0} (read : Name → X) (p : Name → Bool) (names : List Name) (x : X) → option_map read (find p names) ≡ Some x → Found read p names x
+found read p [] x is = cc
+found {X} read p (m ∷ names) x is =
+    elim (p m) as (λ b. p m ≡ b → option_map read (cond b (Some m) (find p names)) ≡ Some x → Found read p (m ∷ names) x) [
+      | true ↦ λ at h. record { name = m; stands = inl refl; passes = at; leads = cc }
+      | false ↦ λ at h. let r = found read p names x h in record { name = r.name; stands = inr r.stands; passes = r.passes; leads = r.leads }
+    ] refl is
+
+pub not_found : {X : Type 0} (read : Name → X) (p : Name → Bool) (names : List Name) → option_map read (find p names) ≡ None → (n : Name) → IsIn n names → p n ≡ true → ⊥
+not_found read p [] none n stands passes = stands
+not_found {X} read p (m ∷ names) none n stands passes =
+    elim (p m) as (λ b. p m ≡ b → option_map read (cond b (Some m) (find p names)) ≡ None → (n ≡ m) ⊎ IsIn n names → ⊥) [
+      | true ↦ λ at h _. cc
+      | false ↦ λ at h. ⊎_elim (λ same. let t : p m ≡ true = subst (λ x. p x ≡ true) same passes in cc) (λ later. not_found read p names h n later passes)
+    ] refl none stands
+
+-- ---- a push
+
+pub in_front : (n : Name) (xs ys : List Name) → IsIn n xs → IsIn n (xs ++ ys)
+in_front n [] ys stands = absurd stands
+in_front n (m ∷ xs) ys stands = ⊎_elim (λ same. inl same) (λ later. inr (in_front n xs ys later)) stands
+
+pub in_last : (n : Name) (xs : List Name) → IsIn n (xs ++ n ∷ [])
+in_last n [] = inl refl
+in_last n (m ∷ xs) = inr (in_last n xs)
+
+pub from_push : (n new : Name) (xs : List Name) → IsIn n (xs ++ new ∷ []) → IsIn n xs ⊎ (n ≡ new)
+from_push n new [] stands = ⊎_elim (λ same. inr same) (λ later. absurd later) stands
+from_push n new (m ∷ xs) stands = ⊎_elim (λ same. inl (inl same)) (λ later. ⊎_elim (λ old. inl (inr old)) (λ it. inr it) (from_push n new xs later)) stands
+
+-- ---- a name's place
+
+both : (a b : Bool) → (a && b) ≡ true → (a ≡ true) × (b ≡ true)
+both true b h = (refl, h)
+both false b h = cc
+
+pub named_directory : (directory : ℕ) (name : List ℕ) (n : Name) → is_named directory name n ≡ true → n.directory ≡ directory
+named_directory directory name n h = (Decides-eqb n.directory directory).0 (both (n.directory == directory) _ h).0
+
+pub named_name : (directory : ℕ) (name : List ℕ) (n : Name) → is_named directory name n ≡ true → n.name ≡ name
+named_name directory name n h = (bytes_decides n.name name).0 (both (n.directory == directory) _ h).1
+
+pub named_at : (directory : ℕ) (name : List ℕ) (n : Name) → n.directory ≡ directory → n.name ≡ name → is_named directory name n ≡ true
+named_at directory name n d s = rw ((Decides-eqb n.directory directory).1 d) ((bytes_decides n.name name).1 s)
+
+pub flipped : (b : Bool) → not b ≡ false → b ≡ true
+flipped true h = refl
+flipped false h = cc
+
+pub flipped_back : (b : Bool) → not b ≡ true → b ≡ false
+flipped_back true h = cc
+flipped_back false h = refl
+
+-- ---- how many
+
+step : (q : Name → Bool) (m : Name) (names : List Name) → count_by q (m ∷ names) ≡ cond (q m) 1 0 + count_by q names
+step q m names = sum_by-cons (λ n. cond (q n) 1 0) m names
+
+pub count_by-filter : (q p : Name → Bool) (names : List Name) → count_by q (filter p names) ≤ count_by q names
+count_by-filter q p [] = omega arith
+count_by-filter q p (m ∷ names) =
+    let rest : count_by q (filter p names) ≤ count_by q names = count_by-filter q p names in
+    let all : count_by q (m ∷ names) ≡ cond (q m) 1 0 + count_by q names = step q m names in
+    let kept : count_by q (m ∷ filter p names) ≡ cond (q m) 1 0 + count_by q (filter p names) = step q m (filter p names) in
+    elim (p m) as (λ b. count_by q (cond b (m ∷ filter p names) (filter p names)) ≤ count_by q (m ∷ names)) [
+      | true ↦ let goal : count_by q (m ∷ filter p names) ≤ count_by q (m ∷ names) = omega arith in goal
+      | false ↦ let goal : count_by q (filter p names) ≤ count_by q (m ∷ names) = omega arith in goal
+    ]
+
+-- a name that was counted is gone
+pub count_by-filter_out : (q p : Name → Bool) (names : List Name) (n : Name) → IsIn n names → q n ≡ true → p n ≡ false → count_by q (filter p names) < count_by q names
+count_by-filter_out q p [] n stands counts out = absurd stands
+count_by-filter_out q p (m ∷ names) n stands counts out =
+    let rest : count_by q (filter p names) ≤ count_by q names = count_by-filter q p names in
+    let all : count_by q (m ∷ names) ≡ cond (q m) 1 0 + count_by q names = step q m names in
+    let kept : count_by q (m ∷ filter p names) ≡ cond (q m) 1 0 + count_by q (filter p names) = step q m (filter p names) in
+    ⊎_elim
+      (λ same. let one : cond {A = ℕ} (q m) 1 0 ≡ 1 = ap (λ (b : Bool). cond {A = ℕ} b 1 0) (subst (λ n. q n ≡ true) same counts) in
+        subst (λ b. count_by q (cond b (m ∷ filter p names) (filter p names)) < count_by q (m ∷ names)) (sym (subst (λ n. p n ≡ false) same out))
+          (let goal : count_by q (filter p names) < count_by q (m ∷ names) = omega (arith, one) in goal))
+      (λ later. let less : count_by q (filter p names) < count_by q names = count_by-filter_out q p names n later counts out in
+        elim (p m) as (λ b. count_by q (cond b (m ∷ filter p names) (filter p names)) < count_by q (m ∷ names)) [
+          | true ↦ let goal : count_by q (m ∷ filter p names) < count_by q (m ∷ names) = omega arith in goal
+          | false ↦ let goal : count_by q (filter p names) < count_by q (m ∷ names) = omega arith in goal
+        ])
+      stands
+
+pub count_by-push : (q : Name → Bool) (names : List Name) (n : Name) → count_by q (names ++ n ∷ []) ≡ count_by q names + cond (q n) 1 0
+count_by-push q [] n = step q n [] ∙ add_comm (cond (q n) 1 0) 0
+count_by-push q (m ∷ names) n =
+    let rest : count_by q (names ++ n ∷ []) ≡ count_by q names + cond (q n) 1 0 = count_by-push q names n in
+    let all : count_by q (m ∷ names) ≡ cond (q m) 1 0 + count_by q names = step q m names in
+    let more : count_by q (m ∷ (names ++ n ∷ [])) ≡ cond (q m) 1 0 + count_by q (names ++ n ∷ []) = step q m (names ++ n ∷ []) in
+    let goal : count_by q (m ∷ (names ++ n ∷ [])) ≡ count_by q (m ∷ names) + cond (q n) 1 0 = omega arith in goal
+
+pub count_by-none : (q : Name → Bool) (names : List Name) → ((n : Name) → IsIn n names → q n ≡ true → ⊥) → count_by q names ≡ 0
+count_by-none q [] none = refl
+count_by-none q (m ∷ names) none =
+    let rest : count_by q names ≡ 0 = count_by-none q names (λ n stands. none n (inr stands)) in
+    step q m names ∙ elim (q m) as (λ b. q m ≡ b → cond b 1 0 + count_by q names ≡ 0) [
+      | true ↦ λ is. absurd (none m (inl refl) is)
+      | false ↦ λ is. let goal : 0 + count_by q names ≡ 0 = omega arith in goal
+    ] refl
+
+-- ---- the limits
+
+pub IsLimited-filter : (p : Name → Bool) (names : List Name) → IsLimited names → IsLimited (filter p names)
+IsLimited-filter p names limited = record {
+  directories = λ k. let a : name_count (filter p names) k ≤ name_count names k = count_by-filter (λ n. n.directory == k) p names in let b : name_count names k ≤ 4096 = limited.directories k in let c : name_count (filter p names) k ≤ 4096 = omega arith in c;
+  links = λ k. let a : link_count (filter p names) k ≤ link_count names k = count_by-filter (λ n. n.child == k) p names in let b : link_count names k ≤ 1000 = limited.links k in let c : link_count (filter p names) k ≤ 1000 = omega arith in c;
+  short = λ n stands. limited.short n (from_filter p n names stands).stood;
+}
+
+one_more : (q : ℕ → Name → Bool) (names : List Name) (n : Name) (k most : ℕ) → count_by (q k) names ≤ most → (q k n ≡ true → count_by (q k) names < most) → count_by (q k) (names ++ n ∷ []) ≤ most
+one_more q names n k most before room =
+    let more : count_by (q k) (names ++ n ∷ []) ≡ count_by (q k) names + cond (q k n) 1 0 = count_by-push (q k) names n in
+    elim (q k n) as (λ b. q k n ≡ b → count_by (q k) (names ++ n ∷ []) ≡ count_by (q k) names + cond b 1 0 → count_by (q k) (names ++ n ∷ []) ≤ most) [
+      | true ↦ λ is e. let r : count_by (q k) names < most = room is in omega arith
+      | false ↦ λ is e. omega arith
+    ] refl more
+
+pub IsLimited-push : (names : List Name) (n : Name) → IsLimited names → name_count names n.directory < 4096 → link_count names n.child < 1000 → length n.name ≤ 255 → IsLimited (names ++ n ∷ [])
+IsLimited-push names n limited room links short = record {
+  directories = λ k. one_more (λ k n. n.directory == k) names n k 4096 (limited.directories k) (λ is. subst (λ k. name_count names k < 4096) ((Decides-eqb n.directory k).0 is) room);
+  links = λ k. one_more (λ k n. n.child == k) names n k 1000 (limited.links k) (λ is. subst (λ k. link_count names k < 1000) ((Decides-eqb n.child k).0 is) links);
+  short = λ m stands. ⊎_elim (λ old. limited.short m old) (λ same. subst (λ (m : Name). length m.name ≤ 255) (sym same) short) (from_push m n names stands);
+}

@@ -1,0 +1,191 @@
+-- What each change makes of the world (RFC 8881, sections 5.8, 18.4, 18.9, 18.25, 18.26, 18.30 and 18.32). A change takes a tick,
+-- and each object that it changes gets it; the changes of one operation share it.
+use Rattle.std.specs.Prelude.{ℕ, pos, ◌+◌, ◌-◌, ◌==◌, Bool, false, not, ◌&&◌, nat_le, nat_lt, if◌then◌else◌, max, List, [], ◌∷◌, ◌++◌, length, map, filter, take, replicate, slice_index, Option, Some, None}
+use Rattle.std.proofs.Common.{lit<}
+use Rattle.std.specs.List.{range_with_len}
+use Rattle.std.specs.Option.{option_map_or}
+use Rattle.std.specs.Map.{lookup, set_value}
+use Rattle.std.specs.BTreeMap.{is_at, insert_entry}
+use Rattle.std.specs.Ordering.{nat_cmp}
+use Rattle.acl_list.specs.declared.entry.Entry.{Entry}
+use Rattle.acl_list.specs.declared.entry.Kind.{Kind}
+use Rattle.acl_list.specs.declared.entry.Kind.TheVariants.{Directory}
+use Rattle.nfs_types.specs.declared.moment.Moment.{Moment}
+use Rattle.node_tree.specs.declared.at.At.{At}
+use Rattle.node_tree.specs.declared.node.NewObject.{NewObject}
+use Rattle.node_tree.specs.World.{World, Object, Name, child_named, is_named, has_name}
+
+-- ---- objects
+
+-- with f of the object of a number
+abbrev pub changed : ℕ → (Object → Object) → List (ℕ × Object) → List (ℕ × Object)
+changed number f objects = option_map_or (λ o. set_value (is_at (nat_cmp number)) objects (f o)) (lookup (is_at (nat_cmp number)) objects) objects
+
+-- the objects of other numbers
+abbrev pub without : ℕ → List (ℕ × Object) → List (ℕ × Object)
+without number objects = filter (λ e. not (is_at (nat_cmp number) e.0)) objects
+
+-- a change of bytes, of a size or of a directory's names
+abbrev pub touched : At → Object → Object
+touched at o = record o { change = at.tick; time_modify = at.moment; time_metadata = at.moment }
+
+-- a change of a list, an owner, a group or the number of names, or a move
+abbrev pub retold : At → Object → Object
+retold at o = record o { change = at.tick; time_metadata = at.moment }
+
+-- an object as it is made
+abbrev pub made : {A : Type 0} → NewObject A → ℕ → At → Object
+made new stamp at = record {
+  kind = new.kind;
+  bytes = new.bytes.items;
+  owner = new.owner;
+  group = new.group;
+  list = new.list;
+  high = new.high;
+  change = at.tick;
+  time_modify = at.moment;
+  time_metadata = at.moment;
+  stamp = stamp;
+}
+
+-- ---- a new tree
+
+-- the moment of what was there from the start
+abbrev pub epoch : Moment
+epoch = record { seconds = pos 0; nanoseconds = 0; is_fraction = lit< tt }
+
+-- a root as it is made
+abbrev pub root_of : ℕ → ℕ → List Entry → ℕ → Object
+root_of owner group list high = record {
+  kind = Directory;
+  bytes = [];
+  owner = owner;
+  group = group;
+  list = list;
+  high = high;
+  change = 1;
+  time_modify = epoch;
+  time_metadata = epoch;
+  stamp = 1;
+}
+
+-- a root and nothing else
+abbrev pub alone : Object → World
+alone root = record { objects = (1, root) ∷ []; names = []; next_number = 2; next_tick = 2; next_stamp = 2; next_cookie = 3 }
+
+-- ---- names
+
+-- with a name more, by the next cookie
+abbrev pub named : World → ℕ → List ℕ → ℕ → List Name → List Name
+named w directory name child names = names ++ record { cookie = w.next_cookie; directory = directory; name = name; child = child } ∷ []
+
+-- the names but one
+abbrev pub other_names : ℕ → List ℕ → List Name → List Name
+other_names directory name names = filter (λ n. not (is_named directory name n)) names
+
+-- An object that has lost a name. One that has lost its last goes.
+abbrev pub released : List Name → ℕ → At → List (ℕ × Object) → List (ℕ × Object)
+released names number at objects = if has_name names number then changed number (retold at) objects else without number objects
+
+-- a new object under a new name (CREATE, OPEN)
+abbrev pub with_new : World → ℕ → List ℕ → Object → At → World
+with_new w directory name o at = record w {
+  objects = changed directory (touched at) (insert_entry nat_cmp w.objects w.next_number o);
+  names = named w directory name w.next_number w.names;
+  next_number = w.next_number + 1;
+  next_tick = at.tick + 1;
+  next_stamp = w.next_stamp + 1;
+  next_cookie = w.next_cookie + 1;
+}
+
+-- one name more for an object (LINK)
+abbrev pub with_link : World → ℕ → List ℕ → ℕ → At → World
+with_link w directory name number at = record w {
+  objects = changed directory (touched at) (changed number (retold at) w.objects);
+  names = named w directory name number w.names;
+  next_tick = at.tick + 1;
+  next_cookie = w.next_cookie + 1;
+}
+
+-- without the name of a child, and without the child if that was its last (REMOVE)
+abbrev pub without_name : World → ℕ → List ℕ → ℕ → At → World
+without_name w directory name child at =
+    let names = other_names directory name w.names in
+    record w {
+      objects = changed directory (touched at) (released names child at w.objects);
+      names = names;
+      next_tick = at.tick + 1;
+    }
+
+abbrev pub unlinked : World → ℕ → List ℕ → At → World
+unlinked w directory name at = option_map_or (λ child. without_name w directory name child at) (child_named w directory name) w
+
+-- with another name for a child; what had that name loses it (RENAME)
+abbrev pub with_move : World → ℕ → List ℕ → ℕ → List ℕ → ℕ → Option ℕ → At → World
+with_move w from old to new child target at =
+    let names = other_names to new (other_names from old w.names) in
+    record w {
+      objects = changed to (touched at) (changed from (touched at) (changed child (retold at) (option_map_or (λ t. released names t at w.objects) target w.objects)));
+      names = named w to new child names;
+      next_tick = at.tick + 1;
+      next_cookie = w.next_cookie + 1;
+    }
+
+-- whether the two names are those of one object
+abbrev pub is_same_object : World → ℕ → List ℕ → ℕ → List ℕ → Bool
+is_same_object w from old to new = option_map_or (λ child. option_map_or (λ target. child == target) (child_named w to new) false) (child_named w from old) false
+
+-- two names of one object stay as they are
+abbrev pub renamed : World → ℕ → List ℕ → ℕ → List ℕ → At → World
+renamed w from old to new at =
+    if is_same_object w from old to new then w
+    else option_map_or (λ child. with_move w from old to new child (child_named w to new) at) (child_named w from old) w
+
+-- ---- bytes
+
+-- each byte of data in its range, else the old byte, else 0
+abbrev pub written : List ℕ → ℕ → List ℕ → List ℕ
+written bytes offset more =
+    map (λ i. if nat_le offset i && nat_lt i (offset + length more) then slice_index more (i - offset) else slice_index bytes i)
+    (range_with_len 0 (max (length bytes) (offset + length more)))
+
+-- bytes are written into a file
+abbrev pub with_bytes : World → ℕ → ℕ → List ℕ → At → World
+with_bytes w file offset more at = record w {
+  objects = changed file (λ o. touched at (record o { bytes = written o.bytes offset more })) w.objects;
+  next_tick = at.tick + 1;
+}
+
+-- no bytes change nothing (WRITE)
+abbrev pub with_write : World → ℕ → ℕ → List ℕ → At → World
+with_write w file offset [] at = w
+with_write w file offset (byte ∷ more) at = with_bytes w file offset (byte ∷ more) at
+
+-- the first bytes, and zeros where there are too few
+abbrev pub resized : List ℕ → ℕ → List ℕ
+resized bytes size = take size bytes ++ replicate (size - length bytes) 0
+
+-- a size is set, also the one that the file has (SETATTR, OPEN)
+abbrev pub with_size : World → ℕ → ℕ → At → World
+with_size w file size at = record w {
+  objects = changed file (λ o. touched at (record o { bytes = resized o.bytes size })) w.objects;
+  next_tick = at.tick + 1;
+}
+
+-- ---- what an object is judged by
+
+-- a list is set, with the high bits of the mode (SETATTR)
+abbrev pub with_list : World → ℕ → List Entry → ℕ → At → World
+with_list w number list high at = record w {
+  objects = changed number (λ o. retold at (record o { list = list; high = high; stamp = w.next_stamp })) w.objects;
+  next_tick = at.tick + 1;
+  next_stamp = w.next_stamp + 1;
+}
+
+-- an owner and a group are set (SETATTR)
+abbrev pub with_owner : World → ℕ → ℕ → ℕ → At → World
+with_owner w number owner group at = record w {
+  objects = changed number (λ o. retold at (record o { owner = owner; group = group; stamp = w.next_stamp })) w.objects;
+  next_tick = at.tick + 1;
+  next_stamp = w.next_stamp + 1;
+}

@@ -1,0 +1,34 @@
+-- The sample tree: in the root a file `notes` and a directory `pub`, each with the list of its mode.
+use Rattle.std.specs.Prelude.{ℕ, List, [], ◌∷◌, codes}
+use Rattle.acl_list.specs.declared.entry.Kind.{Kind}
+use Rattle.acl_list.specs.declared.entry.Kind.TheVariants.{File, Directory}
+use Rattle.acl_shape.specs.Mode.{set_mode}
+use Rattle.node_tree.specs.declared.limits.TheConstants.{ROOT}
+use Rattle.node_tree.specs.World.{World, Object, Name}
+use Rattle.node_tree.specs.Changes.{epoch}
+
+-- an object of the sample: its stamp and its last change are its number
+abbrev pub sample_object : ℕ → Kind → List ℕ → ℕ → ℕ → ℕ → Object
+sample_object number kind bytes owner group mode = record {
+  kind = kind;
+  bytes = bytes;
+  owner = owner;
+  group = group;
+  list = set_mode [] kind mode;
+  high = 0;
+  change = number;
+  time_modify = epoch;
+  time_metadata = epoch;
+  stamp = number;
+}
+
+-- modes 0755, 0640 and 0777
+abbrev pub sample : World
+sample = record {
+  objects = (1, sample_object 1 Directory [] 0 0 0x1ed) ∷ (2, sample_object 2 File (codes "hi") 1001 100 0x1a0) ∷ (3, sample_object 3 Directory [] 0 0 0x1ff) ∷ [];
+  names = record { cookie = 3; directory = ROOT; name = codes "notes"; child = 2 } ∷ record { cookie = 4; directory = ROOT; name = codes "pub"; child = 3 } ∷ [];
+  next_number = 4;
+  next_tick = 4;
+  next_stamp = 4;
+  next_cookie = 5;
+}

@@ -1,0 +1,14 @@
+-- The way from a directory up to the root. It asks the parents of directories alone.
+use Rattle.std.specs.Prelude.{ℕ, zero, suc, Bool, true, false, ◌==◌, ◌||◌, Option}
+use Rattle.std.specs.Option.{option_map_or}
+use Rattle.node_tree.specs.World.{World, parent_of}
+
+-- Whether a directory is met on the way up from another, both ends among them. A way that takes more steps than these is as
+-- good as one that never ends.
+unfoldable pub is_met : (ℕ → Option ℕ) → ℕ → ℕ → ℕ → Bool
+is_met parents zero directory from = true
+is_met parents (suc steps) directory from = (from == directory) || option_map_or (λ parent. is_met parents steps directory parent) (parents from) false
+
+-- Whether an object is a directory or lies below it. There are fewer directories than numbers were given, so no way is longer.
+abbrev pub is_within : World → ℕ → ℕ → Bool
+is_within w directory number = is_met (parent_of w) w.next_number directory number

@@ -1,0 +1,99 @@
+-- The world of a file server: objects by number, names by cookie, and the counters (RFC 8881, sections 4.2, 5.8 and 18.23).
+-- An object has no path, and a directory no list of its own.
+use Rattle.std.specs.Prelude.{ℕ, Bool, true, false, ◌==◌, ◌&&◌, not, nat_lt, nat_eq, if◌then◌else◌, List, [], count_by, find, length, take, drop, Option, Some, None}
+use Rattle.std.specs.List.{list_any}
+use Rattle.std.specs.Option.{option_map, option_map_or}
+use Rattle.std.specs.Map.{lookup}
+use Rattle.std.specs.BTreeMap.{is_at}
+use Rattle.std.specs.Ordering.{nat_cmp}
+use Rattle.std.specs.Cmp.Lexicographic.{pointwise}
+use Rattle.acl_list.specs.declared.entry.Entry.{Entry}
+use Rattle.acl_list.specs.declared.entry.Kind.{Kind}
+use Rattle.acl_shape.specs.Inherited.{is_directory}
+use Rattle.nfs_types.specs.declared.moment.Moment.{Moment}
+
+pub record Object : Type 0 where
+  pub kind : Kind
+  -- the bytes of a file, or the text of a link
+  pub bytes : List ℕ
+  pub owner : ℕ
+  pub group : ℕ
+  pub list : List Entry
+  -- the bits 07000 of the mode, for which no entry stands
+  pub high : ℕ
+  -- the tick of the last change
+  pub change : ℕ
+  pub time_modify : Moment
+  pub time_metadata : Moment
+  -- it is another one whenever the list, the owner or the group is set
+  pub stamp : ℕ
+
+-- a child under a name in a directory
+pub record Name : Type 0 where
+  pub cookie : ℕ
+  pub directory : ℕ
+  pub name : List ℕ
+  pub child : ℕ
+
+-- objects stand by rising number, and names by rising cookie
+pub record World : Type 0 where
+  pub objects : List (ℕ × Object)
+  pub names : List Name
+  pub next_number : ℕ
+  pub next_tick : ℕ
+  pub next_stamp : ℕ
+  pub next_cookie : ℕ
+
+-- ---- objects
+
+-- the object of a number
+abbrev pub object : World → ℕ → Option Object
+object w number = lookup (is_at (nat_cmp number)) w.objects
+
+abbrev pub kind_of : World → ℕ → Option Kind
+kind_of w number = option_map (λ o. o.kind) (object w number)
+
+abbrev pub is_directory_at : World → ℕ → Bool
+is_directory_at w number = option_map_or (λ o. is_directory o.kind) (object w number) false
+
+-- the bytes of a file, or the text of a link
+abbrev pub bytes_of : World → ℕ → List ℕ
+bytes_of w number = option_map_or (λ o. o.bytes) (object w number) []
+
+-- what there is to be read at an offset
+abbrev pub bytes_at : World → ℕ → ℕ → ℕ → List ℕ
+bytes_at w number offset count = take count (drop offset (bytes_of w number))
+
+-- ---- names
+
+-- whether this is the name in the directory
+abbrev pub is_named : ℕ → List ℕ → Name → Bool
+is_named directory name n = (n.directory == directory) && pointwise nat_eq n.name name
+
+-- the child of a name in a directory
+abbrev pub child_named : World → ℕ → List ℕ → Option ℕ
+child_named w directory name = option_map (λ n. n.child) (find (is_named directory name) w.names)
+
+-- the next name of a directory, by rising cookie
+abbrev pub name_after : World → ℕ → ℕ → Option Name
+name_after w directory cookie = find (λ n. (n.directory == directory) && nat_lt cookie n.cookie) w.names
+
+-- how many names a directory has
+abbrev pub name_count : List Name → ℕ → ℕ
+name_count names directory = count_by (λ n. n.directory == directory) names
+
+-- whether a directory has names
+abbrev pub has_entries : List Name → ℕ → Bool
+has_entries names directory = list_any (λ n. n.directory == directory) names
+
+-- how many names an object has
+abbrev pub link_count : List Name → ℕ → ℕ
+link_count names number = count_by (λ n. n.child == number) names
+
+-- whether an object has a name
+abbrev pub has_name : List Name → ℕ → Bool
+has_name names number = list_any (λ n. n.child == number) names
+
+-- the directory that a directory has its name in
+abbrev pub parent_of : World → ℕ → Option ℕ
+parent_of w number = if is_directory_at w number then option_map (λ n. n.directory) (find (λ n. n.child == number) w.names) else None

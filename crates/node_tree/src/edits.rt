@@ -1,0 +1,167 @@
+//! Edits of the objects and of the names.
+ghost use Rattle.std.specs.Prelude.{◌≡◌, ◌+◌, ◌<◌, ◌≤◌, ◌^◌, ◌==◌, if◌then◌else◌, [], length, find, OnOk, OnErr, IsOk};
+ghost use Rattle.std.specs.Option.{option_map, option_map_or};
+ghost use Rattle.std.specs.Map.{lookup};
+ghost use Rattle.std.specs.BTreeMap.{is_at};
+ghost use Rattle.std.specs.Ordering.{nat_cmp};
+ghost use Rattle.std.specs.Vec.{vec_len, vec_capacity};
+ghost use Rattle.node_tree.specs.World.{has_name};
+ghost use Rattle.node_tree.specs.Changes.{changed, touched, retold, without, released, other_names, written, resized};
+
+use crate::at::At;
+use crate::entry::DirEntry;
+use crate::node::Node;
+use acl_list::AclList;
+use std::alloc::{AllocError, Allocator};
+use std::collections::BTreeMap;
+
+// ---- names
+
+/// Takes a name away.
+pub fn remove_name<A: Allocator>(names: &mut Vec<DirEntry<A>, A>, directory: u64, name: &[u8])
+    ensures names { names.new.items ≡ other_names directory name.now names.old.items }
+    ensures shorter { vec_len names.new ≤ vec_len names.old }
+    ensures room { vec_capacity names.new ≡ vec_capacity names.old }
+{
+    names.retain(|entry| !entry.is_named(directory, name));
+}
+
+/// Whether an object has a name.
+pub fn has_name<A: Allocator>(names: &[DirEntry<A>], number: u64) -> bool
+    ensures { result ≡ has_name names.now number }
+{
+    names.iter().any(|entry| entry.child() == number)
+}
+
+/// The directory of the first name that an object has.
+pub fn directory_of<A: Allocator>(names: &[DirEntry<A>], number: u64) -> Option<u64>
+    ensures { result ≡ option_map (λ n. n.directory) (find (λ n. n.child == number) names.now) }
+{
+    names
+        .iter()
+        .find(|entry| entry.child() == number)
+        .map(|entry| entry.directory())
+}
+
+// ---- objects
+
+/// A change of bytes, of a size or of a directory's names.
+pub fn touch<A: Allocator>(objects: &mut BTreeMap<u64, Node<A>, A>, number: u64, at: At)
+    ensures { objects.new.entries ≡ changed number (touched at) objects.old.entries }
+{
+    if let Some(node) = objects.get_mut(&number) {
+        node.touch(at);
+    }
+}
+
+/// A change of a list, an owner, a group or the number of names, or a move.
+pub fn retell<A: Allocator>(objects: &mut BTreeMap<u64, Node<A>, A>, number: u64, at: At)
+    ensures { objects.new.entries ≡ changed number (retold at) objects.old.entries }
+{
+    if let Some(node) = objects.get_mut(&number) {
+        node.retell(at);
+    }
+}
+
+/// An object has lost a name. It stays by another one, or goes.
+#[tactic(auto, using(crate::proofs::Objects::removed, crate::proofs::Objects::without_none, std::proofs::lemmas::Map::Steps::set_value_same))]
+pub fn release<A: Allocator>(
+    objects: &mut BTreeMap<u64, Node<A>, A>,
+    number: u64,
+    stays: bool,
+    at: At,
+)
+    ensures { objects.new.entries ≡ (if stays then changed number (retold at) objects.old.entries else without number objects.old.entries) }
+{
+    let Some(node) = objects.get_mut(&number) else {
+        return;
+    };
+    if stays {
+        node.retell(at);
+    } else {
+        objects.remove(&number);
+    }
+}
+
+/// An object that may be there has lost a name.
+pub fn release_target<A: Allocator>(
+    objects: &mut BTreeMap<u64, Node<A>, A>,
+    target: Option<u64>,
+    names: &[DirEntry<A>],
+    at: At,
+)
+    ensures { objects.new.entries ≡ option_map_or (λ t. released names.now t at objects.old.entries) target objects.old.entries }
+{
+    if let Some(target) = target {
+        release(objects, target, has_name(names, target), at);
+    }
+}
+
+/// Writes data into a file. `Err`: there is no memory, and nothing has changed.
+#[tactic(auto, using(std::proofs::lemmas::Map::Steps::set_value_same))]
+pub fn write<A: Allocator>(
+    objects: &mut BTreeMap<u64, Node<A>, A>,
+    number: u64,
+    offset: usize,
+    more: &[u8],
+    at: At,
+) -> Result<(), AllocError>
+    requires { offset + length more.now < 2 ^ 32 }
+    ensures ok { OnOk result (objects.new.entries ≡ changed number (λ o. touched at (record o { bytes = written o.bytes offset more.now })) objects.old.entries) }
+    ensures err { OnErr result (objects.new.entries ≡ objects.old.entries) }
+{
+    if let Some(node) = objects.get_mut(&number) {
+        node.write(offset, more, at)?;
+    }
+    Ok(())
+}
+
+/// Sets the size of a file. It takes memory only where the file grows. `Err`: there is none, and nothing has changed.
+#[tactic(auto, using(std::proofs::lemmas::Map::Steps::set_value_same))]
+pub fn resize<A: Allocator>(
+    objects: &mut BTreeMap<u64, Node<A>, A>,
+    number: u64,
+    size: usize,
+    at: At,
+) -> Result<(), AllocError>
+    ensures shrinks { size ≤ length (option_map_or (λ o. o.bytes) (lookup (is_at (nat_cmp number)) objects.old.entries) []) → IsOk result }
+    ensures ok { OnOk result (objects.new.entries ≡ changed number (λ o. touched at (record o { bytes = resized o.bytes size })) objects.old.entries) }
+    ensures err { OnErr result (objects.new.entries ≡ objects.old.entries) }
+{
+    if let Some(node) = objects.get_mut(&number) {
+        node.resize(size, at)?;
+    }
+    Ok(())
+}
+
+/// Sets the list of an object.
+pub fn set_list<A: Allocator>(
+    objects: &mut BTreeMap<u64, Node<A>, A>,
+    number: u64,
+    list: AclList<A>,
+    high: u32,
+    stamp: u64,
+    at: At,
+)
+    ensures { objects.new.entries ≡ changed number (λ o. retold at (record o { list = list; high = high; stamp = stamp })) objects.old.entries }
+{
+    if let Some(node) = objects.get_mut(&number) {
+        node.set_list(list, high, stamp, at);
+    }
+}
+
+/// Sets the owner and the group of an object.
+pub fn set_owner<A: Allocator>(
+    objects: &mut BTreeMap<u64, Node<A>, A>,
+    number: u64,
+    owner: u32,
+    group: u32,
+    stamp: u64,
+    at: At,
+)
+    ensures { objects.new.entries ≡ changed number (λ o. retold at (record o { owner = owner; group = group; stamp = stamp })) objects.old.entries }
+{
+    if let Some(node) = objects.get_mut(&number) {
+        node.set_owner(owner, group, stamp, at);
+    }
+}

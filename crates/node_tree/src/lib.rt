@@ -1,0 +1,23 @@
+//! The objects and names of a file server, as one tree of directories (RFC 8881, sections 4, 5.8 and 18).
+//!
+//! [`Tree`] refuses what would break the tree or pass a limit, and then leaves all as it was. It knows nothing of who asks.
+#![tactic(auto)]
+
+mod at;
+mod bytes;
+mod edits;
+mod entry;
+mod fault;
+mod limits;
+mod node;
+mod store;
+mod tree;
+
+pub use acl_list::{AclList, Entry, Kind};
+pub use at::{At, EPOCH};
+pub use entry::DirEntry;
+pub use fault::TreeFault;
+pub use limits::{MAX_BYTES, MAX_LINKS, MAX_NAMES, MAX_OBJECTS, MAX_TEXT, ROOT};
+pub use nfs_types::Moment;
+pub use node::{NewObject, Node};
+pub use tree::Tree;

@@ -1,0 +1,19 @@
+//! How much a tree holds.
+
+/// The number of the root: the directory that every other lies below.
+pub const ROOT: u64 = 1;
+
+/// The most bytes of a file, the attribute `maxfilesize`.
+pub const MAX_BYTES: u64 = 1_048_576;
+
+/// The most bytes of a link's text.
+pub const MAX_TEXT: u64 = 1024;
+
+/// The most names in a directory.
+pub const MAX_NAMES: usize = 4096;
+
+/// The most objects.
+pub const MAX_OBJECTS: usize = 16_384;
+
+/// The most names of an object, the attribute `maxlink`.
+pub const MAX_LINKS: usize = 1000;

@@ -1,0 +1,226 @@
+//! An object with what it is judged by.
+ghost use Rattle.std.specs.Prelude.{◌≡◌, ◌+◌, ◌<◌, ◌≤◌, ◌^◌, ◌++◌, length, take, drop, OnOk, OnErr, IsOk};
+ghost use Rattle.acl_shape.specs.Inherited.{is_directory};
+ghost use Rattle.node_tree.specs.Changes.{made, touched, retold, written, resized};
+
+use crate::at::At;
+use crate::bytes::{read_at, resize, write_at};
+use acl_list::{AclList, Kind};
+use nfs_types::Moment;
+use std::alloc::{AllocError, Allocator, Global};
+use std::marker::Model;
+
+/// What a new object is made of.
+#[derive(Debug, Drop)]
+pub struct NewObject<A: Allocator = Global> {
+    /// What it is.
+    pub kind: Kind,
+    /// The bytes of a file, or the text of a link. A directory has none.
+    pub bytes: Vec<u8, A>,
+    /// The number of its owner.
+    pub owner: u32,
+    /// The number of its group.
+    pub group: u32,
+    /// Its list, within the bounds of [`acl_shape::is_bounded`].
+    pub list: AclList<A>,
+    /// The bits 0o7000 of its mode.
+    pub high: u32,
+}
+
+/// An object of a tree: its attributes, and what it is judged by. [`crate::Tree::read`] gives its bytes.
+#[derive(Debug, Drop)]
+pub struct Node<A: Allocator = Global> {
+    kind: Kind,
+    bytes: Vec<u8, A>,
+    owner: u32,
+    group: u32,
+    list: AclList<A>,
+    high: u32,
+    change: u64,
+    time_modify: Moment,
+    time_metadata: Moment,
+    stamp: u64,
+}
+
+impl<A: Allocator> Model for Node<A> {
+    ghost use Rattle.node_tree.specs.World.{Object};
+
+    ghost Value = { Object };
+
+    ghost view = { λ n. record {
+        kind = n.kind;
+        bytes = n.bytes.items;
+        owner = n.owner;
+        group = n.group;
+        list = n.list;
+        high = n.high;
+        change = n.change;
+        time_modify = n.time_modify;
+        time_metadata = n.time_metadata;
+        stamp = n.stamp;
+    } };
+}
+
+impl<A: Allocator> Node<A> {
+    /// What it is.
+    pub fn kind(&self) -> Kind
+        ensures { result ≡ self.now.kind }
+    {
+        self.kind
+    }
+
+    /// Whether it is a directory.
+    pub fn is_directory(&self) -> bool
+        ensures { result ≡ is_directory self.now.kind }
+    {
+        matches!(self.kind, Kind::Directory)
+    }
+
+    /// How many bytes a file has, or the text of a link.
+    pub fn size(&self) -> u64
+        ensures { result ≡ length self.now.bytes }
+    {
+        self.bytes.len() as u64
+    }
+
+    /// The number of its owner.
+    pub fn owner(&self) -> u32
+        ensures { result ≡ self.now.owner }
+    {
+        self.owner
+    }
+
+    /// The number of its group.
+    pub fn group(&self) -> u32
+        ensures { result ≡ self.now.group }
+    {
+        self.group
+    }
+
+    /// Its list.
+    pub fn list(&self) -> &AclList<A>
+        ensures { result.now ≡ self.now.list }
+    {
+        &self.list
+    }
+
+    /// The bits 0o7000 of its mode.
+    pub fn high(&self) -> u32
+        ensures { result ≡ self.now.high }
+    {
+        self.high
+    }
+
+    /// The tick of its last change, the attribute `change`.
+    pub fn change(&self) -> u64
+        ensures { result ≡ self.now.change }
+    {
+        self.change
+    }
+
+    /// When its bytes or names were last changed, the attribute `time_modify`.
+    pub fn time_modify(&self) -> Moment
+        ensures { result ≡ self.now.time_modify }
+    {
+        self.time_modify
+    }
+
+    /// When anything of it was last changed, the attribute `time_metadata`.
+    pub fn time_metadata(&self) -> Moment
+        ensures { result ≡ self.now.time_metadata }
+    {
+        self.time_metadata
+    }
+
+    /// Its stamp. It is another one whenever the list, the owner or the group is set, and no other object ever has it.
+    pub fn stamp(&self) -> u64
+        ensures { result ≡ self.now.stamp }
+    {
+        self.stamp
+    }
+
+    /// Copies the bytes at an offset into a buffer, as far as both go, and answers how many.
+    pub(crate) fn read(&self, offset: usize, buffer: &mut [u8]) -> usize
+        ensures count { result ≡ length (take (length buffer.old) (drop offset self.now.bytes)) }
+        ensures copied { buffer.new ≡ take (length buffer.old) (drop offset self.now.bytes) ++ drop result buffer.old }
+    {
+        read_at(&self.bytes, offset, buffer)
+    }
+
+    /// An object as it is made.
+    pub(crate) fn made(new: NewObject<A>, stamp: u64, at: At) -> Self
+        ensures { result ≡ made new stamp at }
+    {
+        Node {
+            kind: new.kind,
+            bytes: new.bytes,
+            owner: new.owner,
+            group: new.group,
+            list: new.list,
+            high: new.high,
+            change: at.tick,
+            time_modify: at.moment,
+            time_metadata: at.moment,
+            stamp,
+        }
+    }
+
+    /// A change of bytes, of a size or of a directory's names.
+    pub(crate) fn touch(&mut self, at: At)
+        ensures { self.new ≡ touched at self.old }
+    {
+        self.change = at.tick;
+        self.time_modify = at.moment;
+        self.time_metadata = at.moment;
+    }
+
+    /// A change of a list, an owner, a group or the number of names, or a move.
+    pub(crate) fn retell(&mut self, at: At)
+        ensures { self.new ≡ retold at self.old }
+    {
+        self.change = at.tick;
+        self.time_metadata = at.moment;
+    }
+
+    /// Sets the list with the high bits of the mode.
+    pub(crate) fn set_list(&mut self, list: AclList<A>, high: u32, stamp: u64, at: At)
+        ensures { self.new ≡ retold at (record self.old { list = list; high = high; stamp = stamp }) }
+    {
+        self.list = list;
+        self.high = high;
+        self.stamp = stamp;
+        self.retell(at);
+    }
+
+    /// Sets the owner and the group.
+    pub(crate) fn set_owner(&mut self, owner: u32, group: u32, stamp: u64, at: At)
+        ensures { self.new ≡ retold at (record self.old { owner = owner; group = group; stamp = stamp }) }
+    {
+        self.owner = owner;
+        self.group = group;
+        self.stamp = stamp;
+        self.retell(at);
+    }
+
+    /// Writes data at an offset, and zeros between the end and it. `Err`: there is no memory, and nothing has changed.
+    pub(crate) fn write(&mut self, offset: usize, more: &[u8], at: At) -> Result<(), AllocError>
+        requires { offset + length more.now < 2 ^ 32 }
+        ensures ok { OnOk result (self.new ≡ touched at (record self.old { bytes = written self.old.bytes offset more.now })) }
+        ensures err { OnErr result (self.new ≡ self.old) }
+    {
+        write_at(&mut self.bytes, offset, more)?;
+        self.touch(at);
+        Ok(())
+    }
+
+    /// Sets the size: cuts, or adds zeros, which alone takes memory. `Err`: there is none, and nothing has changed.
+    pub(crate) fn resize(&mut self, size: usize, at: At) -> Result<(), AllocError>
+        ensures shrinks { size ≤ length self.old.bytes → IsOk result }
+        ensures ok { OnOk result (self.new ≡ touched at (record self.old { bytes = resized self.old.bytes size })) }
+        ensures err { OnErr result (self.new ≡ self.old) }
+    {
+        resize(&mut self.bytes, size)?;
+        self.touch(at);
+        Ok(())
+    }
+}

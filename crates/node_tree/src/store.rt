@@ -1,0 +1,363 @@
+//! What a tree is kept in: objects in a map by number, names in one list by rising cookie. What it answers and does is right
+//! whatever they are; whether they are a tree is for [`crate::Tree`] to see to.
+ghost use Rattle.std.specs.Prelude.{◌≡◌, ◌+◌, ◌-◌, ◌<◌, ◌≤◌, ◌^◌, ◌&&◌, ◌++◌, ℕ, nat_le, nat_lt, if◌then◌else◌, slice_index, length, drop, filter, not, OnOk, OnErr, IfOk, IsOk};
+ghost use Rattle.std.specs.Option.{option_copied};
+ghost use Rattle.node_tree.specs.World.{object, bytes_of, bytes_at, child_named, name_after, is_named, is_directory_at, has_name, has_entries, name_count, link_count, parent_of};
+ghost use Rattle.node_tree.specs.Ways.{is_within};
+ghost use Rattle.node_tree.specs.Changes.{alone, made, changed, touched, retold, without, released, other_names, written, resized, with_new, with_link, without_name, with_move, with_bytes, with_size, with_list, with_owner};
+ghost use Rattle.node_tree.specs.Refusals.{has_left, has_room};
+
+use crate::at::At;
+use crate::edits;
+use crate::edits::{directory_of, has_name, release, release_target, remove_name, retell, touch};
+use crate::entry::DirEntry;
+use crate::limits::{MAX_LINKS, MAX_NAMES, MAX_OBJECTS, ROOT};
+use crate::node::{NewObject, Node};
+use acl_list::{AclList, Kind};
+use std::alloc::{AllocError, Allocator, Global};
+use std::collections::BTreeMap;
+use std::marker::Model;
+
+/// No counter goes past it.
+const END: u64 = 1 << 63;
+
+/// Objects by number, names by cookie, and the counters.
+#[derive(Debug, Drop)]
+pub struct Store<A: Allocator = Global> {
+    alloc: A,
+    objects: BTreeMap<u64, Node<A>, A>,
+    names: Vec<DirEntry<A>, A>,
+    next_number: u64,
+    next_tick: u64,
+    next_stamp: u64,
+    next_cookie: u64,
+}
+
+impl<A: Allocator> Model for Store<A> {
+    ghost use Rattle.node_tree.specs.World.{World};
+
+    ghost Value = { World };
+
+    ghost view = { λ s. record {
+        objects = s.objects.entries;
+        names = s.names.items;
+        next_number = s.next_number;
+        next_tick = s.next_tick;
+        next_stamp = s.next_stamp;
+        next_cookie = s.next_cookie;
+    } };
+}
+
+// Look-ups.
+impl<A: Allocator + Copy> Store<A> {
+    /// The object of a number.
+    pub fn object(&self, number: u64) -> Option<&Node<A>>
+        ensures { option_copied result ≡ object self.now number }
+    {
+        self.objects.get(&number)
+    }
+
+    /// Whether the number is a directory's.
+    pub fn is_directory(&self, number: u64) -> bool
+        ensures { result ≡ is_directory_at self.now number }
+    {
+        match self.object(number) {
+            Some(node) => node.is_directory(),
+            None => false,
+        }
+    }
+
+    /// The child of a name in a directory.
+    pub fn find(&self, directory: u64, name: &[u8]) -> Option<u64>
+        ensures { result ≡ child_named self.now directory name.now }
+    {
+        self.names
+            .iter()
+            .find(|entry| entry.is_named(directory, name))
+            .map(|entry| entry.child())
+    }
+
+    /// The next name of a directory, by rising cookie.
+    pub fn list_after(&self, directory: u64, cookie: u64) -> Option<&DirEntry<A>>
+        ensures { option_copied result ≡ name_after self.now directory cookie }
+    {
+        self.names
+            .iter()
+            .find(|entry| entry.directory() == directory && cookie < entry.cookie())
+    }
+
+    /// Whether a directory has names.
+    pub fn has_entries(&self, directory: u64) -> bool
+        ensures { result ≡ has_entries self.now.names directory }
+    {
+        self.names
+            .iter()
+            .any(|entry| entry.directory() == directory)
+    }
+
+    /// How many names a directory has.
+    pub fn name_count(&self, directory: u64) -> usize
+        ensures { result ≡ name_count self.now.names directory }
+    {
+        self.names
+            .iter()
+            .filter(|entry| entry.directory() == directory)
+            .count()
+    }
+
+    /// How many names an object has.
+    pub fn link_count(&self, number: u64) -> usize
+        ensures { result ≡ link_count self.now.names number }
+    {
+        self.names
+            .iter()
+            .filter(|entry| entry.child() == number)
+            .count()
+    }
+
+    /// The directory that a directory has its name in.
+    pub fn parent(&self, number: u64) -> Option<u64>
+        ensures { result ≡ parent_of self.now number }
+    {
+        if !self.is_directory(number) {
+            return None;
+        }
+        directory_of(&self.names, number)
+    }
+
+    /// Whether an object is a directory or lies below it.
+    pub fn is_within(&self, directory: u64, number: u64) -> bool
+        ensures { result ≡ is_within self.now directory number }
+    {
+        let mut here = number;
+        for _ in 0..self.next_number {
+            if here == directory {
+                return true;
+            }
+            let Some(parent) = self.parent(here) else {
+                return false;
+            };
+            here = parent;
+        }
+        true
+    }
+}
+
+// Whether there is room.
+impl<A: Allocator + Copy> Store<A> {
+    /// Whether a directory has room for a name more.
+    pub fn has_room(&self, directory: u64) -> bool
+        ensures { result ≡ has_room self.now.names directory }
+    {
+        self.name_count(directory) < MAX_NAMES
+    }
+
+    /// Whether the store has room for an object more, and the counters for its number, stamp and cookie.
+    pub fn has_room_for_object(&self) -> bool
+        ensures { result ≡ (nat_lt (length self.now.objects) MAX_OBJECTS && has_left self.now.next_number && has_left self.now.next_stamp && has_left self.now.next_cookie) }
+    {
+        self.objects.len() < MAX_OBJECTS
+            && self.next_number < END
+            && self.next_stamp < END
+            && self.next_cookie < END
+    }
+
+    /// Whether there is a cookie left.
+    pub fn has_cookie(&self) -> bool
+        ensures { result ≡ has_left self.now.next_cookie }
+    {
+        self.next_cookie < END
+    }
+
+    /// The tick of the next operation that changes anything.
+    pub fn next_tick(&self) -> u64
+        ensures { result ≡ self.now.next_tick }
+    {
+        self.next_tick
+    }
+
+    /// The stamp of the next object, list or owner.
+    pub fn next_stamp(&self) -> u64
+        ensures { result ≡ self.now.next_stamp }
+    {
+        self.next_stamp
+    }
+}
+
+// Changes.
+impl<A: Allocator + Copy> Store<A> {
+    /// A root and nothing else.
+    pub fn new(alloc: A, root: Node<A>) -> Result<Self, AllocError>
+        ensures { IfOk result (λ store. store ≡ alone root) }
+    {
+        let mut objects = BTreeMap::new(alloc);
+        objects.insert(ROOT, root)?;
+        Ok(Store {
+            alloc,
+            objects,
+            names: Vec::new(alloc),
+            next_number: 2,
+            next_tick: 2,
+            next_stamp: 2,
+            next_cookie: 3,
+        })
+    }
+
+    /// A new object under a new name.
+    pub fn add(
+        &mut self,
+        directory: u64,
+        name: &[u8],
+        new: NewObject<A>,
+        at: At,
+    ) -> Result<u64, AllocError>
+        requires ticks { at.tick < 2 ^ 63 }
+        requires numbers { self.old.next_number < 2 ^ 63 }
+        requires stamps { self.old.next_stamp < 2 ^ 63 }
+        requires cookies { self.old.next_cookie < 2 ^ 63 }
+        ensures number { IfOk result (λ number. number ≡ self.old.next_number) }
+        ensures ok { OnOk result (self.new ≡ with_new self.old directory name.now (made new self.old.next_stamp at) at) }
+        ensures err { OnErr result (self.new ≡ self.old) }
+    {
+        let name = Vec::from_slice(self.alloc, name)?;
+        self.names.reserve(1)?;
+        let node = Node::made(new, self.next_stamp, at);
+        self.objects.insert(self.next_number, node)?;
+        touch(&mut self.objects, directory, at);
+        let number = self.next_number;
+        self.names.push_reserved(DirEntry::new(self.next_cookie, directory, name, number));
+        self.next_number += 1;
+        self.next_tick = at.tick + 1;
+        self.next_stamp += 1;
+        self.next_cookie += 1;
+        Ok(number)
+    }
+
+    /// One name more for an object.
+    pub fn link(
+        &mut self,
+        directory: u64,
+        name: &[u8],
+        number: u64,
+        at: At,
+    ) -> Result<(), AllocError>
+        requires ticks { at.tick < 2 ^ 63 }
+        requires cookies { self.old.next_cookie < 2 ^ 63 }
+        ensures ok { OnOk result (self.new ≡ with_link self.old directory name.now number at) }
+        ensures err { OnErr result (self.new ≡ self.old) }
+    {
+        let name = Vec::from_slice(self.alloc, name)?;
+        self.names.reserve(1)?;
+        retell(&mut self.objects, number, at);
+        touch(&mut self.objects, directory, at);
+        self.names.push_reserved(DirEntry::new(self.next_cookie, directory, name, number));
+        self.next_tick = at.tick + 1;
+        self.next_cookie += 1;
+        Ok(())
+    }
+
+    /// Takes a name away, and its child with its last name.
+    pub fn unlink(&mut self, directory: u64, name: &[u8], child: u64, at: At)
+        requires { at.tick < 2 ^ 63 }
+        ensures { self.new ≡ without_name self.old directory name.now child at }
+    {
+        remove_name(&mut self.names, directory, name);
+        let stays = has_name(&self.names, child);
+        release(&mut self.objects, child, stays, at);
+        touch(&mut self.objects, directory, at);
+        self.next_tick = at.tick + 1;
+    }
+
+    /// Gives a child another name, and takes the one that it had. A target that had the new name loses it.
+    pub fn rename(
+        &mut self,
+        from: u64,
+        old: &[u8],
+        to: u64,
+        new: &[u8],
+        child: u64,
+        target: Option<u64>,
+        at: At,
+    ) -> Result<(), AllocError>
+        requires ticks { at.tick < 2 ^ 63 }
+        requires cookies { self.old.next_cookie < 2 ^ 63 }
+        ensures ok { OnOk result (self.new ≡ with_move self.old from old.now to new.now child target at) }
+        ensures err { OnErr result (self.new ≡ self.old) }
+    {
+        let name = Vec::from_slice(self.alloc, new)?;
+        self.names.reserve(1)?;
+        remove_name(&mut self.names, from, old);
+        remove_name(&mut self.names, to, new);
+        release_target(&mut self.objects, target, &self.names, at);
+        retell(&mut self.objects, child, at);
+        touch(&mut self.objects, from, at);
+        touch(&mut self.objects, to, at);
+        self.names.push_reserved(DirEntry::new(self.next_cookie, to, name, child));
+        self.next_tick = at.tick + 1;
+        self.next_cookie += 1;
+        Ok(())
+    }
+
+    /// Copies the bytes of an object at an offset into a buffer, as far as both go, and answers how many.
+    pub fn read(&self, number: u64, offset: u64, buffer: &mut [u8]) -> usize
+        ensures count { result ≡ length (bytes_at self.now number offset (length buffer.old)) }
+        ensures copied { buffer.new ≡ bytes_at self.now number offset (length buffer.old) ++ drop result buffer.old }
+    {
+        match self.object(number) {
+            Some(node) => node.read(offset as usize, buffer),
+            None => 0,
+        }
+    }
+
+    /// Writes bytes into a file, and zeros between its end and them.
+    pub fn write(
+        &mut self,
+        file: u64,
+        offset: usize,
+        more: &[u8],
+        at: At,
+    ) -> Result<(), AllocError>
+        requires ticks { at.tick < 2 ^ 63 }
+        requires few { offset + length more.now < 2 ^ 32 }
+        ensures ok { OnOk result (self.new ≡ with_bytes self.old file offset more.now at) }
+        ensures err { OnErr result (self.new ≡ self.old) }
+    {
+        edits::write(&mut self.objects, file, offset, more, at)?;
+        self.next_tick = at.tick + 1;
+        Ok(())
+    }
+
+    /// Sets the size of a file: it is cut, or zeros are added. It takes memory only where the file grows.
+    pub fn resize(&mut self, file: u64, size: usize, at: At) -> Result<(), AllocError>
+        requires { at.tick < 2 ^ 63 }
+        ensures shrinks { size ≤ length (bytes_of self.old file) → IsOk result }
+        ensures ok { OnOk result (self.new ≡ with_size self.old file size at) }
+        ensures err { OnErr result (self.new ≡ self.old) }
+    {
+        edits::resize(&mut self.objects, file, size, at)?;
+        self.next_tick = at.tick + 1;
+        Ok(())
+    }
+
+    /// Sets a list with the high bits of the mode.
+    pub fn set_list(&mut self, number: u64, list: AclList<A>, high: u32, at: At)
+        requires stamps { self.old.next_stamp < 2 ^ 63 }
+        requires ticks { at.tick < 2 ^ 63 }
+        ensures { self.new ≡ with_list self.old number list high at }
+    {
+        edits::set_list(&mut self.objects, number, list, high, self.next_stamp, at);
+        self.next_tick = at.tick + 1;
+        self.next_stamp += 1;
+    }
+
+    /// Sets an owner and a group.
+    pub fn set_owner(&mut self, number: u64, owner: u32, group: u32, at: At)
+        requires stamps { self.old.next_stamp < 2 ^ 63 }
+        requires ticks { at.tick < 2 ^ 63 }
+        ensures { self.new ≡ with_owner self.old number owner group at }
+    {
+        edits::set_owner(&mut self.objects, number, owner, group, self.next_stamp, at);
+        self.next_tick = at.tick + 1;
+        self.next_stamp += 1;
+    }
+}

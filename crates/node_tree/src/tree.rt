@@ -1,0 +1,312 @@
+//! The tree: what it refuses, and that it stays one.
+ghost use Rattle.std.specs.Prelude.{◌≡◌, ◌≢◌, ◌<◌, ◌≤◌, ◌^◌, ◌++◌, length, drop, MatchOption, OnOk, OnErr, IfOk, IsOk, IsOkUnless, IfSome, IsSome, Some};
+ghost use Rattle.std.specs.Option.{option_copied};
+ghost use Rattle.acl_shape.specs.Bounds.{IsBounded};
+ghost use Rattle.node_tree.specs.World.{object, kind_of, bytes_of, bytes_at, child_named, name_after, has_entries, link_count, parent_of};
+ghost use Rattle.node_tree.specs.Changes.{alone, root_of, made, with_new, with_link, unlinked, with_write, with_size, with_list, with_owner};
+ghost use Rattle.node_tree.specs.Refusals.{add_refusal, link_refusal, unlink_refusal, write_refusal, resize_refusal};
+ghost use Rattle.node_tree.specs.Judged.{KeepsJudged};
+ghost use Rattle.node_tree.specs.Sound.{IsSound, IsTick, IsNextName, most_bytes};
+
+use crate::at::{At, EPOCH};
+use crate::entry::DirEntry;
+use crate::fault::TreeFault;
+use crate::limits::{MAX_BYTES, MAX_LINKS, ROOT};
+use crate::node::{NewObject, Node};
+use crate::store::Store;
+use acl_list::{AclList, Kind};
+use std::alloc::{AllocError, Allocator, Global};
+use std::marker::Model;
+
+/// The objects and names of a file server.
+#[derive(Debug, Drop)]
+pub struct Tree<A: Allocator = Global> {
+    store: Store<A>,
+}
+
+impl<A: Allocator> Model for Tree<A> {
+    ghost use Rattle.node_tree.specs.World.{World};
+    ghost use Rattle.node_tree.specs.Sound.{IsSound};
+
+    ghost Value = { World };
+
+    ghost view = { λ t. t.store };
+
+    ghost invariant = { λ t. IsSound t.store };
+}
+
+// Look-ups. None takes memory.
+impl<A: Allocator + Copy> Tree<A> {
+    /// The number of the root.
+    pub fn root(&self) -> u64
+        ensures number { result ≡ ROOT }
+        ensures live { kind_of self.now result ≡ Some Kind.Directory }
+    {
+        ROOT
+    }
+
+    /// The tick of the next operation that changes anything. It is below 2^63 where one is left.
+    pub fn next_tick(&self) -> u64
+        ensures value { result ≡ self.now.next_tick }
+        ensures tick { result < 2 ^ 63 → IsTick self.now result }
+    {
+        self.store.next_tick()
+    }
+
+    /// The stamp of the next object, list or owner. It is below 2^63 where one is left.
+    pub fn next_stamp(&self) -> u64
+        ensures { result ≡ self.now.next_stamp }
+    {
+        self.store.next_stamp()
+    }
+
+    /// The object of a number. [`Tree::links`] tells the number of its names, [`Tree::parent`] where a directory lies.
+    pub fn object(&self, number: u64) -> Option<&Node<A>>
+        ensures value { option_copied result ≡ object self.now number }
+        ensures sound { IsSound self.now }
+    {
+        self.store.object(number)
+    }
+
+    /// How many names an object has: none the root, one each other directory.
+    pub fn links(&self, number: u64) -> usize
+        ensures value { result ≡ link_count self.now.names number }
+        ensures few { result ≤ 1000 }
+    {
+        self.store.link_count(number)
+    }
+
+    /// The directory that a directory has its name in. `None`: it is the root, or no directory.
+    pub fn parent(&self, number: u64) -> Option<u64>
+        ensures value { result ≡ parent_of self.now number }
+        ensures live { IfSome result (λ parent. kind_of self.now parent ≡ Some Kind.Directory) }
+    {
+        self.store.parent(number)
+    }
+
+    /// Whether a directory has names.
+    pub fn has_entries(&self, directory: u64) -> bool
+        ensures { result ≡ has_entries self.now.names directory }
+    {
+        self.store.has_entries(directory)
+    }
+
+    /// The child of a name in a directory (LOOKUP: RFC 8881, section 18.13).
+    pub fn find(&self, directory: u64, name: &[u8]) -> Option<u64>
+        ensures child { result ≡ child_named self.now directory name.now }
+        ensures live { IfSome result (λ child. IsSome (object self.now child)) }
+    {
+        self.store.find(directory, name)
+    }
+
+    /// The next name of a directory after a cookie, by rising cookie (READDIR: RFC 8881, section 18.23). No name has the
+    /// cookies 0 to 2, and the name of the cookie that is sent may have gone.
+    pub fn list_after(&self, directory: u64, cookie: u64) -> Option<&DirEntry<A>>
+        ensures value { option_copied result ≡ name_after self.now directory cookie }
+        ensures next { IfSome (option_copied result) (IsNextName self.now directory cookie) }
+    {
+        self.store.list_after(directory, cookie)
+    }
+
+    /// Copies the bytes of a file, or the text of a link, at an offset into a buffer, as far as both go, and answers how many
+    /// (READ, READLINK: RFC 8881, sections 18.22 and 18.24). The rest of the buffer stays.
+    pub fn read(&self, number: u64, offset: u64, buffer: &mut [u8]) -> usize
+        ensures count { result ≡ length (bytes_at self.now number offset (length buffer.old)) }
+        ensures copied { buffer.new ≡ bytes_at self.now number offset (length buffer.old) ++ drop result buffer.old }
+    {
+        self.store.read(number, offset, buffer)
+    }
+}
+
+// Changes. Each grows first, and a refusal leaves all as it was.
+impl<A: Allocator + Copy> Tree<A> {
+    /// A root alone, with a list within the bounds of [`acl_shape::is_bounded`]. Its times are the epoch. `Err`: there is no
+    /// memory for it.
+    pub fn new(
+        alloc: A,
+        owner: u32,
+        group: u32,
+        list: AclList<A>,
+        high: u32,
+    ) -> Result<Self, AllocError>
+        requires { IsBounded list }
+        ensures { IfOk result (λ tree. tree ≡ alone (root_of owner group list high)) }
+    {
+        let root = NewObject {
+            kind: Kind::Directory,
+            bytes: Vec::new(alloc),
+            owner,
+            group,
+            list,
+            high,
+        };
+        let at = At {
+            tick: 1,
+            moment: EPOCH,
+        };
+        Ok(Tree {
+            store: Store::new(alloc, Node::made(root, 1, at))?,
+        })
+    }
+
+    /// Makes a new object under a new name of at most 255 bytes, and answers its number (CREATE, OPEN: RFC 8881, sections 18.4
+    /// and 18.16). It takes a number, a stamp and a cookie. The directory's times are set.
+    ///
+    /// Refused, the first of these: the name is taken, [`TreeFault::Exist`]; the directory has [`crate::MAX_NAMES`] names, there
+    /// are [`crate::MAX_OBJECTS`] objects, or a number, stamp or cookie would be 2^63, [`TreeFault::NoSpc`];
+    /// [`TreeFault::Memory`].
+    pub fn add(
+        &mut self,
+        directory: u64,
+        name: &[u8],
+        new: NewObject<A>,
+        at: At,
+    ) -> Result<u64, TreeFault>
+        requires tick { IsTick self.old at.tick }
+        requires live { kind_of self.old directory ≡ Some Kind.Directory }
+        requires short { length name.now ≤ 255 }
+        requires bounded { IsBounded new.list }
+        requires bytes { length new.bytes.items ≤ most_bytes new.kind }
+        ensures refused { MatchOption (add_refusal self.old directory name.now) (IsOkUnless result TreeFault.Memory) (λ fault. result ≡ Err fault) }
+        ensures number { IfOk result (λ number. number ≡ self.old.next_number) }
+        ensures ok { OnOk result (self.new ≡ with_new self.old directory name.now (made new self.old.next_stamp at) at) }
+        ensures err { OnErr result (self.new ≡ self.old) }
+        ensures judged { KeepsJudged self.old self.new }
+    {
+        if self.store.find(directory, name).is_some() {
+            return Err(TreeFault::Exist);
+        }
+        if !(self.store.has_room(directory) && self.store.has_room_for_object()) {
+            return Err(TreeFault::NoSpc);
+        }
+        Ok(self.store.add(directory, name, new, at)?)
+    }
+
+    /// Gives an object that is no directory a new name of at most 255 bytes (LINK: RFC 8881, section 18.9). It takes a cookie.
+    /// The directory's times are set, and the object's `time_metadata`.
+    ///
+    /// Refused, the first of these: the name is taken, [`TreeFault::Exist`]; the object has [`crate::MAX_LINKS`] names,
+    /// [`TreeFault::MLink`]; the directory has [`crate::MAX_NAMES`] names, or the cookie would be 2^63, [`TreeFault::NoSpc`];
+    /// [`TreeFault::Memory`].
+    pub fn link(
+        &mut self,
+        directory: u64,
+        name: &[u8],
+        number: u64,
+        at: At,
+    ) -> Result<(), TreeFault>
+        requires tick { IsTick self.old at.tick }
+        requires live { kind_of self.old directory ≡ Some Kind.Directory }
+        requires there { IsSome (object self.old number) }
+        requires plain { kind_of self.old number ≢ Some Kind.Directory }
+        requires short { length name.now ≤ 255 }
+        ensures refused { MatchOption (link_refusal self.old directory name.now number) (IsOkUnless result TreeFault.Memory) (λ fault. result ≡ Err fault) }
+        ensures ok { OnOk result (self.new ≡ with_link self.old directory name.now number at) }
+        ensures err { OnErr result (self.new ≡ self.old) }
+        ensures judged { KeepsJudged self.old self.new }
+    {
+        if self.store.find(directory, name).is_some() {
+            return Err(TreeFault::Exist);
+        }
+        if self.store.link_count(number) >= MAX_LINKS {
+            return Err(TreeFault::MLink);
+        }
+        if !(self.store.has_room(directory) && self.store.has_cookie()) {
+            return Err(TreeFault::NoSpc);
+        }
+        self.store.link(directory, name, number, at)?;
+        Ok(())
+    }
+
+    /// Takes a name away, and its child with its last name (REMOVE: RFC 8881, section 18.25). The directory's times are set, and
+    /// the `time_metadata` of a child that has other names. It takes no memory.
+    ///
+    /// Refused: there is no such name, [`TreeFault::NoEnt`]; it is that of a directory that has names, [`TreeFault::NotEmpty`].
+    pub fn unlink(&mut self, directory: u64, name: &[u8], at: At) -> Result<(), TreeFault>
+        requires tick { IsTick self.old at.tick }
+        ensures refused { MatchOption (unlink_refusal self.old directory name.now) (IsOk result) (λ fault. result ≡ Err fault) }
+        ensures ok { OnOk result (self.new ≡ unlinked self.old directory name.now at) }
+        ensures err { OnErr result (self.new ≡ self.old) }
+        ensures judged { KeepsJudged self.old self.new }
+    {
+        let Some(child) = self.store.find(directory, name) else {
+            return Err(TreeFault::NoEnt);
+        };
+        if self.store.has_entries(child) {
+            return Err(TreeFault::NotEmpty);
+        }
+        self.store.unlink(directory, name, child, at);
+        Ok(())
+    }
+
+    /// Writes data into a file, and zeros between its end and the offset (WRITE: RFC 8881, section 18.32). The file's times are
+    /// set. No data change nothing, at any offset.
+    ///
+    /// Refused: the data would end above [`crate::MAX_BYTES`], [`TreeFault::FBig`]; [`TreeFault::Memory`].
+    pub fn write(
+        &mut self,
+        file: u64,
+        offset: u64,
+        more: &[u8],
+        at: At,
+    ) -> Result<(), TreeFault>
+        requires tick { IsTick self.old at.tick }
+        requires file { kind_of self.old file ≡ Some Kind.File }
+        ensures refused { MatchOption (write_refusal offset more.now) (IsOkUnless result TreeFault.Memory) (λ fault. result ≡ Err fault) }
+        ensures ok { OnOk result (self.new ≡ with_write self.old file offset more.now at) }
+        ensures err { OnErr result (self.new ≡ self.old) }
+        ensures judged { KeepsJudged self.old self.new }
+    {
+        if more.is_empty() {
+            return Ok(());
+        }
+        if offset > MAX_BYTES || more.len() as u64 > MAX_BYTES - offset {
+            return Err(TreeFault::FBig);
+        }
+        self.store.write(file, offset as usize, more, at)?;
+        Ok(())
+    }
+
+    /// Sets the size of a file, also to the one that it has: it is cut, or zeros are added (SETATTR, OPEN: RFC 8881, section
+    /// 18.30). The file's times are set. It takes memory only where the file grows.
+    ///
+    /// Refused: the size is above [`crate::MAX_BYTES`], [`TreeFault::FBig`]; [`TreeFault::Memory`].
+    pub fn resize(&mut self, file: u64, size: u64, at: At) -> Result<(), TreeFault>
+        requires tick { IsTick self.old at.tick }
+        requires file { kind_of self.old file ≡ Some Kind.File }
+        ensures refused { MatchOption (resize_refusal size) (IsOkUnless result TreeFault.Memory) (λ fault. result ≡ Err fault) }
+        ensures shrinks { size ≤ length (bytes_of self.old file) → IsOk result }
+        ensures ok { OnOk result (self.new ≡ with_size self.old file size at) }
+        ensures err { OnErr result (self.new ≡ self.old) }
+        ensures judged { KeepsJudged self.old self.new }
+    {
+        if size > MAX_BYTES {
+            return Err(TreeFault::FBig);
+        }
+        self.store.resize(file, size as usize, at)?;
+        Ok(())
+    }
+
+    /// Sets the list of an object, within the bounds of [`acl_shape::is_bounded`], with the high bits of its mode (SETATTR: RFC
+    /// 8881, section 18.30). It takes a stamp and no memory. The object's `time_metadata` is set.
+    pub fn set_list(&mut self, number: u64, list: AclList<A>, high: u32, at: At)
+        requires tick { IsTick self.old at.tick }
+        requires stamps { self.old.next_stamp < 2 ^ 63 }
+        requires bounded { IsBounded list }
+        ensures value { self.new ≡ with_list self.old number list high at }
+        ensures judged { KeepsJudged self.old self.new }
+    {
+        self.store.set_list(number, list, high, at);
+    }
+
+    /// Sets the owner and the group of an object (SETATTR: RFC 8881, section 18.30). It takes a stamp and no memory. The object's
+    /// `time_metadata` is set.
+    pub fn set_owner(&mut self, number: u64, owner: u32, group: u32, at: At)
+        requires tick { IsTick self.old at.tick }
+        requires stamps { self.old.next_stamp < 2 ^ 63 }
+        ensures value { self.new ≡ with_owner self.old number owner group at }
+        ensures judged { KeepsJudged self.old self.new }
+    {
+        self.store.set_owner(number, owner, group, at);
+    }
+}

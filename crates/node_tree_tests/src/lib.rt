@@ -1,0 +1,2 @@
+//! Tests of `node_tree`.
+#![tactic(auto)]
