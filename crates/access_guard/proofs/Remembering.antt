@@ -111,12 +111,12 @@ added : (pairs : List (Key × Summary)) (w : World) → IsSound w → Agrees pai
     → (count : ℕ) → Agrees ((key_of j caller, sum_of j caller) ∷ take count pairs) w
 added pairs w sound agrees number caller j at count = record {
   known = λ key sum is. elim (Contains-cons (key_of j caller, sum_of j caller) (take count pairs) (key, sum) is) [
-    | inl e ↦ let below : j.stamp < w.next_stamp = sound.counted.below number j.stamp (stamp_there w number j at) in let same : j.stamp ≡ key.stamp = ap (λ (p : Key × Summary). p.0.stamp) e in omega arith
+    | inl e ↦ let below : j.stamp < w.next_stamp = sound.stamped.below number j.stamp (stamp_there w number j at) in let same : j.stamp ≡ key.stamp = ap (λ (p : Key × Summary). p.0.stamp) e in omega arith
     | inr d ↦ agrees.known key sum (Contains-take count pairs (key, sum) d)
   ];
   now = λ key sum is n i here stamped. elim (Contains-cons (key_of j caller, sum_of j caller) (take count pairs) (key, sum) is) [
     | inl e ↦
-        let one : n ≡ number = sound.counted.apart n number j.stamp (stamp_there w n i here ∙ ap Some (stamped ∙ sym (ap (λ (p : Key × Summary). p.0.stamp) e))) (stamp_there w number j at) in
+        let one : n ≡ number = sound.stamped.apart n number j.stamp (stamp_there w n i here ∙ ap Some (stamped ∙ sym (ap (λ (p : Key × Summary). p.0.stamp) e))) (stamp_there w number j at) in
         let same : i ≡ j = let h : judged_of w number ≡ Some i = subst (λ n. judged_of w n ≡ Some i) one here in cc in
         sym (ap (λ (p : Key × Summary). p.1) e) ∙ (λ l. sum_of (sym same l) (e l).0.caller)
     | inr d ↦ agrees.now key sum (Contains-take count pairs (key, sum) d) n i here stamped

@@ -7,3 +7,4 @@ pub mod Memory
 pub mod State
 pub mod Text
 pub mod History
+pub mod Guarded

@@ -4,6 +4,7 @@
 mod deciding;
 mod decision;
 mod guard;
+mod guarded_tree;
 mod laws;
 mod line;
 mod memory;
@@ -13,6 +14,7 @@ mod trail;
 pub use access_rows::Demand;
 pub use decision::{Cause, Decision};
 pub use guard::Guard;
+pub use guarded_tree::GuardedTree;
 pub use laws::{calls_are_their_look_ups, changes_keep_agreement, only_misses_are_counted};
 pub use line::{Line, LineKind};
 pub use memory::Key;
