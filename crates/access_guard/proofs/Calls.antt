@@ -12,7 +12,7 @@ use Rattle.access_rows.specs.declared.demand.Demand.TheVariants.{Bits, Removal}
 use Rattle.access_guard.specs.declared.memory.Key.{Key}
 use Rattle.access_guard.specs.Keys.{is_key}
 use Rattle.access_guard.specs.Lists.{Lists, sum_of}
-use Rattle.access_guard.specs.Memory.{Memory, LooksUp, LooksUpAt, LooksUpFor, Decides, key_of, examined_more, used, learnt, is_told, walked}
+use Rattle.access_guard.specs.Memory.{Memory, LooksUp, LooksUpFor, Decides, key_of, examined_more, used, learnt, is_told, walked}
 use Rattle.access_guard.specs.History.{IsLookUp, AreLookUps, looks_at, looks_for}
 
 pub looks_in_turn : (capacity : ℕ) (first second : List (Key × Summary)) (old between new : List (Key × Summary)) → AreLookUps capacity first old between → AreLookUps capacity second between new → AreLookUps capacity (first ++ second) old new

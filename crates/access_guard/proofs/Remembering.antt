@@ -1,11 +1,11 @@
 -- What a guard remembers agrees with the tree, and look-ups keep it so.
-use Rattle.std.proofs.Common.{◌≡◌, ℕ, ◌+◌, ◌-◌, ◌^◌, ◌<◌, ◌≤◌, Bool, true, false, ◌&&◌, List, [], ◌∷◌, length, take, refl, ap, sym, ◌∙◌, subst, Contains, arith, Some, None, Ok, Err, inl, inr, ◌⊎◌}
-use Rattle.std.specs.Prelude.{Option, Result, OnOk, OnErr, MatchOption, min, ◌==◌}
+use Rattle.std.proofs.Common.{◌≡◌, ℕ, ◌-◌, ◌<◌, ◌≤◌, Bool, true, false, ◌&&◌, List, [], ◌∷◌, length, take, refl, ap, sym, ◌∙◌, subst, Contains, arith, Some, None, Ok, Err, inl, inr, ◌⊎◌}
+use Rattle.std.specs.Prelude.{Option, Result, OnOk, OnErr, MatchOption, ◌==◌}
 use Rattle.std.specs.Option.{option_map, option_map_or}
 use Rattle.std.specs.Map.{lookup, lookup_entry, remove_entry}
 use Rattle.std.proofs.lemmas.Bool.{and_parts}
 use Rattle.std.proofs.lemmas.Bool.Decides.{Decides-eqb}
-use Rattle.lru.specs.LruCache.{LruCache, lru_cache, promoted, put_entries}
+use Rattle.lru.specs.LruCache.{LruCache, lru_cache, put_entries}
 use Rattle.std.specs.Cmp.Lexicographic.{bytes_decides}
 use Rattle.lru.proofs.CallerLemmas.{Contains-lookup, Contains-promoted, Contains-take}
 use Rattle.lru.proofs.Splits.{Contains-cons}
@@ -39,7 +39,7 @@ pub looks_up-put : {E : Type 0} (j : Judged) (caller : Identity) (old : Memory) 
     → LooksUp j caller old (memory_of after examined)
 looks_up-put {E} j caller old pairs after examined r key sum of_key of_sum missed is ok err =
     subst (λ o. MatchOption o ((memory_of after examined ≡ learnt (key_of j caller) (sum_of j caller) (examined_more (length j.list) old)) ⊎ (memory_of after examined ≡ examined_more (length j.list) old)) (λ s. memory_of after examined ≡ used (key_of j caller) old))
-        (missed ∙ ap (λ k. lookup (is_key k) old.remembered) of_key) (put r ok err)
+    (missed ∙ ap (λ k. lookup (is_key k) old.remembered) of_key) (put r ok err)
   where
     nothing : lookup_entry (is_key key) old.remembered ≡ None
     nothing = no_entry (is_key key) old.remembered (sym missed)

@@ -1,6 +1,6 @@
 -- What summaries tell is what lists answer.
-use Rattle.std.proofs.Common.{◌≡◌, ℕ, ◌+◌, ◌^◌, ◌<◌, ◌∙◌, Bool, true, false, ◌&&◌, ◌||◌, List, [], ◌∷◌, ◌++◌, Some, None, bit_and, refl, ap, sym, inl, inr, ◌⊎◌, arith}
-use Rattle.std.specs.Prelude.{Option, All, ◌==◌}
+use Rattle.std.proofs.Common.{◌≡◌, ℕ, ◌+◌, ◌^◌, ◌<◌, ◌∙◌, Bool, true, false, ◌||◌, List, [], ◌∷◌, ◌++◌, Some, None, refl, ap, sym, inl, inr, ◌⊎◌, arith}
+use Rattle.std.specs.Prelude.{Option, All}
 use Rattle.std.specs.List.{filter_map, enumerate_from}
 use Rattle.std.specs.Option.{option_map, option_map_or}
 use Rattle.std.proofs.lemmas.Bool.{and_parts}
@@ -10,8 +10,8 @@ use Rattle.rpc_record.specs.Identity.{Identity}
 use Rattle.acl_list.specs.Places as places
 use Rattle.acl_list.specs.Deciding.{mention, mentioned}
 use Rattle.acl_list.specs.Verdicts.{verdict, verdict_on_bit}
-use Rattle.acl_list.specs.Summaries.{told, watched_bits, granted_mask}
-use Rattle.acl_list.specs.declared.mask.TheConstants.{DELETE, DELETE_CHILD, ADD_FILE}
+use Rattle.acl_list.specs.Summaries.{told, watched_bits}
+use Rattle.acl_list.specs.declared.mask.TheConstants.{DELETE, DELETE_CHILD}
 use Rattle.acl_list.specs.declared.entry.Entry.{Entry}
 use Rattle.acl_list.specs.declared.answer.Verdict.{Verdict}
 use Rattle.acl_list.specs.declared.answer.Verdict.TheVariants as verdicts
@@ -28,7 +28,7 @@ use Rattle.access_guard.specs.declared.decision.Decision.{Decision}
 use Rattle.access_guard.specs.declared.decision.Decision.TheVariants.{Granted}
 use Rattle.access_guard.specs.declared.line.LineKind.{LineKind}
 use Rattle.access_guard.specs.declared.line.Line.{Line}
-use Rattle.access_guard.specs.Lists.{Lists, names, mention_at, verdict_at, sum_of, sum_at, grants, is_quiet}
+use Rattle.access_guard.specs.Lists.{Lists, names, mention_at, sum_of, grants, is_quiet}
 use Rattle.access_guard.specs.Decisions.{answer, removal, decision, is_granted}
 use Rattle.access_guard.specs.Lines.{line_kind, watch_line, watch_lines, deny_lines, demand_lines, lines, parent_mask}
 use Rattle.access_guard.specs.Memory.{tells, tells_removal, is_told}

@@ -1,5 +1,5 @@
 -- What objects are judged by, and what their lists answer to one who asks (RFC 8881, section 6.2.1).
-use Rattle.std.specs.Prelude.{ℕ, ◌==◌, Bool, List, length, Option, bit_and}
+use Rattle.std.specs.Prelude.{ℕ, ◌==◌, Bool, length, Option, bit_and}
 use Rattle.std.specs.Option.{option_map, option_map_or}
 use Rattle.rpc_record.specs.Identity.{Identity}
 use Rattle.acl_list.specs.Deciding.{is_true_for, mention, mentioned}

@@ -1,5 +1,5 @@
 -- Which summaries a guard remembers, how that agrees with a tree, and how many entries it has looked at.
-use Rattle.std.specs.Prelude.{◌≡◌, ◌⊎◌, ℕ, ◌+◌, ◌-◌, ◌^◌, ◌<◌, min, Bool, false, ◌&&◌, ◌||◌, if◌then◌else◌, List, [], ◌∷◌, length, take, Option, Some, None, Contains, MatchOption}
+use Rattle.std.specs.Prelude.{◌≡◌, ◌⊎◌, ℕ, ◌+◌, ◌-◌, ◌^◌, ◌<◌, min, Bool, false, ◌&&◌, ◌||◌, if◌then◌else◌, List, ◌∷◌, length, take, Option, Some, None, Contains, MatchOption}
 use Rattle.std.specs.Map.{lookup}
 use Rattle.lru.specs.LruCache.{promoted}
 use Rattle.rpc_record.specs.Identity.{Identity}

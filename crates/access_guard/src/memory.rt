@@ -15,9 +15,9 @@ ghost use Rattle.access_guard.specs.declared.decision.Decision.TheVariants.{Gran
 ghost use Rattle.access_guard.specs.Memory.{Agrees, LooksUp, LooksUpAt, LooksUpFor, examined_more, key_of, is_told, walked};
 ghost use Rattle.access_guard.specs.Memory as specs;
 
+use access_rows::Demand;
 use acl_list::mask::{DELETE, DELETE_CHILD};
 use acl_list::{Caller, Summary, summary};
-use access_rows::Demand;
 use lru::{Iter, LruCache};
 use node_tree::{Node, Tree};
 use std::alloc::{AllocError, Allocator};

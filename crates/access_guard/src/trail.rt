@@ -96,7 +96,12 @@ impl<A: Allocator + Copy> Trail<A> {
     }
 
     /// Writes the lines of an object's entries that watch.
-    pub(crate) fn watch<B: Allocator + Copy>(&mut self, asked: Asked, tree: &Tree<B>, caller: &Caller)
+    pub(crate) fn watch<B: Allocator + Copy>(
+        &mut self,
+        asked: Asked,
+        tree: &Tree<B>,
+        caller: &Caller,
+    )
         requires { length self.old.held + MOST_ENTRIES ≤ MOST_HELD }
         ensures lines { self.new ≡ held (watch_lines (judged_of tree.now) caller.now asked.op asked.granted asked.object asked.mask) self.old }
         ensures few { length self.new.held ≤ length self.old.held + MOST_ENTRIES }
@@ -153,7 +158,14 @@ fn watch_line<B: Allocator + Copy>(
     ensures { result ≡ specs.watch_line caller.now asked.op asked.object asked.mask asked.granted (judged node.now) (index, entry.now) }
 {
     let kind = line_kind(entry.kind)?;
-    let mask = watched_bits(entry, node.owner(), node.group(), caller, asked.granted, asked.mask);
+    let mask = watched_bits(
+        entry,
+        node.owner(),
+        node.group(),
+        caller,
+        asked.granted,
+        asked.mask,
+    );
     if mask == 0 {
         return None;
     }

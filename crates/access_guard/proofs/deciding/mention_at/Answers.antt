@@ -1,8 +1,7 @@
-use Rattle.std.proofs.Common.{◌≡◌, ℕ, ◌∙◌, sym, ap}
+use Rattle.std.proofs.Common.{◌∙◌, ap}
 use Rattle.std.specs.Option.{option_map, option_map_or}
-use Rattle.node_tree.specs.Judged.{judged, judged_of, Judged}
+use Rattle.node_tree.specs.Judged.{judged, Judged}
 use Rattle.acl_list.specs.Deciding.{is_true_for, mention, mentioned}
-use Rattle.acl_list.specs.declared.answer.Mention.{Mention}
 use Rattle.acl_list.specs.declared.answer.Mention.TheVariants.{Unmentioned}
 use Rattle.access_guard.specs.Lists.{names}
 use Rattle.access_guard.proofs.deciding.mention_at.Goals as goal

@@ -1,5 +1,4 @@
-use Rattle.std.proofs.Common.{◌≡◌, refl, sym, ap, ◌∙◌, append-nil}
-use Rattle.access_guard.specs.Log.{Log, held}
+use Rattle.std.proofs.Common.{refl, ap, append-nil}
 use Rattle.access_guard.specs.State.{State}
 use Rattle.access_guard.proofs.guard.Guard.decide.Goals as goal
 

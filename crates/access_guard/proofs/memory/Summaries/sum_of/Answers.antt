@@ -1,9 +1,8 @@
-use Rattle.std.proofs.Common.{◌≡◌, ap, ◌∙◌, length}
+use Rattle.std.proofs.Common.{ap, ◌∙◌, length}
 use Rattle.acl_list.specs.Deciding.{is_true_for}
 use Rattle.acl_list.specs.Summaries.{summary}
 use Rattle.node_tree.specs.Judged.{judged}
-use Rattle.access_guard.specs.Lists.{sum_of}
-use Rattle.access_guard.specs.Memory.{key_of, examined_more, used}
+use Rattle.access_guard.specs.Memory.{examined_more}
 use Rattle.access_guard.proofs.Remembering.{looks_up-put}
 use Rattle.access_guard.proofs.memory.Summaries.sum_of.Goals as goal
 

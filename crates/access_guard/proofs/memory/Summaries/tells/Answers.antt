@@ -21,12 +21,12 @@ pub returns-in-Removal-clause-granted : goal.returns-in-Removal-clause-granted
 returns-in-Removal-clause-granted g c h =
     let demand = Removal c.in-Removal.parent c.in-Removal.target in
     let told : is_told (judged_of c.args.tree.now) c.args.caller.now demand ≡ true
-        = (λ i. tells_removal (sym c.sum_at-on_target.ensures.sum i) (sym c.sum_at-on_parent.ensures.sum i)) ∙ sym c.tells_removal.ensures ∙ h in
+    = (λ i. tells_removal (sym c.sum_at-on_target.ensures.sum i) (sym c.sum_at-on_parent.ensures.sum i)) ∙ sym c.tells_removal.ensures ∙ h in
     rw c.in-Removal.is (told_granted (judged_of c.args.tree.now) c.args.caller.now 0 demand tt told)
 
 pub returns-in-Removal-clause-silent : goal.returns-in-Removal-clause-silent
 returns-in-Removal-clause-silent g c h op =
     let demand = Removal c.in-Removal.parent c.in-Removal.target in
     let told : is_told (judged_of c.args.tree.now) c.args.caller.now demand ≡ true
-        = (λ i. tells_removal (sym c.sum_at-on_target.ensures.sum i) (sym c.sum_at-on_parent.ensures.sum i)) ∙ sym c.tells_removal.ensures ∙ h in
+    = (λ i. tells_removal (sym c.sum_at-on_target.ensures.sum i) (sym c.sum_at-on_parent.ensures.sum i)) ∙ sym c.tells_removal.ensures ∙ h in
     rw c.in-Removal.is (told_silent (judged_of c.args.tree.now) c.args.caller.now op demand tt told)

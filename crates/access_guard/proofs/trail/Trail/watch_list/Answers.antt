@@ -1,4 +1,4 @@
-use Rattle.std.proofs.Common.{sym, ap, ◌∙◌, ◌≡◌, ◌≤◌, ◌<◌, ◌+◌, ℕ, List, length, arith, length-append}
+use Rattle.std.proofs.Common.{sym, ap, ◌∙◌, ◌<◌, ℕ, List, length, arith, length-append}
 use Rattle.std.specs.Prelude.{Option}
 use Rattle.node_tree.specs.Judged.{judged}
 use Rattle.acl_list.specs.declared.entry.Entry.{Entry}
@@ -28,11 +28,13 @@ loop-index-preserved g c =
     let few = c.loop-index.invariant.1 in
     elim c.match-watch_line.branch [
       | in-Some w ↦ rw (w.self-is ∙ w.hold.ensures) (
-          ap (with_held c.loop-index.self) (step-some f c.args.node.now.list items i spare c.loop-index.self.held w.in-Some.line same c.loop-index-test.true (sym c.watch_line.ensures ∙ w.in-Some.is)) ∙ c.loop-index.invariant.0,
-          simp length-append (omega (arith, few)))
+        ap (with_held c.loop-index.self) (step-some f c.args.node.now.list items i spare c.loop-index.self.held w.in-Some.line same c.loop-index-test.true (sym c.watch_line.ensures ∙ w.in-Some.is)) ∙ c.loop-index.invariant.0,
+        simp length-append (omega (arith, few)),
+      )
       | in_default w ↦ rw w.self-is (
-          ap (with_held c.loop-index.self) (step-none f c.args.node.now.list items i spare c.loop-index.self.held same c.loop-index-test.true (sym c.watch_line.ensures ∙ w.in_default.is)) ∙ c.loop-index.invariant.0,
-          omega (arith, few))
+        ap (with_held c.loop-index.self) (step-none f c.args.node.now.list items i spare c.loop-index.self.held same c.loop-index-test.true (sym c.watch_line.ensures ∙ w.in_default.is)) ∙ c.loop-index.invariant.0,
+        omega (arith, few),
+      )
     ]
 
 pub hold-requires : goal.hold-requires

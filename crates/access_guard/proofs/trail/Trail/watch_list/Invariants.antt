@@ -1,4 +1,4 @@
-use Rattle.std.proofs.Common.{◌≡◌, ◌+◌, ◌≤◌, ◌++◌, drop, length}
+use Rattle.std.proofs.Common.{◌≡◌, ◌+◌, ◌≤◌, drop, length}
 use Rattle.std.specs.List.{filter_map, enumerate_from}
 use Rattle.node_tree.specs.Judged.{judged}
 use Rattle.access_guard.specs.Lines.{watch_line}
