@@ -8,3 +8,4 @@ pub mod State
 pub mod Text
 pub mod History
 pub mod Guarded
+pub mod Telling
