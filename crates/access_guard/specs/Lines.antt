@@ -11,6 +11,7 @@ use Rattle.acl_list.specs.declared.entry.EntryKind.{EntryKind}
 use Rattle.acl_list.specs.declared.entry.EntryKind.TheVariants as kinds
 use Rattle.acl_list.specs.declared.answer.Mention.{Mention}
 use Rattle.acl_list.specs.declared.answer.Mention.TheVariants.{Unmentioned, AllowedBy, DeniedBy}
+use Rattle.acl_shape.specs.declared.bounds.TheConstants.{MAX_ENTRIES}
 use Rattle.node_tree.specs.Judged.{Judged}
 use Rattle.access_rows.specs.declared.demand.Demand.{Demand}
 use Rattle.access_rows.specs.declared.demand.Demand.TheVariants.{Bits, Removal}
@@ -85,11 +86,7 @@ lines lists caller op demand =
 
 -- ---- how many there are at most
 
--- the entries of a list at most
-abbrev pub MOST_ENTRIES : ℕ
-MOST_ENTRIES = 64
-
--- the lines of a decision at most: one for each entry that it looks at, and the DENY line
+-- the lines of a decision at most: one for each entry of its lists, and the DENY line
 abbrev pub most_lines : Demand → ℕ
-most_lines (Bits object mask) = MOST_ENTRIES + 1
-most_lines (Removal parent target) = MOST_ENTRIES + MOST_ENTRIES + 1
+most_lines (Bits object mask) = MAX_ENTRIES + 1
+most_lines (Removal parent target) = MAX_ENTRIES + MAX_ENTRIES + 1

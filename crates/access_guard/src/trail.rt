@@ -3,7 +3,8 @@ ghost use Rattle.std.specs.Prelude.{◌≡◌, ◌+◌, ◌<◌, ◌≤◌, [], 
 ghost use Rattle.std.specs.Map.Iter.{ShowsInOrder, deref};
 ghost use Rattle.node_tree.specs.Judged.{judged, judged_of};
 ghost use Rattle.std.specs.List.{filter_map, enumerate_from};
-ghost use Rattle.access_guard.specs.Lines.{watch_line, watch_lines, deny_lines, MOST_ENTRIES};
+ghost use Rattle.access_guard.specs.Lines.{watch_line, watch_lines, deny_lines};
+ghost use Rattle.acl_shape.specs.declared.bounds.TheConstants.{MAX_ENTRIES};
 ghost use Rattle.access_guard.specs.Lines as specs;
 ghost use Rattle.access_guard.specs.Log.{held, settled};
 
@@ -102,9 +103,9 @@ impl<A: Allocator + Copy> Trail<A> {
         tree: &Tree<B>,
         caller: &Caller,
     )
-        requires { length self.old.held + MOST_ENTRIES ≤ MOST_HELD }
+        requires { length self.old.held + MAX_ENTRIES ≤ MOST_HELD }
         ensures lines { self.new ≡ held (watch_lines (judged_of tree.now) caller.now asked.op asked.granted asked.object asked.mask) self.old }
-        ensures few { length self.new.held ≤ length self.old.held + MOST_ENTRIES }
+        ensures few { length self.new.held ≤ length self.old.held + MAX_ENTRIES }
     {
         if let Some(node) = tree.object(asked.object) {
             self.watch_list(asked, node, caller);
