@@ -1,16 +1,18 @@
 -- A sound world stays sound where an object gets a name: a new object, or one that is no directory.
 use Rattle.std.proofs.Common.{◌≡◌, ◌≢◌, ℕ, ◌+◌, ◌<◌, ◌≤◌, ◌^◌, Bool, true, false, cond, List, [], ◌∷◌, ◌++◌, length, refl, ap, sym, ◌∙◌, subst, arith, Some, None}
-use Rattle.std.specs.Prelude.{Option, IsSome, is_some, ◌==◌}
+use Rattle.std.specs.Prelude.{Option, IsSome, is_some, ◌==◌, ◌&&◌, not, nat_lt}
 use Rattle.std.specs.Ordering.{nat_cmp}
 use Rattle.std.specs.Map.{lookup}
 use Rattle.std.specs.BTreeMap.{is_at, insert_entry}
 use Rattle.std.specs.Option.{option_map}
-use Rattle.std.proofs.lemmas.Bool.Decides.{Decides-eqb}
+use Rattle.std.proofs.lemmas.Bool.Decides.{Decides-eqb, Decides-ltb}
 use Rattle.acl_list.specs.declared.entry.Kind.{Kind}
 use Rattle.acl_list.specs.declared.entry.Kind.TheVariants.{Directory}
 use Rattle.node_tree.specs.declared.at.At.{At}
 use Rattle.node_tree.specs.World.{World, Object, Name, object, kind_of, child_named, name_count, link_count}
 use Rattle.node_tree.specs.Changes.{changed, touched, retold, with_new, with_link}
+use Rattle.node_tree.specs.Refusals.{has_left, has_room, add_refusal, link_refusal}
+use Rattle.node_tree.specs.declared.fault.TreeFault.TheVariants.{Exist, MLink, NoSpc}
 use Rattle.node_tree.specs.Judged.{Judged, judged, judged_of, KeepsJudged}
 use Rattle.node_tree.specs.Sound.{stamp_of, IsIn, IsRooted, IsStamped, IsFit, IsSound, IsTick}
 use Rattle.node_tree.proofs.Objects.{is_at-same, is_at-apart, by_number, lookup-inserted, option_map-changed}
@@ -121,3 +123,71 @@ KeepsJudged-with_link w directory name number at = record {
   stamps_rise = omega arith;
   same = λ k j is _. sym (read_linked judged directory number at w.objects (λ o. refl) (λ o. refl) k) ∙ is;
 }
+
+-- ---- what no refusal says
+
+pub record MayAdd (w : World) (directory : ℕ) (name : List ℕ) : Type 0 where
+  pub none : child_named w directory name ≡ None
+  pub room : name_count w.names directory < 4096
+  pub few : length w.objects < 16384
+  pub number : w.next_number < 2 ^ 63
+  pub stamp : w.next_stamp < 2 ^ 63
+  pub cookie : w.next_cookie < 2 ^ 63
+
+absent : {X : Type 0} (o : Option X) → is_some o ≡ false → o ≡ None
+absent None h = refl
+absent (Some x) h = cc
+
+both : (a b : Bool) → (a && b) ≡ true → (a ≡ true) × (b ≡ true)
+both true b h = (refl, h)
+both false b h = cc
+
+below : (a b : ℕ) → nat_lt a b ≡ true → a < b
+below a b is = (Decides-ltb a b).0 is
+
+pub may_add : (w : World) (directory : ℕ) (name : List ℕ) → None ≡ add_refusal w directory name → MayAdd w directory name
+may_add w directory name none =
+    let a1 = has_room w.names directory in
+    let a2 = nat_lt (length w.objects) 16384 in
+    let a3 = has_left w.next_number in
+    let a4 = has_left w.next_stamp in
+    let a5 = has_left w.next_cookie in
+    elim (is_some (child_named w directory name)) as (λ b. is_some (child_named w directory name) ≡ b → None ≡ cond b (Some Exist) (cond (a1 && a2 && a3 && a4 && a5) None (Some NoSpc)) → MayAdd w directory name) [
+      | true ↦ λ _ h. cc
+      | false ↦ λ gone. elim (a1 && a2 && a3 && a4 && a5) as (λ b. (a1 && a2 && a3 && a4 && a5) ≡ b → None ≡ cond b None (Some NoSpc) → MayAdd w directory name) [
+        | false ↦ λ _ h. cc
+        | true ↦ λ all _.
+            let b5 = both (a1 && a2 && a3 && a4) a5 all in
+            let b4 = both (a1 && a2 && a3) a4 b5.0 in
+            let b3 = both (a1 && a2) a3 b4.0 in
+            let b2 = both a1 a2 b3.0 in
+            record {
+              none = absent (child_named w directory name) gone;
+              room = below (name_count w.names directory) 4096 b2.0;
+              few = below (length w.objects) 16384 b2.1;
+              number = below w.next_number (2 ^ 63) b3.1;
+              stamp = below w.next_stamp (2 ^ 63) b4.1;
+              cookie = below w.next_cookie (2 ^ 63) b5.1;
+            }
+      ] refl
+    ] refl none
+
+pub record MayLink (w : World) (directory : ℕ) (name : List ℕ) (number : ℕ) : Type 0 where
+  pub none : child_named w directory name ≡ None
+  pub links : link_count w.names number < 1000
+  pub room : name_count w.names directory < 4096
+  pub cookie : w.next_cookie < 2 ^ 63
+
+pub may_link : (w : World) (directory : ℕ) (name : List ℕ) (number : ℕ) → None ≡ link_refusal w directory name number → MayLink w directory name number
+may_link w directory name number none =
+    elim (is_some (child_named w directory name)) as (λ b. is_some (child_named w directory name) ≡ b → None ≡ cond b (Some Exist) (cond (not (nat_lt (link_count w.names number) 1000)) (Some MLink) (cond (has_room w.names directory && has_left w.next_cookie) None (Some NoSpc))) → MayLink w directory name number) [
+      | true ↦ λ _ h. cc
+      | false ↦ λ gone. elim (nat_lt (link_count w.names number) 1000) as (λ b. nat_lt (link_count w.names number) 1000 ≡ b → None ≡ cond (not b) (Some MLink) (cond (has_room w.names directory && has_left w.next_cookie) None (Some NoSpc)) → MayLink w directory name number) [
+        | false ↦ λ _ h. cc
+        | true ↦ λ links. elim (has_room w.names directory && has_left w.next_cookie) as (λ b. (has_room w.names directory && has_left w.next_cookie) ≡ b → None ≡ cond b None (Some NoSpc) → MayLink w directory name number) [
+          | false ↦ λ _ h. cc
+          | true ↦ λ all _. let b = both (has_room w.names directory) (has_left w.next_cookie) all in
+              record { none = absent (child_named w directory name) gone; links = below (link_count w.names number) 1000 links; room = below (name_count w.names directory) 4096 b.0; cookie = below w.next_cookie (2 ^ 63) b.1 }
+        ] refl
+      ] refl
+    ] refl none

@@ -8,3 +8,8 @@ pub mod Setting
 pub mod Adding
 pub mod Unlinking
 pub mod Listing
+pub mod Ways
+pub mod Moving
+pub mod Epoch
+pub mod Starting
+pub mod Sampling

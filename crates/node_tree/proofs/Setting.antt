@@ -1,10 +1,10 @@
 -- A sound world stays sound where the bytes, the list or the owner of an object is set.
-use Rattle.std.proofs.Common.{◌≡◌, ◌≢◌, ℕ, ◌+◌, ◌-◌, ◌<◌, ◌≤◌, ◌^◌, Bool, List, length, max, refl, ap, sym, ◌∙◌, subst, arith, Some, None, inl, inr, length-append}
+use Rattle.std.proofs.Common.{◌≡◌, ◌≢◌, ℕ, ◌+◌, ◌-◌, ◌<◌, ◌≤◌, ◌^◌, Bool, List, [], length, max, refl, ap, sym, ◌∙◌, subst, arith, Some, None, inl, inr, length-append}
 use Rattle.std.specs.Prelude.{Option, ◌⊎◌, take, replicate}
 use Rattle.std.specs.Ordering.{nat_cmp}
 use Rattle.std.specs.Map.{lookup}
 use Rattle.std.specs.BTreeMap.{is_at}
-use Rattle.std.specs.Option.{option_map}
+use Rattle.std.specs.Option.{option_map, option_map_or}
 use Rattle.std.specs.List.{range_with_len}
 use Rattle.std.proofs.Math.Logic.{⊎_elim}
 use Rattle.std.proofs.lemmas.Grind.{common_steps}
@@ -14,7 +14,7 @@ use Rattle.acl_list.specs.declared.entry.Kind.{Kind}
 use Rattle.acl_list.specs.declared.entry.Kind.TheVariants.{File}
 use Rattle.acl_shape.specs.Bounds.{IsBounded}
 use Rattle.node_tree.specs.declared.at.At.{At}
-use Rattle.node_tree.specs.World.{World, Object, object, kind_of}
+use Rattle.node_tree.specs.World.{World, Object, object, kind_of, bytes_of}
 use Rattle.node_tree.specs.Changes.{changed, touched, retold, written, resized, with_bytes, with_size, with_list, with_owner}
 use Rattle.node_tree.specs.Judged.{Judged, judged, judged_of, KeepsJudged}
 use Rattle.node_tree.specs.Sound.{stamp_of, IsRooted, IsStamped, IsFit, IsCounted, IsSound, IsTick, most_bytes}
@@ -75,6 +75,14 @@ IsSound-with_bytes w file offset more at sound tick is_file short = IsSound-with
 
 pub KeepsJudged-with_bytes : (w : World) (file offset : ℕ) (more : List ℕ) (at : At) → KeepsJudged w (with_bytes w file offset more at)
 KeepsJudged-with_bytes w file offset more at = KeepsJudged-with_new_bytes w file (λ old. written old offset more) at
+
+-- a file is never too long
+pub short_file : (w : World) → IsSound w → (file : ℕ) → kind_of w file ≡ Some File → length (bytes_of w file) ≤ 1048576
+short_file w sound file is_file = there (object w file) refl is_file
+  where
+    there : (o : Option Object) → object w file ≡ o → option_map (λ (o : Object). o.kind) o ≡ Some File → length (option_map_or (λ (o : Object). o.bytes) o []) ≤ 1048576
+    there None at is = cc
+    there (Some o) at is = let kind : o.kind ≡ File = cc in subst (λ k. length o.bytes ≤ most_bytes k) kind (sound.fit file o at).bytes
 
 length-resized : (bytes : List ℕ) (size : ℕ) → length (resized bytes size) ≡ size
 length-resized bytes size = grind (arith, common_steps)

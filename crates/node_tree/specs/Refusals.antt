@@ -40,18 +40,30 @@ abbrev pub may_replace : World → ℕ → ℕ → Bool
 may_replace w child target =
     if is_directory_at w child then is_directory_at w target && not (has_entries w.names target) else not (is_directory_at w target)
 
--- a child comes under another name, which a target has or none
-abbrev pub move_refusal : World → ℕ → ℕ → ℕ → Option ℕ → Option TreeFault
-move_refusal w from to child (Some target) =
+-- whether a directory would come to lie below itself, or in itself
+abbrev pub goes_below_itself : World → ℕ → ℕ → Bool
+goes_below_itself w child to = is_directory_at w child && is_within w child to
+
+-- a child comes under a name that nothing has: a directory that gives one name for another is never too full
+abbrev pub place_refusal : World → ℕ → ℕ → ℕ → Option TreeFault
+place_refusal w from to child =
+    if goes_below_itself w child to then Some Inval
+    else if ((from == to) || has_room w.names to) && has_left w.next_cookie then None
+    else Some NoSpc
+
+-- a child comes under the name of a target
+abbrev pub replace_refusal : World → ℕ → ℕ → ℕ → Option TreeFault
+replace_refusal w to child target =
     if child == target then None
-    else if is_directory_at w child && is_within w child to then Some Inval
+    else if goes_below_itself w child to then Some Inval
     else if not (may_replace w child target) then Some Exist
     else if has_left w.next_cookie then None
     else Some NoSpc
-move_refusal w from to child None =
-    if is_directory_at w child && is_within w child to then Some Inval
-    else if ((from == to) || has_room w.names to) && has_left w.next_cookie then None
-    else Some NoSpc
+
+-- a child comes under another name, which a target has or none
+abbrev pub move_refusal : World → ℕ → ℕ → ℕ → Option ℕ → Option TreeFault
+move_refusal w from to child None = place_refusal w from to child
+move_refusal w from to child (Some target) = replace_refusal w to child target
 
 -- RENAME
 abbrev pub rename_refusal : World → ℕ → List ℕ → ℕ → List ℕ → Option TreeFault

@@ -1,5 +1,8 @@
 //! When a change is made.
 
+ghost use Rattle.std.specs.Prelude.{◌≡◌};
+ghost use Rattle.node_tree.specs.Changes.{epoch};
+
 use nfs_types::Moment;
 
 /// The moment of what was there from the start.
@@ -15,4 +18,14 @@ pub struct At {
     pub tick: u64,
     /// What they get as their times (RFC 8881, sections 5.8.2.37 to 5.8.2.43).
     pub moment: Moment,
+}
+
+/// When what was there from the start was made.
+pub(crate) fn from_start(tick: u64) -> At
+    ensures { result ≡ record { tick = tick; moment = epoch } }
+{
+    At {
+        tick,
+        moment: EPOCH,
+    }
 }

@@ -26,6 +26,22 @@ pub fn remove_name<A: Allocator>(names: &mut Vec<DirEntry<A>, A>, directory: u64
     names.retain(|entry| !entry.is_named(directory, name));
 }
 
+/// Takes two names away.
+pub fn remove_names<A: Allocator>(
+    names: &mut Vec<DirEntry<A>, A>,
+    from: u64,
+    old: &[u8],
+    to: u64,
+    new: &[u8],
+)
+    ensures names { names.new.items ≡ other_names to new.now (other_names from old.now names.old.items) }
+    ensures shorter { vec_len names.new ≤ vec_len names.old }
+    ensures room { vec_capacity names.new ≡ vec_capacity names.old }
+{
+    remove_name(names, from, old);
+    remove_name(names, to, new);
+}
+
 /// Whether an object has a name.
 pub fn has_name<A: Allocator>(names: &[DirEntry<A>], number: u64) -> bool
     ensures { result ≡ has_name names.now number }
@@ -83,8 +99,26 @@ pub fn release<A: Allocator>(
     }
 }
 
+/// A child has another name, and a target that had that name has lost it. These names are left of the others.
+pub fn move_child<A: Allocator>(
+    objects: &mut BTreeMap<u64, Node<A>, A>,
+    names: &[DirEntry<A>],
+    from: u64,
+    to: u64,
+    child: u64,
+    target: Option<u64>,
+    at: At,
+)
+    ensures { objects.new.entries ≡ changed to (touched at) (changed from (touched at) (changed child (retold at) (option_map_or (λ t. released names.now t at objects.old.entries) target objects.old.entries))) }
+{
+    release_target(objects, target, names, at);
+    retell(objects, child, at);
+    touch(objects, from, at);
+    touch(objects, to, at);
+}
+
 /// An object that may be there has lost a name.
-pub fn release_target<A: Allocator>(
+fn release_target<A: Allocator>(
     objects: &mut BTreeMap<u64, Node<A>, A>,
     target: Option<u64>,
     names: &[DirEntry<A>],

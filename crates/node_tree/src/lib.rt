@@ -10,6 +10,7 @@ mod entry;
 mod fault;
 mod limits;
 mod node;
+mod sample;
 mod store;
 mod tree;
 

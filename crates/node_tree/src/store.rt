@@ -5,15 +5,18 @@ ghost use Rattle.std.specs.Option.{option_copied};
 ghost use Rattle.node_tree.specs.World.{object, bytes_of, bytes_at, child_named, name_after, is_named, is_directory_at, has_name, has_entries, name_count, link_count, parent_of};
 ghost use Rattle.node_tree.specs.Ways.{is_within};
 ghost use Rattle.node_tree.specs.Changes.{alone, made, changed, touched, retold, without, released, other_names, written, resized, with_new, with_link, without_name, with_move, with_bytes, with_size, with_list, with_owner};
-ghost use Rattle.node_tree.specs.Refusals.{has_left, has_room};
+ghost use Rattle.node_tree.specs.Refusals.{add_refusal, link_refusal, has_left, has_room, goes_below_itself, may_replace, place_refusal, replace_refusal, move_refusal};
 
 use crate::at::At;
 use crate::edits;
-use crate::edits::{directory_of, has_name, release, release_target, remove_name, retell, touch};
+use crate::edits::{
+    directory_of, has_name, move_child, release, remove_name, remove_names, retell, touch,
+};
 use crate::entry::DirEntry;
+use crate::fault::TreeFault;
 use crate::limits::{MAX_LINKS, MAX_NAMES, MAX_OBJECTS, ROOT};
 use crate::node::{NewObject, Node};
-use acl_list::{AclList, Kind};
+use acl_list::AclList;
 use std::alloc::{AllocError, Allocator, Global};
 use std::collections::BTreeMap;
 use std::marker::Model;
@@ -184,6 +187,104 @@ impl<A: Allocator + Copy> Store<A> {
     }
 }
 
+// Why a change is refused.
+impl<A: Allocator + Copy> Store<A> {
+    /// Why a directory may not get a new object under a name.
+    pub fn add_fault(&self, directory: u64, name: &[u8]) -> Option<TreeFault>
+        ensures { result ≡ add_refusal self.now directory name.now }
+    {
+        if self.find(directory, name).is_some() {
+            return Some(TreeFault::Exist);
+        }
+        if self.has_room(directory) && self.has_room_for_object() {
+            return None;
+        }
+        Some(TreeFault::NoSpc)
+    }
+
+    /// Why an object may not get a further name.
+    pub fn link_fault(&self, directory: u64, name: &[u8], number: u64) -> Option<TreeFault>
+        ensures { result ≡ link_refusal self.now directory name.now number }
+    {
+        if self.find(directory, name).is_some() {
+            return Some(TreeFault::Exist);
+        }
+        if self.link_count(number) >= MAX_LINKS {
+            return Some(TreeFault::MLink);
+        }
+        if self.has_room(directory) && self.has_cookie() {
+            return None;
+        }
+        Some(TreeFault::NoSpc)
+    }
+
+    /// Whether a directory would come to lie below itself, or in itself.
+    pub fn goes_below_itself(&self, child: u64, to: u64) -> bool
+        ensures { result ≡ goes_below_itself self.now child to }
+    {
+        self.is_directory(child) && self.is_within(child, to)
+    }
+
+    /// Whether a child may take the name of a target.
+    pub fn may_replace(&self, child: u64, target: u64) -> bool
+        ensures { result ≡ may_replace self.now child target }
+    {
+        if self.is_directory(child) {
+            self.is_directory(target) && !self.has_entries(target)
+        } else {
+            !self.is_directory(target)
+        }
+    }
+
+    /// Why a child may not come under a name that nothing has.
+    pub fn place_fault(&self, from: u64, to: u64, child: u64) -> Option<TreeFault>
+        ensures { result ≡ place_refusal self.now from to child }
+    {
+        if self.goes_below_itself(child, to) {
+            return Some(TreeFault::Inval);
+        }
+        if (from == to || self.has_room(to)) && self.has_cookie() {
+            return None;
+        }
+        Some(TreeFault::NoSpc)
+    }
+
+    /// Why a child may not come under the name of a target.
+    pub fn replace_fault(&self, to: u64, child: u64, target: u64) -> Option<TreeFault>
+        ensures { result ≡ replace_refusal self.now to child target }
+    {
+        if child == target {
+            return None;
+        }
+        if self.goes_below_itself(child, to) {
+            return Some(TreeFault::Inval);
+        }
+        if !self.may_replace(child, target) {
+            return Some(TreeFault::Exist);
+        }
+        if self.has_cookie() {
+            return None;
+        }
+        Some(TreeFault::NoSpc)
+    }
+
+    /// Why a child may not come under another name, which a target has or none.
+    pub fn move_fault(
+        &self,
+        from: u64,
+        to: u64,
+        child: u64,
+        target: Option<u64>,
+    ) -> Option<TreeFault>
+        ensures { result ≡ move_refusal self.now from to child target }
+    {
+        match target {
+            Some(target) => self.replace_fault(to, child, target),
+            None => self.place_fault(from, to, child),
+        }
+    }
+}
+
 // Changes.
 impl<A: Allocator + Copy> Store<A> {
     /// A root and nothing else.
@@ -192,15 +293,28 @@ impl<A: Allocator + Copy> Store<A> {
     {
         let mut objects = BTreeMap::new(alloc);
         objects.insert(ROOT, root)?;
-        Ok(Store {
+        Ok(Store::from_start(alloc, objects, Vec::new(alloc), 2, 3))
+    }
+
+    /// What is there from the start. Its numbers, ticks and stamps go on from one number.
+    pub fn from_start(
+        alloc: A,
+        objects: BTreeMap<u64, Node<A>, A>,
+        names: Vec<DirEntry<A>, A>,
+        next: u64,
+        next_cookie: u64,
+    ) -> Self
+        ensures { result ≡ record { objects = objects.entries; names = names.items; next_number = next; next_tick = next; next_stamp = next; next_cookie = next_cookie } }
+    {
+        Store {
             alloc,
             objects,
-            names: Vec::new(alloc),
-            next_number: 2,
-            next_tick: 2,
-            next_stamp: 2,
-            next_cookie: 3,
-        })
+            names,
+            next_number: next,
+            next_tick: next,
+            next_stamp: next,
+            next_cookie,
+        }
     }
 
     /// A new object under a new name.
@@ -286,12 +400,8 @@ impl<A: Allocator + Copy> Store<A> {
     {
         let name = Vec::from_slice(self.alloc, new)?;
         self.names.reserve(1)?;
-        remove_name(&mut self.names, from, old);
-        remove_name(&mut self.names, to, new);
-        release_target(&mut self.objects, target, &self.names, at);
-        retell(&mut self.objects, child, at);
-        touch(&mut self.objects, from, at);
-        touch(&mut self.objects, to, at);
+        remove_names(&mut self.names, from, old, to, new);
+        move_child(&mut self.objects, &self.names, from, to, child, target, at);
         self.names.push_reserved(DirEntry::new(self.next_cookie, to, name, child));
         self.next_tick = at.tick + 1;
         self.next_cookie += 1;

@@ -3,18 +3,20 @@ ghost use Rattle.std.specs.Prelude.{◌≡◌, ◌≢◌, ◌<◌, ◌≤◌, �
 ghost use Rattle.std.specs.Option.{option_copied};
 ghost use Rattle.acl_shape.specs.Bounds.{IsBounded};
 ghost use Rattle.node_tree.specs.World.{object, kind_of, bytes_of, bytes_at, child_named, name_after, has_entries, link_count, parent_of};
-ghost use Rattle.node_tree.specs.Changes.{alone, root_of, made, with_new, with_link, unlinked, with_write, with_size, with_list, with_owner};
-ghost use Rattle.node_tree.specs.Refusals.{add_refusal, link_refusal, unlink_refusal, write_refusal, resize_refusal};
+ghost use Rattle.node_tree.specs.Changes.{alone, root_of, made, with_new, with_link, unlinked, renamed, with_write, with_size, with_list, with_owner};
+ghost use Rattle.node_tree.specs.Refusals.{add_refusal, link_refusal, unlink_refusal, rename_refusal, write_refusal, resize_refusal};
 ghost use Rattle.node_tree.specs.Judged.{KeepsJudged};
+ghost use Rattle.node_tree.specs.Sample.{sample};
 ghost use Rattle.node_tree.specs.Sound.{IsSound, IsTick, IsNextName, most_bytes};
 
-use crate::at::{At, EPOCH};
+use crate::at::{At, from_start};
 use crate::entry::DirEntry;
 use crate::fault::TreeFault;
-use crate::limits::{MAX_BYTES, MAX_LINKS, ROOT};
+use crate::limits::{MAX_BYTES, ROOT};
 use crate::node::{NewObject, Node};
 use crate::store::Store;
 use acl_list::{AclList, Kind};
+use acl_shape::bounds_are_kept;
 use std::alloc::{AllocError, Allocator, Global};
 use std::marker::Model;
 
@@ -42,6 +44,7 @@ impl<A: Allocator + Copy> Tree<A> {
         ensures number { result ≡ ROOT }
         ensures live { kind_of self.now result ≡ Some Kind.Directory }
     {
+        let _tree = &self.store;
         ROOT
     }
 
@@ -140,12 +143,19 @@ impl<A: Allocator + Copy> Tree<A> {
             list,
             high,
         };
-        let at = At {
-            tick: 1,
-            moment: EPOCH,
-        };
         Ok(Tree {
-            store: Store::new(alloc, Node::made(root, 1, at))?,
+            store: Store::new(alloc, Node::made(root, 1, from_start(1)))?,
+        })
+    }
+
+    /// The sample tree: in the root a file `notes` and a directory `pub`, each with the list of its mode. Its times are the epoch.
+    /// `Err`: there is no memory for it.
+    pub fn sample(alloc: A) -> Result<Self, AllocError>
+        ensures { IfOk result (λ tree. tree ≡ sample) }
+    {
+        bounds_are_kept();
+        Ok(Tree {
+            store: Store::sample(alloc)?,
         })
     }
 
@@ -173,11 +183,8 @@ impl<A: Allocator + Copy> Tree<A> {
         ensures err { OnErr result (self.new ≡ self.old) }
         ensures judged { KeepsJudged self.old self.new }
     {
-        if self.store.find(directory, name).is_some() {
-            return Err(TreeFault::Exist);
-        }
-        if !(self.store.has_room(directory) && self.store.has_room_for_object()) {
-            return Err(TreeFault::NoSpc);
+        if let Some(fault) = self.store.add_fault(directory, name) {
+            return Err(fault);
         }
         Ok(self.store.add(directory, name, new, at)?)
     }
@@ -205,14 +212,8 @@ impl<A: Allocator + Copy> Tree<A> {
         ensures err { OnErr result (self.new ≡ self.old) }
         ensures judged { KeepsJudged self.old self.new }
     {
-        if self.store.find(directory, name).is_some() {
-            return Err(TreeFault::Exist);
-        }
-        if self.store.link_count(number) >= MAX_LINKS {
-            return Err(TreeFault::MLink);
-        }
-        if !(self.store.has_room(directory) && self.store.has_cookie()) {
-            return Err(TreeFault::NoSpc);
+        if let Some(fault) = self.store.link_fault(directory, name, number) {
+            return Err(fault);
         }
         self.store.link(directory, name, number, at)?;
         Ok(())
@@ -236,6 +237,54 @@ impl<A: Allocator + Copy> Tree<A> {
             return Err(TreeFault::NotEmpty);
         }
         self.store.unlink(directory, name, child, at);
+        Ok(())
+    }
+
+    /// Gives the child of a name another name of at most 255 bytes, in the same directory or in another (RENAME: RFC 8881,
+    /// section 18.26). It takes a cookie. The times of both directories are set, and the `time_metadata` of the child and of a
+    /// target that has other names. The first line that fits is the answer:
+    ///
+    /// | The old name | The new name | | |
+    /// |---|---|---|---|
+    /// | absent | any | | [`TreeFault::NoEnt`] |
+    /// | any | of the same object | | nothing changes |
+    /// | of a directory | in that directory, or below it | | [`TreeFault::Inval`] |
+    /// | of no directory | of a directory | | [`TreeFault::Exist`] |
+    /// | of a directory | of no directory | | [`TreeFault::Exist`] |
+    /// | of a directory | of a directory that has names | | [`TreeFault::Exist`] |
+    /// | any | absent | in another directory that has [`crate::MAX_NAMES`] names | [`TreeFault::NoSpc`] |
+    /// | any | any | the cookie would be 2^63 | [`TreeFault::NoSpc`] |
+    /// | any | any | there is no memory for it | [`TreeFault::Memory`] |
+    /// | any | absent | | the child has the new name |
+    /// | of no directory | of no directory | | the child has the new name, and the target has lost it |
+    /// | of a directory | of an empty directory | | the child has the new name, and the target is gone |
+    pub fn rename(
+        &mut self,
+        from: u64,
+        old: &[u8],
+        to: u64,
+        new: &[u8],
+        at: At,
+    ) -> Result<(), TreeFault>
+        requires tick { IsTick self.old at.tick }
+        requires live { kind_of self.old to ≡ Some Kind.Directory }
+        requires short { length new.now ≤ 255 }
+        ensures refused { MatchOption (rename_refusal self.old from old.now to new.now) (IsOkUnless result TreeFault.Memory) (λ fault. result ≡ Err fault) }
+        ensures ok { OnOk result (self.new ≡ renamed self.old from old.now to new.now at) }
+        ensures err { OnErr result (self.new ≡ self.old) }
+        ensures judged { KeepsJudged self.old self.new }
+    {
+        let Some(child) = self.store.find(from, old) else {
+            return Err(TreeFault::NoEnt);
+        };
+        let target = self.store.find(to, new);
+        if let Some(fault) = self.store.move_fault(from, to, child, target) {
+            return Err(fault);
+        }
+        if target == Some(child) {
+            return Ok(());
+        }
+        self.store.rename(from, old, to, new, child, target, at)?;
         Ok(())
     }
 
@@ -280,6 +329,7 @@ impl<A: Allocator + Copy> Tree<A> {
         ensures err { OnErr result (self.new ≡ self.old) }
         ensures judged { KeepsJudged self.old self.new }
     {
+        let _tree = &self.store;
         if size > MAX_BYTES {
             return Err(TreeFault::FBig);
         }

@@ -1,0 +1,80 @@
+//! The sample tree.
+ghost use Rattle.std.specs.Prelude.{◌≡◌, IfOk, [], codes};
+ghost use Rattle.node_tree.specs.Sample.{sample, sample_object};
+
+use crate::at::from_start;
+use crate::entry::DirEntry;
+use crate::limits::ROOT;
+use crate::node::{NewObject, Node};
+use crate::store::Store;
+use acl_list::{AclList, Kind};
+use acl_shape::set_mode;
+use std::alloc::{AllocError, Allocator};
+use std::collections::BTreeMap;
+
+/// The file of the sample. Its stamp and its last change are its number.
+fn file<A: Allocator + Copy>(alloc: A) -> Result<Node<A>, AllocError>
+    ensures { IfOk result (λ node. node ≡ sample_object 2 Kind.File (codes "hi") 1001 100 0x1a0) }
+{
+    let new = NewObject {
+        kind: Kind::File,
+        bytes: Vec::from_slice(alloc, b"hi")?,
+        owner: 1001,
+        group: 100,
+        list: set_mode(alloc, &AclList::new(alloc), Kind::File, 0o640)?,
+        high: 0,
+    };
+    Ok(Node::made(new, 2, from_start(2)))
+}
+
+/// A directory of the sample. Its stamp and its last change are its number.
+fn directory<A: Allocator + Copy>(
+    alloc: A,
+    number: u64,
+    mode: u32,
+) -> Result<Node<A>, AllocError>
+    ensures { IfOk result (λ node. node ≡ sample_object number Kind.Directory [] 0 0 mode) }
+{
+    let new = NewObject {
+        kind: Kind::Directory,
+        bytes: Vec::new(alloc),
+        owner: 0,
+        group: 0,
+        list: set_mode(alloc, &AclList::new(alloc), Kind::Directory, mode)?,
+        high: 0,
+    };
+    Ok(Node::made(new, number, from_start(number)))
+}
+
+/// A name in the root.
+fn entry<A: Allocator + Copy>(
+    alloc: A,
+    cookie: u64,
+    name: &[u8],
+    child: u64,
+) -> Result<DirEntry<A>, AllocError>
+    ensures { IfOk result (λ entry. entry ≡ record { cookie = cookie; directory = ROOT; name = name.now; child = child }) }
+{
+    Ok(DirEntry::new(
+        cookie,
+        ROOT,
+        Vec::from_slice(alloc, name)?,
+        child,
+    ))
+}
+
+impl<A: Allocator + Copy> Store<A> {
+    /// The sample tree. `Err`: there is no memory for it.
+    pub fn sample(alloc: A) -> Result<Self, AllocError>
+        ensures { IfOk result (λ store. store ≡ sample) }
+    {
+        let mut objects = BTreeMap::new(alloc);
+        objects.insert(ROOT, directory(alloc, ROOT, 0o755)?)?;
+        objects.insert(2, file(alloc)?)?;
+        objects.insert(3, directory(alloc, 3, 0o777)?)?;
+        let mut names = Vec::new(alloc);
+        names.push(entry(alloc, 3, b"notes", 2)?)?;
+        names.push(entry(alloc, 4, b"pub", 3)?)?;
+        Ok(Store::from_start(alloc, objects, names, 4, 5))
+    }
+}
