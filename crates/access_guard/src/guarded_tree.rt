@@ -3,8 +3,8 @@ ghost use Rattle.std.specs.Prelude.{◌≡◌, ◌≢◌, ◌+◌, ◌<◌, ◌�
 ghost use Rattle.std.specs.Option.{option_copied};
 ghost use Rattle.acl_shape.specs.Bounds.{IsBounded};
 ghost use Rattle.node_tree.specs.World.{object, kind_of, bytes_of, bytes_at, child_named, name_after, has_entries, link_count, parent_of};
-ghost use Rattle.node_tree.specs.Changes.{made, with_new, with_link, unlinked, with_write, with_size, with_list, with_owner};
-ghost use Rattle.node_tree.specs.Refusals.{add_refusal, link_refusal, unlink_refusal, write_refusal, resize_refusal};
+ghost use Rattle.node_tree.specs.Changes.{made, with_new, with_link, unlinked, renamed, with_write, with_size, with_list, with_owner};
+ghost use Rattle.node_tree.specs.Refusals.{add_refusal, link_refusal, unlink_refusal, rename_refusal, write_refusal, resize_refusal};
 ghost use Rattle.node_tree.specs.Sound.{IsSound, IsTick, IsNextName, most_bytes};
 ghost use Rattle.node_tree.specs.Judged.{judged_of};
 ghost use Rattle.access_guard.specs.Lists.{granted_at};
@@ -101,6 +101,14 @@ impl<A: Allocator + Copy> GuardedTree<A> {
 
 // Look-ups of the tree. None takes memory.
 impl<A: Allocator + Copy> GuardedTree<A> {
+    /// As [`Tree::root`].
+    pub fn root(&self) -> u64
+        ensures number { result ≡ ROOT }
+        ensures live { kind_of self.now.world result ≡ Some Kind.Directory }
+    {
+        self.tree.root()
+    }
+
     /// As [`Tree::next_tick`].
     pub fn next_tick(&self) -> u64
         ensures value { result ≡ self.now.world.next_tick }
@@ -175,6 +183,47 @@ impl<A: Allocator + Copy> GuardedTree<A> {
 // Changes of the tree. Each grows first, and a refusal leaves all as it was.
 #[tactic(auto, using(crate::proofs::Remembering::agrees_kept))]
 impl<A: Allocator + Copy> GuardedTree<A> {
+    /// As [`Tree::add`].
+    pub fn add(
+        &mut self,
+        directory: u64,
+        name: &[u8],
+        new: NewObject<A>,
+        at: At,
+    ) -> Result<u64, TreeFault>
+        requires tick { IsTick self.old.world at.tick }
+        requires live { kind_of self.old.world directory ≡ Some Kind.Directory }
+        requires short { length name.now ≤ 255 }
+        requires bounded { IsBounded new.list }
+        requires bytes { length new.bytes.items ≤ most_bytes new.kind }
+        ensures refused { MatchOption (add_refusal self.old.world directory name.now) (IsOkUnless result TreeFault.Memory) (λ fault. result ≡ Err fault) }
+        ensures number { IfOk result (λ number. number ≡ self.old.world.next_number) }
+        ensures ok { OnOk result (self.new ≡ record self.old { world = with_new self.old.world directory name.now (made new self.old.world.next_stamp at) at }) }
+        ensures err { OnErr result (self.new ≡ self.old) }
+    {
+        self.tree.add(directory, name, new, at)
+    }
+
+    /// As [`Tree::link`].
+    pub fn link(
+        &mut self,
+        directory: u64,
+        name: &[u8],
+        number: u64,
+        at: At,
+    ) -> Result<(), TreeFault>
+        requires tick { IsTick self.old.world at.tick }
+        requires live { kind_of self.old.world directory ≡ Some Kind.Directory }
+        requires there { IsSome (object self.old.world number) }
+        requires plain { kind_of self.old.world number ≢ Some Kind.Directory }
+        requires short { length name.now ≤ 255 }
+        ensures refused { MatchOption (link_refusal self.old.world directory name.now number) (IsOkUnless result TreeFault.Memory) (λ fault. result ≡ Err fault) }
+        ensures ok { OnOk result (self.new ≡ record self.old { world = with_link self.old.world directory name.now number at }) }
+        ensures err { OnErr result (self.new ≡ self.old) }
+    {
+        self.tree.link(directory, name, number, at)
+    }
+
     /// As [`Tree::unlink`].
     pub fn unlink(&mut self, directory: u64, name: &[u8], at: At) -> Result<(), TreeFault>
         requires tick { IsTick self.old.world at.tick }
@@ -183,6 +232,54 @@ impl<A: Allocator + Copy> GuardedTree<A> {
         ensures err { OnErr result (self.new ≡ self.old) }
     {
         self.tree.unlink(directory, name, at)
+    }
+
+    /// As [`Tree::rename`].
+    pub fn rename(
+        &mut self,
+        from: u64,
+        old: &[u8],
+        to: u64,
+        new: &[u8],
+        at: At,
+    ) -> Result<(), TreeFault>
+        requires tick { IsTick self.old.world at.tick }
+        requires live { kind_of self.old.world to ≡ Some Kind.Directory }
+        requires short { length new.now ≤ 255 }
+        ensures refused { MatchOption (rename_refusal self.old.world from old.now to new.now) (IsOkUnless result TreeFault.Memory) (λ fault. result ≡ Err fault) }
+        ensures ok { OnOk result (self.new ≡ record self.old { world = renamed self.old.world from old.now to new.now at }) }
+        ensures err { OnErr result (self.new ≡ self.old) }
+    {
+        self.tree.rename(from, old, to, new, at)
+    }
+
+    /// As [`Tree::write`].
+    pub fn write(
+        &mut self,
+        file: u64,
+        offset: u64,
+        more: &[u8],
+        at: At,
+    ) -> Result<(), TreeFault>
+        requires tick { IsTick self.old.world at.tick }
+        requires file { kind_of self.old.world file ≡ Some Kind.File }
+        ensures refused { MatchOption (write_refusal offset more.now) (IsOkUnless result TreeFault.Memory) (λ fault. result ≡ Err fault) }
+        ensures ok { OnOk result (self.new ≡ record self.old { world = with_write self.old.world file offset more.now at }) }
+        ensures err { OnErr result (self.new ≡ self.old) }
+    {
+        self.tree.write(file, offset, more, at)
+    }
+
+    /// As [`Tree::resize`].
+    pub fn resize(&mut self, file: u64, size: u64, at: At) -> Result<(), TreeFault>
+        requires tick { IsTick self.old.world at.tick }
+        requires file { kind_of self.old.world file ≡ Some Kind.File }
+        ensures refused { MatchOption (resize_refusal size) (IsOkUnless result TreeFault.Memory) (λ fault. result ≡ Err fault) }
+        ensures shrinks { size ≤ length (bytes_of self.old.world file) → IsOk result }
+        ensures ok { OnOk result (self.new ≡ record self.old { world = with_size self.old.world file size at }) }
+        ensures err { OnErr result (self.new ≡ self.old) }
+    {
+        self.tree.resize(file, size, at)
     }
 
     /// As [`Tree::set_list`].
