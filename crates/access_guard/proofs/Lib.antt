@@ -1,0 +1,6 @@
+pub mod Lines
+pub mod Bounds
+pub mod Telling
+pub mod Remembering
+pub mod Calls
+pub mod Hits

@@ -1,0 +1,43 @@
+-- What lists answer to a demand.
+use Rattle.std.specs.Prelude.{ℕ, Bool, true, false}
+use Rattle.rpc_record.specs.Identity.{Identity}
+use Rattle.acl_list.specs.Places as places
+use Rattle.acl_list.specs.declared.mask.TheConstants.{DELETE, DELETE_CHILD, ADD_FILE}
+use Rattle.acl_list.specs.declared.answer.Verdict.{Verdict}
+use Rattle.acl_list.specs.declared.answer.Verdict.TheVariants as verdicts
+use Rattle.acl_list.specs.declared.answer.Mention.{Mention}
+use Rattle.acl_list.specs.declared.answer.Mention.TheVariants.{Unmentioned, AllowedBy, DeniedBy}
+use Rattle.access_rows.specs.declared.demand.Demand.{Demand}
+use Rattle.access_rows.specs.declared.demand.Demand.TheVariants.{Bits, Removal}
+use Rattle.access_guard.specs.declared.decision.Decision.{Decision}
+use Rattle.access_guard.specs.declared.decision.Decision.TheVariants.{Granted, Refused}
+use Rattle.access_guard.specs.declared.decision.Cause.TheVariants.{ByEntry, Missing}
+use Rattle.access_guard.specs.Lists.{Lists, verdict_at, mention_at}
+
+-- a refusal names the object, the bits that were asked of it, and the entry that denies or the bit that none allows
+abbrev pub answer : ℕ → ℕ → Verdict → Decision
+answer object mask verdicts.Granted = Granted
+answer object mask (verdicts.Denied index) = Refused object mask (ByEntry index)
+answer object mask (verdicts.Missing bit) = Refused object mask (Missing bit)
+
+-- Whether a name of the target may go from the parent, by what the target's list says of DELETE, what the parent's says of
+-- DELETE_CHILD, and what the parent's answers to ADD_FILE (RFC 8881, section 6.2.1.3.2). An ALLOW of either of the first two
+-- suffices, whatever the other says; ADD_FILE suffices where neither is mentioned. A refusal names the parent's DENY of
+-- DELETE_CHILD if there is one, else the target's of DELETE if there is one, else what ADD_FILE lacks.
+abbrev pub removal : ℕ → ℕ → Mention → Mention → Verdict → Decision
+removal parent target (AllowedBy index) on_parent add = Granted
+removal parent target (DeniedBy index) (AllowedBy other) add = Granted
+removal parent target (DeniedBy index) (DeniedBy other) add = Refused parent DELETE_CHILD (ByEntry other)
+removal parent target (DeniedBy index) Unmentioned add = Refused target DELETE (ByEntry index)
+removal parent target Unmentioned (AllowedBy other) add = Granted
+removal parent target Unmentioned (DeniedBy other) add = Refused parent DELETE_CHILD (ByEntry other)
+removal parent target Unmentioned Unmentioned add = answer parent ADD_FILE add
+
+abbrev pub decision : Lists → Identity → Demand → Decision
+decision lists caller (Bits object mask) = answer object mask (verdict_at lists caller object mask)
+decision lists caller (Removal parent target) =
+    removal parent target (mention_at lists caller target places.delete) (mention_at lists caller parent places.delete_child) (verdict_at lists caller parent ADD_FILE)
+
+abbrev pub is_granted : Decision → Bool
+is_granted Granted = true
+is_granted (Refused object mask cause) = false

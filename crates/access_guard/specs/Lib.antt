@@ -1,0 +1,11 @@
+pub mod Lists
+pub mod Decisions
+pub mod Lines
+pub mod Log
+pub mod Keys
+pub mod Memory
+pub mod State
+pub mod Text
+pub mod History
+pub mod Guarded
+pub mod Telling

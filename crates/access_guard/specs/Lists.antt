@@ -1,0 +1,54 @@
+-- What objects are judged by, and what their lists answer to one who asks (RFC 8881, section 6.2.1).
+use Rattle.std.specs.Prelude.{ℕ, ◌==◌, Bool, length, Option, bit_and}
+use Rattle.std.specs.Option.{option_map, option_map_or}
+use Rattle.rpc_record.specs.Identity.{Identity}
+use Rattle.acl_list.specs.Deciding.{is_true_for, mention, mentioned}
+use Rattle.acl_list.specs.Verdicts.{verdict}
+use Rattle.acl_list.specs.Summaries.{summary}
+use Rattle.acl_list.specs.declared.entry.Who.{Who}
+use Rattle.acl_list.specs.declared.answer.Verdict.{Verdict}
+use Rattle.acl_list.specs.declared.answer.Verdict.TheVariants.{Missing}
+use Rattle.acl_list.specs.declared.answer.Mention.{Mention}
+use Rattle.acl_list.specs.declared.answer.Mention.TheVariants.{Unmentioned}
+use Rattle.acl_list.specs.declared.answer.Summary.{Summary}
+use Rattle.node_tree.specs.Judged.{Judged}
+
+-- what the object of each number is judged by, if there is one
+abbrev pub Lists : Type 0
+Lists = ℕ → Option Judged
+
+-- which whos are true of the caller, for the object
+abbrev pub names : Judged → Identity → Who → Bool
+names j caller = is_true_for j.owner j.group caller
+
+-- what the list of an object answers to a mask: an object that isn't there grants nothing
+abbrev pub verdict_at : Lists → Identity → ℕ → ℕ → Verdict
+verdict_at lists caller object mask = option_map_or (λ j. verdict (names j caller) j.list mask) (lists object) (Missing 0)
+
+-- which entry of an object's list decides the bit of a place
+abbrev pub mention_at : Lists → Identity → ℕ → ℕ → Mention
+mention_at lists caller object place = option_map_or (λ j. mentioned (mention (names j caller) j.list place)) (lists object) Unmentioned
+
+-- what the list of the object comes to for the caller
+abbrev pub sum_of : Judged → Identity → Summary
+sum_of j caller = summary (names j caller) j.list
+
+-- the same, where there is such an object
+abbrev pub sum_at : Lists → Identity → ℕ → Option Summary
+sum_at lists caller object = option_map (λ j. sum_of j caller) (lists object)
+
+-- the bits that an object's list grants the caller
+abbrev pub granted_at : Lists → Identity → ℕ → ℕ
+granted_at lists caller object = option_map_or (λ j. (sum_of j caller).granted) (lists object) 0
+
+-- how many entries an object's list has
+abbrev pub entries_at : Lists → ℕ → ℕ
+entries_at lists object = option_map_or (λ j. length j.list) (lists object) 0
+
+-- a list that comes to this grants each bit of the mask
+abbrev pub grants : Summary → ℕ → Bool
+grants s mask = bit_and mask s.granted == mask
+
+-- no entry of it tells of a bit of the mask where that is granted
+abbrev pub is_quiet : Summary → ℕ → Bool
+is_quiet s mask = bit_and mask s.watch_ok == 0

@@ -1,0 +1,25 @@
+-- What a guard has written: the lines of the operation that runs, and the trail of those before it.
+use Rattle.std.specs.Prelude.{ℕ, ◌+◌, ◌-◌, ◌^◌, min, Bool, if◌then◌else◌, List, [], ◌++◌, length}
+use Rattle.circular_buffer.specs.Buffer.{keep_last}
+use Rattle.access_guard.specs.declared.line.Line.{Line}
+use Rattle.access_guard.specs.declared.trail.TheConstants.{MOST_KEPT}
+
+pub record Log : Type 0 where
+  -- the lines that wait for the operation's end, in order
+  pub held : List Line
+  -- the last lines of the operations before it, in order
+  pub trail : List Line
+  -- how many there were in all, as far as 64 bits count
+  pub total : ℕ
+
+-- more lines wait
+abbrev pub held : List Line → Log → Log
+held lines log = record log { held = log.held ++ lines }
+
+-- the operation ends, and its lines stand behind those before it, or are dropped
+abbrev pub settled : Bool → Log → Log
+settled keep log = record {
+  held = [];
+  trail = if keep then keep_last MOST_KEPT (log.trail ++ log.held) else log.trail;
+  total = if keep then min (log.total + length log.held) (2 ^ 64 - 1) else log.total;
+}

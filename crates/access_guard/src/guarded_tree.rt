@@ -1,0 +1,303 @@
+//! A tree beside its guard.
+ghost use Rattle.std.specs.Prelude.{◌≡◌, ◌≢◌, ◌+◌, ◌<◌, ◌≤◌, ◌^◌, [], ◌++◌, length, drop, if◌then◌else◌, MatchOption, OnOk, OnErr, IfOk, IsOk, IsOkUnless, IfSome, IsSome, Some};
+ghost use Rattle.std.specs.Option.{option_copied};
+ghost use Rattle.acl_shape.specs.Bounds.{IsBounded};
+ghost use Rattle.node_tree.specs.World.{object, kind_of, bytes_of, bytes_at, child_named, name_after, has_entries, link_count, parent_of};
+ghost use Rattle.node_tree.specs.Changes.{made, with_new, with_link, unlinked, renamed, with_write, with_size, with_list, with_owner};
+ghost use Rattle.node_tree.specs.Refusals.{add_refusal, link_refusal, unlink_refusal, rename_refusal, write_refusal, resize_refusal};
+ghost use Rattle.node_tree.specs.Sound.{IsSound, IsTick, IsNextName, most_bytes};
+ghost use Rattle.node_tree.specs.Judged.{judged_of};
+ghost use Rattle.access_guard.specs.Lists.{granted_at};
+ghost use Rattle.access_guard.specs.Decisions.{decision};
+ghost use Rattle.access_guard.specs.Lines.{lines, most_lines};
+ghost use Rattle.access_guard.specs.Log.{held, settled};
+ghost use Rattle.access_guard.specs.Memory.{Agrees};
+
+use crate::decision::Decision;
+use crate::guard::Guard;
+use crate::trail::MOST_HELD;
+use access_rows::Demand;
+use acl_list::{AclList, Caller, Kind};
+use node_tree::{At, DirEntry, NewObject, Node, ROOT, Tree, TreeFault};
+use std::alloc::{AllocError, Allocator, Global};
+use std::hash::RandomState;
+use std::marker::Model;
+use std::num::NonZeroUsize;
+
+/// A tree, and the guard of its lists. What the guard remembers is what the lists come to now, through every change of the
+/// tree: so nothing here has a condition on it.
+#[derive(Drop)]
+pub struct GuardedTree<A: Allocator = Global> {
+    tree: Tree<A>,
+    guard: Guard<A>,
+}
+
+impl<A: Allocator> Model for GuardedTree<A> {
+    ghost use Rattle.access_guard.specs.Guarded.{Guarded};
+    ghost use Rattle.access_guard.specs.Memory.{Agrees};
+
+    ghost Value = { Guarded };
+
+    ghost view = { λ t. record { world = t.tree; log = t.guard.log } };
+
+    ghost invariant = { λ t. Agrees t.guard.memory.remembered t.tree };
+}
+
+// Decisions.
+impl<A: Allocator + Copy> GuardedTree<A> {
+    /// The tree beside a guard that has decided nothing yet, and remembers at most `capacity` summaries. `Err`: there is no
+    /// memory for the guard.
+    pub fn new(
+        alloc: A,
+        tree: Tree<A>,
+        capacity: NonZeroUsize,
+        hasher: RandomState,
+    ) -> Result<Self, AllocError>
+        ensures { IfOk result (λ guarded. guarded ≡ record { world = tree; log = record { held = []; trail = []; total = 0 } }) }
+    {
+        let guard = Guard::new(alloc, capacity, hasher)?;
+        Ok(GuardedTree { tree, guard })
+    }
+
+    /// Whether the lists grant a demand to the caller, as in [`Guard::decide`].
+    pub fn decide(&mut self, demand: Demand, caller: &Caller, op: u32) -> Decision
+        requires { length self.old.log.held + most_lines demand ≤ MOST_HELD }
+        ensures decision { result ≡ decision (judged_of self.old.world) caller.now demand }
+        ensures state { self.new ≡ record self.old { log = held (lines (judged_of self.old.world) caller.now op demand) self.old.log } }
+    {
+        self.guard.decide(demand, &self.tree, caller, op)
+    }
+
+    /// The bits that an object's list grants the caller, as in [`Guard::grants`].
+    pub fn grants(&mut self, object: u64, caller: &Caller) -> u32
+        ensures mask { result ≡ granted_at (judged_of self.old.world) caller.now object }
+        ensures state { self.new ≡ self.old }
+    {
+        self.guard.grants(object, &self.tree, caller)
+    }
+
+    /// Ends an operation: its lines go to the trail in their order, or are dropped. It takes no memory.
+    pub fn settle(&mut self, keep: bool)
+        ensures { self.new ≡ record self.old { log = settled keep self.old.log } }
+    {
+        self.guard.settle(keep);
+    }
+
+    /// The guard, which agrees with the tree.
+    pub fn guard(&self) -> &Guard<A>
+        ensures log { result.now.log ≡ self.now.log }
+        ensures agrees { Agrees result.now.memory.remembered self.now.world }
+    {
+        &self.guard
+    }
+
+    /// The tree.
+    pub fn tree(&self) -> &Tree<A>
+        ensures { result.now ≡ self.now.world }
+    {
+        &self.tree
+    }
+}
+
+// Look-ups of the tree. None takes memory.
+impl<A: Allocator + Copy> GuardedTree<A> {
+    /// As [`Tree::root`].
+    pub fn root(&self) -> u64
+        ensures number { result ≡ ROOT }
+        ensures live { kind_of self.now.world result ≡ Some Kind.Directory }
+    {
+        self.tree.root()
+    }
+
+    /// As [`Tree::next_tick`].
+    pub fn next_tick(&self) -> u64
+        ensures value { result ≡ self.now.world.next_tick }
+        ensures tick { result < 2 ^ 63 → IsTick self.now.world result }
+    {
+        self.tree.next_tick()
+    }
+
+    /// As [`Tree::next_stamp`].
+    pub fn next_stamp(&self) -> u64
+        ensures { result ≡ self.now.world.next_stamp }
+    {
+        self.tree.next_stamp()
+    }
+
+    /// As [`Tree::object`].
+    pub fn object(&self, number: u64) -> Option<&Node<A>>
+        ensures value { option_copied result ≡ object self.now.world number }
+        ensures sound { IsSound self.now.world }
+    {
+        self.tree.object(number)
+    }
+
+    /// As [`Tree::links`].
+    pub fn links(&self, number: u64) -> usize
+        ensures value { result ≡ link_count self.now.world.names number }
+        ensures few { result ≤ 1000 }
+    {
+        self.tree.links(number)
+    }
+
+    /// As [`Tree::parent`].
+    pub fn parent(&self, number: u64) -> Option<u64>
+        ensures value { result ≡ parent_of self.now.world number }
+        ensures live { IfSome result (λ parent. kind_of self.now.world parent ≡ Some Kind.Directory) }
+    {
+        self.tree.parent(number)
+    }
+
+    /// As [`Tree::has_entries`].
+    pub fn has_entries(&self, directory: u64) -> bool
+        ensures { result ≡ has_entries self.now.world.names directory }
+    {
+        self.tree.has_entries(directory)
+    }
+
+    /// As [`Tree::find`].
+    pub fn find(&self, directory: u64, name: &[u8]) -> Option<u64>
+        ensures child { result ≡ child_named self.now.world directory name.now }
+        ensures live { IfSome result (λ child. IsSome (object self.now.world child)) }
+    {
+        self.tree.find(directory, name)
+    }
+
+    /// As [`Tree::list_after`].
+    pub fn list_after(&self, directory: u64, cookie: u64) -> Option<&DirEntry<A>>
+        ensures value { option_copied result ≡ name_after self.now.world directory cookie }
+        ensures next { IfSome (option_copied result) (IsNextName self.now.world directory cookie) }
+    {
+        self.tree.list_after(directory, cookie)
+    }
+
+    /// As [`Tree::read`].
+    pub fn read(&self, number: u64, offset: u64, buffer: &mut [u8]) -> usize
+        ensures count { result ≡ length (bytes_at self.now.world number offset (length buffer.old)) }
+        ensures copied { buffer.new ≡ bytes_at self.now.world number offset (length buffer.old) ++ drop result buffer.old }
+    {
+        self.tree.read(number, offset, buffer)
+    }
+}
+
+// Changes of the tree. Each grows first, and a refusal leaves all as it was.
+#[tactic(auto, using(crate::proofs::Remembering::agrees_kept))]
+impl<A: Allocator + Copy> GuardedTree<A> {
+    /// As [`Tree::add`].
+    pub fn add(
+        &mut self,
+        directory: u64,
+        name: &[u8],
+        new: NewObject<A>,
+        at: At,
+    ) -> Result<u64, TreeFault>
+        requires tick { IsTick self.old.world at.tick }
+        requires live { kind_of self.old.world directory ≡ Some Kind.Directory }
+        requires short { length name.now ≤ 255 }
+        requires bounded { IsBounded new.list }
+        requires bytes { length new.bytes.items ≤ most_bytes new.kind }
+        ensures refused { MatchOption (add_refusal self.old.world directory name.now) (IsOkUnless result TreeFault.Memory) (λ fault. result ≡ Err fault) }
+        ensures number { IfOk result (λ number. number ≡ self.old.world.next_number) }
+        ensures ok { OnOk result (self.new ≡ record self.old { world = with_new self.old.world directory name.now (made new self.old.world.next_stamp at) at }) }
+        ensures err { OnErr result (self.new ≡ self.old) }
+    {
+        self.tree.add(directory, name, new, at)
+    }
+
+    /// As [`Tree::link`].
+    pub fn link(
+        &mut self,
+        directory: u64,
+        name: &[u8],
+        number: u64,
+        at: At,
+    ) -> Result<(), TreeFault>
+        requires tick { IsTick self.old.world at.tick }
+        requires live { kind_of self.old.world directory ≡ Some Kind.Directory }
+        requires there { IsSome (object self.old.world number) }
+        requires plain { kind_of self.old.world number ≢ Some Kind.Directory }
+        requires short { length name.now ≤ 255 }
+        ensures refused { MatchOption (link_refusal self.old.world directory name.now number) (IsOkUnless result TreeFault.Memory) (λ fault. result ≡ Err fault) }
+        ensures ok { OnOk result (self.new ≡ record self.old { world = with_link self.old.world directory name.now number at }) }
+        ensures err { OnErr result (self.new ≡ self.old) }
+    {
+        self.tree.link(directory, name, number, at)
+    }
+
+    /// As [`Tree::unlink`].
+    pub fn unlink(&mut self, directory: u64, name: &[u8], at: At) -> Result<(), TreeFault>
+        requires tick { IsTick self.old.world at.tick }
+        ensures refused { MatchOption (unlink_refusal self.old.world directory name.now) (IsOk result) (λ fault. result ≡ Err fault) }
+        ensures ok { OnOk result (self.new ≡ record self.old { world = unlinked self.old.world directory name.now at }) }
+        ensures err { OnErr result (self.new ≡ self.old) }
+    {
+        self.tree.unlink(directory, name, at)
+    }
+
+    /// As [`Tree::rename`].
+    pub fn rename(
+        &mut self,
+        from: u64,
+        old: &[u8],
+        to: u64,
+        new: &[u8],
+        at: At,
+    ) -> Result<(), TreeFault>
+        requires tick { IsTick self.old.world at.tick }
+        requires live { kind_of self.old.world to ≡ Some Kind.Directory }
+        requires short { length new.now ≤ 255 }
+        ensures refused { MatchOption (rename_refusal self.old.world from old.now to new.now) (IsOkUnless result TreeFault.Memory) (λ fault. result ≡ Err fault) }
+        ensures ok { OnOk result (self.new ≡ record self.old { world = renamed self.old.world from old.now to new.now at }) }
+        ensures err { OnErr result (self.new ≡ self.old) }
+    {
+        self.tree.rename(from, old, to, new, at)
+    }
+
+    /// As [`Tree::write`].
+    pub fn write(
+        &mut self,
+        file: u64,
+        offset: u64,
+        more: &[u8],
+        at: At,
+    ) -> Result<(), TreeFault>
+        requires tick { IsTick self.old.world at.tick }
+        requires file { kind_of self.old.world file ≡ Some Kind.File }
+        ensures refused { MatchOption (write_refusal offset more.now) (IsOkUnless result TreeFault.Memory) (λ fault. result ≡ Err fault) }
+        ensures ok { OnOk result (self.new ≡ record self.old { world = with_write self.old.world file offset more.now at }) }
+        ensures err { OnErr result (self.new ≡ self.old) }
+    {
+        self.tree.write(file, offset, more, at)
+    }
+
+    /// As [`Tree::resize`].
+    pub fn resize(&mut self, file: u64, size: u64, at: At) -> Result<(), TreeFault>
+        requires tick { IsTick self.old.world at.tick }
+        requires file { kind_of self.old.world file ≡ Some Kind.File }
+        ensures refused { MatchOption (resize_refusal size) (IsOkUnless result TreeFault.Memory) (λ fault. result ≡ Err fault) }
+        ensures shrinks { size ≤ length (bytes_of self.old.world file) → IsOk result }
+        ensures ok { OnOk result (self.new ≡ record self.old { world = with_size self.old.world file size at }) }
+        ensures err { OnErr result (self.new ≡ self.old) }
+    {
+        self.tree.resize(file, size, at)
+    }
+
+    /// As [`Tree::set_list`].
+    pub fn set_list(&mut self, number: u64, list: AclList<A>, high: u32, at: At)
+        requires tick { IsTick self.old.world at.tick }
+        requires stamps { self.old.world.next_stamp < 2 ^ 63 }
+        requires bounded { IsBounded list }
+        ensures { self.new ≡ record self.old { world = with_list self.old.world number list high at } }
+    {
+        self.tree.set_list(number, list, high, at);
+    }
+
+    /// As [`Tree::set_owner`].
+    pub fn set_owner(&mut self, number: u64, owner: u32, group: u32, at: At)
+        requires tick { IsTick self.old.world at.tick }
+        requires stamps { self.old.world.next_stamp < 2 ^ 63 }
+        ensures { self.new ≡ record self.old { world = with_owner self.old.world number owner group at } }
+    {
+        self.tree.set_owner(number, owner, group, at);
+    }
+}

@@ -1,0 +1,246 @@
+//! What lists come to for those who asked, as far as it is remembered.
+ghost use Rattle.std.specs.Prelude.{◌≡◌, ◌<◌, ◌^◌, ℕ, [], length, Some, IfOk, IsTrue};
+ghost use Rattle.std.specs.Map.{lookup};
+ghost use Rattle.std.specs.Map.Iter.{ShowsInOrder, deref_pair};
+ghost use Rattle.std.specs.NonZero.{non_zero_usize_get};
+ghost use Rattle.lru.specs.LruCache.{lru_cache, promoted};
+ghost use Rattle.acl_list.specs.declared.answer.Summary.{Summary};
+ghost use Rattle.node_tree.specs.Judged.{judged, judged_of};
+ghost use Rattle.access_guard.specs.Keys.{is_key};
+ghost use Rattle.access_guard.specs.Lists.{sum_of, sum_at};
+ghost use Rattle.access_guard.specs.Lists as lists;
+ghost use Rattle.access_guard.specs.Decisions.{decision};
+ghost use Rattle.access_guard.specs.Lines.{lines};
+ghost use Rattle.access_guard.specs.declared.decision.Decision.TheVariants.{Granted};
+ghost use Rattle.access_guard.specs.Memory.{Agrees, LooksUp, LooksUpAt, LooksUpFor, examined_more, key_of, is_told, walked};
+ghost use Rattle.access_guard.specs.Memory as specs;
+
+use access_rows::Demand;
+use acl_list::mask::{DELETE, DELETE_CHILD};
+use acl_list::{Caller, Summary, summary};
+use lru::{Iter, LruCache};
+use node_tree::{Node, Tree};
+use std::alloc::{AllocError, Allocator};
+use std::hash::{Hash, Hasher, RandomState};
+use std::marker::Model;
+use std::num::NonZeroUsize;
+
+/// Whose summary is remembered, and of which list.
+#[derive(Clone, Copy, Debug)]
+pub struct Key {
+    /// The stamp of the list. An object has a new one whenever its list, its owner or its group may have changed, and no two
+    /// objects ever have the same.
+    pub stamp: u64,
+    /// Who asked.
+    pub caller: Caller,
+}
+
+impl PartialEq for Key {
+    ghost use Rattle.std.specs.Cmp.Rules.{comparing};
+    ghost use Rattle.std.proofs.Common.{rules};
+    ghost use Rattle.access_guard.specs.Keys.{is_key};
+
+    ghost eq = { is_key };
+
+    ghost laws = { Prim.search (comparing, rules) };
+
+    fn eq(&self, other: &Self) -> bool {
+        self.stamp == other.stamp && self.caller == other.caller
+    }
+}
+
+impl Eq for Key {
+    ghost use Rattle.std.specs.Cmp.Rules.{comparing};
+    ghost use Rattle.std.proofs.Common.{rules};
+
+    ghost laws = { Prim.search (comparing, rules) };
+}
+
+impl Hash for Key {
+    ghost use Rattle.std.specs.Prelude.{◌++◌};
+    ghost use Rattle.std.specs.Cmp.Rules.{hashing};
+    ghost use Rattle.std.specs.Hash as fed;
+    ghost use Rattle.std.proofs.Common.{rules};
+
+    ghost hash_input = { λ k. fed.u64 k.stamp ++ fed.u32 k.caller.uid ++ fed.u32 k.caller.gid ++ fed.slice fed.u32 k.caller.groups };
+
+    ghost respects_eq = { Prim.search (hashing, rules) };
+
+    fn hash<H: Hasher>(&self, state: &mut H) {
+        let Key { stamp, caller } = self;
+        stamp.hash(state);
+        caller.hash(state);
+    }
+}
+
+/// What the lists that were asked last come to, and how many entries of lists were looked at.
+#[derive(Drop)]
+pub(crate) struct Summaries<A: Allocator> {
+    pairs: LruCache<Key, Summary, RandomState, A>,
+    examined: u64,
+}
+
+impl<A: Allocator> Model for Summaries<A> {
+    ghost use Rattle.access_guard.specs.Memory.{Memory};
+
+    ghost Value = { Memory };
+
+    ghost view = { λ m. record { capacity = m.pairs.cap; remembered = m.pairs.entries; examined = m.examined } };
+}
+
+impl<A: Allocator + Copy> Summaries<A> {
+    /// Remembers nothing yet, and at most `capacity` summaries ever. `Err`: there is no memory for them.
+    pub(crate) fn new(
+        alloc: A,
+        capacity: NonZeroUsize,
+        hasher: RandomState,
+    ) -> Result<Self, AllocError>
+        ensures { IfOk result (λ m. m ≡ record { capacity = non_zero_usize_get capacity; remembered = []; examined = 0 }) }
+    {
+        Ok(Summaries {
+            pairs: LruCache::with_hasher(alloc, capacity, hasher)?,
+            examined: 0,
+        })
+    }
+
+    /// The summaries, the one that was asked last first.
+    pub(crate) fn iter(&self) -> Iter<'_, Key, Summary>
+        ensures rest { result ≡ self.now.remembered }
+        ensures runs { ShowsInOrder (deref_pair {K = Key} {X = Summary}) }
+    {
+        self.pairs.iter()
+    }
+
+    /// How many entries were looked at. It stays at 2^64 - 1.
+    pub(crate) fn examined(&self) -> u64
+        ensures { result ≡ self.now.examined }
+    {
+        self.examined
+    }
+
+    /// Counts entries that are looked at.
+    fn examine(&mut self, entries: usize)
+        ensures { self.new ≡ examined_more entries self.old }
+    {
+        self.examined = self.examined.saturating_add(entries as u64);
+    }
+
+    /// The summary that is remembered, which then is the one that was asked last.
+    fn recall(&mut self, key: &Key) -> Option<Summary>
+        ensures sum { result ≡ lookup (is_key key.now) self.old.remembered }
+        ensures used { self.new ≡ specs.used key.now self.old }
+    {
+        self.pairs.get(key).copied()
+    }
+
+    /// What an object's list comes to. It is worked out where it isn't remembered.
+    fn sum_of<B: Allocator + Copy>(&mut self, node: &Node<B>, caller: &Caller) -> Summary
+        requires { (sum : Summary) → lookup (is_key (key_of (judged node.now) caller.now)) self.old.remembered ≡ Some sum → sum ≡ sum_of (judged node.now) caller.now }
+        ensures sum { result ≡ sum_of (judged node.now) caller.now }
+        ensures looks_up { LooksUp (judged node.now) caller.now self.old self.new }
+    {
+        let key = Key {
+            stamp: node.stamp(),
+            caller: *caller,
+        };
+        if let Some(sum) = self.recall(&key) {
+            return sum;
+        }
+        let list = node.list();
+        let sum = summary(list, node.owner(), node.group(), caller);
+        self.examine(list.len());
+        let _ = self.pairs.put(key, sum);
+        sum
+    }
+
+    /// What the list of the object of a number comes to, if there is such an object.
+    pub(crate) fn sum_at<B: Allocator + Copy>(
+        &mut self,
+        object: u64,
+        tree: &Tree<B>,
+        caller: &Caller,
+    ) -> Option<Summary>
+        requires { Agrees self.old.remembered tree.now }
+        ensures sum { result ≡ sum_at (judged_of tree.now) caller.now object }
+        ensures looks_up { LooksUpAt (judged_of tree.now) caller.now object self.old self.new }
+        ensures agrees { Agrees self.new.remembered tree.now }
+    {
+        let node = tree.object(object)?;
+        Some(self.sum_of(node, caller))
+    }
+
+    /// Whether summaries alone tell that a demand is granted, and that no line is written.
+    pub(crate) fn tells<B: Allocator + Copy>(
+        &mut self,
+        demand: Demand,
+        tree: &Tree<B>,
+        caller: &Caller,
+    ) -> bool
+        requires { Agrees self.old.remembered tree.now }
+        ensures told { result ≡ is_told (judged_of tree.now) caller.now demand }
+        ensures granted { IsTrue result → decision (judged_of tree.now) caller.now demand ≡ Granted }
+        ensures silent { IsTrue result → (op : ℕ) → lines (judged_of tree.now) caller.now op demand ≡ [] }
+        ensures looks_up { LooksUpFor (judged_of tree.now) caller.now demand self.old self.new }
+        ensures agrees { Agrees self.new.remembered tree.now }
+    {
+        match demand {
+            Demand::Bits { object, mask } => tells(self.sum_at(object, tree, caller), mask),
+            Demand::Removal { parent, target } => {
+                let on_target = self.sum_at(target, tree, caller);
+                let on_parent = self.sum_at(parent, tree, caller);
+                tells_removal(on_target, on_parent)
+            }
+        }
+    }
+
+    /// Counts the entries of the lists that a demand is about.
+    pub(crate) fn walk<B: Allocator + Copy>(&mut self, demand: Demand, tree: &Tree<B>)
+        ensures { self.new ≡ walked (judged_of tree.now) demand self.old }
+    {
+        match demand {
+            Demand::Bits { object, .. } => self.examine(entries_at(tree, object)),
+            Demand::Removal { parent, target } => {
+                self.examine(entries_at(tree, target));
+                self.examine(entries_at(tree, parent));
+            }
+        }
+    }
+}
+
+/// How many entries an object's list has.
+fn entries_at<B: Allocator + Copy>(tree: &Tree<B>, object: u64) -> usize
+    ensures { result ≡ lists.entries_at (judged_of tree.now) object }
+{
+    tree.object(object).map_or(0, |node| node.list().len())
+}
+
+/// Whether a list that comes to this grants each bit of the mask.
+fn grants(sum: Summary, mask: u32) -> bool
+    ensures { result ≡ lists.grants sum mask }
+{
+    mask & sum.granted == mask
+}
+
+/// Whether no entry of it tells of a bit of the mask where that is granted.
+fn is_quiet(sum: Summary, mask: u32) -> bool
+    ensures { result ≡ lists.is_quiet sum mask }
+{
+    mask & sum.watch_ok == 0
+}
+
+fn tells(sum: Option<Summary>, mask: u32) -> bool
+    ensures told { result ≡ specs.tells sum mask }
+    ensures fits { mask < 2 ^ 32 }
+{
+    sum.is_some_and(|sum| grants(sum, mask) && is_quiet(sum, mask))
+}
+
+fn tells_removal(on_target: Option<Summary>, on_parent: Option<Summary>) -> bool
+    ensures { result ≡ specs.tells_removal on_target on_parent }
+{
+    let (Some(on_target), Some(on_parent)) = (on_target, on_parent) else {
+        return false;
+    };
+    let granted = grants(on_target, DELETE) || grants(on_parent, DELETE_CHILD);
+    granted && is_quiet(on_target, DELETE) && is_quiet(on_parent, DELETE_CHILD)
+}

@@ -1,0 +1,192 @@
+//! The lines that a guard writes.
+ghost use Rattle.std.specs.Prelude.{◌≡◌, ◌+◌, ◌<◌, ◌≤◌, [], ◌∷◌, length, IfOk};
+ghost use Rattle.std.specs.Map.Iter.{ShowsInOrder, deref};
+ghost use Rattle.node_tree.specs.Judged.{judged, judged_of};
+ghost use Rattle.std.specs.List.{filter_map, enumerate_from};
+ghost use Rattle.access_guard.specs.Lines.{watch_line, watch_lines, deny_lines};
+ghost use Rattle.acl_shape.specs.declared.bounds.TheConstants.{MAX_ENTRIES};
+ghost use Rattle.access_guard.specs.Lines as specs;
+ghost use Rattle.access_guard.specs.Log.{held, settled};
+
+use crate::decision::{Cause, Decision};
+use crate::line::{Line, LineKind};
+use acl_list::{Caller, Entry, EntryKind, watched_bits};
+use circular_buffer::{HeapCircularBuffer, Iter};
+use node_tree::{Node, Tree};
+use std::alloc::{AllocError, Allocator};
+use std::marker::Model;
+
+/// The lines that wait at most for the end of an operation. No operation has more: RENAME has two demands of EXECUTE, two
+/// removals and one demand on the target directory, which look at seven lists of at most 64 entries, and one DENY line.
+pub const MOST_HELD: usize = 449;
+
+/// The lines that the trail keeps at most.
+pub const MOST_KEPT: usize = 4096;
+
+/// What was asked of one object, and whether the demand was granted.
+#[derive(Clone, Copy)]
+pub(crate) struct Asked {
+    pub(crate) op: u32,
+    pub(crate) object: u64,
+    pub(crate) mask: u32,
+    pub(crate) granted: bool,
+}
+
+/// The lines that wait for the end of an operation, and the last lines of those before it.
+#[derive(Drop)]
+pub(crate) struct Trail<A: Allocator> {
+    held: Vec<Line, A>,
+    kept: HeapCircularBuffer<Line, A>,
+    total: u64,
+}
+
+impl<A: Allocator> Model for Trail<A> {
+    ghost use Rattle.std.specs.Prelude.{◌≡◌, ◌≤◌, vec_capacity};
+    ghost use Rattle.access_guard.specs.Log.{Log};
+
+    ghost Value = { Log };
+
+    ghost view = { λ t. record { held = t.held.items; trail = t.kept.items; total = t.total } };
+
+    ghost invariant = { λ t. (449 ≤ vec_capacity t.held) × (t.kept.capacity ≡ 4096) };
+}
+
+impl<A: Allocator + Copy> Trail<A> {
+    /// No lines. `Err`: there is no memory for those that are to come.
+    pub(crate) fn new(alloc: A) -> Result<Self, AllocError>
+        ensures { IfOk result (λ trail. trail ≡ record { held = []; trail = []; total = 0 }) }
+    {
+        Ok(Trail {
+            held: Vec::with_capacity(alloc, MOST_HELD)?,
+            kept: HeapCircularBuffer::with_capacity(alloc, MOST_KEPT)?,
+            total: 0,
+        })
+    }
+
+    /// The last lines, in order.
+    pub(crate) fn lines(&self) -> Iter<'_, Line>
+        ensures rest { result ≡ self.now.trail }
+        ensures runs { ShowsInOrder (deref {X = Line}) }
+    {
+        self.kept.iter()
+    }
+
+    /// How many lines there were in all. It stays at 2^64 - 1.
+    pub(crate) fn total(&self) -> u64
+        ensures { result ≡ self.now.total }
+    {
+        self.total
+    }
+
+    /// Puts the lines that wait behind the others, or drops them.
+    pub(crate) fn settle(&mut self, keep: bool)
+        ensures { self.new ≡ settled keep self.old }
+    {
+        if keep {
+            self.total = self.total.saturating_add(self.held.len() as u64);
+            self.kept.extend_from_slice(self.held.as_slice());
+        }
+        self.held.clear();
+    }
+
+    fn hold(&mut self, line: Line)
+        requires { length self.old.held < MOST_HELD }
+        ensures { self.new ≡ held (line ∷ []) self.old }
+    {
+        self.held.push_reserved(line);
+    }
+
+    /// Writes the lines of an object's entries that watch.
+    pub(crate) fn watch<B: Allocator + Copy>(
+        &mut self,
+        asked: Asked,
+        tree: &Tree<B>,
+        caller: &Caller,
+    )
+        requires { length self.old.held + MAX_ENTRIES ≤ MOST_HELD }
+        ensures lines { self.new ≡ held (watch_lines (judged_of tree.now) caller.now asked.op asked.granted asked.object asked.mask) self.old }
+        ensures few { length self.new.held ≤ length self.old.held + MAX_ENTRIES }
+    {
+        if let Some(node) = tree.object(asked.object) {
+            self.watch_list(asked, node, caller);
+        }
+    }
+
+    fn watch_list<B: Allocator + Copy>(&mut self, asked: Asked, node: &Node<B>, caller: &Caller)
+        requires { length self.old.held + length node.now.list ≤ MOST_HELD }
+        ensures lines { self.new ≡ held (filter_map (watch_line caller.now asked.op asked.object asked.mask asked.granted (judged node.now)) (enumerate_from 0 node.now.list)) self.old }
+        ensures few { length self.new.held ≤ length self.old.held + length node.now.list }
+    {
+        for (index, entry) in node.list().as_slice().iter().enumerate() {
+            if let Some(line) = watch_line(asked, node, caller, index, entry) {
+                self.hold(line);
+            }
+        }
+    }
+
+    /// Writes the line of a refusal.
+    pub(crate) fn deny(&mut self, op: u32, decision: Decision, caller: &Caller)
+        requires { length self.old.held < MOST_HELD }
+        ensures { self.new ≡ held (deny_lines caller.now op decision) self.old }
+    {
+        if let Decision::Refused {
+            object,
+            mask,
+            cause,
+        } = decision
+        {
+            self.hold(Line {
+                kind: LineKind::Deny,
+                uid: caller.uid(),
+                op,
+                object,
+                mask,
+                granted: false,
+                cause,
+            });
+        }
+    }
+}
+
+/// The line of the entry at an index of the object's list, if it watches what was asked.
+fn watch_line<B: Allocator + Copy>(
+    asked: Asked,
+    node: &Node<B>,
+    caller: &Caller,
+    index: usize,
+    entry: &Entry,
+) -> Option<Line>
+    ensures { result ≡ specs.watch_line caller.now asked.op asked.object asked.mask asked.granted (judged node.now) (index, entry.now) }
+{
+    let kind = line_kind(entry.kind)?;
+    let mask = watched_bits(
+        entry,
+        node.owner(),
+        node.group(),
+        caller,
+        asked.granted,
+        asked.mask,
+    );
+    if mask == 0 {
+        return None;
+    }
+    Some(Line {
+        kind,
+        uid: caller.uid(),
+        op: asked.op,
+        object: asked.object,
+        mask,
+        granted: asked.granted,
+        cause: Cause::ByEntry(index),
+    })
+}
+
+fn line_kind(kind: EntryKind) -> Option<LineKind>
+    ensures { result ≡ specs.line_kind kind }
+{
+    match kind {
+        EntryKind::Audit => Some(LineKind::Audit),
+        EntryKind::Alarm => Some(LineKind::Alarm),
+        EntryKind::Allow | EntryKind::Deny => None,
+    }
+}

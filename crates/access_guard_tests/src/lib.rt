@@ -1,0 +1,11 @@
+//! Tests of `access_guard`.
+#![tactic(auto)]
+
+#[cfg(test)]
+mod memory;
+#[cfg(test)]
+mod removal;
+#[cfg(test)]
+mod trail;
+#[cfg(test)]
+mod trees;

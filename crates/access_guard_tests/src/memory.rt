@@ -1,0 +1,169 @@
+//! What is remembered, and that it is what the lists come to now.
+ghost use Rattle.std.specs.Prelude.{◌≡◌, []};
+
+use crate::trees::{
+    LOOKUP, READ, add, allow, decide, entry, guarded, mode_755, root, sample,
+};
+use Cause::Missing;
+use Decision::{Granted, Refused};
+use access_guard::{Cause, Decision, Demand, Guard, GuardedTree};
+use acl_list::{AclList, Entry, EntryKind, Kind, Summary, Who};
+use acl_shape::is_bounded;
+use node_tree::{At, EPOCH, NewObject};
+use rpc_record::Caller;
+use std::alloc::{AllocError, Global};
+use std::hash::RandomState;
+use std::process::Abort;
+use std::test::Fail;
+
+/// What is remembered, the one asked last first: stamps, and the bits that are granted.
+fn remembered(alloc: Global, guard: &Guard) -> Result<Vec<(u64, Summary)>, AllocError> {
+    let mut pairs = Vec::new(alloc);
+    for (key, sum) in guard.remembered() {
+        pairs.push((key.stamp, *sum))?;
+    }
+    Ok(pairs)
+}
+
+fn sum(granted: u32) -> Summary {
+    Summary {
+        granted,
+        ..Summary::default()
+    }
+}
+
+fn bits(object: u64, mask: u32) -> Demand {
+    Demand::Bits { object, mask }
+}
+
+#[test]
+fn the_one_asked_last_stands_first(rt: HostRuntime) -> Result<(), Fail> {
+    let alloc = rt.alloc();
+    let mut guarded = guarded(alloc, sample(alloc)?, 2, RandomState::new(&rt)?)?;
+    let caller = Caller::new(1002, 100, &[]);
+    for (object, mask) in [(1, 0x20), (2, 0x1)] {
+        assert_eq!(rt; decide(&mut guarded, bits(object, mask), &caller, LOOKUP), Granted);
+    }
+    let examined = guarded.guard().examined();
+    assert_eq!(rt; decide(&mut guarded, bits(1, 0x20), &caller, LOOKUP), Granted);
+    assert_eq!(rt; guarded.guard().examined(), examined);
+    assert_eq!(rt; decide(&mut guarded, bits(3, 0x20), &caller, LOOKUP), Granted);
+    let pairs = remembered(alloc, guarded.guard())?;
+    assert_eq!(rt; pairs.as_slice(), [(3, sum(0x12_00e7)), (1, sum(0x12_00a1))].as_slice());
+    Ok(())
+}
+
+#[test]
+fn a_second_equal_call_walks_no_list(rt: HostRuntime) -> Result<(), Fail> {
+    let alloc = rt.alloc();
+    let mut guarded = guarded(alloc, sample(alloc)?, 1, RandomState::new(&rt)?)?;
+    let caller = Caller::new(1002, 100, &[]);
+    assert_eq!(rt; decide(&mut guarded, bits(2, 0x1), &caller, READ), Granted);
+    let examined = guarded.guard().examined();
+    assert_eq!(rt; examined, 5);
+    assert_eq!(rt; decide(&mut guarded, bits(2, 0x1), &caller, READ), Granted);
+    assert_eq!(rt; guarded.guard().examined(), examined);
+    let removal = Demand::Removal {
+        parent: 1,
+        target: 2,
+    };
+    let _ = decide(&mut guarded, removal, &caller, READ);
+    let pairs = remembered(alloc, guarded.guard())?;
+    assert_eq!(rt; pairs.as_slice(), [(1, sum(0x12_00a1))].as_slice());
+    Ok(())
+}
+
+/// Asks for READ_DATA on the object.
+fn read(guarded: &mut GuardedTree, object: u64) -> Decision
+    requires { guarded.old.log.held ≡ [] }
+    ensures { guarded.new.log.held ≡ [] }
+{
+    decide(guarded, bits(object, 0x1), &Caller::new(1002, 7, &[]), READ)
+}
+
+fn refused(object: u64, bit: u32) -> Decision {
+    Refused {
+        object,
+        mask: 0x1,
+        cause: Missing(bit),
+    }
+}
+
+fn owner() -> Entry {
+    entry(EntryKind::Allow, 0, 0x1e_0187, Who::Owner)
+}
+
+/// Sets the list of the file.
+fn set_list(alloc: Global, guarded: &mut GuardedTree, file: u64, list: &[Entry]) -> Result<(), Fail>
+    requires { guarded.old.log.held ≡ [] }
+    ensures { guarded.new.log.held ≡ [] }
+{
+    let list = AclList::from_slice(alloc, list)?;
+    let tick = guarded.next_tick();
+    if tick >= 1 << 63 || guarded.next_stamp() >= 1 << 63 || !is_bounded(&list) {
+        return Err(Fail::new("no stamp"));
+    }
+    let at = At {
+        tick,
+        moment: EPOCH,
+    };
+    guarded.set_list(file, list, 0, at);
+    Ok(())
+}
+
+/// Removes the file and makes another under its name.
+fn replace(alloc: Global, guarded: &mut GuardedTree, list: &[Entry]) -> Result<u64, Fail>
+    requires { guarded.old.log.held ≡ [] }
+    ensures { guarded.new.log.held ≡ [] }
+{
+    let tick = guarded.next_tick();
+    if tick >= 1 << 63 {
+        return Err(Fail::new("no tick"));
+    }
+    let at = At {
+        tick,
+        moment: EPOCH,
+    };
+    guarded.unlink(1, b"f", at)?;
+    let list = AclList::from_slice(alloc, list)?;
+    let tick = guarded.next_tick();
+    if tick >= 1 << 63 || !is_bounded(&list) {
+        return Err(Fail::new("no tick"));
+    }
+    let at = At {
+        tick,
+        moment: EPOCH,
+    };
+    let new = NewObject {
+        kind: Kind::File,
+        bytes: Vec::new(alloc),
+        owner: 1001,
+        group: 100,
+        list,
+        high: 0,
+    };
+    let directory = guarded.root();
+    Ok(guarded.add(directory, b"f", new, at)?)
+}
+
+/// A file is read, loses a right, goes, and another is made directly after it.
+fn changes(rt: &impl Abort, alloc: Global, hasher: RandomState, capacity: usize) -> Result<(), Fail> {
+    let mut tree = root(alloc, &mode_755())?;
+    let file = add(alloc, &mut tree, b"f", Kind::File, 1001, &[owner(), allow(0x1)])?;
+    let mut guarded = guarded(alloc, tree, capacity, hasher)?;
+    assert_eq!(rt; read(&mut guarded, file), Granted);
+    set_list(alloc, &mut guarded, file, &[owner()])?;
+    assert_eq!(rt; read(&mut guarded, file), refused(file, 0x1));
+    let new = replace(alloc, &mut guarded, &[owner(), allow(0x1)])?;
+    assert_eq!(rt; read(&mut guarded, new), Granted);
+    assert_eq!(rt; read(&mut guarded, file), refused(file, 0));
+    Ok(())
+}
+
+#[test]
+fn changes_are_seen_at_once(rt: HostRuntime) -> Result<(), Fail> {
+    for capacity in [1, 1024] {
+        changes(&rt, rt.alloc(), RandomState::new(&rt)?, capacity)?;
+    }
+    Ok(())
+}
