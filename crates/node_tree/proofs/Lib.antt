@@ -13,3 +13,4 @@ pub mod Moving
 pub mod Epoch
 pub mod Starting
 pub mod Sampling
+pub mod Below

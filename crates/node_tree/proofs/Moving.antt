@@ -176,7 +176,7 @@ directory_at w k is = there (object w k) is
     there None is = cc
     there (Some o) is = let kind : o.kind ≡ Directory = cc in ap is_directory kind
 
-parents_of : (w : World) (k : ℕ) → kind_of w k ≡ Some Directory → parent_of w k ≡ option_map (λ (n : Name). n.directory) (find (λ n. n.child == k) w.names)
+pub parents_of : (w : World) (k : ℕ) → kind_of w k ≡ Some Directory → parent_of w k ≡ option_map (λ (n : Name). n.directory) (find (λ n. n.child == k) w.names)
 parents_of w k is = ap (λ b. cond b (option_map (λ (n : Name). n.directory) (find (λ n. n.child == k) w.names)) None) (directory_at w k is)
 
 -- ---- whether there is room

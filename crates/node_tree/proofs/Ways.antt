@@ -5,12 +5,12 @@ use Rattle.std.specs.Option.{option_map_or}
 use Rattle.std.proofs.lemmas.Bool.Decides.{Decides-eqb}
 use Rattle.node_tree.specs.Ways.{is_met}
 
-here_is_met : (parents : ℕ → Option ℕ) (left directory here : ℕ) → here ≡ directory → is_met parents left directory here ≡ true
+pub here_is_met : (parents : ℕ → Option ℕ) (left directory here : ℕ) → here ≡ directory → is_met parents left directory here ≡ true
 unfolding is_met
 here_is_met parents zero directory here same = refl
 here_is_met parents (suc left) directory here same = ap (λ b. b || option_map_or (λ parent. is_met parents left directory parent) (parents here) false) ((Decides-eqb here directory).1 same)
 
-step_up : (parents : ℕ → Option ℕ) (left directory here : ℕ) (parent : Option ℕ) → (here ≡ directory → ⊥) → parents here ≡ parent → is_met parents (suc left) directory here ≡ option_map_or (λ parent. is_met parents left directory parent) parent false
+pub step_up : (parents : ℕ → Option ℕ) (left directory here : ℕ) (parent : Option ℕ) → (here ≡ directory → ⊥) → parents here ≡ parent → is_met parents (suc left) directory here ≡ option_map_or (λ parent. is_met parents left directory parent) parent false
 unfolding is_met
 step_up parents left directory here parent apart up =
     elim (here == directory) as (λ b. (here == directory) ≡ b → (b || option_map_or (λ parent. is_met parents left directory parent) (parents here) false) ≡ option_map_or (λ parent. is_met parents left directory parent) parent false) [

@@ -1,7 +1,8 @@
 -- The way from a directory up to the root. It asks the parents of directories alone.
-use Rattle.std.specs.Prelude.{ℕ, zero, suc, Bool, true, false, ◌==◌, ◌||◌, Option}
+use Rattle.std.specs.Prelude.{ℕ, zero, suc, Bool, true, false, ◌==◌, ◌||◌, Option, List}
 use Rattle.std.specs.Option.{option_map_or}
-use Rattle.node_tree.specs.World.{World, parent_of}
+use Rattle.node_tree.specs.World.{World, Name, parent_of}
+use Rattle.node_tree.specs.Sound.{IsIn}
 
 -- Whether a directory is met on the way up from another, both ends among them. A way that takes more steps than these is as
 -- good as one that never ends.
@@ -12,3 +13,8 @@ is_met parents (suc steps) directory from = (from == directory) || option_map_or
 -- Whether an object is a directory or lies below it. There are fewer directories than numbers were given, so no way is longer.
 abbrev pub is_within : World → ℕ → ℕ → Bool
 is_within w directory number = is_met (parent_of w) w.next_number directory number
+
+-- The same by names: an object lies in itself, and whatever has a name in what lies there lies there too.
+pub data LiesWithin (names : List Name) (directory : ℕ) : ℕ → Type 0 where
+  itself : LiesWithin names directory directory
+  below : (n : Name) → IsIn n names → LiesWithin names directory n.directory → LiesWithin names directory n.child
