@@ -1,20 +1,20 @@
 -- An operation that is read stands at the front.
-use Rattle.std.proofs.Common.{◌≡◌, ℕ, Bool, true, false, cond, List, ◌++◌, Option, Some, None, Result, Ok, Err, refl, sym, ap, subst, ◌∙◌, inl, inr, eq-eqb}
+use Rattle.std.proofs.Common.{◌≡◌, ℕ, Bool, true, false, cond, List, ◌++◌, Some, None, Ok, Err, refl, sym, ap, subst, ◌∙◌, inl, inr, eq-eqb}
 use Rattle.std.proofs.lemmas.Bool.{ne_eqb, cases_eq}
 use Rattle.std.proofs.lemmas.List.{append_cancel_right}
 use Rattle.std.specs.Prelude.{◌==◌, nat_lt, nat_le, ◌&&◌}
 use Rattle.xdr_wire.specs.declared.fault.XdrFault.{XdrFault}
 use Rattle.xdr_wire.specs.Xdr.{Xdr, Value, uint, pair}
-use Rattle.xdr_wire.specs.Reading.{◌>>=◌, Read as ReadOf, read_at}
-use Rattle.xdr_wire.specs.Wire.{Normal, in_normal_form, both}
+use Rattle.xdr_wire.specs.Reading.{Read as ReadOf, read_at}
+use Rattle.xdr_wire.specs.Wire.{Normal, in_normal_form}
 use Rattle.xdr_wire.proofs.Spelling.{begins_from_read}
 use Rattle.xdr_wire.proofs.Normal.{normal_ok, both_is}
 use Rattle.xdr_wire.proofs.Steps.{bind_ok, ok_is}
 use Rattle.nfs_types.specs.Forms.{trimmed, trimmed_set}
-use Rattle.nfs_ops.specs.Items.{Item, numbered, numbered_as, number, Stands}
+use Rattle.nfs_ops.specs.Items.{Item, number, Stands}
 use Rattle.nfs_ops.proofs.Nexts.{item, next_is}
 use Rattle.nfs_ops.specs.Forms.{access_args, close_args, commit_args, create_args, getattr_args, link_args, lookup_args, nverify_args, open_args, putfh_args, read_args, readdir_args, remove_args, rename_args, setattr_args, verify_args, write_args, exchange_id_args, create_session_args, destroy_session_args, sequence_args, destroy_clientid_args, reclaim_complete_args, create_normal, open_normal, readdir_normal, setattr_normal}
-use Rattle.nfs_ops.specs.Operations.{Operation, Access, Close, Commit, Create, GetAttr, GetFh, Link, Lookup, LookupP, NVerify, Open, PutFh, PutRootFh, Read, ReadDir, ReadLink, Remove, Rename, RestoreFh, SaveFh, SetAttr, Verify, Write, ExchangeId, CreateSession, DestroySession, Sequence, DestroyClientId, ReclaimComplete, Unsupported, Illegal, Bad, op_item, is_built, made, no_operation, next_at, next_from, or_bad, arguments_at, to_open_at, to_savefh_at, to_reclaim_complete_at, open_at, open_from, exchange_id_at, exchange_id_from}
+use Rattle.nfs_ops.specs.Operations.{Operation, Access, Close, Commit, Create, GetAttr, GetFh, Link, Lookup, LookupP, NVerify, Open, PutFh, PutRootFh, Read, ReadDir, ReadLink, Remove, Rename, RestoreFh, SaveFh, SetAttr, Verify, Write, ExchangeId, CreateSession, DestroySession, Sequence, DestroyClientId, ReclaimComplete, Unsupported, Illegal, op_item, is_built, made, no_operation, next_at, next_from, or_bad, arguments_at, to_open_at, to_savefh_at, to_reclaim_complete_at, open_from, exchange_id_from}
 
 -- two fields are read one behind the other
 pair_from : (t : Xdr) (bytes r rest : List ℕ) (k : ℕ) (v : Value t) → read_at uint bytes ≡ Ok (k, r) → read_at t r ≡ Ok (v, rest) → read_at (pair uint t) bytes ≡ Ok ((k, v), rest)

@@ -1,17 +1,15 @@
 -- An operation is read exactly where a spelling of it stands at the front.
-use Rattle.std.proofs.Common.{◌≡◌, ℕ, Bool, true, false, cond, List, ◌++◌, Option, Some, None, Result, Ok, Err, refl, sym, ap, subst, ◌∙◌, inl, inr}
-use Rattle.std.proofs.lemmas.Bool.{ne_eqb, cases_eq}
-use Rattle.xdr_wire.specs.declared.fault.XdrFault.{XdrFault}
-use Rattle.xdr_wire.specs.Xdr.{Xdr, Value, uint, pair, Begins}
-use Rattle.xdr_wire.specs.Reading.{◌>>=◌, Read as ReadOf, read_at}
+use Rattle.std.proofs.Common.{◌≡◌, ℕ, true, List, ◌++◌, Some, None, Ok, refl, sym, ap, ◌∙◌}
+use Rattle.xdr_wire.specs.Xdr.{Xdr, Value, uint, pair}
+use Rattle.xdr_wire.specs.Reading.{read_at}
 use Rattle.xdr_wire.specs.Wire.{Normal, normalized, in_normal_form, both}
 use Rattle.xdr_wire.proofs.Spelling.{begins_from_read, read_from_begins, again, spelled}
-use Rattle.xdr_wire.proofs.Normal.{normal_ok, to_normal, both_is}
+use Rattle.xdr_wire.proofs.Normal.{to_normal, both_is}
 use Rattle.xdr_wire.proofs.Steps.{bind_ok, ok_is}
 use Rattle.nfs_types.specs.Forms.{trimmed, trimmed_set}
-use Rattle.nfs_ops.specs.Items.{Item, numbered, numbered_as, number, Stands, ItemHasSpelling, ItemIsNormal, item_spelling}
+use Rattle.nfs_ops.specs.Items.{Item, number, Stands, ItemHasSpelling, ItemIsNormal, item_spelling}
 use Rattle.nfs_ops.specs.Forms.{access_args, close_args, commit_args, create_args, getattr_args, link_args, lookup_args, nverify_args, open_args, putfh_args, read_args, readdir_args, remove_args, rename_args, setattr_args, verify_args, write_args, exchange_id_args, create_session_args, destroy_session_args, sequence_args, destroy_clientid_args, reclaim_complete_args, create_normal, open_normal, readdir_normal, setattr_normal}
-use Rattle.nfs_ops.specs.Operations.{Operation, Access, Close, Commit, Create, GetAttr, GetFh, Link, Lookup, LookupP, NVerify, Open, PutFh, PutRootFh, Read, ReadDir, ReadLink, Remove, Rename, RestoreFh, SaveFh, SetAttr, Verify, Write, ExchangeId, CreateSession, DestroySession, Sequence, DestroyClientId, ReclaimComplete, Unsupported, Illegal, Bad, op_item, is_built, made, no_operation, next_at, next_from, or_bad, arguments_at, to_open_at, to_savefh_at, to_reclaim_complete_at, open_at, open_from, exchange_id_at, exchange_id_from}
+use Rattle.nfs_ops.specs.Operations.{Operation, Access, Close, Commit, Create, GetAttr, GetFh, Link, Lookup, LookupP, NVerify, Open, PutFh, PutRootFh, Read, ReadDir, ReadLink, Remove, Rename, RestoreFh, SaveFh, SetAttr, Verify, Write, ExchangeId, CreateSession, DestroySession, Sequence, DestroyClientId, ReclaimComplete, Unsupported, Illegal, Bad, op_item, is_built, made, next_at, next_from, or_bad, arguments_at, to_open_at, to_savefh_at, to_reclaim_complete_at, open_from, exchange_id_from}
 
 -- a number and what stands behind it, with any normal form
 abbrev pub item : ℕ → (t : Xdr) → Normal (Value t) → Value t → Item

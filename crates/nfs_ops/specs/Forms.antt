@@ -1,8 +1,8 @@
 -- The XDR types of each operation's arguments and of its result, in the order of the standard (RFC 8881, section 18; RFC
 -- 5662). A result stands behind the number and the status, where the status is OK.
-use Rattle.std.specs.Prelude.{ℕ, List, [], ◌∷◌, map}
+use Rattle.std.specs.Prelude.{ℕ, [], ◌∷◌, map}
 use Rattle.std.proofs.Common.{inl, inr}
-use Rattle.xdr_wire.specs.Xdr.{Xdr, Value, void, uint, hyper, signed_hyper, boolean, fixed, opaque, pair, array, chain, union, arm, no_more, fields}
+use Rattle.xdr_wire.specs.Xdr.{Xdr, Value, void, uint, hyper, boolean, fixed, opaque, array, chain, union, arm, no_more, fields}
 use Rattle.nfs_types.specs.Forms.{handle, stateid, time, bitmap, attributes, trimmed, trimmed_set}
 
 -- opaque<> and string<>: names, link texts and data have no bound but the record's

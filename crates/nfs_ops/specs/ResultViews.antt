@@ -1,5 +1,4 @@
 -- What a result says, without where it lies in memory.
-use Rattle.std.specs.Prelude.{ℕ}
 use Rattle.nfs_ops.specs.declared.op_result.OpResult.{OpResult}
 use Rattle.nfs_ops.specs.declared.op_result.OpResult.TheVariants as code
 use Rattle.nfs_ops.specs.Results.{Outcome, Access, Close, Commit, Create, GetAttr, GetFh, Link, Lookup, LookupP, NVerify, Open, PutFh, PutRootFh, Read, ReadDir, ReadLink, Remove, Rename, RestoreFh, SaveFh, SetAttr, Verify, Write, ExchangeId, CreateSession, DestroySession, Sequence, DestroyClientId, ReclaimComplete, refused, refusal}

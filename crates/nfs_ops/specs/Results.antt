@@ -1,6 +1,6 @@
 -- The result of an operation as it stands in a COMPOUND's (RFC 8881, sections 16.2 and 18): its number, its status and,
 -- where that is OK, what its form says.
-use Rattle.std.specs.Prelude.{ℕ, ◌==◌, if◌then◌else◌, List, [], ◌∷◌, length, Some}
+use Rattle.std.specs.Prelude.{ℕ, ◌==◌, if◌then◌else◌, [], ◌∷◌, length, Some}
 use Rattle.xdr_wire.specs.Xdr.{Value, uint, fields}
 use Rattle.nfs_types.specs.Forms.{bitmap}
 use Rattle.nfs_ops.specs.Items.{Item, done, done_as, plain, item_spelling}

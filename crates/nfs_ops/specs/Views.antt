@@ -1,11 +1,10 @@
 -- What each Rust value spells: the value of its form.
 use Rattle.std.specs.Prelude.{Some, None}
 use Rattle.std.proofs.Common.{inl, inr}
-use Rattle.xdr_wire.specs.Xdr.{Value, uint}
+use Rattle.xdr_wire.specs.Xdr.{Value}
 use Rattle.xdr_wire.specs.Wire.{at_most_one, array_values, chain_values}
 use Rattle.nfs_types.specs.Views.{handle_value, stateid_value, bitmap_value, attributes_value}
-use Rattle.nfs_ops.specs.Forms.{always, zeros, change_info, create_type, open_how, open_claim, entry, entry_normal, stable_how, implementation, channel, authsys, gss_handles, callback_security, access_args, access_result, close_args, close_result, commit_args, create_args, create_result, getattr_args, getattr_result, getfh_result, link_args, link_result, lookup_args, nverify_args, open_args, open_result, putfh_args, read_args, read_result, readdir_args, readdir_result, readlink_result, remove_args, remove_result, rename_args, rename_result, setattr_args, setattr_result, verify_args, write_args, write_result, exchange_id_args, exchange_id_result, create_session_args, create_session_result, destroy_session_args, sequence_args, sequence_result, destroy_clientid_args, reclaim_complete_args}
-use Rattle.nfs_ops.specs.ItemViews.{callback_security_value, entry_value}
+use Rattle.nfs_ops.specs.Forms.{zeros, change_info, create_type, open_how, open_claim, entry, entry_normal, stable_how, implementation, channel, callback_security, access_args, access_result, close_args, close_result, commit_args, create_args, create_result, getattr_args, getattr_result, getfh_result, link_args, link_result, lookup_args, nverify_args, open_args, open_result, putfh_args, read_args, read_result, readdir_args, readdir_result, readlink_result, remove_args, remove_result, rename_args, rename_result, setattr_args, setattr_result, verify_args, write_args, write_result, exchange_id_args, exchange_id_result, create_session_args, create_session_result, destroy_session_args, sequence_args, sequence_result, destroy_clientid_args, reclaim_complete_args}
 use Rattle.nfs_ops.specs.declared.change_info.ChangeInfo.{ChangeInfo}
 use Rattle.nfs_ops.specs.declared.channel.Channel.{Channel}
 use Rattle.nfs_ops.specs.declared.implementation.Implementation.{Implementation}

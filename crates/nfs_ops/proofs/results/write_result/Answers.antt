@@ -1,5 +1,5 @@
 -- What is written of each is what its form and its value spell, and takes no more bytes than is said.
-use Rattle.std.proofs.Common.{sym, ◌≤◌, arith, le_refl}
+use Rattle.std.proofs.Common.{sym, arith, le_refl}
 use Rattle.nfs_ops.proofs.Sizes.{fits, words_short, other_is_whole, open_short}
 use Rattle.nfs_ops.proofs.results.write_result.Goals as goal
 
