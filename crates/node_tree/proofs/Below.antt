@@ -57,9 +57,10 @@ module _ (kinds : ℕ → Option Kind) (names : List Name) (rooted : IsRooted ki
 
   all_apart : (k : ℕ) (xs : List ℕ) → ((q : ℕ) → list_any (nat_eq q) xs ≡ true → nat_eq k q ≡ false) → AllByRecursion (λ y. nat_eq k y ≡ false) xs
   all_apart k [] apart = tt
-  all_apart k (x ∷ xs) apart =
-      (apart x (ap (λ b. b || list_any (nat_eq x) xs) ((Decides-eqb x x).1 refl)),
-      all_apart k xs (λ q h. apart q (later (q == x) (list_any (nat_eq q) xs) h)))
+  all_apart k (x ∷ xs) apart = (
+    apart x (ap (λ b. b || list_any (nat_eq x) xs) ((Decides-eqb x x).1 refl)),
+    all_apart k xs (λ q h. apart q (later (q == x) (list_any (nat_eq q) xs) h)),
+  )
     where
       later : (a b : Bool) → b ≡ true → (a || b) ≡ true
       later true b h = refl
@@ -106,8 +107,8 @@ module _ (kinds : ℕ → Option Kind) (names : List Name) (rooted : IsRooted ki
     met k itself is (suc fuel) = here_is_met parents (suc fuel) directory k refl
     met k (below n stands lies) is (suc fuel) =
         by_number n.child directory
-          (λ at. here_is_met parents (suc fuel) directory n.child at)
-          (λ apart. step_up parents fuel directory n.child (Some n.directory) apart (parent_is n.child n is stands refl) ∙ met n.directory lies (rooted.ends n stands).0 fuel)
+        (λ at. here_is_met parents (suc fuel) directory n.child at)
+        (λ apart. step_up parents fuel directory n.child (Some n.directory) apart (parent_is n.child n is stands refl) ∙ met n.directory lies (rooted.ends n stands).0 fuel)
 
     no_parent : parents ROOT ≡ None
     no_parent = up_to ROOT rooted.root ∙ there (find (λ n. n.child == ROOT) names) refl
@@ -122,12 +123,12 @@ module _ (kinds : ℕ → Option Kind) (names : List Name) (rooted : IsRooted ki
     lies_below : (s k : ℕ) → Climbs names s k → kinds k ≡ Some Directory → (fuel : ℕ) → s < fuel → is_met parents fuel directory k ≡ true → LiesWithin names directory k
     lies_below zero k climbs is zero less h = absurd (omega (arith, less))
     lies_below zero k climbs is (suc fuel) less h = by_number k directory
-      (λ at. subst (LiesWithin names directory) (sym at) itself)
-      (λ apart. let f : is_met parents (suc fuel) directory k ≡ false = step_up parents fuel directory k None apart (ap parents climbs ∙ no_parent) in absurd (true≢false (sym h ∙ f)))
+        (λ at. subst (LiesWithin names directory) (sym at) itself)
+        (λ apart. let f : is_met parents (suc fuel) directory k ≡ false = step_up parents fuel directory k None apart (ap parents climbs ∙ no_parent) in absurd (true≢false (sym h ∙ f)))
     lies_below (suc s) k (n, stands, at, up) is zero less h = absurd (omega (arith, less))
     lies_below (suc s) k (n, stands, at, up) is (suc fuel) less h = by_number k directory
-      (λ at. subst (LiesWithin names directory) (sym at) itself)
-      (λ apart.
+        (λ at. subst (LiesWithin names directory) (sym at) itself)
+        (λ apart.
         let h' : is_met parents fuel directory n.directory ≡ true = sym (step_up parents fuel directory k (Some n.directory) apart (parent_is k n is stands at)) ∙ h in
         subst (LiesWithin names directory) at (below n stands (lies_below s n.directory up (rooted.ends n stands).0 fuel (omega (arith, less)) h')))
 
@@ -142,7 +143,7 @@ pub tells : (w : World) → IsSound w → (directory number : ℕ) → kind_of w
 tells w sound directory number is h =
     let way_up = sound.rooted.reaches_root number is in
     lies_below (kind_of w) w.names sound.rooted (parent_of w) (parents_of w) directory way_up.0 number way_up.1 is w.next_number
-      (short_way (kind_of w) w.names sound.rooted w.next_number (numbers_below w sound) way_up.0 number way_up.1 is) h
+    (short_way (kind_of w) w.names sound.rooted w.next_number (numbers_below w sound) way_up.0 number way_up.1 is) h
 
 pub told : (w : World) → IsSound w → (directory number : ℕ) → kind_of w number ≡ Some Directory → LiesWithin w.names directory number → is_within w directory number ≡ true
 told w sound directory number is lies = met (kind_of w) w.names sound.rooted (parent_of w) (parents_of w) directory number lies is w.next_number
