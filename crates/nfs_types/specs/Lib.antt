@@ -16,3 +16,5 @@ pub mod Given
 pub mod Seen
 pub mod SeenViews
 pub mod ShownViews
+pub mod Sendable
+pub mod Rising

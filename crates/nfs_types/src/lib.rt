@@ -30,7 +30,7 @@ pub use bitmap::Bitmap;
 pub use facts::ObjectFacts;
 pub use given::GivenAttributes;
 pub use handle::Handle;
-pub use laws::{given_is_asked_and_supported, sets_are_the_table};
+pub use laws::{given_is_asked_and_supported, sets_are_the_table, written_is_seen};
 pub use moment::Moment;
 pub use name::{MAX_NAME, check_name};
 pub use seen::{SeenAttributes, read_given};

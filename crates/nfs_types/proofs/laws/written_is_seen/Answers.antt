@@ -1,0 +1,5 @@
+use Rattle.nfs_types.proofs.Showing.{written_seen}
+use Rattle.nfs_types.proofs.laws.written_is_seen.Goals as goal
+
+pub returns : goal.returns
+returns c = written_seen
