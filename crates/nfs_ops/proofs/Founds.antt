@@ -25,8 +25,8 @@ abbrev alone : Operation → List ℕ → ReadOf Operation
 alone op r = Ok (op, r)
 
 found : (k : ℕ) (t : Xdr) (normal : Normal (Value t)) (op : Value t → Operation) (bytes r rest : List ℕ) (o : Operation)
-  → ((v : Value t) → op_item (op v) ≡ item k t normal v) → read_at uint bytes ≡ Ok (k, r)
-  → made op (in_normal_form normal (read_at t r)) ≡ Ok (o, rest) → Stands (op_item o) bytes rest
+    → ((v : Value t) → op_item (op v) ≡ item k t normal v) → read_at uint bytes ≡ Ok (k, r)
+    → made op (in_normal_form normal (read_at t r)) ≡ Ok (o, rest) → Stands (op_item o) bytes rest
 found k t normal op bytes r rest o is number_is e =
     let a = bind_ok (in_normal_form normal (read_at t r)) _ (o, rest) e in
     let same : (op a.0.0, a.0.1) ≡ (o, rest) = ok_is (op a.0.0, a.0.1) (o, rest) a.2 in
@@ -36,7 +36,7 @@ found k t normal op bytes r rest o is number_is e =
     subst (λ (y : Operation × List ℕ). Stands (op_item y.0) bytes y.1) same (subst (λ (i : Item). Stands i bytes a.0.1) (sym (is a.0.0)) stands)
 
 lone_found : (k : ℕ) (op : Operation) (bytes r rest : List ℕ) (o : Operation) → op_item op ≡ number k → read_at uint bytes ≡ Ok (k, r)
-  → alone op r ≡ Ok (o, rest) → Stands (op_item o) bytes rest
+    → alone op r ≡ Ok (o, rest) → Stands (op_item o) bytes rest
 lone_found k op bytes r rest o is number_is e =
     let stands : Stands (number k) bytes r = (k, begins_from_read uint k bytes r number_is, refl) in
     subst (λ (y : Operation × List ℕ). Stands (op_item y.0) bytes y.1) (ok_is (op, r) (o, rest) e) (subst (λ (i : Item). Stands i bytes r) (sym is) stands)
@@ -119,7 +119,7 @@ to_reclaim_complete_found n bytes r rest o built number_is e =
     absurd (not_built (no_operation n) r rest o (none_is_built (nat_le 3 n && nat_le n 58) n) e58 built))))))))))
 
 by_group : (n : ℕ) (bytes r rest : List ℕ) (o : Operation) → is_built o ≡ true → read_at uint bytes ≡ Ok (n, r) → (b d : Bool)
-  → cond b (to_open_at n r) (cond d (to_savefh_at n r) (to_reclaim_complete_at n r)) ≡ Ok (o, rest) → Stands (op_item o) bytes rest
+    → cond b (to_open_at n r) (cond d (to_savefh_at n r) (to_reclaim_complete_at n r)) ≡ Ok (o, rest) → Stands (op_item o) bytes rest
 by_group n bytes r rest o built number_is true d e = to_open_found n bytes r rest o built number_is e
 by_group n bytes r rest o built number_is false true e = to_savefh_found n bytes r rest o built number_is e
 by_group n bytes r rest o built number_is false false e = to_reclaim_complete_found n bytes r rest o built number_is e

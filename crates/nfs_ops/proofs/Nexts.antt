@@ -16,7 +16,7 @@ abbrev pub item : ℕ → (t : Xdr) → Normal (Value t) → Value t → Item
 item k t normal w = record { form = pair uint t; normal = both None normal; value = (k, w) }
 
 -- what two fields are read from
-pair_parts : (t : Xdr) (bytes rest : List ℕ) (v : Value (pair uint t)) → read_at (pair uint t) bytes ≡ Ok (v, rest) → (r : List ℕ) × (read_at uint bytes ≡ Ok (v.0, r)) × (read_at t r ≡ Ok (v.1, rest))
+pub pair_parts : (t : Xdr) (bytes rest : List ℕ) (v : Value (pair uint t)) → read_at (pair uint t) bytes ≡ Ok (v, rest) → (r : List ℕ) × (read_at uint bytes ≡ Ok (v.0, r)) × (read_at t r ≡ Ok (v.1, rest))
 pair_parts t bytes rest v e =
     let a = bind_ok (read_at uint bytes) _ (v, rest) e in
     let b = bind_ok (read_at t a.0.1) _ (v, rest) a.2 in

@@ -5,5 +5,7 @@ pub mod UnsupportedViews
 pub mod Views
 pub mod Operations
 pub mod OpViews
+pub mod ResultReading
 pub mod Results
 pub mod ResultViews
+pub mod Readable

@@ -43,11 +43,8 @@ impl<'a> Spell for CreateSessionArgs<'a> {
             program,
             security,
         } = self;
-        (
-            client,
-            (sequence, (flags, (fore, (back, (program, security))))),
-        )
-            .write(writer)
+        let last = (fore, (back, (program, security)));
+        (client, (sequence, (flags, last))).write(writer)
     }
 }
 
@@ -96,11 +93,8 @@ impl Spell for CreateSessionResult {
 
     fn write<A: Allocator>(self, writer: &mut Writer<A>) -> Result<(), Full> {
         let session = self.session;
-        (
-            session,
-            (self.sequence, (self.flags, (self.fore, self.back))),
-        )
-            .write(writer)
+        let last = (self.flags, (self.fore, self.back));
+        (session, (self.sequence, last)).write(writer)
     }
 }
 

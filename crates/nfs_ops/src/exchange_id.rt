@@ -32,14 +32,8 @@ impl<'a> Spell for ExchangeIdArgs<'a> {
 
     fn write<A: Allocator>(self, writer: &mut Writer<A>) -> Result<(), Full> {
         let verifier = self.verifier;
-        (
-            verifier,
-            (
-                self.owner,
-                (self.flags, (Always::<0>, AtMostOne(self.implementation))),
-            ),
-        )
-            .write(writer)
+        let last = (Always::<0>, AtMostOne(self.implementation));
+        (verifier, (self.owner, (self.flags, last))).write(writer)
     }
 }
 
@@ -84,20 +78,9 @@ impl<'a> Spell for ExchangeIdResult<'a> {
     ghost normal = { None };
 
     fn write<A: Allocator>(self, writer: &mut Writer<A>) -> Result<(), Full> {
-        (
-            self.client,
-            (
-                self.sequence,
-                (
-                    self.flags,
-                    (
-                        Always::<0>,
-                        (Zeros, (self.server, (self.scope, Always::<0>))),
-                    ),
-                ),
-            ),
-        )
-            .write(writer)
+        let names = (self.server, (self.scope, Always::<0>));
+        let last = (self.flags, (Always::<0>, (Zeros, names)));
+        (self.client, (self.sequence, last)).write(writer)
     }
 }
 

@@ -32,6 +32,7 @@ mod readlink;
 mod reclaim_complete;
 mod remove;
 mod rename;
+mod result_reading;
 mod results;
 mod sequence;
 mod setattr;
@@ -56,7 +57,10 @@ pub use exchange_id::{ExchangeIdArgs, ExchangeIdResult, MAX_SERVER};
 pub use getattr::{GetAttrArgs, GetAttrResult};
 pub use getfh::GetFhResult;
 pub use implementation::Implementation;
-pub use laws::{reading_is_spelling, reading_looks_no_further, what_is_written_is_read};
+pub use laws::{
+    a_result_that_stands_is_read, a_written_result_is_read, reading_is_spelling,
+    reading_looks_no_further, what_is_written_is_read,
+};
 pub use link::{LinkArgs, LinkResult};
 pub use lookup::LookupArgs;
 pub use nverify::NVerifyArgs;
@@ -71,6 +75,7 @@ pub use readlink::{MAX_TEXT, ReadLinkResult};
 pub use reclaim_complete::ReclaimCompleteArgs;
 pub use remove::{RemoveArgs, RemoveResult};
 pub use rename::{RenameArgs, RenameResult};
+pub use result_reading::read_result;
 pub use results::write_result;
 pub use sequence::{SequenceArgs, SequenceResult};
 pub use setattr::{SetAttrArgs, SetAttrResult};

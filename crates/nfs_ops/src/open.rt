@@ -125,17 +125,9 @@ impl<'a> Spell for OpenArgs<'a> {
     ghost normal = { Some open_normal };
 
     fn write<A: Allocator>(self, writer: &mut Writer<A>) -> Result<(), Full> {
-        (
-            self.seqid,
-            (
-                self.access,
-                (
-                    self.deny,
-                    (self.client, (self.owner, (self.how, self.claim))),
-                ),
-            ),
-        )
-            .write(writer)
+        let last = (self.owner, (self.how, self.claim));
+        let rest = (self.deny, (self.client, last));
+        (self.seqid, (self.access, rest)).write(writer)
     }
 }
 
@@ -177,11 +169,8 @@ impl Spell for OpenResult {
     ghost normal = { Some open_result_normal };
 
     fn write<A: Allocator>(self, writer: &mut Writer<A>) -> Result<(), Full> {
-        (
-            self.stateid,
-            (self.change, (Always::<0>, (self.set, Always::<0>))),
-        )
-            .write(writer)
+        let last = (Always::<0>, (self.set, Always::<0>));
+        (self.stateid, (self.change, last)).write(writer)
     }
 }
 

@@ -32,11 +32,8 @@ impl Spell for ReadDirArgs {
 
     fn write<A: Allocator>(self, writer: &mut Writer<A>) -> Result<(), Full> {
         let verifier = self.verifier;
-        (
-            self.cookie,
-            (verifier, (self.dircount, (self.maxcount, self.asked))),
-        )
-            .write(writer)
+        let last = (self.dircount, (self.maxcount, self.asked));
+        (self.cookie, (verifier, last)).write(writer)
     }
 }
 

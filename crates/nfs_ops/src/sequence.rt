@@ -30,11 +30,8 @@ impl Spell for SequenceArgs {
 
     fn write<A: Allocator>(self, writer: &mut Writer<A>) -> Result<(), Full> {
         let session = self.session;
-        (
-            session,
-            (self.number, (self.slot, (self.highest, self.keep))),
-        )
-            .write(writer)
+        let last = (self.slot, (self.highest, self.keep));
+        (session, (self.number, last)).write(writer)
     }
 }
 
@@ -79,14 +76,8 @@ impl Spell for SequenceResult {
 
     fn write<A: Allocator>(self, writer: &mut Writer<A>) -> Result<(), Full> {
         let session = self.session;
-        (
-            session,
-            (
-                self.number,
-                (self.slot, (self.highest, (self.target, Always::<0>))),
-            ),
-        )
-            .write(writer)
+        let last = (self.highest, (self.target, Always::<0>));
+        (session, (self.number, (self.slot, last))).write(writer)
     }
 }
 

@@ -74,7 +74,8 @@ impl<'a> Spell for WriteArgs<'a> {
     ghost normal = { None };
 
     fn write<A: Allocator>(self, writer: &mut Writer<A>) -> Result<(), Full> {
-        (self.stateid, (self.offset, (self.stable, self.data))).write(writer)
+        let last = (self.stable, self.data);
+        (self.stateid, (self.offset, last)).write(writer)
     }
 }
 

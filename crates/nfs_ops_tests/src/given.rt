@@ -1,5 +1,5 @@
 //! What the tests call: functions with no contract, so that the prover doesn't compute on a test's bytes.
-use nfs_ops::{Op, OpResult, next_op, write_op, write_result};
+use nfs_ops::{Op, OpResult, next_op, read_result, write_op, write_result};
 use std::alloc::{AllocError, Global};
 use xdr_wire::{Full, Reader, Writer};
 
@@ -53,4 +53,13 @@ pub fn written(
 /// The number that stands at the front, 0 where the bytes are fewer.
 pub fn number_of(bytes: &[u8]) -> u32 {
     Reader::new(bytes).u32().unwrap_or(0)
+}
+
+/// What is written of the result that the bytes spell, nothing where they spell none.
+pub fn result_again(alloc: Global, bytes: &[u8]) -> Result<Vec<u8>, AllocError> {
+    let mut writer = Writer::new(alloc, bytes.len())?;
+    if let Ok(outcome) = read_result(&mut Reader::new(bytes)) {
+        let _ = write_result(outcome, &mut writer);
+    }
+    Ok(writer.into_bytes())
 }

@@ -48,6 +48,8 @@ fn results(rt: HostRuntime) -> Result<(), Fail> {
         let (written, answer) = given::written(rt.alloc(), bytes.len(), results::result_of(index))?;
         assert_eq!(rt; answer, Ok(()));
         assert_eq!(rt; written.as_slice(), bytes, "result {index}");
+        let again = given::result_again(rt.alloc(), bytes)?;
+        assert_eq!(rt; again.as_slice(), bytes, "result {index}");
         let room = bytes.len().saturating_sub(1);
         let (less, answer) = given::written(rt.alloc(), room, results::result_of(index))?;
         assert_eq!(rt; answer, Err(Full));
@@ -62,7 +64,19 @@ fn lent(rt: HostRuntime) -> Result<(), Fail> {
     for index in 0..lent::COUNT {
         let (written, answer) = given::written(rt.alloc(), 128, lent::result_of(index)?)?;
         assert_eq!(rt; answer, Ok(()));
-        assert_eq!(rt; written.as_slice(), lent::bytes_of(index), "result {index}");
+        let bytes = lent::bytes_of(index);
+        assert_eq!(rt; written.as_slice(), bytes, "result {index}");
+        let again = given::result_again(rt.alloc(), bytes)?;
+        assert_eq!(rt; again.as_slice(), bytes, "result {index}");
+    }
+    Ok(())
+}
+
+/// What is no result: a number of no operation that is OK, a status that isn't one, a change that isn't atomic, and no bytes.
+#[test]
+fn no_results(rt: HostRuntime) -> Result<(), Fail> {
+    for bytes in vectors::no_results() {
+        assert!(rt; given::result_again(rt.alloc(), bytes)?.is_empty(), "{bytes:?}");
     }
     Ok(())
 }
