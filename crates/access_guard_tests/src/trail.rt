@@ -1,6 +1,8 @@
 //! Lines, and the trail that keeps the last.
 
-use crate::trees::{LOOKUP, READ, WRITE, add, allow, decide, entry, guarded, mode_755, root, sample, text};
+use crate::trees::{
+    LOOKUP, READ, WRITE, add, allow, decide, entry, guarded, mode_755, root, sample, text,
+};
 use Cause::{ByEntry, Missing};
 use Decision::{Granted, Refused};
 use access_guard::{Cause, Decision, Demand, Guard};
@@ -27,7 +29,10 @@ fn a_refusal_names_the_entry(rt: HostRuntime) -> Result<(), Fail> {
     let caller = Caller::new(1002, 0, &[]);
     assert_eq!(rt; decide(&mut guarded, bits(1, 2), &caller, LOOKUP), want);
     let text = text(alloc, guarded.guard())?;
-    assert_eq!(rt; text.as_slice(), b"DENY uid=1002 op=LOOKUP obj=1 mask=00000002 entry=3\n".as_slice());
+    assert_eq!(rt;
+        text.as_slice(),
+        b"DENY uid=1002 op=LOOKUP obj=1 mask=00000002 entry=3\n".as_slice()
+    );
     assert_eq!(rt; guarded.guard().total(), 1);
     Ok(())
 }
@@ -37,7 +42,14 @@ fn audited_reads(rt: HostRuntime) -> Result<(), Fail> {
     let alloc = rt.alloc();
     let mut tree = root(alloc, &mode_755())?;
     let audit = entry(EntryKind::Audit, 0x30, 0x1, Who::Everyone);
-    add(alloc, &mut tree, b"f", Kind::File, 1001, &[audit, allow(0x1)])?;
+    add(
+        alloc,
+        &mut tree,
+        b"f",
+        Kind::File,
+        1001,
+        &[audit, allow(0x1)],
+    )?;
     let mut guarded = guarded(alloc, tree, 1, RandomState::new(&rt)?)?;
     let caller = Caller::new(1002, 7, &[]);
     for _ in 0..2 {
@@ -50,7 +62,10 @@ fn audited_reads(rt: HostRuntime) -> Result<(), Fail> {
     };
     assert_eq!(rt; decide(&mut guarded, bits(2, 2), &caller, WRITE), want);
     let text = text(alloc, guarded.guard())?;
-    assert_eq!(rt; text.as_slice(), b"AUDIT uid=1002 op=READ obj=2 mask=00000001 granted entry=0\nAUDIT uid=1002 op=READ obj=2 mask=00000001 granted entry=0\nDENY uid=1002 op=WRITE obj=2 mask=00000002 missing=00000002\n".as_slice());
+    assert_eq!(rt;
+        text.as_slice(),
+        b"AUDIT uid=1002 op=READ obj=2 mask=00000001 granted entry=0\nAUDIT uid=1002 op=READ obj=2 mask=00000001 granted entry=0\nDENY uid=1002 op=WRITE obj=2 mask=00000002 missing=00000002\n".as_slice()
+    );
     Ok(())
 }
 
@@ -68,7 +83,10 @@ fn a_refused_memory_changes_no_answer(rt: HostRuntime) -> Result<(), Fail> {
             none = none.saturating_add(1);
             continue;
         };
-        assert_eq!(rt; guard.decide(bits(1, 0x20), &tree, &caller, LOOKUP), Granted);
+        assert_eq!(rt;
+            guard.decide(bits(1, 0x20), &tree, &caller, LOOKUP),
+            Granted
+        );
         let refused = guard.decide(bits(2, 0x2), &tree, &caller, WRITE);
         assert!(rt; !refused.is_granted());
         guard.settle(true);
@@ -79,6 +97,9 @@ fn a_refused_memory_changes_no_answer(rt: HostRuntime) -> Result<(), Fail> {
             forgot = forgot.saturating_add(1);
         }
     }
-    assert!(rt; none > 0 && forgot > 0 && kept > 0, "{none} {forgot} {kept}");
+    assert!(rt;
+        none > 0 && forgot > 0 && kept > 0,
+        "{none} {forgot} {kept}"
+    );
     Ok(())
 }
