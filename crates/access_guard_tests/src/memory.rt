@@ -39,12 +39,8 @@ fn the_one_asked_last_stands_first(rt: HostRuntime) -> Result<(), Fail> {
     let alloc = rt.alloc();
     let mut guarded = guarded(alloc, sample(alloc)?, 2, RandomState::new(&rt)?)?;
     let caller = Caller::new(1002, 100, &[]);
-    for (object, mask) in [(1, 0x20), (2, 0x1)] {
-        assert_eq!(rt;
-            decide(&mut guarded, bits(object, mask), &caller, LOOKUP),
-            Granted
-        );
-    }
+    assert_eq!(rt; decide(&mut guarded, bits(1, 0x20), &caller, LOOKUP), Granted);
+    assert_eq!(rt; decide(&mut guarded, bits(2, 0x1), &caller, LOOKUP), Granted);
     let examined = guarded.guard().examined();
     assert_eq!(rt;
         decide(&mut guarded, bits(1, 0x20), &caller, LOOKUP),
