@@ -254,13 +254,7 @@ impl<A: Allocator + Copy> GuardedTree<A> {
     }
 
     /// As [`Tree::write`].
-    pub fn write(
-        &mut self,
-        file: u64,
-        offset: u64,
-        more: &[u8],
-        at: At,
-    ) -> Result<(), TreeFault>
+    pub fn write(&mut self, file: u64, offset: u64, more: &[u8], at: At) -> Result<(), TreeFault>
         requires tick { IsTick self.old.world at.tick }
         requires file { kind_of self.old.world file ≡ Some Kind.File }
         ensures refused { MatchOption (write_refusal offset more.now) (IsOkUnless result TreeFault.Memory) (λ fault. result ≡ Err fault) }

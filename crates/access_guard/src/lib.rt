@@ -15,7 +15,9 @@ pub use access_rows::Demand;
 pub use decision::{Cause, Decision};
 pub use guard::Guard;
 pub use guarded_tree::GuardedTree;
-pub use laws::{calls_are_their_look_ups, changes_keep_agreement, misses_are_counted, quiet_hits_count_nothing};
+pub use laws::{
+    calls_are_their_look_ups, changes_keep_agreement, misses_are_counted, quiet_hits_count_nothing,
+};
 pub use line::{Line, LineKind};
 pub use memory::Key;
 pub use text::{LineText, MOST_TEXT, write_line};

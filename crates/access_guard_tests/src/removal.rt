@@ -34,7 +34,11 @@ fn ask(
     let mut guarded = guarded(alloc, tree, 4, hasher)?;
     let demand = Demand::Removal { parent: 1, target };
     let caller = Caller::new(1002, 7, &[]);
-    assert_eq!(rt; decide(&mut guarded, demand, &caller, REMOVE), want, "{line}");
+    assert_eq!(rt;
+        decide(&mut guarded, demand, &caller, REMOVE),
+        want,
+        "{line}"
+    );
     let text = text(alloc, guarded.guard())?;
     assert_eq!(rt; text.as_slice(), line.as_bytes());
     Ok(())

@@ -1,5 +1,7 @@
 //! Trees to decide on, and the guards of their lists.
 ghost use Rattle.std.specs.Prelude.{◌≡◌, [], IfOk};
+ghost use Rattle.node_tree.specs.World.{World};
+ghost use Rattle.access_guard.specs.Memory.{Agrees};
 
 use access_guard::{Decision, Demand, Guard, GuardedTree, write_line};
 use acl_list::{AclList, Entry, EntryKind, Kind, Who};
@@ -140,6 +142,32 @@ pub fn decide<A: Allocator + Copy>(
 {
     let decision = guarded.decide(demand, caller, op);
     guarded.settle(true);
+    decision
+}
+
+/// A guard that remembers one summary.
+pub fn guard<A: Allocator + Copy>(alloc: A, hasher: RandomState) -> Result<Guard<A>, AllocError>
+    ensures none { IfOk result (λ guard. guard.log.held ≡ []) }
+    ensures agrees { IfOk result (λ guard. (w : World) → Agrees guard.memory.remembered w) }
+{
+    Guard::new(alloc, NonZeroUsize::MIN, hasher)
+}
+
+/// Decides on the lists of a tree that the guard agrees with, and keeps the lines.
+pub fn decide_on<A: Allocator + Copy, B: Allocator + Copy>(
+    guard: &mut Guard<A>,
+    demand: Demand,
+    tree: &Tree<B>,
+    caller: &Caller,
+    op: u32,
+) -> Decision
+    requires none { guard.old.log.held ≡ [] }
+    requires agrees { Agrees guard.old.memory.remembered tree.now }
+    ensures none { guard.new.log.held ≡ [] }
+    ensures agrees { Agrees guard.new.memory.remembered tree.now }
+{
+    let decision = guard.decide(demand, tree, caller, op);
+    guard.settle(true);
     decision
 }
 
