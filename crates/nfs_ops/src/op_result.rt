@@ -67,17 +67,17 @@ pub enum OpResult<'a> {
     Verify,
     /// WRITE (38).
     Write(WriteResult),
-    /// EXCHANGEID (42).
+    /// EXCHANGE_ID (42).
     ExchangeId(ExchangeIdResult<'a>),
-    /// CREATESESSION (43).
+    /// CREATE_SESSION (43).
     CreateSession(CreateSessionResult),
-    /// DESTROYSESSION (44).
+    /// DESTROY_SESSION (44).
     DestroySession,
     /// SEQUENCE (53).
     Sequence(SequenceResult),
-    /// DESTROYCLIENTID (57).
+    /// DESTROY_CLIENTID (57).
     DestroyClientId,
-    /// RECLAIMCOMPLETE (58).
+    /// RECLAIM_COMPLETE (58).
     ReclaimComplete,
     /// The operation of this number has this status, and not OK.
     Refused(u32, Status),

@@ -76,7 +76,10 @@ fn lent(rt: HostRuntime) -> Result<(), Fail> {
 #[test]
 fn no_results(rt: HostRuntime) -> Result<(), Fail> {
     for bytes in vectors::no_results() {
-        assert!(rt; given::result_again(rt.alloc(), bytes)?.is_empty(), "{bytes:?}");
+        assert!(rt;
+            given::result_again(rt.alloc(), bytes)?.is_empty(),
+            "{bytes:?}"
+        );
     }
     Ok(())
 }
