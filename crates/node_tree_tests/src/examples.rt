@@ -1,147 +1,155 @@
 //! Single changes, by hand from the standard.
 
-use crate::acting::{
-    Outcome, add, after, change, link, rename, resize, set_list, set_owner, size, stamp, times,
-    unlink, write,
-};
-use acl_list::{AclList, Entry, EntryKind, Who};
-use node_tree::{Kind, Tree, TreeFault};
+use crate::acting::Outcome::{Done, Made, Refused};
+use crate::acting::{Outcome, after, set_list, set_owner, stamp, times};
+use crate::steps::Step::{Create, Link, Mkdir, Rename, Resize, Unlink, Write};
+use crate::steps::{Step, walk};
+use node_tree::TreeFault::{Exist, Inval, NoEnt, NotEmpty};
+use node_tree::{AclList, Tree};
+use std::alloc::Global;
+use std::process::Abort;
 use std::test::Fail;
 
-fn refused(fault: TreeFault) -> Outcome {
-    Outcome::Refused(fault)
+/// The two times of objects, in seconds: the number of the tick in which each was set.
+fn see_times(
+    rt: &impl Abort,
+    tree: &Tree<Global>,
+    rows: &[(u64, Option<(i64, i64)>)],
+) -> Result<(), Fail> {
+    for (number, want) in rows {
+        assert_eq!(rt; times(tree, *number), *want, "of {number}");
+    }
+    Ok(())
 }
+
+/// What is listed after a cookie of a directory.
+fn see_names(
+    rt: &impl Abort,
+    tree: &Tree<Global>,
+    rows: &[(u64, u64, Option<(u64, u64)>)],
+) -> Result<(), Fail> {
+    for (directory, cookie, want) in rows {
+        assert_eq!(rt;
+            after(tree, *directory, *cookie),
+            *want,
+            "of {directory} after {cookie}"
+        );
+    }
+    Ok(())
+}
+
+/// What is read of a file at an offset, with zeros behind it.
+fn see_bytes(
+    rt: &impl Abort,
+    tree: &Tree<Global>,
+    rows: &[(u64, usize, [u8; 4])],
+) -> Result<(), Fail> {
+    for (offset, count, want) in rows {
+        let mut bytes = [0u8; 4];
+        assert_eq!(rt; tree.read(2, *offset, &mut bytes), *count, "at {offset}");
+        assert_eq!(rt; bytes, *want, "at {offset}");
+    }
+    Ok(())
+}
+
+const GAPS: &[(Step, Outcome)] = &[
+    (Resize(2, 1), Done),
+    (Write(2, 4095, b"xy"), Done),
+    (Resize(2, 4096), Done),
+    (Resize(2, 4097), Done),
+];
+
+const BYTES: &[(u64, usize, [u8; 4])] = &[
+    (0, 4, [b'h', 0, 0, 0]),
+    (4094, 3, [0, b'x', 0, 0]),
+    (4097, 0, [0, 0, 0, 0]),
+];
 
 /// Zeros stand between the end and the data, and behind an end that was cut.
 #[test]
 fn gaps_are_zeros(rt: HostRuntime) -> Result<(), Fail> {
     let mut tree = Tree::sample(rt.alloc())?;
-    assert_eq!(rt; resize(&mut tree, 2, 1), Outcome::Done);
-    assert_eq!(rt; write(&mut tree, 2, 4095, b"xy"), Outcome::Done);
-    assert_eq!(rt; size(&tree, 2), Some(4097));
-    let mut bytes = [7u8; 4];
-    assert_eq!(rt; tree.read(2, 0, &mut bytes), 4);
-    assert_eq!(rt; bytes, [b'h', 0, 0, 0]);
-    assert_eq!(rt; tree.read(2, 4094, &mut bytes), 3);
-    assert_eq!(rt; bytes, [0, b'x', b'y', 0]);
-    assert_eq!(rt; resize(&mut tree, 2, 4096), Outcome::Done);
-    assert_eq!(rt; resize(&mut tree, 2, 4097), Outcome::Done);
-    assert_eq!(rt; tree.read(2, 4095, &mut bytes), 2);
-    assert_eq!(rt; bytes, [b'x', 0, b'y', 0]);
-    assert_eq!(rt; tree.read(2, 4097, &mut bytes), 0);
-    assert_eq!(rt; tree.read(99, 0, &mut bytes), 0);
-    Ok(())
+    walk(&rt, rt.alloc(), &mut tree, GAPS)?;
+    see_bytes(&rt, &tree, BYTES)
 }
+
+const LAST_NAMES: &[(Step, Outcome)] = &[
+    (Link(3, b"b", 2), Done),
+    (Unlink(1, b"notes"), Done),
+    (Unlink(1, b"pub"), Refused(NotEmpty)),
+    (Unlink(3, b"b"), Done),
+    (Unlink(3, b"b"), Refused(NoEnt)),
+    (Create(1, b"notes"), Made(4)),
+    (Create(1, b"notes"), Refused(Exist)),
+];
 
 /// An object goes with its last name, and its number is never another's.
 #[test]
 fn objects_go_with_their_last_name(rt: HostRuntime) -> Result<(), Fail> {
     let mut tree = Tree::sample(rt.alloc())?;
-    assert_eq!(rt; link(&mut tree, 3, b"b", 2), Outcome::Done);
-    assert_eq!(rt; times(&tree, 2), Some((0, 4)));
-    assert_eq!(rt; times(&tree, 3), Some((4, 4)));
-    assert_eq!(rt; unlink(&mut tree, 1, b"notes"), Outcome::Done);
-    assert_eq!(rt; tree.find(3, b"b"), Some(2));
-    assert_eq!(rt; times(&tree, 2), Some((0, 5)));
-    assert_eq!(rt; times(&tree, 1), Some((5, 5)));
-    assert_eq!(rt; unlink(&mut tree, 1, b"pub"), refused(TreeFault::NotEmpty));
-    assert_eq!(rt; unlink(&mut tree, 3, b"b"), Outcome::Done);
-    assert_eq!(rt; tree.object(2).is_none(), true);
-    assert_eq!(rt;
-        add(&mut tree, rt.alloc(), 1, b"notes", Kind::File),
-        Outcome::Made(4)
-    );
-    assert_eq!(rt;
-        add(&mut tree, rt.alloc(), 1, b"notes", Kind::File),
-        refused(TreeFault::Exist)
-    );
-    assert_eq!(rt; after(&tree, 1, 0), Some((4, 3)));
-    assert_eq!(rt; after(&tree, 1, 4), Some((6, 4)));
-    Ok(())
+    walk(&rt, rt.alloc(), &mut tree, LAST_NAMES)?;
+    see_times(
+        &rt,
+        &tree,
+        &[(1, Some((7, 7))), (2, None), (3, Some((6, 6)))],
+    )?;
+    see_names(&rt, &tree, &[(1, 0, Some((4, 3))), (1, 4, Some((6, 4)))])
 }
 
-/// A list is the object's, whatever the name; list and owner take a stamp each.
-#[test]
-fn lists_and_owners_take_stamps(rt: HostRuntime) -> Result<(), Fail> {
-    let mut tree = Tree::sample(rt.alloc())?;
-    assert_eq!(rt; link(&mut tree, 1, b"b", 2), Outcome::Done);
-    let mut list = AclList::new(rt.alloc());
-    list.push(Entry {
-        kind: EntryKind::Allow,
-        flags: 0,
-        mask: 4,
-        who: Who::Everyone,
-    })?;
-    assert_eq!(rt; set_list(&mut tree, 2, list), Outcome::Done);
-    assert_eq!(rt; stamp(&tree, 2), Some(4));
-    assert_eq!(rt; tree.find(1, b"notes"), tree.find(1, b"b"));
-    assert_eq!(rt; set_owner(&mut tree, 2, 5, 6), Outcome::Done);
-    assert_eq!(rt; stamp(&tree, 2), Some(5));
-    assert_eq!(rt; change(&tree, 2), Some(6));
-    assert_eq!(rt; change(&tree, 1), Some(4));
-    if let Some(node) = tree.object(2) {
-        assert_eq!(rt; node.list().len(), 1);
-        assert_eq!(rt; (node.owner(), node.group(), node.high()), (5, 6, 0));
-        assert_eq!(rt; (node.kind(), node.is_directory()), (Kind::File, false));
-    }
-    assert_eq!(rt; times(&tree, 2), Some((0, 6)));
-    Ok(())
-}
+const MOVES: &[(Step, Outcome)] = &[
+    (Mkdir(3, b"d"), Made(4)),
+    (Mkdir(1, b"e"), Made(5)),
+    (Rename(1, b"none", 3, b"x"), Refused(NoEnt)),
+    (Rename(1, b"pub", 3, b"x"), Refused(Inval)),
+    (Rename(1, b"pub", 4, b"x"), Refused(Inval)),
+    (Rename(1, b"e", 1, b"pub"), Refused(Exist)),
+    (Rename(1, b"notes", 1, b"e"), Refused(Exist)),
+    (Rename(1, b"e", 1, b"notes"), Refused(Exist)),
+    (Rename(1, b"pub", 1, b"pub"), Done),
+    (Rename(1, b"e", 3, b"d"), Done),
+    (Rename(1, b"notes", 5, b"n"), Done),
+];
 
-/// The rows of the table of `rename`.
+/// The rows of the table of `rename`. Nothing was changed by tick 6 but the directory that replaced another.
 #[test]
 fn names_change_or_are_refused(rt: HostRuntime) -> Result<(), Fail> {
     let mut tree = Tree::sample(rt.alloc())?;
+    walk(&rt, rt.alloc(), &mut tree, MOVES)?;
+    see_times(
+        &rt,
+        &tree,
+        &[
+            (1, Some((7, 7))),
+            (2, Some((0, 7))),
+            (3, Some((6, 6))),
+            (4, None),
+            (5, Some((7, 7))),
+        ],
+    )?;
+    see_names(
+        &rt,
+        &tree,
+        &[
+            (3, 0, Some((7, 5))),
+            (5, 0, Some((8, 2))),
+            (1, 3, Some((4, 3))),
+        ],
+    )?;
     assert_eq!(rt;
-        add(&mut tree, rt.alloc(), 3, b"d", Kind::Directory),
-        Outcome::Made(4)
+        (tree.parent(5), tree.parent(1), tree.parent(2)),
+        (Some(3), None, None)
     );
-    assert_eq!(rt;
-        add(&mut tree, rt.alloc(), 1, b"e", Kind::Directory),
-        Outcome::Made(5)
-    );
-    assert_eq!(rt;
-        rename(&mut tree, 1, b"none", 3, b"x"),
-        refused(TreeFault::NoEnt)
-    );
-    assert_eq!(rt;
-        rename(&mut tree, 1, b"pub", 3, b"x"),
-        refused(TreeFault::Inval)
-    );
-    assert_eq!(rt;
-        rename(&mut tree, 1, b"pub", 4, b"x"),
-        refused(TreeFault::Inval)
-    );
-    assert_eq!(rt;
-        rename(&mut tree, 1, b"e", 1, b"pub"),
-        refused(TreeFault::Exist)
-    );
-    assert_eq!(rt;
-        rename(&mut tree, 1, b"notes", 1, b"e"),
-        refused(TreeFault::Exist)
-    );
-    assert_eq!(rt;
-        rename(&mut tree, 1, b"e", 1, b"notes"),
-        refused(TreeFault::Exist)
-    );
-    assert_eq!(rt; tree.next_tick(), 6);
-    assert_eq!(rt; rename(&mut tree, 1, b"pub", 1, b"pub"), Outcome::Done);
-    assert_eq!(rt; tree.next_tick(), 6);
-    assert_eq!(rt; rename(&mut tree, 1, b"e", 3, b"d"), Outcome::Done);
-    assert_eq!(rt; tree.object(4).is_none(), true);
-    assert_eq!(rt; tree.parent(5), Some(3));
-    assert_eq!(rt; after(&tree, 3, 0), Some((7, 5)));
-    assert_eq!(rt; times(&tree, 5), Some((5, 6)));
-    assert_eq!(rt; times(&tree, 3), Some((6, 6)));
-    assert_eq!(rt; times(&tree, 1), Some((6, 6)));
-    assert_eq!(rt; rename(&mut tree, 1, b"notes", 5, b"n"), Outcome::Done);
-    assert_eq!(rt; tree.find(5, b"n"), Some(2));
-    assert_eq!(rt; tree.find(1, b"notes"), None);
-    assert_eq!(rt;
-        (tree.parent(1), tree.parent(2), tree.root()),
-        (None, None, 1)
-    );
-    assert_eq!(rt; tree.has_entries(5), true);
-    assert_eq!(rt; tree.has_entries(2), false);
     Ok(())
+}
+
+/// A list is the object's, whatever the name; list and owner take a stamp each, and the object has the later one.
+#[test]
+fn lists_and_owners_take_stamps(rt: HostRuntime) -> Result<(), Fail> {
+    let mut tree = Tree::sample(rt.alloc())?;
+    walk(&rt, rt.alloc(), &mut tree, &[(Link(3, b"b", 2), Done)])?;
+    assert_eq!(rt; set_list(&mut tree, 2, AclList::new(rt.alloc())), Done);
+    assert_eq!(rt; stamp(&tree, 2), Some(4));
+    assert_eq!(rt; set_owner(&mut tree, 2, 5, 6), Done);
+    assert_eq!(rt; stamp(&tree, 2), Some(5));
+    see_times(&rt, &tree, &[(1, Some((0, 0))), (2, Some((0, 6)))])
 }

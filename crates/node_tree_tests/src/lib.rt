@@ -10,4 +10,6 @@ mod limits;
 #[cfg(test)]
 mod memory;
 #[cfg(test)]
+mod steps;
+#[cfg(test)]
 mod walk;
