@@ -1,0 +1,4 @@
+pub mod Founds
+pub mod Nexts
+pub mod ResultNexts
+pub mod Sizes

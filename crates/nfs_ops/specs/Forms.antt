@@ -1,0 +1,311 @@
+-- The XDR types of each operation's arguments and of its result, in the order of the standard (RFC 8881, section 18; RFC
+-- 5662). A result stands behind the number and the status, where the status is OK.
+use Rattle.std.specs.Prelude.{ℕ, [], ◌∷◌, map}
+use Rattle.std.proofs.Common.{inl, inr}
+use Rattle.xdr_wire.specs.Xdr.{Xdr, Value, void, uint, hyper, boolean, fixed, opaque, array, chain, union, arm, no_more, fields}
+use Rattle.nfs_types.specs.Forms.{handle, stateid, time, bitmap, attributes, trimmed, trimmed_set}
+
+-- opaque<> and string<>: names, link texts and data have no bound but the record's
+abbrev pub bytes : Xdr
+bytes = opaque 0xffff_ffff
+
+-- a word that is always the same: an enum or a union of one number
+abbrev pub always : ℕ → Xdr
+always n = union (arm n void no_more)
+
+-- eight zero bytes: a verifier that says nothing (verifier4), and the number 0 (uint64_t)
+abbrev pub zeros : Xdr
+zeros = fields (always 0 ∷ always 0 ∷ [])
+
+-- change_info4: atomic, which is always true; the change before and after
+abbrev pub change_info : Xdr
+change_info = fields (always 1 ∷ hyper ∷ hyper ∷ [])
+
+-- The most bytes of a result, with its number and its status; this is all of one that is these two.
+abbrev pub plain_size : ℕ
+plain_size = 8
+
+-- 3 ACCESS (18.1): the rights asked; those of them that have a meaning, and those granted
+abbrev pub access_args : Xdr
+access_args = uint
+
+abbrev pub access_result : Xdr
+access_result = fields (uint ∷ uint ∷ [])
+
+abbrev pub access_size : ℕ
+access_size = 16
+
+-- 4 CLOSE (18.2): a number that is ignored, the open; what the open has become
+abbrev pub close_args : Xdr
+close_args = fields (uint ∷ stateid ∷ [])
+
+abbrev pub close_result : Xdr
+close_result = stateid
+
+abbrev pub close_size : ℕ
+close_size = 24
+
+-- 5 COMMIT (18.3): offset, count; a verifier
+abbrev pub commit_args : Xdr
+commit_args = fields (hyper ∷ uint ∷ [])
+
+abbrev pub commit_result : Xdr
+commit_result = zeros
+
+abbrev pub commit_size : ℕ
+commit_size = 16
+
+-- specdata4: the two numbers of a device
+abbrev pub device : Xdr
+device = fields (uint ∷ uint ∷ [])
+
+-- createtype4: file, directory, block and character device, symbolic link with its text, socket, fifo, attribute
+-- directory, named attribute
+abbrev pub create_type : Xdr
+create_type = union (arm 1 void (arm 2 void (arm 3 device (arm 4 device (arm 5 bytes (arm 6 void (arm 7 void (arm 8 void (arm 9 void no_more)))))))))
+
+-- 6 CREATE (18.4): type, name, attributes; the directory's change, the attributes that were set
+abbrev pub create_args : Xdr
+create_args = fields (create_type ∷ bytes ∷ attributes ∷ [])
+
+abbrev pub create_normal : Value create_args → Value create_args
+create_normal v = (v.0, (v.1.0, trimmed_set v.1.1))
+
+abbrev pub create_result : Xdr
+create_result = fields (change_info ∷ bitmap ∷ [])
+
+abbrev pub create_size : ℕ
+create_size = 64
+
+abbrev pub create_result_normal : Value create_result → Value create_result
+create_result_normal v = (v.0, trimmed v.1)
+
+-- 9 GETATTR (18.7): the attributes asked; their values
+abbrev pub getattr_args : Xdr
+getattr_args = bitmap
+
+abbrev pub getattr_result : Xdr
+getattr_result = attributes
+
+-- 10 GETFH (18.8): nothing; the filehandle
+abbrev pub getfh_result : Xdr
+getfh_result = handle
+
+-- 11 LINK (18.9): the new name; the directory's change
+abbrev pub link_args : Xdr
+link_args = bytes
+
+abbrev pub link_result : Xdr
+link_result = change_info
+
+abbrev pub link_size : ℕ
+link_size = 28
+
+-- 15 LOOKUP (18.13): the name
+abbrev pub lookup_args : Xdr
+lookup_args = bytes
+
+-- 17 NVERIFY (18.15): the attributes that are to differ
+abbrev pub nverify_args : Xdr
+nverify_args = attributes
+
+-- openflag4: without creation (0), or with it (1), and then createhow4: unchecked (0), guarded (1), with attributes
+abbrev pub open_how : Xdr
+open_how = union (arm 0 void (arm 1 (union (arm 0 attributes (arm 1 attributes no_more))) no_more))
+
+-- such attributes without zero words at the end of their bitmap
+abbrev pub open_how_normal : Value open_how → Value open_how
+open_how_normal (inl v) = inl v
+open_how_normal (inr (inl (inl v))) = inr (inl (inl (trimmed_set v)))
+open_how_normal (inr (inl (inr (inl v)))) = inr (inl (inr (inl (trimmed_set v))))
+open_how_normal (inr (inl (inr (inr v)))) = elim v [ ]
+open_how_normal (inr (inr v)) = elim v [ ]
+
+-- open_claim4: by name (0), by filehandle (4)
+abbrev pub open_claim : Xdr
+open_claim = union (arm 0 bytes (arm 4 void no_more))
+
+-- 18 OPEN (18.16): a number that is ignored, access, deny, client, owner, how, claim; stateid, the directory's change, no
+-- flags, the attributes that were set, no delegation
+abbrev pub open_args : Xdr
+open_args = fields (uint ∷ uint ∷ uint ∷ hyper ∷ opaque 1024 ∷ open_how ∷ open_claim ∷ [])
+
+abbrev pub open_normal : Value open_args → Value open_args
+open_normal v = (v.0, (v.1.0, (v.1.1.0, (v.1.1.1.0, (v.1.1.1.1.0, (open_how_normal v.1.1.1.1.1.0, v.1.1.1.1.1.1))))))
+
+abbrev pub open_result : Xdr
+open_result = fields (stateid ∷ change_info ∷ always 0 ∷ bitmap ∷ always 0 ∷ [])
+
+abbrev pub open_size : ℕ
+open_size = 88
+
+abbrev pub open_result_normal : Value open_result → Value open_result
+open_result_normal v = (v.0, (v.1.0, (v.1.1.0, (trimmed v.1.1.1.0, v.1.1.1.1))))
+
+-- What an OPEN asks that isn't supported, up to the word that says so: exclusive creation (2, 3), and a claim of a
+-- reclaim or a delegation (1, 2, 3, 5, 6).
+abbrev pub exclusive : Xdr
+exclusive = union (arm 2 void (arm 3 void no_more))
+
+abbrev pub open_exclusive : Xdr
+open_exclusive = fields (uint ∷ uint ∷ uint ∷ hyper ∷ opaque 1024 ∷ always 1 ∷ exclusive ∷ [])
+
+abbrev pub other_claim : Xdr
+other_claim = union (arm 1 void (arm 2 void (arm 3 void (arm 5 void (arm 6 void no_more)))))
+
+abbrev pub open_by_other_claim : Xdr
+open_by_other_claim = fields (uint ∷ uint ∷ uint ∷ hyper ∷ opaque 1024 ∷ open_how ∷ other_claim ∷ [])
+
+-- 22 PUTFH (18.19): the filehandle
+abbrev pub putfh_args : Xdr
+putfh_args = handle
+
+-- 25 READ (18.22): stateid, offset, count; whether the end was reached, the bytes
+abbrev pub read_args : Xdr
+read_args = fields (stateid ∷ hyper ∷ uint ∷ [])
+
+abbrev pub read_result : Xdr
+read_result = fields (boolean ∷ opaque 32768 ∷ [])
+
+-- 26 READDIR (18.23): cookie, a verifier and a count that are ignored, the most bytes, the attributes asked; a verifier,
+-- the entries, whether the end was reached
+abbrev pub readdir_args : Xdr
+readdir_args = fields (hyper ∷ fixed 8 ∷ uint ∷ uint ∷ bitmap ∷ [])
+
+abbrev pub readdir_normal : Value readdir_args → Value readdir_args
+readdir_normal v = (v.0, (v.1.0, (v.1.1.0, (v.1.1.1.0, trimmed v.1.1.1.1))))
+
+-- entry4: cookie, name, attributes
+abbrev pub entry : Xdr
+entry = fields (hyper ∷ bytes ∷ attributes ∷ [])
+
+abbrev pub entry_normal : Value entry → Value entry
+entry_normal v = (v.0, (v.1.0, trimmed_set v.1.1))
+
+abbrev pub readdir_result : Xdr
+readdir_result = fields (zeros ∷ chain entry ∷ boolean ∷ [])
+
+abbrev pub readdir_result_normal : Value readdir_result → Value readdir_result
+readdir_result_normal v = (v.0, (map entry_normal v.1.0, v.1.1))
+
+-- 27 READLINK (18.24): nothing; the link's text
+abbrev pub readlink_result : Xdr
+readlink_result = opaque 1024
+
+-- 28 REMOVE (18.25): the name; the directory's change
+abbrev pub remove_args : Xdr
+remove_args = bytes
+
+abbrev pub remove_result : Xdr
+remove_result = change_info
+
+abbrev pub remove_size : ℕ
+remove_size = 28
+
+-- 29 RENAME (18.26): the old name, the new one; the changes of the source's directory and of the target's
+abbrev pub rename_args : Xdr
+rename_args = fields (bytes ∷ bytes ∷ [])
+
+abbrev pub rename_result : Xdr
+rename_result = fields (change_info ∷ change_info ∷ [])
+
+abbrev pub rename_size : ℕ
+rename_size = 48
+
+-- 34 SETATTR (18.30): stateid, attributes; the attributes that were set, which stand there after a refusal too
+abbrev pub setattr_args : Xdr
+setattr_args = fields (stateid ∷ attributes ∷ [])
+
+abbrev pub setattr_normal : Value setattr_args → Value setattr_args
+setattr_normal v = (v.0, trimmed_set v.1)
+
+abbrev pub setattr_result : Xdr
+setattr_result = bitmap
+
+abbrev pub setattr_size : ℕ
+setattr_size = 44
+
+abbrev pub setattr_refused_size : ℕ
+setattr_refused_size = 12
+
+-- 37 VERIFY (18.31): the attributes that are to be the same
+abbrev pub verify_args : Xdr
+verify_args = attributes
+
+-- stable_how4: to memory (0), the data (1), all (2)
+abbrev pub stable_how : Xdr
+stable_how = union (arm 0 void (arm 1 void (arm 2 void no_more)))
+
+-- 38 WRITE (18.32): stateid, offset, how far it is to reach, the bytes; how many, how far they have reached, a verifier
+abbrev pub write_args : Xdr
+write_args = fields (stateid ∷ hyper ∷ stable_how ∷ bytes ∷ [])
+
+abbrev pub write_result : Xdr
+write_result = fields (uint ∷ always 2 ∷ zeros ∷ [])
+
+abbrev pub write_size : ℕ
+write_size = 24
+
+-- nfs_impl_id4: domain, name, a moment of any nanoseconds
+abbrev pub implementation : Xdr
+implementation = fields (bytes ∷ bytes ∷ time ∷ [])
+
+-- 42 EXCHANGE_ID (18.35): verifier, owner, flags, no protection, who made the client; client, sequence, flags, no
+-- protection, the server's number and name, its scope, nobody
+abbrev pub exchange_id_args : Xdr
+exchange_id_args = fields (fixed 8 ∷ opaque 1024 ∷ uint ∷ always 0 ∷ array 1 implementation ∷ [])
+
+abbrev pub exchange_id_result : Xdr
+exchange_id_result = fields (hyper ∷ uint ∷ uint ∷ always 0 ∷ zeros ∷ opaque 11 ∷ opaque 11 ∷ always 0 ∷ [])
+
+-- What an EXCHANGE_ID asks that isn't supported, up to the word that says so: the protection of state by SP4_MACH_CRED (1)
+-- or SP4_SSV (2).
+abbrev pub protection : Xdr
+protection = union (arm 1 void (arm 2 void no_more))
+
+abbrev pub exchange_id_protected : Xdr
+exchange_id_protected = fields (fixed 8 ∷ opaque 1024 ∷ uint ∷ protection ∷ [])
+
+-- channel_attrs4: padding, sizes of request, reply and kept reply, operations, slots, RDMA
+abbrev pub channel : Xdr
+channel = fields (uint ∷ uint ∷ uint ∷ uint ∷ uint ∷ uint ∷ array 1 uint ∷ [])
+
+-- authsys_parms (RFC 5531, appendix A): stamp, machine name, uid, gid, further gids
+abbrev pub authsys : Xdr
+authsys = fields (uint ∷ opaque 255 ∷ uint ∷ uint ∷ array 16 uint ∷ [])
+
+-- gss_cb_handles4: service, the server's handle and the client's
+abbrev pub gss_handles : Xdr
+gss_handles = fields (uint ∷ bytes ∷ bytes ∷ [])
+
+-- callback_sec_parms4: none (0), AUTH_SYS (1), RPCSEC_GSS (6)
+abbrev pub callback_security : Xdr
+callback_security = union (arm 0 void (arm 1 authsys (arm 6 gss_handles no_more)))
+
+-- 43 CREATE_SESSION (18.36): client, sequence, flags, the two channels, program and credentials of callbacks; session,
+-- sequence, flags, the two channels
+abbrev pub create_session_args : Xdr
+create_session_args = fields (hyper ∷ uint ∷ uint ∷ channel ∷ channel ∷ uint ∷ array 8 callback_security ∷ [])
+
+abbrev pub create_session_result : Xdr
+create_session_result = fields (fixed 16 ∷ uint ∷ uint ∷ channel ∷ channel ∷ [])
+
+-- 44 DESTROY_SESSION (18.37): the session
+abbrev pub destroy_session_args : Xdr
+destroy_session_args = fixed 16
+
+-- 53 SEQUENCE (18.46): session, number, slot, highest slot, whether the reply is to be kept; session, number, slot,
+-- highest slot, highest slot that is to come, no flags
+abbrev pub sequence_args : Xdr
+sequence_args = fields (fixed 16 ∷ uint ∷ uint ∷ uint ∷ boolean ∷ [])
+
+abbrev pub sequence_result : Xdr
+sequence_result = fields (fixed 16 ∷ uint ∷ uint ∷ uint ∷ uint ∷ always 0 ∷ [])
+
+-- 57 DESTROY_CLIENTID (18.50): the client
+abbrev pub destroy_clientid_args : Xdr
+destroy_clientid_args = hyper
+
+-- 58 RECLAIM_COMPLETE (18.51): whether for one file system
+abbrev pub reclaim_complete_args : Xdr
+reclaim_complete_args = boolean

@@ -1,0 +1,26 @@
+-- What the items of arrays and chains spell: the value of their form.
+use Rattle.std.specs.Prelude.{None}
+use Rattle.std.proofs.Common.{inl, inr}
+use Rattle.xdr_wire.specs.Xdr.{Value, uint}
+use Rattle.xdr_wire.specs.Wire.{array_values}
+use Rattle.nfs_types.specs.Views.{attributes_value}
+use Rattle.nfs_ops.specs.Forms.{authsys, gss_handles, callback_security, entry}
+use Rattle.nfs_ops.specs.declared.callback_security.AuthSys.{AuthSys}
+use Rattle.nfs_ops.specs.declared.callback_security.GssHandles.{GssHandles}
+use Rattle.nfs_ops.specs.declared.callback_security.CallbackSecurity.{CallbackSecurity}
+use Rattle.nfs_ops.specs.declared.callback_security.CallbackSecurity.TheVariants as credentials
+use Rattle.nfs_ops.specs.declared.readdir.Entry.{Entry}
+
+abbrev pub authsys_value : AuthSys → Value authsys
+authsys_value s = (s.stamp, (s.machine.bytes.now, (s.uid, (s.gid, array_values uint None s.gids.count s.gids.bytes.now))))
+
+abbrev pub gss_handles_value : GssHandles → Value gss_handles
+gss_handles_value h = (h.service, (h.server.bytes.now, h.client.bytes.now))
+
+abbrev pub callback_security_value : CallbackSecurity → Value callback_security
+callback_security_value credentials.Nobody = inl tt
+callback_security_value (credentials.Sys sys) = inr (inl (authsys_value sys))
+callback_security_value (credentials.Gss gss) = inr (inr (inl (gss_handles_value gss)))
+
+abbrev pub entry_value : Entry → Value entry
+entry_value e = (e.cookie, (e.name.bytes.now, attributes_value e.attributes))

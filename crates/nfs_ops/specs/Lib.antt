@@ -1,0 +1,11 @@
+pub mod Forms
+pub mod Items
+pub mod ItemViews
+pub mod UnsupportedViews
+pub mod Views
+pub mod Operations
+pub mod OpViews
+pub mod ResultReading
+pub mod Results
+pub mod ResultViews
+pub mod Readable

@@ -1,0 +1,10 @@
+-- The results that are read again.
+use Rattle.std.specs.Prelude.{◌≡◌, ◌≢◌, Some}
+use Rattle.nfs_ops.specs.Results.{Outcome, Refused, SetAttrRefused}
+use Rattle.nfs_ops.specs.ResultReading.{refusal_at}
+
+-- A refusal has the number of a status that isn't OK, and SETATTR's is told apart.
+abbrev pub IsResult : Outcome → Type 0
+IsResult (Refused n status) = (refusal_at status ≡ Some status) × (n ≢ 34) × (status ≢ 0)
+IsResult (SetAttrRefused status) = (refusal_at status ≡ Some status) × (status ≢ 0)
+IsResult _ = Unit {0}

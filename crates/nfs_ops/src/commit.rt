@@ -1,0 +1,34 @@
+use std::alloc::Allocator;
+use xdr_wire::{Full, Reader, Spell, Wire, Writer, XdrFault};
+
+/// Wants the bytes written so far to be stable. The arguments of COMMIT (RFC 8881, section 18.3).
+#[derive(Clone, Copy)]
+pub struct CommitArgs {
+    /// Where they begin.
+    pub offset: u64,
+    /// How many they are; 0 for all.
+    pub count: u32,
+}
+
+impl Spell for CommitArgs {
+    ghost use Rattle.std.specs.Prelude.{None};
+    ghost use Rattle.nfs_ops.specs.Forms.{commit_args};
+    ghost use Rattle.nfs_ops.specs.Views.{commit_args_value};
+
+    ghost form = { commit_args };
+
+    ghost view = { commit_args_value };
+
+    ghost normal = { None };
+
+    fn write<A: Allocator>(self, writer: &mut Writer<A>) -> Result<(), Full> {
+        (self.offset, self.count).write(writer)
+    }
+}
+
+impl<'a> Wire<'a> for CommitArgs {
+    fn read(reader: &mut Reader<'a>) -> Result<Self, XdrFault> {
+        let (offset, count) = Wire::read(reader)?;
+        Ok(CommitArgs { offset, count })
+    }
+}

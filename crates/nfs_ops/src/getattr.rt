@@ -1,0 +1,65 @@
+use nfs_types::{Attributes, Bitmap};
+use std::alloc::Allocator;
+use xdr_wire::{Full, Reader, Spell, Wire, Writer, XdrFault};
+
+/// Asks for attributes. The arguments of GETATTR (RFC 8881, section 18.7).
+#[derive(Clone, Copy)]
+pub struct GetAttrArgs {
+    /// Which ones.
+    pub asked: Bitmap,
+}
+
+impl Spell for GetAttrArgs {
+    ghost use Rattle.std.specs.Prelude.{Some};
+    ghost use Rattle.nfs_ops.specs.Forms.{getattr_args};
+    ghost use Rattle.nfs_types.specs.Forms.{trimmed};
+    ghost use Rattle.nfs_ops.specs.Views.{getattr_args_value};
+
+    ghost form = { getattr_args };
+
+    ghost view = { getattr_args_value };
+
+    ghost normal = { Some trimmed };
+
+    fn write<A: Allocator>(self, writer: &mut Writer<A>) -> Result<(), Full> {
+        self.asked.write(writer)
+    }
+}
+
+impl<'a> Wire<'a> for GetAttrArgs {
+    fn read(reader: &mut Reader<'a>) -> Result<Self, XdrFault> {
+        let asked = Wire::read(reader)?;
+        Ok(GetAttrArgs { asked })
+    }
+}
+
+/// Attributes of the object. The result of GETATTR (RFC 8881, section 18.7).
+#[derive(Clone, Copy)]
+pub struct GetAttrResult<'a> {
+    /// Those of the attributes asked that are supported, with their values.
+    pub attributes: Attributes<'a>,
+}
+
+impl<'a> Spell for GetAttrResult<'a> {
+    ghost use Rattle.std.specs.Prelude.{Some};
+    ghost use Rattle.nfs_ops.specs.Forms.{getattr_result};
+    ghost use Rattle.nfs_types.specs.Forms.{trimmed_set};
+    ghost use Rattle.nfs_ops.specs.Views.{getattr_result_value};
+
+    ghost form = { getattr_result };
+
+    ghost view = { getattr_result_value };
+
+    ghost normal = { Some trimmed_set };
+
+    fn write<A: Allocator>(self, writer: &mut Writer<A>) -> Result<(), Full> {
+        self.attributes.write(writer)
+    }
+}
+
+impl<'a> Wire<'a> for GetAttrResult<'a> {
+    fn read(reader: &mut Reader<'a>) -> Result<Self, XdrFault> {
+        let attributes = Wire::read(reader)?;
+        Ok(GetAttrResult { attributes })
+    }
+}

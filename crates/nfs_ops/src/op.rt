@@ -1,0 +1,145 @@
+ghost use Rattle.std.specs.Prelude.{◌≡◌};
+ghost use Rattle.xdr_wire.specs.Reading.{Gives};
+ghost use Rattle.nfs_ops.specs.Operations.{number_of, next_at, arguments_at, open_at, exchange_id_at};
+
+use crate::access::AccessArgs;
+use crate::close::CloseArgs;
+use crate::commit::CommitArgs;
+use crate::create::CreateArgs;
+use crate::create_session::CreateSessionArgs;
+use crate::destroy_clientid::DestroyClientIdArgs;
+use crate::destroy_session::DestroySessionArgs;
+use crate::exchange_id::ExchangeIdArgs;
+use crate::getattr::GetAttrArgs;
+use crate::link::LinkArgs;
+use crate::lookup::LookupArgs;
+use crate::nverify::NVerifyArgs;
+use crate::open::OpenArgs;
+use crate::putfh::PutFhArgs;
+use crate::read::ReadArgs;
+use crate::readdir::ReadDirArgs;
+use crate::reclaim_complete::ReclaimCompleteArgs;
+use crate::remove::RemoveArgs;
+use crate::rename::RenameArgs;
+use crate::sequence::SequenceArgs;
+use crate::setattr::SetAttrArgs;
+use crate::verify::VerifyArgs;
+use crate::write::WriteArgs;
+use std::alloc::Allocator;
+use xdr_wire::{Full, Opaque, Reader, Spell, Wire, Writer, XdrFault};
+
+/// The number under which a missing number and one that no operation has are answered, OP_ILLEGAL.
+pub(crate) const ILLEGAL: u32 = 10_044;
+
+/// An operation with its arguments (RFC 8881, sections 16.2 and 18), or why there is none.
+#[derive(Drop)]
+pub enum Op<'a> {
+    /// ACCESS (3): which rights the caller has.
+    Access(AccessArgs),
+    /// CLOSE (4): ends an open.
+    Close(CloseArgs),
+    /// COMMIT (5): makes bytes stable.
+    Commit(CommitArgs),
+    /// CREATE (6): makes an object that isn't a file.
+    Create(CreateArgs<'a>),
+    /// GETATTR (9): attributes of the object.
+    GetAttr(GetAttrArgs),
+    /// GETFH (10): the current filehandle.
+    GetFh,
+    /// LINK (11): one more name.
+    Link(LinkArgs<'a>),
+    /// LOOKUP (15): to a child.
+    Lookup(LookupArgs<'a>),
+    /// LOOKUPP (16, section 18.14): to the parent.
+    LookupP,
+    /// NVERIFY (17): goes on only if attributes differ.
+    NVerify(NVerifyArgs<'a>),
+    /// OPEN (18): opens a file.
+    Open(OpenArgs<'a>),
+    /// PUTFH (22): to an object by its filehandle.
+    PutFh(PutFhArgs<'a>),
+    /// PUTROOTFH (24, section 18.21): to the root.
+    PutRootFh,
+    /// READ (25): bytes of a file.
+    Read(ReadArgs),
+    /// READDIR (26): entries of a directory.
+    ReadDir(ReadDirArgs),
+    /// READLINK (27): the text of a symbolic link.
+    ReadLink,
+    /// REMOVE (28): removes a name.
+    Remove(RemoveArgs<'a>),
+    /// RENAME (29): moves a name.
+    Rename(RenameArgs<'a>),
+    /// RESTOREFH (31, section 18.27): to the saved object.
+    RestoreFh,
+    /// SAVEFH (32, section 18.28): saves the current object.
+    SaveFh,
+    /// SETATTR (34): sets attributes.
+    SetAttr(SetAttrArgs<'a>),
+    /// VERIFY (37): goes on only if attributes are the same.
+    Verify(VerifyArgs<'a>),
+    /// WRITE (38): writes bytes of a file.
+    Write(WriteArgs<'a>),
+    /// EXCHANGE_ID (42): makes a client known.
+    ExchangeId(ExchangeIdArgs<'a>),
+    /// CREATE_SESSION (43): makes a session.
+    CreateSession(CreateSessionArgs<'a>),
+    /// DESTROY_SESSION (44): ends a session.
+    DestroySession(DestroySessionArgs),
+    /// SEQUENCE (53): begins a call of a session.
+    Sequence(SequenceArgs),
+    /// DESTROY_CLIENTID (57): ends a client.
+    DestroyClientId(DestroyClientIdArgs),
+    /// RECLAIM_COMPLETE (58): no more reclaims.
+    ReclaimComplete(ReclaimCompleteArgs),
+    /// A number from 3 to 58 whose operation isn't supported, and whose arguments aren't read; or what an OPEN or an
+    /// EXCHANGE_ID asks isn't supported.
+    Unsupported(u32),
+    /// A number that no operation has.
+    Illegal,
+    /// The arguments of the operation of this number don't spell; where the number is missing it is OP_ILLEGAL.
+    Bad(u32),
+}
+
+impl<'a> Op<'a> {
+    ghost use Rattle.nfs_ops.specs.OpViews.{op_view};
+
+    /// The number that stands in the result.
+    pub fn number(&self) -> u32
+        ensures { result ≡ number_of (op_view self.now) }
+    {
+        match self {
+            Op::Access(_) => 3,
+            Op::Close(_) => 4,
+            Op::Commit(_) => 5,
+            Op::Create(_) => 6,
+            Op::GetAttr(_) => 9,
+            Op::GetFh => 10,
+            Op::Link(_) => 11,
+            Op::Lookup(_) => 15,
+            Op::LookupP => 16,
+            Op::NVerify(_) => 17,
+            Op::Open(_) => 18,
+            Op::PutFh(_) => 22,
+            Op::PutRootFh => 24,
+            Op::Read(_) => 25,
+            Op::ReadDir(_) => 26,
+            Op::ReadLink => 27,
+            Op::Remove(_) => 28,
+            Op::Rename(_) => 29,
+            Op::RestoreFh => 31,
+            Op::SaveFh => 32,
+            Op::SetAttr(_) => 34,
+            Op::Verify(_) => 37,
+            Op::Write(_) => 38,
+            Op::ExchangeId(_) => 42,
+            Op::CreateSession(_) => 43,
+            Op::DestroySession(_) => 44,
+            Op::Sequence(_) => 53,
+            Op::DestroyClientId(_) => 57,
+            Op::ReclaimComplete(_) => 58,
+            Op::Unsupported(number) | Op::Bad(number) => *number,
+            Op::Illegal => ILLEGAL,
+        }
+    }
+}

@@ -1,0 +1,239 @@
+ghost use Rattle.std.specs.Prelude.{◌≡◌, option_map, Some};
+ghost use Rattle.xdr_wire.specs.Reading.{Gives};
+ghost use Rattle.nfs_ops.specs.ResultReading.{result_at, done_at, done_to_open_at, done_to_savefh_at, done_to_reclaim_complete_at, refused_from, refused_at, refusal_at, behind_status};
+ghost use Rattle.nfs_ops.specs.Results.{refusal};
+ghost use Rattle.nfs_ops.specs.ResultReading as specs;
+ghost use Rattle.nfs_ops.specs.ResultViews.{result_view};
+
+use crate::always::Zeros;
+use crate::op_result::OpResult;
+use nfs_types::{Bitmap, Status};
+use xdr_wire::{Reader, Wire, XdrFault};
+
+/// The status of this number below 100 that isn't OK, where there is one.
+fn file_refusal(number: u32) -> Option<Status>
+    ensures { option_map refusal result ≡ specs.file_refusal number }
+{
+    match number {
+        1 => Some(Status::Perm),
+        2 => Some(Status::NoEnt),
+        13 => Some(Status::Access),
+        17 => Some(Status::Exist),
+        20 => Some(Status::NotDir),
+        21 => Some(Status::IsDir),
+        22 => Some(Status::Inval),
+        27 => Some(Status::FBig),
+        28 => Some(Status::NoSpc),
+        31 => Some(Status::MLink),
+        63 => Some(Status::NameTooLong),
+        66 => Some(Status::NotEmpty),
+        70 => Some(Status::Stale),
+        _ => None,
+    }
+}
+
+/// The status of this number up to 10033 that isn't OK, where there is one.
+fn state_refusal(number: u32) -> Option<Status>
+    ensures { option_map refusal result ≡ specs.state_refusal number }
+{
+    match number {
+        10001 => Some(Status::BadHandle),
+        10003 => Some(Status::BadCookie),
+        10004 => Some(Status::NotSupp),
+        10005 => Some(Status::TooSmall),
+        10006 => Some(Status::ServerFault),
+        10007 => Some(Status::BadType),
+        10008 => Some(Status::Delay),
+        10009 => Some(Status::Same),
+        10017 => Some(Status::ClidInUse),
+        10020 => Some(Status::NoFileHandle),
+        10021 => Some(Status::MinorVersMismatch),
+        10022 => Some(Status::StaleClientId),
+        10024 => Some(Status::OldStateId),
+        10025 => Some(Status::BadStateId),
+        10027 => Some(Status::NotSame),
+        10029 => Some(Status::Symlink),
+        10032 => Some(Status::AttrNotSupp),
+        _ => None,
+    }
+}
+
+/// The status of this number from 10034 on that isn't OK, where there is one.
+fn session_refusal(number: u32) -> Option<Status>
+    ensures { option_map refusal result ≡ specs.session_refusal number }
+{
+    match number {
+        10036 => Some(Status::BadXdr),
+        10038 => Some(Status::OpenMode),
+        10039 => Some(Status::BadOwner),
+        10040 => Some(Status::BadChar),
+        10041 => Some(Status::BadName),
+        10044 => Some(Status::OpIllegal),
+        10052 => Some(Status::BadSession),
+        10053 => Some(Status::BadSlot),
+        10054 => Some(Status::CompleteAlready),
+        10063 => Some(Status::SeqMisordered),
+        10064 => Some(Status::SequencePos),
+        10065 => Some(Status::ReqTooBig),
+        10066 => Some(Status::RepTooBig),
+        10067 => Some(Status::RepTooBigToCache),
+        10070 => Some(Status::TooManyOps),
+        10071 => Some(Status::OpNotInSession),
+        10074 => Some(Status::ClientIdBusy),
+        10076 => Some(Status::SeqFalseRetry),
+        10077 => Some(Status::BadHighSlot),
+        10081 => Some(Status::NotOnlyOp),
+        10083 => Some(Status::WrongType),
+        _ => None,
+    }
+}
+
+/// The status of this number (section 15.1), where there is one and it isn't OK.
+#[tactic(auto, unfolding(crate::specs::ResultReading::refusal_at))]
+fn refusal_of(number: u32) -> Option<Status>
+    ensures { option_map refusal result ≡ refusal_at number }
+{
+    match number {
+        0..100 => file_refusal(number),
+        100..10_034 => state_refusal(number),
+        _ => session_refusal(number),
+    }
+}
+
+/// Reads what stands behind OK of an operation up to OPEN.
+#[tactic(auto, unfolding(crate::specs::ResultReading::done_to_open_at))]
+fn read_done_to_open<'a>(number: u32, reader: &mut Reader<'a>) -> Result<OpResult<'a>, XdrFault>
+    ensures { Gives result_view reader.old reader.new result (done_to_open_at number reader.old) }
+{
+    match number {
+        3 => Ok(OpResult::Access(Wire::read(reader)?)),
+        4 => Ok(OpResult::Close(Wire::read(reader)?)),
+        5 => {
+            let Zeros = Wire::read(reader)?;
+            Ok(OpResult::Commit)
+        }
+        6 => Ok(OpResult::Create(Wire::read(reader)?)),
+        9 => Ok(OpResult::GetAttr(Wire::read(reader)?)),
+        10 => Ok(OpResult::GetFh(Wire::read(reader)?)),
+        11 => Ok(OpResult::Link(Wire::read(reader)?)),
+        15 => Ok(OpResult::Lookup),
+        16 => Ok(OpResult::LookupP),
+        17 => Ok(OpResult::NVerify),
+        18 => Ok(OpResult::Open(Wire::read(reader)?)),
+        _ => Err(XdrFault::BadChoice),
+    }
+}
+
+/// Reads what stands behind OK of an operation from PUTFH to SAVEFH.
+#[tactic(auto, unfolding(crate::specs::ResultReading::done_to_savefh_at))]
+fn read_done_to_savefh<'a>(number: u32, reader: &mut Reader<'a>) -> Result<OpResult<'a>, XdrFault>
+    ensures { Gives result_view reader.old reader.new result (done_to_savefh_at number reader.old) }
+{
+    match number {
+        22 => Ok(OpResult::PutFh),
+        24 => Ok(OpResult::PutRootFh),
+        25 => Ok(OpResult::Read(Wire::read(reader)?)),
+        26 => Ok(OpResult::ReadDir(Wire::read(reader)?)),
+        27 => Ok(OpResult::ReadLink(Wire::read(reader)?)),
+        28 => Ok(OpResult::Remove(Wire::read(reader)?)),
+        29 => Ok(OpResult::Rename(Wire::read(reader)?)),
+        31 => Ok(OpResult::RestoreFh),
+        32 => Ok(OpResult::SaveFh),
+        _ => Err(XdrFault::BadChoice),
+    }
+}
+
+/// Reads what stands behind OK of an operation from SETATTR on.
+#[tactic(auto, unfolding(crate::specs::ResultReading::done_to_reclaim_complete_at))]
+fn read_done_to_reclaim_complete<'a>(
+    number: u32,
+    reader: &mut Reader<'a>,
+) -> Result<OpResult<'a>, XdrFault>
+    ensures { Gives result_view reader.old reader.new result (done_to_reclaim_complete_at number reader.old) }
+{
+    match number {
+        34 => Ok(OpResult::SetAttr(Wire::read(reader)?)),
+        37 => Ok(OpResult::Verify),
+        38 => Ok(OpResult::Write(Wire::read(reader)?)),
+        42 => Ok(OpResult::ExchangeId(Wire::read(reader)?)),
+        43 => Ok(OpResult::CreateSession(Wire::read(reader)?)),
+        44 => Ok(OpResult::DestroySession),
+        53 => Ok(OpResult::Sequence(Wire::read(reader)?)),
+        57 => Ok(OpResult::DestroyClientId),
+        58 => Ok(OpResult::ReclaimComplete),
+        _ => Err(XdrFault::BadChoice),
+    }
+}
+
+/// Reads what stands behind OK.
+#[tactic(auto, unfolding(crate::specs::ResultReading::done_at))]
+fn read_done<'a>(number: u32, reader: &mut Reader<'a>) -> Result<OpResult<'a>, XdrFault>
+    ensures { Gives result_view reader.old reader.new result (done_at number reader.old) }
+{
+    match number {
+        0..22 => read_done_to_open(number, reader),
+        22..34 => read_done_to_savefh(number, reader),
+        _ => read_done_to_reclaim_complete(number, reader),
+    }
+}
+
+/// Reads what stands behind a refusal: the bitmap of SETATTR, which says nothing then, else nothing.
+fn read_behind_refusal<'a>(
+    number: u32,
+    status: Status,
+    reader: &mut Reader<'a>,
+) -> Result<OpResult<'a>, XdrFault>
+    ensures { Gives result_view reader.old reader.new result (refused_from number reader.old (Some (refusal status))) }
+{
+    match number {
+        34 => {
+            let _set: Bitmap = Wire::read(reader)?;
+            Ok(OpResult::Refused(34, status))
+        }
+        _ => Ok(OpResult::Refused(number, status)),
+    }
+}
+
+/// Reads what stands behind another status than OK.
+#[tactic(auto, unfolding(crate::specs::ResultReading::refused_at))]
+fn read_refused<'a>(
+    number: u32,
+    status: u32,
+    reader: &mut Reader<'a>,
+) -> Result<OpResult<'a>, XdrFault>
+    ensures { Gives result_view reader.old reader.new result (refused_at number status reader.old) }
+{
+    match refusal_of(status) {
+        Some(status) => read_behind_refusal(number, status, reader),
+        None => Err(XdrFault::BadChoice),
+    }
+}
+
+/// Reads what stands behind a status.
+#[tactic(auto, unfolding(crate::specs::ResultReading::behind_status))]
+fn read_behind_status<'a>(
+    number: u32,
+    status: u32,
+    reader: &mut Reader<'a>,
+) -> Result<OpResult<'a>, XdrFault>
+    ensures { Gives result_view reader.old reader.new result (behind_status number status reader.old) }
+{
+    match status {
+        0 => read_done(number, reader),
+        _ => read_refused(number, status, reader),
+    }
+}
+
+/// Reads a result, as a client does. `BadChoice` where no operation has the number of one that is OK, or where no status has
+/// the number of one that isn't. A fault leaves the reader where the result begins.
+#[tactic(auto, unfolding(crate::specs::ResultReading::result_at))]
+pub fn read_result<'a>(reader: &mut Reader<'a>) -> Result<OpResult<'a>, XdrFault>
+    ensures { Gives result_view reader.old reader.new result (result_at reader.old) }
+{
+    let mut ahead = reader.fork();
+    let number = ahead.u32()?;
+    let status = ahead.u32()?;
+    let outcome = read_behind_status(number, status, &mut ahead)?;
+    *reader = ahead;
+    Ok(outcome)
+}

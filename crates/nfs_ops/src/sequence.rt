@@ -1,0 +1,95 @@
+use crate::always::Always;
+use std::alloc::Allocator;
+use xdr_wire::{Full, Reader, Spell, Wire, Writer, XdrFault};
+
+/// Begins a call of a session. The arguments of SEQUENCE (RFC 8881, section 18.46).
+#[derive(Clone, Copy)]
+pub struct SequenceArgs {
+    /// Its id.
+    pub session: [u8; 16],
+    /// One more than that of the slot's last call, or that of a call that is repeated.
+    pub number: u32,
+    /// The slot.
+    pub slot: u32,
+    /// The highest slot that the client uses.
+    pub highest: u32,
+    /// Whether the reply is to be kept for a repeat.
+    pub keep: bool,
+}
+
+impl Spell for SequenceArgs {
+    ghost use Rattle.std.specs.Prelude.{None};
+    ghost use Rattle.nfs_ops.specs.Forms.{sequence_args};
+    ghost use Rattle.nfs_ops.specs.Views.{sequence_args_value};
+
+    ghost form = { sequence_args };
+
+    ghost view = { sequence_args_value };
+
+    ghost normal = { None };
+
+    fn write<A: Allocator>(self, writer: &mut Writer<A>) -> Result<(), Full> {
+        let session = self.session;
+        let last = (self.slot, (self.highest, self.keep));
+        (session, (self.number, last)).write(writer)
+    }
+}
+
+impl<'a> Wire<'a> for SequenceArgs {
+    fn read(reader: &mut Reader<'a>) -> Result<Self, XdrFault> {
+        let (session, (number, (slot, (highest, keep)))) = Wire::read(reader)?;
+        Ok(SequenceArgs {
+            session,
+            number,
+            slot,
+            highest,
+            keep,
+        })
+    }
+}
+
+/// The call goes on. The result of SEQUENCE (RFC 8881, section 18.46).
+#[derive(Clone, Copy)]
+pub struct SequenceResult {
+    /// Its id.
+    pub session: [u8; 16],
+    /// That of the call.
+    pub number: u32,
+    /// The slot.
+    pub slot: u32,
+    /// The highest slot that the client may use.
+    pub highest: u32,
+    /// The highest slot that it is to use.
+    pub target: u32,
+}
+
+impl Spell for SequenceResult {
+    ghost use Rattle.std.specs.Prelude.{None};
+    ghost use Rattle.nfs_ops.specs.Forms.{sequence_result};
+    ghost use Rattle.nfs_ops.specs.Views.{sequence_result_value};
+
+    ghost form = { sequence_result };
+
+    ghost view = { sequence_result_value };
+
+    ghost normal = { None };
+
+    fn write<A: Allocator>(self, writer: &mut Writer<A>) -> Result<(), Full> {
+        let session = self.session;
+        let last = (self.highest, (self.target, Always::<0>));
+        (session, (self.number, (self.slot, last))).write(writer)
+    }
+}
+
+impl<'a> Wire<'a> for SequenceResult {
+    fn read(reader: &mut Reader<'a>) -> Result<Self, XdrFault> {
+        let (session, (number, (slot, (highest, (target, Always::<0>))))) = Wire::read(reader)?;
+        Ok(SequenceResult {
+            session,
+            number,
+            slot,
+            highest,
+            target,
+        })
+    }
+}

@@ -1,0 +1,61 @@
+//! Results that lend what they give, by hand (RFC 8881, section 18, and RFC 5662).
+use nfs_ops::{
+    ExchangeIdResult, GetAttrResult, GetFhResult, OpResult, ReadDirResult, ReadLinkResult,
+    ReadResult,
+};
+use nfs_types::{Attributes, Bitmap, Handle};
+use xdr_wire::{Chain, Opaque, Reader, Wire};
+
+/// An entry `f` of cookie 4 and type 1, whose bitmap has a zero word at its end, and the end.
+const CHAIN: &[u8] =
+    b"\0\0\0\x01\0\0\0\0\0\0\0\x04\0\0\0\x01f\0\0\0\0\0\0\x02\0\0\0\x02\0\0\0\0\0\0\0\x04\0\0\0\x01\0\0\0\0";
+
+/// How many results there are.
+pub const COUNT: u32 = 6;
+
+/// The bytes of the result of this index.
+pub fn bytes_of(index: u32) -> &'static [u8] {
+    match index {
+        0 => b"\0\0\0\x09\0\0\0\0\0\0\0\x01\0\0\0\x10\0\0\0\x08\0\0\0\0\0\0\0\x02",
+        1 => b"\0\0\0\x0a\0\0\0\0\0\0\0\x10\0\0\0\0\0\0\0\0\0\0\0\0\0\0\0\x02",
+        2 => b"\0\0\0\x19\0\0\0\0\0\0\0\x01\0\0\0\x02hi\0\0",
+        3 => b"\0\0\0\x1b\0\0\0\0\0\0\0\x03a/b\0",
+        4 =>
+            b"\0\0\0*\0\0\0\0\0\0\0\0\0\0\0\x01\0\0\0\x01\0\x01\0\0\0\0\0\0\0\0\0\0\0\0\0\0\0\0\0\x0bnfs41-lists\0\0\0\0\x0bnfs41-lists\0\0\0\0\0",
+        _ =>
+            b"\0\0\0\x1a\0\0\0\0\0\0\0\0\0\0\0\0\0\0\0\x01\0\0\0\0\0\0\0\x04\0\0\0\x01f\0\0\0\0\0\0\x01\0\0\0\x02\0\0\0\x04\0\0\0\x01\0\0\0\0\0\0\0\x01",
+    }
+}
+
+/// The result of this index.
+pub fn result_of(index: u32) -> Result<OpResult<'static>, &'static str> {
+    Ok(match index {
+        0 => OpResult::GetAttr(GetAttrResult {
+            attributes: Attributes {
+                set: Bitmap::empty().with(4),
+                values: Opaque::new(b"\0\0\0\0\0\0\0\x02").ok_or("values")?,
+            },
+        }),
+        1 => OpResult::GetFh(GetFhResult {
+            handle: Handle::Object(2),
+        }),
+        2 => OpResult::Read(ReadResult {
+            eof: true,
+            data: Opaque::new(b"hi").ok_or("data")?,
+        }),
+        3 => OpResult::ReadLink(ReadLinkResult {
+            text: Opaque::new(b"a/b").ok_or("text")?,
+        }),
+        4 => OpResult::ExchangeId(ExchangeIdResult {
+            client: 1,
+            sequence: 1,
+            flags: 0x10000,
+            server: Opaque::new(b"nfs41-lists").ok_or("server")?,
+            scope: Opaque::new(b"nfs41-lists").ok_or("scope")?,
+        }),
+        _ => OpResult::ReadDir(ReadDirResult {
+            entries: Chain::read(&mut Reader::new(CHAIN)).map_err(|_| "entries")?,
+            eof: true,
+        }),
+    })
+}

@@ -1,0 +1,13 @@
+//! Tests of `nfs_ops`, from outside: operations and results by hand, and their borders.
+#![tactic(auto)]
+
+#[cfg(test)]
+mod given;
+#[cfg(test)]
+mod lent;
+#[cfg(test)]
+mod results;
+#[cfg(test)]
+mod tests;
+#[cfg(test)]
+mod vectors;
