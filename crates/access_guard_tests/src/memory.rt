@@ -39,8 +39,14 @@ fn the_one_asked_last_stands_first(rt: HostRuntime) -> Result<(), Fail> {
     let alloc = rt.alloc();
     let mut guarded = guarded(alloc, sample(alloc)?, 2, RandomState::new(&rt)?)?;
     let caller = Caller::new(1002, 100, &[]);
-    assert_eq!(rt; decide(&mut guarded, bits(1, 0x20), &caller, LOOKUP), Granted);
-    assert_eq!(rt; decide(&mut guarded, bits(2, 0x1), &caller, LOOKUP), Granted);
+    assert_eq!(rt;
+        decide(&mut guarded, bits(1, 0x20), &caller, LOOKUP),
+        Granted
+    );
+    assert_eq!(rt;
+        decide(&mut guarded, bits(2, 0x1), &caller, LOOKUP),
+        Granted
+    );
     let examined = guarded.guard().examined();
     assert_eq!(rt;
         decide(&mut guarded, bits(1, 0x20), &caller, LOOKUP),

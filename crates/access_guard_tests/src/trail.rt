@@ -1,13 +1,16 @@
 //! Lines, and the trail that keeps the last.
 
-use crate::trees::{LOOKUP, READ, WRITE, add, allow, decide, decide_on, entry, guard, guarded, mode_755, root, sample, text};
+use crate::trees::{
+    LOOKUP, READ, WRITE, add, allow, decide, decide_on, entry, guard, guarded, mode_755, root,
+    sample, text,
+};
 use Cause::{ByEntry, Missing};
 use Decision::{Granted, Refused};
 use access_guard::{Cause, Decision, Demand};
 use acl_list::{EntryKind, Kind, Who};
 use linked_list_allocator::LocalHeap;
-use rpc_record::Caller;
 use node_tree::Tree;
+use rpc_record::Caller;
 use std::alloc::Global;
 use std::hash::RandomState;
 use std::process::Abort;
@@ -77,13 +80,22 @@ enum Made {
 }
 
 /// Asks a guard over a heap of this size.
-fn ask(rt: &impl Abort, alloc: Global, hasher: RandomState, tree: &Tree, size: usize) -> Result<Made, Fail> {
+fn ask(
+    rt: &impl Abort,
+    alloc: Global,
+    hasher: RandomState,
+    tree: &Tree,
+    size: usize,
+) -> Result<Made, Fail> {
     let heap = LocalHeap::new(alloc, size)?;
     let Ok(mut guard) = guard(&heap, hasher) else {
         return Ok(Made::None);
     };
     let caller = Caller::new(1002, 100, &[]);
-    assert_eq!(rt; decide_on(&mut guard, bits(1, 0x20), tree, &caller, LOOKUP), Granted);
+    assert_eq!(rt;
+        decide_on(&mut guard, bits(1, 0x20), tree, &caller, LOOKUP),
+        Granted
+    );
     let refused = decide_on(&mut guard, bits(2, 0x2), tree, &caller, WRITE);
     assert!(rt; !refused.is_granted());
     assert_eq!(rt; guard.total(), 1);

@@ -244,12 +244,7 @@ fn open_row(args: &OpenArgs<'_>, facts: &Facts) -> Phases
 }
 
 /// What opening the child of a directory asks, or making it.
-fn opening(
-    child: Option<Object>,
-    access: u32,
-    how: &OpenHow<'_>,
-    facts: &Facts,
-) -> Option<Demand>
+fn opening(child: Option<Object>, access: u32, how: &OpenHow<'_>, facts: &Facts) -> Option<Demand>
     ensures { result ≡ specs.opening child access (open_how_value how.now) facts.now }
 {
     if child.is_some() {

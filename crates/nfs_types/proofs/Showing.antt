@@ -105,11 +105,13 @@ written_seen s can =
     let d = shown acl s.entries ++ e in
     let c = shown uint s.error ++ d in
     let b = shown hyper s.size ++ c in
-    rw (h.within,
+    rw (
+      h.within,
       shown_again (has_number set 1) uint s.kind b h.first can.kind,
       shown_again (has_number set 4) hyper s.size c h.second can.size,
       shown_again (has_number set 11) uint s.error d h.third can.error,
       shown_again (has_number set 12) acl s.entries e h.fourth can.entries,
       shown_again (has_number set 33) uint s.mode f h.fifth can.mode,
       shown_again (has_number set 36) text s.owner g h.sixth can.owner,
-      shown_again (has_number set 37) text s.group [] h.seventh can.group) refl
+      shown_again (has_number set 37) text s.group [] h.seventh can.group,
+    ) refl
