@@ -28,6 +28,17 @@ fn shown(
     Ok((writer.into_bytes(), answer))
 }
 
+/// The text of the first who in the list that is seen.
+fn first_who<'a>(seen: &mut SeenAttributes<'a>) -> Option<&'a [u8]> {
+    match &mut seen.entries {
+        Some(entries) => {
+            let first = entries.next()?;
+            Some(first.who.bytes)
+        }
+        None => None,
+    }
+}
+
 /// What a server gives is what a client reads.
 #[test]
 fn what_is_given_is_seen(rt: HostRuntime) -> Result<(), Fail> {
@@ -51,8 +62,7 @@ fn what_is_given_is_seen(rt: HostRuntime) -> Result<(), Fail> {
     assert_eq!(rt; seen.mode, Some(0o640));
     assert_eq!(rt; seen.owner.map(|text| text.bytes), Some(b"1001".as_slice()));
     assert_eq!(rt; seen.group.map(|text| text.bytes), Some(b"100".as_slice()));
-    let first = seen.entries.as_mut().and_then(|entries| entries.next());
-    assert_eq!(rt; first.map(|ace| ace.who.bytes), Some(b"OWNER@".as_slice()));
+    assert_eq!(rt; first_who(&mut seen), Some(b"OWNER@".as_slice()));
     Ok(())
 }
 
