@@ -17,7 +17,7 @@ use Rattle.nfs_ops.specs.Forms.{access_args, close_args, commit_args, create_arg
 use Rattle.nfs_ops.specs.Operations.{Operation, Access, Close, Commit, Create, GetAttr, GetFh, Link, Lookup, LookupP, NVerify, Open, PutFh, PutRootFh, Read, ReadDir, ReadLink, Remove, Rename, RestoreFh, SaveFh, SetAttr, Verify, Write, ExchangeId, CreateSession, DestroySession, Sequence, DestroyClientId, ReclaimComplete, Unsupported, Illegal, op_item, is_built, made, no_operation, next_at, next_from, or_bad, arguments_at, to_open_at, to_savefh_at, to_reclaim_complete_at, open_from, exchange_id_from}
 
 -- two fields are read one behind the other
-pair_from : (t : Xdr) (bytes r rest : List ℕ) (k : ℕ) (v : Value t) → read_at uint bytes ≡ Ok (k, r) → read_at t r ≡ Ok (v, rest) → read_at (pair uint t) bytes ≡ Ok ((k, v), rest)
+pub pair_from : (t : Xdr) (bytes r rest : List ℕ) (k : ℕ) (v : Value t) → read_at uint bytes ≡ Ok (k, r) → read_at t r ≡ Ok (v, rest) → read_at (pair uint t) bytes ≡ Ok ((k, v), rest)
 pair_from t bytes r rest k v e f = rw e (rw f refl)
 
 -- an operation of which nothing more is read
@@ -42,7 +42,7 @@ lone_found k op bytes r rest o is number_is e =
     subst (λ (y : Operation × List ℕ). Stands (op_item y.0) bytes y.1) (ok_is (op, r) (o, rest) e) (subst (λ (i : Item). Stands i bytes r) (sym is) stands)
 
 -- one of the cases of a test of numbers, and the case behind it
-either : (P : Type 0) (n k : ℕ) (x y z : ReadOf Operation) → cond (n == k) x y ≡ z → (n ≡ k → x ≡ z → P) → (y ≡ z → P) → P
+pub either : {A : Type 0} (P : Type 0) (n k : ℕ) (x y z : ReadOf A) → cond (n == k) x y ≡ z → (n ≡ k → x ≡ z → P) → (y ≡ z → P) → P
 either P n k x y z e is_k other =
     elim (cases_eq n k) [
       | inl eq ↦ is_k eq (sym (ap (λ b. cond b x y) (eq-eqb n k eq)) ∙ e)
@@ -143,7 +143,7 @@ unfolding next_at
 stands o bytes rest built e = next_found bytes rest o (read_at uint bytes) built refl e
 
 -- a spelling is cut off where it ends, whatever is behind it
-same_front : (a b rest : List ℕ) → a ++ rest ≡ b ++ rest → a ≡ b
+pub same_front : (a b rest : List ℕ) → a ++ rest ≡ b ++ rest → a ≡ b
 same_front a b rest e = append_cancel_right a b rest e
 
 pub no_further : (o : Operation) (front rest other : List ℕ) → is_built o ≡ true → next_at (front ++ rest) ≡ (o, rest) → next_at (front ++ other) ≡ (o, other)

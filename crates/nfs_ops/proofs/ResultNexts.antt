@@ -15,7 +15,7 @@ use Rattle.nfs_ops.specs.Readable.{IsResult}
 use Rattle.nfs_ops.proofs.Nexts.{pair_parts}
 
 -- number, OK and a result with any normal form
-abbrev item : ℕ → (t : Xdr) → Normal (Value t) → Value t → Item
+abbrev pub item : ℕ → (t : Xdr) → Normal (Value t) → Value t → Item
 item k t normal w = record { form = pair uint (pair uint t); normal = both None (both None normal); value = (k, (0, w)) }
 
 -- behind the number, and behind the status

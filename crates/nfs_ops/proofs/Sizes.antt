@@ -1,19 +1,75 @@
 -- How many bytes a result takes at most.
-use Rattle.std.proofs.Common.{◌≡◌, refl, ℕ, ◌+◌, ◌≤◌, List, [], ◌∷◌, length, Result, Ok, Err, replicate, ◌∙◌, inl, IsTrue, is_ok, arith, true, false, cond, ◌==◌}
+use Rattle.std.proofs.Common.{◌≡◌, refl, ap, ◌∙◌, ℕ, ◌+◌, ◌*◌, ◌≤◌, List, [], ◌∷◌, length, Result, Ok, Err, replicate, inl, inr, IsTrue, is_ok, arith, true, false, cond, ◌==◌}
 use Rattle.std.specs.Int.{w32, to_be_bytes}
-use Rattle.std.specs.List.{flat_map}
-use Rattle.std.proofs.lemmas.List.{length-append}
-use Rattle.xdr_wire.specs.Xdr.{padded, padding, fields, spelling}
+use Rattle.std.specs.List.{flat_map, sum_by}
+use Rattle.std.proofs.lemmas.List.{length-append, length-replicate}
+use Rattle.std.proofs.lemmas.List.Sums.{sum_by-cons}
+use Rattle.xdr_wire.specs.Xdr.{Xdr, Value, uint, hyper, boolean, fixed, opaque, pair, chain, fields, padded, padding, spelling, link}
 use Rattle.xdr_wire.specs.Buffer.{Buffer, Puts}
 use Rattle.xdr_wire.proofs.Words.{length_words}
-use Rattle.nfs_types.specs.Forms.{trimmed, front_word, bitmap}
-use Rattle.nfs_ops.specs.Forms.{always, change_info, open_result}
-use Rattle.nfs_ops.specs.Items.{done, item_spelling}
+use Rattle.nfs_types.specs.Forms.{trimmed, front_word, stateid, bitmap, attributes}
+use Rattle.nfs_types.specs.Views.{handle_value}
+use Rattle.nfs_types.specs.declared.handle.Handle.{Handle}
+use Rattle.nfs_types.specs.declared.handle.Handle.TheVariants.{Sent, Object}
+use Rattle.nfs_ops.specs.Forms.{with_padding, always, zeros, bytes, change_info, channel, entry, size_of_entry, close_result, create_result, getattr_result, getfh_result, open_result, read_result, readdir_result, readlink_result, rename_result, setattr_result, write_result, exchange_id_result, create_session_result, sequence_result}
+use Rattle.nfs_ops.specs.Items.{item_spelling}
+use Rattle.nfs_ops.specs.Results.{Outcome, Access, Close, Commit, Create, GetAttr, GetFh, Link, Lookup, LookupP, NVerify, Open, PutFh, PutRootFh, Read, ReadDir, ReadLink, Remove, Rename, RestoreFh, SaveFh, SetAttr, Verify, Write, ExchangeId, CreateSession, DestroySession, Sequence, DestroyClientId, ReclaimComplete, Refused, SetAttrRefused, outcome_item, most}
 
 -- what is at most n bytes long is written where there is room for n
 pub fits : {E : Type 0} (old new : Buffer) (item : List ℕ) (r : Result (Unit {0}) E) (n : ℕ) → Puts old new item r → length item ≤ n → n ≤ old.room → IsTrue (is_ok r)
 fits old new item (Ok x) n puts short room = refl
 fits old new item (Err e) n puts short room = absurd (omega (arith, puts.0, short, room))
+
+-- the bytes that a result takes
+abbrev size : Outcome → ℕ
+size o = length (item_spelling (outcome_item o))
+
+-- ---- the parts of results
+
+-- two fields, one behind the other
+two : (s t : Xdr) (v : Value (pair s t)) → length (spelling (pair s t) v) ≡ length (spelling s v.0) + length (spelling t v.1)
+two s t v = length-append (spelling s v.0) (spelling t v.1)
+
+padded_is : (v : List ℕ) → length (padded v) ≡ with_padding (length v)
+padded_is v = length-append v (replicate (padding (length v)) 0) ∙ ap (λ (n : ℕ). length v + n) (length-replicate (padding (length v)) 0)
+
+-- padding goes no further than the next multiple of four
+rounded : (n words : ℕ) → n ≤ 4 * words → with_padding n ≤ 4 * words
+rounded n words short = omega (arith, short)
+
+opaque_is : (max : ℕ) (v : List ℕ) → length (spelling (opaque max) v) ≡ 4 + with_padding (length v)
+opaque_is max v = omega (arith, padded_is v)
+
+always_is : (n : ℕ) (v : Value (always n)) → length (spelling (always n) v) ≡ 4
+always_is n (inl u) = refl
+always_is n (inr v) = elim v [ ]
+
+pub zeros_is : (v : Value zeros) → length (spelling zeros v) ≡ 8
+zeros_is v = omega (arith, two (always 0) (always 0) v, always_is 0 v.0, always_is 0 v.1)
+
+pub change_info_is : (v : Value change_info) → length (spelling change_info v) ≡ 20
+change_info_is v = omega (arith, two (always 1) (pair hyper hyper) v, always_is 1 v.0)
+
+stateid_is : (v : Value stateid) → length v.1 ≡ 12 → length (spelling stateid v) ≡ 16
+stateid_is v whole = omega (arith, padded_is v.1, whole)
+
+bitmap_is : (v : Value bitmap) → length (spelling bitmap v) ≡ 4 + 4 * length v
+bitmap_is v = omega (arith, length_words v)
+
+attributes_is : (v : Value attributes) → length (spelling attributes v) ≡ 8 + 4 * length v.0 + with_padding (length v.1)
+attributes_is v = omega (arith, two bitmap bytes v, bitmap_is v.0, opaque_is 0xffff_ffff v.1)
+
+channel_short : (v : Value channel) → length v.1.1.1.1.1.1 ≤ 1 → length (spelling channel v) ≤ 32
+channel_short v few = omega (arith, length_words v.1.1.1.1.1.1, few)
+
+entry_is : (e : Value entry) → length (link (spelling entry) e) ≡ size_of_entry e
+entry_is e = omega (arith, two bytes attributes e.1, opaque_is 0xffff_ffff e.1.0, attributes_is e.1.1)
+
+entries_are : (es : List (Value entry)) → length (flat_map (link (spelling entry)) es) ≡ sum_by size_of_entry es
+entries_are [] = refl
+entries_are (e ∷ es) = omega (arith, length-append (link (spelling entry) e) (flat_map (link (spelling entry)) es), entry_is e, entries_are es, sum_by-cons size_of_entry e es)
+
+-- ---- what a result of the program has of them
 
 front_short : (w : ℕ) (ws : List ℕ) → length (front_word w ws) ≤ 1 + length ws
 front_short w [] = elim (w == 0) as (λ b. length (cond b [] (w ∷ [])) ≤ 1) [ true ↦ omega arith | false ↦ omega arith ]
@@ -24,17 +80,67 @@ trimmed_short [] = omega arith
 trimmed_short (w ∷ ws) = omega (arith, front_short w (trimmed ws), trimmed_short ws)
 
 -- the words of a bitmap
-pub words_short : (ws : List ℕ) → length ws ≡ 8 → length (flat_map (to_be_bytes w32) (trimmed ws)) ≤ 32
-words_short ws whole = omega (arith, length_words (trimmed ws), trimmed_short ws, whole)
+pub words_few : (ws : List ℕ) → length ws ≡ 8 → length (trimmed ws) ≤ 8
+words_few ws whole = omega (arith, trimmed_short ws, whole)
 
--- the bytes of a stateid behind its number
-pub other_is_whole : (other : List ℕ) → length other ≡ 12 → length (padded other) ≡ 12
-other_is_whole other whole = length-append other (replicate (padding (length other)) 0) ∙ rw whole refl
+-- the bytes of a filehandle
+pub handle_short : (h : Handle) → length (handle_value h) ≤ 128
+handle_short (Sent item) = item.within
+handle_short (Object n) = omega arith
 
-pub open_short : (seqid : ℕ) (other : List ℕ) (before after : ℕ) (ws : List ℕ) → length other ≡ 12 → length ws ≡ 8
-    → length (item_spelling (done 18 open_result ((seqid, other), ((inl tt, (before, after)), (inl tt, (trimmed ws, inl tt)))))) ≤ 88
-open_short seqid other before after ws other_whole whole =
-    let words : List ℕ = flat_map (to_be_bytes w32) (trimmed ws) in
-    let last : List ℕ = spelling (always 0) (inl tt) in
-    let behind : List ℕ = spelling (fields (change_info ∷ always 0 ∷ bitmap ∷ always 0 ∷ [])) ((inl tt, (before, after)), (inl tt, (trimmed ws, inl tt))) in
-    omega (arith, length-append (padded other) behind, length-append words last, other_is_whole other other_whole, words_short ws whole)
+-- ---- results
+
+pub close_short : (v : Value close_result) → length v.1 ≡ 12 → size (Close v) ≤ 24
+close_short v whole = omega (arith, stateid_is v whole)
+
+pub create_short : (v : Value create_result) → length v.1 ≤ 8 → size (Create v) ≤ 64
+create_short v few = omega (arith, two change_info bitmap v, change_info_is v.0, bitmap_is v.1, few)
+
+pub getattr_short : (v : Value getattr_result) → size (GetAttr v) ≤ most (GetAttr v)
+getattr_short v = omega (arith, attributes_is v)
+
+pub getfh_short : (v : Value getfh_result) → length v ≤ 128 → size (GetFh v) ≤ 140
+getfh_short v short = omega (arith, opaque_is 128 v, rounded (length v) 32 short)
+
+-- what stands behind the change of an OPEN
+abbrev behind_change : Xdr
+behind_change = fields (always 0 ∷ bitmap ∷ always 0 ∷ [])
+
+pub open_short : (v : Value open_result) → length v.0.1 ≡ 12 → length v.1.1.1.0 ≤ 8 → size (Open v) ≤ 88
+open_short v whole few = omega (arith, two stateid (pair change_info behind_change) v, two change_info behind_change v.1, two (always 0) (pair bitmap (always 0)) v.1.1, two bitmap (always 0) v.1.1.1, stateid_is v.0 whole, change_info_is v.1.0, always_is 0 v.1.1.0, bitmap_is v.1.1.1.0, always_is 0 v.1.1.1.1, few)
+
+pub read_short : (v : Value read_result) → size (Read v) ≤ most (Read v)
+read_short v = omega (arith, opaque_is 32768 v.1)
+
+pub readdir_short : (v : Value readdir_result) → size (ReadDir v) ≤ most (ReadDir v)
+readdir_short v = omega (arith, two zeros (pair (chain entry) boolean) v, zeros_is v.0, two (chain entry) boolean v.1, length-append (flat_map (link (spelling entry)) v.1.0) (to_be_bytes w32 0), entries_are v.1.0)
+
+pub readlink_short : (v : Value readlink_result) → size (ReadLink v) ≤ most (ReadLink v)
+readlink_short v = omega (arith, opaque_is 1024 v)
+
+pub rename_short : (v : Value rename_result) → size (Rename v) ≤ 48
+rename_short v = omega (arith, two change_info change_info v, change_info_is v.0, change_info_is v.1)
+
+pub setattr_short : (v : Value setattr_result) → length v ≤ 8 → size (SetAttr v) ≤ 44
+setattr_short v few = omega (arith, bitmap_is v, few)
+
+pub write_short : (v : Value write_result) → size (Write v) ≤ 24
+write_short v = omega (arith, two (always 2) zeros v.1, always_is 2 v.1.0, zeros_is v.1.1)
+
+-- what stands at the end of an EXCHANGE_ID
+abbrev server_and_scope : Xdr
+server_and_scope = fields (opaque 11 ∷ opaque 11 ∷ always 0 ∷ [])
+
+pub exchange_id_short : (v : Value exchange_id_result) → length v.1.1.1.1.1.0 ≤ 11 → length v.1.1.1.1.1.1.0 ≤ 11 → size (ExchangeId v) ≤ 72
+exchange_id_short v server scope =
+    let names = v.1.1.1.1.1 in
+    let server_fits : with_padding (length names.0) ≤ 4 * 3 = rounded (length names.0) 3 (omega (arith, server)) in
+    let scope_fits : with_padding (length names.1.0) ≤ 4 * 3 = rounded (length names.1.0) 3 (omega (arith, scope)) in
+    omega (arith, two (always 0) (pair zeros server_and_scope) v.1.1.1, two zeros server_and_scope v.1.1.1.1, two (opaque 11) (pair (opaque 11) (always 0)) names, two (opaque 11) (always 0) names.1, always_is 0 v.1.1.1.0, zeros_is v.1.1.1.1.0, opaque_is 11 names.0, opaque_is 11 names.1.0, always_is 0 names.1.1, server_fits, scope_fits)
+
+pub create_session_short : (v : Value create_session_result) → length v.0 ≡ 16 → length v.1.1.1.0.1.1.1.1.1.1 ≤ 1 → length v.1.1.1.1.1.1.1.1.1.1 ≤ 1 → size (CreateSession v) ≤ 96
+create_session_short v whole fore back =
+    omega (arith, two (fixed 16) (fields (uint ∷ uint ∷ channel ∷ channel ∷ [])) v, padded_is v.0, whole, two channel channel v.1.1.1, channel_short v.1.1.1.0 fore, channel_short v.1.1.1.1 back)
+
+pub sequence_short : (v : Value sequence_result) → length v.0 ≡ 16 → size (Sequence v) ≤ 44
+sequence_short v whole = omega (arith, two (fixed 16) (fields (uint ∷ uint ∷ uint ∷ uint ∷ always 0 ∷ [])) v, padded_is v.0, whole, always_is 0 v.1.1.1.1.1)

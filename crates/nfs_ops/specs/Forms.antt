@@ -1,8 +1,9 @@
 -- The XDR types of each operation's arguments and of its result, in the order of the standard (RFC 8881, section 18; RFC
 -- 5662). A result stands behind the number and the status, where the status is OK.
-use Rattle.std.specs.Prelude.{ℕ, [], ◌∷◌, map}
+use Rattle.std.specs.Prelude.{ℕ, ◌+◌, ◌*◌, List, [], ◌∷◌, length, map}
 use Rattle.std.proofs.Common.{inl, inr}
-use Rattle.xdr_wire.specs.Xdr.{Xdr, Value, void, uint, hyper, boolean, fixed, opaque, array, chain, union, arm, no_more, fields}
+use Rattle.std.specs.List.{sum_by}
+use Rattle.xdr_wire.specs.Xdr.{Xdr, Value, padding, void, uint, hyper, boolean, fixed, opaque, array, chain, union, arm, no_more, fields}
 use Rattle.nfs_types.specs.Forms.{handle, stateid, time, bitmap, attributes, trimmed, trimmed_set}
 
 -- opaque<> and string<>: names, link texts and data have no bound but the record's
@@ -21,9 +22,17 @@ zeros = fields (always 0 ∷ always 0 ∷ [])
 abbrev pub change_info : Xdr
 change_info = fields (always 1 ∷ hyper ∷ hyper ∷ [])
 
+-- how many bytes so many take with the zero bytes behind them
+abbrev pub with_padding : ℕ → ℕ
+with_padding n = n + padding n
+
 -- The most bytes of a result, with its number and its status; this is all of one that is these two.
 abbrev pub plain_size : ℕ
 plain_size = 8
+
+-- the most bytes of a result of an operation that has changed the tree, whichever it is
+abbrev pub change_size : ℕ
+change_size = 256
 
 -- 3 ACCESS (18.1): the rights asked; those of them that have a meaning, and those granted
 abbrev pub access_args : Xdr
@@ -87,9 +96,16 @@ getattr_args = bitmap
 abbrev pub getattr_result : Xdr
 getattr_result = attributes
 
+-- of so many words of the bitmap, and so many bytes of values
+abbrev pub getattr_size : ℕ → ℕ → ℕ
+getattr_size words values = 16 + 4 * words + with_padding values
+
 -- 10 GETFH (18.8): nothing; the filehandle
 abbrev pub getfh_result : Xdr
 getfh_result = handle
+
+abbrev pub getfh_size : ℕ
+getfh_size = 140
 
 -- 11 LINK (18.9): the new name; the directory's change
 abbrev pub link_args : Xdr
@@ -167,6 +183,10 @@ read_args = fields (stateid ∷ hyper ∷ uint ∷ [])
 abbrev pub read_result : Xdr
 read_result = fields (boolean ∷ opaque 32768 ∷ [])
 
+-- of so many bytes of the file
+abbrev pub read_size : ℕ → ℕ
+read_size count = 16 + with_padding count
+
 -- 26 READDIR (18.23): cookie, a verifier and a count that are ignored, the most bytes, the attributes asked; a verifier,
 -- the entries, whether the end was reached
 abbrev pub readdir_args : Xdr
@@ -188,9 +208,24 @@ readdir_result = fields (zeros ∷ chain entry ∷ boolean ∷ [])
 abbrev pub readdir_result_normal : Value readdir_result → Value readdir_result
 readdir_result_normal v = (v.0, (map entry_normal v.1.0, v.1.1))
 
+-- an entry behind its link: of so many bytes of its name, so many words of its bitmap, and so many bytes of values
+abbrev pub entry_size : ℕ → ℕ → ℕ → ℕ
+entry_size name words values = 24 + with_padding name + 4 * words + with_padding values
+
+abbrev pub size_of_entry : Value entry → ℕ
+size_of_entry e = entry_size (length e.1.0) (length e.1.1.0) (length e.1.1.1)
+
+-- of these entries
+abbrev pub readdir_size : List (Value entry) → ℕ
+readdir_size entries = 24 + sum_by size_of_entry entries
+
 -- 27 READLINK (18.24): nothing; the link's text
 abbrev pub readlink_result : Xdr
 readlink_result = opaque 1024
+
+-- of so many bytes of the text
+abbrev pub readlink_size : ℕ → ℕ
+readlink_size text = 12 + with_padding text
 
 -- 28 REMOVE (18.25): the name; the directory's change
 abbrev pub remove_args : Xdr
@@ -258,6 +293,9 @@ exchange_id_args = fields (fixed 8 ∷ opaque 1024 ∷ uint ∷ always 0 ∷ arr
 abbrev pub exchange_id_result : Xdr
 exchange_id_result = fields (hyper ∷ uint ∷ uint ∷ always 0 ∷ zeros ∷ opaque 11 ∷ opaque 11 ∷ always 0 ∷ [])
 
+abbrev pub exchange_id_size : ℕ
+exchange_id_size = 72
+
 -- What an EXCHANGE_ID asks that isn't supported, up to the word that says so: the protection of state by SP4_MACH_CRED (1)
 -- or SP4_SSV (2).
 abbrev pub protection : Xdr
@@ -290,6 +328,9 @@ create_session_args = fields (hyper ∷ uint ∷ uint ∷ channel ∷ channel �
 abbrev pub create_session_result : Xdr
 create_session_result = fields (fixed 16 ∷ uint ∷ uint ∷ channel ∷ channel ∷ [])
 
+abbrev pub create_session_size : ℕ
+create_session_size = 96
+
 -- 44 DESTROY_SESSION (18.37): the session
 abbrev pub destroy_session_args : Xdr
 destroy_session_args = fixed 16
@@ -301,6 +342,9 @@ sequence_args = fields (fixed 16 ∷ uint ∷ uint ∷ uint ∷ boolean ∷ [])
 
 abbrev pub sequence_result : Xdr
 sequence_result = fields (fixed 16 ∷ uint ∷ uint ∷ uint ∷ uint ∷ always 0 ∷ [])
+
+abbrev pub sequence_size : ℕ
+sequence_size = 44
 
 -- 57 DESTROY_CLIENTID (18.50): the client
 abbrev pub destroy_clientid_args : Xdr

@@ -1,14 +1,14 @@
 -- The result of an operation as it stands in a COMPOUND's (RFC 8881, sections 16.2 and 18): its number, its status and,
 -- where that is OK, what its form says.
-use Rattle.std.specs.Prelude.{ℕ, ◌==◌, if◌then◌else◌, [], ◌∷◌, length, Some}
+use Rattle.std.specs.Prelude.{ℕ, ◌==◌, Bool, true, false, if◌then◌else◌, [], ◌∷◌, length, Some}
 use Rattle.xdr_wire.specs.Xdr.{Value, uint, fields}
 use Rattle.nfs_types.specs.Forms.{bitmap}
-use Rattle.nfs_ops.specs.Items.{Item, done, done_as, plain, item_spelling}
+use Rattle.nfs_ops.specs.Items.{Item, done, done_as, plain}
 use Rattle.nfs_types.specs.Status as statuses
 use Rattle.nfs_types.specs.declared.status.Status.{Status}
 use Rattle.nfs_types.specs.declared.status.Status.TheVariants.{ServerFault}
 use Rattle.nfs_types.specs.Forms.{trimmed, trimmed_set}
-use Rattle.nfs_ops.specs.Forms.{access_result, close_result, commit_result, create_result, getattr_result, getfh_result, link_result, open_result, read_result, readdir_result, readlink_result, remove_result, rename_result, setattr_result, write_result, exchange_id_result, create_session_result, sequence_result, create_result_normal, open_result_normal, readdir_result_normal, access_size, close_size, commit_size, create_size, link_size, open_size, remove_size, rename_size, setattr_size, write_size, plain_size, setattr_refused_size}
+use Rattle.nfs_ops.specs.Forms.{access_result, close_result, commit_result, create_result, getattr_result, getfh_result, link_result, open_result, read_result, readdir_result, readlink_result, remove_result, rename_result, setattr_result, write_result, exchange_id_result, create_session_result, sequence_result, create_result_normal, open_result_normal, readdir_result_normal, plain_size, access_size, close_size, commit_size, create_size, getattr_size, getfh_size, link_size, open_size, read_size, readdir_size, readlink_size, remove_size, rename_size, setattr_size, setattr_refused_size, write_size, exchange_id_size, create_session_size, sequence_size}
 
 pub data Outcome : Type 0 where
   Access : Value access_result → Outcome
@@ -79,14 +79,14 @@ outcome_item ReclaimComplete = plain 58 0
 outcome_item (Refused n status) = plain n status
 outcome_item (SetAttrRefused status) = record { form = fields (uint ∷ uint ∷ bitmap ∷ []); normal = Some (λ v. (v.0, (v.1.0, []))); value = (34, (status, [])) }
 
--- The most bytes that are written of it. What takes as many bytes as an object has, or as a client asks for, is measured.
+-- The most bytes that are written of it. Of what an object or a request makes long, so many of its bytes count.
 abbrev pub most : Outcome → ℕ
 most (Access v) = access_size
 most (Close v) = close_size
 most (Commit v) = commit_size
 most (Create v) = create_size
-most (GetAttr v) = length (item_spelling (outcome_item (GetAttr v)))
-most (GetFh v) = length (item_spelling (outcome_item (GetFh v)))
+most (GetAttr v) = getattr_size (length v.0) (length v.1)
+most (GetFh v) = getfh_size
 most (Link v) = link_size
 most Lookup = plain_size
 most LookupP = plain_size
@@ -94,9 +94,9 @@ most NVerify = plain_size
 most (Open v) = open_size
 most PutFh = plain_size
 most PutRootFh = plain_size
-most (Read v) = length (item_spelling (outcome_item (Read v)))
-most (ReadDir v) = length (item_spelling (outcome_item (ReadDir v)))
-most (ReadLink v) = length (item_spelling (outcome_item (ReadLink v)))
+most (Read v) = read_size (length v.1)
+most (ReadDir v) = readdir_size v.1.0
+most (ReadLink v) = readlink_size (length v)
 most (Remove v) = remove_size
 most (Rename v) = rename_size
 most RestoreFh = plain_size
@@ -104,14 +104,31 @@ most SaveFh = plain_size
 most (SetAttr v) = setattr_size
 most Verify = plain_size
 most (Write v) = write_size
-most (ExchangeId v) = length (item_spelling (outcome_item (ExchangeId v)))
-most (CreateSession v) = length (item_spelling (outcome_item (CreateSession v)))
+most (ExchangeId v) = exchange_id_size
+most (CreateSession v) = create_session_size
 most DestroySession = plain_size
-most (Sequence v) = length (item_spelling (outcome_item (Sequence v)))
+most (Sequence v) = sequence_size
 most DestroyClientId = plain_size
 most ReclaimComplete = plain_size
 most (Refused n status) = plain_size
 most (SetAttrRefused status) = setattr_refused_size
+
+-- a change of the tree that was made
+abbrev pub is_change : Outcome → Bool
+is_change (Create v) = true
+is_change (Link v) = true
+is_change (Open v) = true
+is_change (Remove v) = true
+is_change (Rename v) = true
+is_change (SetAttr v) = true
+is_change (Write v) = true
+is_change _ = false
+
+-- the operation has another status than OK
+abbrev pub is_refusal : Outcome → Bool
+is_refusal (Refused n status) = true
+is_refusal (SetAttrRefused status) = true
+is_refusal _ = false
 
 -- A refusal isn't OK: in its place stands SERVERFAULT, which is answered nowhere else.
 abbrev pub refusal : Status → ℕ

@@ -1,6 +1,7 @@
-ghost use Rattle.std.specs.Prelude.{◌≡◌, ◌↔◌, ◌++◌, ℕ, List, Ok, true};
+ghost use Rattle.std.specs.Prelude.{◌≡◌, ◌≤◌, ◌↔◌, ◌++◌, ℕ, List, length, Ok, true};
 ghost use Rattle.nfs_ops.specs.Items.{Stands, ItemHasSpelling, ItemIsNormal, item_spelling};
-ghost use Rattle.nfs_ops.specs.Results.{Outcome, outcome_item};
+ghost use Rattle.nfs_ops.specs.Forms.{change_size, setattr_refused_size};
+ghost use Rattle.nfs_ops.specs.Results.{Outcome, outcome_item, most, is_change, is_refusal};
 ghost use Rattle.nfs_ops.specs.ResultReading.{result_at};
 ghost use Rattle.nfs_ops.specs.Readable.{IsResult};
 ghost use Rattle.nfs_ops.specs.Operations.{Operation, op_item, is_built, next_at};
@@ -25,7 +26,33 @@ pub fn a_result_that_stands_is_read()
     ensures { (o : Outcome) (bytes rest : List ℕ) → IsResult o → Stands (outcome_item o) bytes rest → result_at bytes ≡ Ok (o, rest) }
 {}
 
+/// A result that is read has the number of a status, and stands at the front.
+pub fn a_result_that_is_read_stands()
+    ensures { (o : Outcome) (bytes rest : List ℕ) → result_at bytes ≡ Ok (o, rest) → IsResult o × Stands (outcome_item o) bytes rest }
+{}
+
+/// No reading depends on what is behind the result.
+pub fn reading_a_result_looks_no_further()
+    ensures { (o : Outcome) (front rest other : List ℕ) → result_at (front ++ rest) ≡ Ok (o, rest) → result_at (front ++ other) ≡ Ok (o, other) }
+{}
+
 /// A result that is written is read again, whatever is behind it.
 pub fn a_written_result_is_read()
     ensures { (o : Outcome) (rest : List ℕ) → IsResult o → ItemHasSpelling (outcome_item o) → ItemIsNormal (outcome_item o) → result_at (item_spelling (outcome_item o) ++ rest) ≡ Ok (o, rest) }
+{}
+
+/// What is written of a result has at most the bytes that `most` gives it: a constant beside its form, or a number of the
+/// bytes that it carries.
+pub fn results_are_bounded()
+    ensures { (o : Outcome) → ItemHasSpelling (outcome_item o) → length (item_spelling (outcome_item o)) ≤ most o }
+{}
+
+/// The result of a CREATE, LINK, OPEN, REMOVE, RENAME, SETATTR or WRITE that is OK has at most 256 bytes.
+pub fn changes_are_short()
+    ensures { (o : Outcome) → is_change o ≡ true → most o ≤ change_size }
+{}
+
+/// A refusal has at most 12 bytes: its number, its status, and of SETATTR the count of a bitmap without words.
+pub fn refusals_are_short()
+    ensures { (o : Outcome) → is_refusal o ≡ true → most o ≤ setattr_refused_size }
 {}

@@ -58,8 +58,9 @@ pub use getattr::{GetAttrArgs, GetAttrResult};
 pub use getfh::GetFhResult;
 pub use implementation::Implementation;
 pub use laws::{
-    a_result_that_stands_is_read, a_written_result_is_read, reading_is_spelling,
-    reading_looks_no_further, what_is_written_is_read,
+    a_result_that_is_read_stands, a_result_that_stands_is_read, a_written_result_is_read,
+    changes_are_short, reading_a_result_looks_no_further, reading_is_spelling,
+    reading_looks_no_further, refusals_are_short, results_are_bounded, what_is_written_is_read,
 };
 pub use link::{LinkArgs, LinkResult};
 pub use lookup::LookupArgs;

@@ -1,0 +1,247 @@
+-- A result that is read stands at the front.
+use Rattle.std.proofs.Common.{◌≡◌, ◌≢◌, ℕ, Bool, true, false, cond, List, ◌++◌, Option, Some, None, Ok, Err, refl, sym, ap, subst, ◌∙◌, inl, inr, eq-eqb}
+use Rattle.std.proofs.lemmas.Bool.{ne_eqb, cases_eq}
+use Rattle.std.specs.Prelude.{◌==◌, nat_lt}
+use Rattle.xdr_wire.specs.declared.fault.XdrFault.{XdrFault}
+use Rattle.xdr_wire.specs.Xdr.{Xdr, Value, uint, pair}
+use Rattle.xdr_wire.specs.Reading.{◌>>=◌, Read as ReadOf, read_at}
+use Rattle.xdr_wire.specs.Wire.{Normal, normalized, in_normal_form, both}
+use Rattle.xdr_wire.proofs.Spelling.{begins_from_read}
+use Rattle.xdr_wire.proofs.Normal.{normal_ok, both_is}
+use Rattle.xdr_wire.proofs.Steps.{bind_ok, ok_is}
+use Rattle.nfs_types.specs.Forms.{bitmap, trimmed, trimmed_set}
+use Rattle.nfs_ops.specs.Items.{Item, plain, Stands}
+use Rattle.nfs_ops.proofs.Founds.{pair_from, either, same_front}
+use Rattle.nfs_ops.proofs.ResultNexts.{item, result_is}
+use Rattle.nfs_ops.specs.Forms.{access_result, close_result, commit_result, create_result, getattr_result, getfh_result, link_result, open_result, read_result, readdir_result, readlink_result, remove_result, rename_result, setattr_result, write_result, exchange_id_result, create_session_result, sequence_result, create_result_normal, open_result_normal, readdir_result_normal}
+use Rattle.nfs_ops.specs.Results.{Outcome, Access, Close, Commit, Create, GetAttr, GetFh, Link, Lookup, LookupP, NVerify, Open, PutFh, PutRootFh, Read, ReadDir, ReadLink, Remove, Rename, RestoreFh, SaveFh, SetAttr, Verify, Write, ExchangeId, CreateSession, DestroySession, Sequence, DestroyClientId, ReclaimComplete, Refused, SetAttrRefused, outcome_item}
+use Rattle.nfs_ops.specs.ResultReading.{given, file_refusal, state_refusal, session_refusal, refusal_at, refused_from, refused_at, behind_status, result_at, done_at, done_to_open_at, done_to_savefh_at, done_to_reclaim_complete_at}
+use Rattle.nfs_ops.specs.Readable.{IsResult}
+
+-- it has the number of a status, and stands at the front
+abbrev pub Found : Outcome → List ℕ → List ℕ → Type 0
+Found o bytes rest = IsResult o × Stands (outcome_item o) bytes rest
+
+-- a result of which nothing more is read
+abbrev alone : Outcome → List ℕ → ReadOf Outcome
+alone op q = Ok (op, q)
+
+done_found : (k : ℕ) (t : Xdr) (normal : Normal (Value t)) (op : Value t → Outcome) (bytes r q rest : List ℕ) (o : Outcome)
+    → ((v : Value t) → outcome_item (op v) ≡ item k t normal v) → ((v : Value t) → IsResult (op v))
+    → read_at uint bytes ≡ Ok (k, r) → read_at uint r ≡ Ok (0, q)
+    → given op (in_normal_form normal (read_at t q)) ≡ Ok (o, rest) → Found o bytes rest
+done_found k t normal op bytes r q rest o is good number_is status_is e =
+    let a = bind_ok (in_normal_form normal (read_at t q)) _ (o, rest) e in
+    let same : (op a.0.0, a.0.1) ≡ (o, rest) = ok_is (op a.0.0, a.0.1) (o, rest) a.2 in
+    let b = normal_ok normal (read_at t q) a.0.0 a.0.1 a.1 in
+    let value_read : read_at (pair uint t) r ≡ Ok ((0, b.0), a.0.1) = pair_from t r q a.0.1 0 b.0 status_is b.1 in
+    let all_read : read_at (pair uint (pair uint t)) bytes ≡ Ok ((k, (0, b.0)), a.0.1) = pair_from (pair uint t) bytes r a.0.1 k (0, b.0) number_is value_read in
+    let inner : normalized (both None normal) (0, b.0) ≡ (0, a.0.0) = both_is None normal (0, b.0) ∙ ap (λ (w : Value t). (0, w)) b.2 in
+    let outer : normalized (both None (both None normal)) (k, (0, b.0)) ≡ (k, (0, a.0.0)) = both_is None (both None normal) (k, (0, b.0)) ∙ ap (λ (w : ℕ × Value t). (k, w)) inner in
+    let stands : Stands (item k t normal a.0.0) bytes a.0.1 = ((k, (0, b.0)), begins_from_read (pair uint (pair uint t)) (k, (0, b.0)) bytes a.0.1 all_read, outer) in
+    subst (λ (y : Outcome × List ℕ). Found y.0 bytes y.1) same (good a.0.0, subst (λ (i : Item). Stands i bytes a.0.1) (sym (is a.0.0)) stands)
+
+plain_found : (k s : ℕ) (op : Outcome) (bytes r q rest : List ℕ) (o : Outcome) → outcome_item op ≡ plain k s → IsResult op
+    → read_at uint bytes ≡ Ok (k, r) → read_at uint r ≡ Ok (s, q) → alone op q ≡ Ok (o, rest) → Found o bytes rest
+plain_found k s op bytes r q rest o is good number_is status_is e =
+    let all_read : read_at (pair uint uint) bytes ≡ Ok ((k, s), q) = pair_from uint bytes r q k s number_is status_is in
+    let stands : Stands (plain k s) bytes q = ((k, s), begins_from_read (pair uint uint) (k, s) bytes q all_read, refl) in
+    subst (λ (y : Outcome × List ℕ). Found y.0 bytes y.1) (ok_is (op, q) (o, rest) e) (good, subst (λ (i : Item). Stands i bytes q) (sym is) stands)
+
+to_open_found : (n : ℕ) (bytes r q rest : List ℕ) (o : Outcome) → read_at uint bytes ≡ Ok (n, r) → read_at uint r ≡ Ok (0, q) → done_to_open_at n q ≡ Ok (o, rest) → Found o bytes rest
+unfolding done_to_open_at
+to_open_found n bytes r q rest o number_is status_is e =
+    let P : Type 0 = Found o bytes rest in
+    let is : (k : ℕ) → n ≡ k → read_at uint bytes ≡ Ok (k, r) = λ k eq. number_is ∙ ap (λ (m : ℕ). Ok (m, r)) eq in
+    either P n 3 _ _ (Ok (o, rest)) e (λ eq h. done_found 3 access_result None Access bytes r q rest o (λ v. refl) (λ v. tt) (is 3 eq) status_is h) (λ e3.
+    either P n 4 _ _ (Ok (o, rest)) e3 (λ eq h. done_found 4 close_result None Close bytes r q rest o (λ v. refl) (λ v. tt) (is 4 eq) status_is h) (λ e4.
+    either P n 5 _ _ (Ok (o, rest)) e4 (λ eq h. done_found 5 commit_result None Commit bytes r q rest o (λ v. refl) (λ v. tt) (is 5 eq) status_is h) (λ e5.
+    either P n 6 _ _ (Ok (o, rest)) e5 (λ eq h. done_found 6 create_result (Some create_result_normal) Create bytes r q rest o (λ v. refl) (λ v. tt) (is 6 eq) status_is h) (λ e6.
+    either P n 9 _ _ (Ok (o, rest)) e6 (λ eq h. done_found 9 getattr_result (Some trimmed_set) GetAttr bytes r q rest o (λ v. refl) (λ v. tt) (is 9 eq) status_is h) (λ e9.
+    either P n 10 _ _ (Ok (o, rest)) e9 (λ eq h. done_found 10 getfh_result None GetFh bytes r q rest o (λ v. refl) (λ v. tt) (is 10 eq) status_is h) (λ e10.
+    either P n 11 _ _ (Ok (o, rest)) e10 (λ eq h. done_found 11 link_result None Link bytes r q rest o (λ v. refl) (λ v. tt) (is 11 eq) status_is h) (λ e11.
+    either P n 15 _ _ (Ok (o, rest)) e11 (λ eq h. plain_found 15 0 Lookup bytes r q rest o refl tt (is 15 eq) status_is h) (λ e15.
+    either P n 16 _ _ (Ok (o, rest)) e15 (λ eq h. plain_found 16 0 LookupP bytes r q rest o refl tt (is 16 eq) status_is h) (λ e16.
+    either P n 17 _ _ (Ok (o, rest)) e16 (λ eq h. plain_found 17 0 NVerify bytes r q rest o refl tt (is 17 eq) status_is h) (λ e17.
+    either P n 18 _ _ (Ok (o, rest)) e17 (λ eq h. done_found 18 open_result (Some open_result_normal) Open bytes r q rest o (λ v. refl) (λ v. tt) (is 18 eq) status_is h) (λ e18.
+    absurd cc)))))))))))
+
+to_savefh_found : (n : ℕ) (bytes r q rest : List ℕ) (o : Outcome) → read_at uint bytes ≡ Ok (n, r) → read_at uint r ≡ Ok (0, q) → done_to_savefh_at n q ≡ Ok (o, rest) → Found o bytes rest
+unfolding done_to_savefh_at
+to_savefh_found n bytes r q rest o number_is status_is e =
+    let P : Type 0 = Found o bytes rest in
+    let is : (k : ℕ) → n ≡ k → read_at uint bytes ≡ Ok (k, r) = λ k eq. number_is ∙ ap (λ (m : ℕ). Ok (m, r)) eq in
+    either P n 22 _ _ (Ok (o, rest)) e (λ eq h. plain_found 22 0 PutFh bytes r q rest o refl tt (is 22 eq) status_is h) (λ e22.
+    either P n 24 _ _ (Ok (o, rest)) e22 (λ eq h. plain_found 24 0 PutRootFh bytes r q rest o refl tt (is 24 eq) status_is h) (λ e24.
+    either P n 25 _ _ (Ok (o, rest)) e24 (λ eq h. done_found 25 read_result None Read bytes r q rest o (λ v. refl) (λ v. tt) (is 25 eq) status_is h) (λ e25.
+    either P n 26 _ _ (Ok (o, rest)) e25 (λ eq h. done_found 26 readdir_result (Some readdir_result_normal) ReadDir bytes r q rest o (λ v. refl) (λ v. tt) (is 26 eq) status_is h) (λ e26.
+    either P n 27 _ _ (Ok (o, rest)) e26 (λ eq h. done_found 27 readlink_result None ReadLink bytes r q rest o (λ v. refl) (λ v. tt) (is 27 eq) status_is h) (λ e27.
+    either P n 28 _ _ (Ok (o, rest)) e27 (λ eq h. done_found 28 remove_result None Remove bytes r q rest o (λ v. refl) (λ v. tt) (is 28 eq) status_is h) (λ e28.
+    either P n 29 _ _ (Ok (o, rest)) e28 (λ eq h. done_found 29 rename_result None Rename bytes r q rest o (λ v. refl) (λ v. tt) (is 29 eq) status_is h) (λ e29.
+    either P n 31 _ _ (Ok (o, rest)) e29 (λ eq h. plain_found 31 0 RestoreFh bytes r q rest o refl tt (is 31 eq) status_is h) (λ e31.
+    either P n 32 _ _ (Ok (o, rest)) e31 (λ eq h. plain_found 32 0 SaveFh bytes r q rest o refl tt (is 32 eq) status_is h) (λ e32.
+    absurd cc)))))))))
+
+to_reclaim_complete_found : (n : ℕ) (bytes r q rest : List ℕ) (o : Outcome) → read_at uint bytes ≡ Ok (n, r) → read_at uint r ≡ Ok (0, q) → done_to_reclaim_complete_at n q ≡ Ok (o, rest) → Found o bytes rest
+unfolding done_to_reclaim_complete_at
+to_reclaim_complete_found n bytes r q rest o number_is status_is e =
+    let P : Type 0 = Found o bytes rest in
+    let is : (k : ℕ) → n ≡ k → read_at uint bytes ≡ Ok (k, r) = λ k eq. number_is ∙ ap (λ (m : ℕ). Ok (m, r)) eq in
+    either P n 34 _ _ (Ok (o, rest)) e (λ eq h. done_found 34 setattr_result (Some trimmed) SetAttr bytes r q rest o (λ v. refl) (λ v. tt) (is 34 eq) status_is h) (λ e34.
+    either P n 37 _ _ (Ok (o, rest)) e34 (λ eq h. plain_found 37 0 Verify bytes r q rest o refl tt (is 37 eq) status_is h) (λ e37.
+    either P n 38 _ _ (Ok (o, rest)) e37 (λ eq h. done_found 38 write_result None Write bytes r q rest o (λ v. refl) (λ v. tt) (is 38 eq) status_is h) (λ e38.
+    either P n 42 _ _ (Ok (o, rest)) e38 (λ eq h. done_found 42 exchange_id_result None ExchangeId bytes r q rest o (λ v. refl) (λ v. tt) (is 42 eq) status_is h) (λ e42.
+    either P n 43 _ _ (Ok (o, rest)) e42 (λ eq h. done_found 43 create_session_result None CreateSession bytes r q rest o (λ v. refl) (λ v. tt) (is 43 eq) status_is h) (λ e43.
+    either P n 44 _ _ (Ok (o, rest)) e43 (λ eq h. plain_found 44 0 DestroySession bytes r q rest o refl tt (is 44 eq) status_is h) (λ e44.
+    either P n 53 _ _ (Ok (o, rest)) e44 (λ eq h. done_found 53 sequence_result None Sequence bytes r q rest o (λ v. refl) (λ v. tt) (is 53 eq) status_is h) (λ e53.
+    either P n 57 _ _ (Ok (o, rest)) e53 (λ eq h. plain_found 57 0 DestroyClientId bytes r q rest o refl tt (is 57 eq) status_is h) (λ e57.
+    either P n 58 _ _ (Ok (o, rest)) e57 (λ eq h. plain_found 58 0 ReclaimComplete bytes r q rest o refl tt (is 58 eq) status_is h) (λ e58.
+    absurd cc)))))))))
+
+by_group : (n : ℕ) (bytes r q rest : List ℕ) (o : Outcome) → read_at uint bytes ≡ Ok (n, r) → read_at uint r ≡ Ok (0, q) → (b d : Bool)
+    → cond b (done_to_open_at n q) (cond d (done_to_savefh_at n q) (done_to_reclaim_complete_at n q)) ≡ Ok (o, rest) → Found o bytes rest
+by_group n bytes r q rest o number_is status_is true d e = to_open_found n bytes r q rest o number_is status_is e
+by_group n bytes r q rest o number_is status_is false true e = to_savefh_found n bytes r q rest o number_is status_is e
+by_group n bytes r q rest o number_is status_is false false e = to_reclaim_complete_found n bytes r q rest o number_is status_is e
+
+all_done_found : (n : ℕ) (bytes r q rest : List ℕ) (o : Outcome) → read_at uint bytes ≡ Ok (n, r) → read_at uint r ≡ Ok (0, q) → done_at n q ≡ Ok (o, rest) → Found o bytes rest
+unfolding done_at
+all_done_found n bytes r q rest o number_is status_is e = by_group n bytes r q rest o number_is status_is (nat_lt n 22) (nat_lt n 34) e
+
+-- ---- a status that isn't OK is the one that was read
+
+listed : (s k t : ℕ) (y : Option ℕ) → cond (s == k) (Some k) y ≡ Some t → (y ≡ Some t → s ≡ t) → s ≡ t
+listed s k t y e other =
+    elim (cases_eq s k) [
+      | inl eq ↦ let here : Some k ≡ Some t = sym (ap (λ b. cond b (Some k) y) (eq-eqb s k eq)) ∙ e in cc
+      | inr ne ↦ other (sym (ap (λ b. cond b (Some k) y) (ne_eqb s k ne)) ∙ e)
+    ]
+
+file_same : (s t : ℕ) → file_refusal s ≡ Some t → s ≡ t
+file_same s t e =
+    listed s 1 t _ e (λ e1.
+    listed s 2 t _ e1 (λ e2.
+    listed s 13 t _ e2 (λ e13.
+    listed s 17 t _ e13 (λ e17.
+    listed s 20 t _ e17 (λ e20.
+    listed s 21 t _ e20 (λ e21.
+    listed s 22 t _ e21 (λ e22.
+    listed s 27 t _ e22 (λ e27.
+    listed s 28 t _ e27 (λ e28.
+    listed s 31 t _ e28 (λ e31.
+    listed s 63 t _ e31 (λ e63.
+    listed s 66 t _ e63 (λ e66.
+    listed s 70 t _ e66 (λ e70.
+    absurd cc)))))))))))))
+
+state_same : (s t : ℕ) → state_refusal s ≡ Some t → s ≡ t
+state_same s t e =
+    listed s 10001 t _ e (λ e10001.
+    listed s 10003 t _ e10001 (λ e10003.
+    listed s 10004 t _ e10003 (λ e10004.
+    listed s 10005 t _ e10004 (λ e10005.
+    listed s 10006 t _ e10005 (λ e10006.
+    listed s 10007 t _ e10006 (λ e10007.
+    listed s 10008 t _ e10007 (λ e10008.
+    listed s 10009 t _ e10008 (λ e10009.
+    listed s 10017 t _ e10009 (λ e10017.
+    listed s 10020 t _ e10017 (λ e10020.
+    listed s 10021 t _ e10020 (λ e10021.
+    listed s 10022 t _ e10021 (λ e10022.
+    listed s 10024 t _ e10022 (λ e10024.
+    listed s 10025 t _ e10024 (λ e10025.
+    listed s 10027 t _ e10025 (λ e10027.
+    listed s 10029 t _ e10027 (λ e10029.
+    listed s 10032 t _ e10029 (λ e10032.
+    absurd cc)))))))))))))))))
+
+session_same : (s t : ℕ) → session_refusal s ≡ Some t → s ≡ t
+session_same s t e =
+    listed s 10036 t _ e (λ e10036.
+    listed s 10038 t _ e10036 (λ e10038.
+    listed s 10039 t _ e10038 (λ e10039.
+    listed s 10040 t _ e10039 (λ e10040.
+    listed s 10041 t _ e10040 (λ e10041.
+    listed s 10044 t _ e10041 (λ e10044.
+    listed s 10052 t _ e10044 (λ e10052.
+    listed s 10053 t _ e10052 (λ e10053.
+    listed s 10054 t _ e10053 (λ e10054.
+    listed s 10063 t _ e10054 (λ e10063.
+    listed s 10064 t _ e10063 (λ e10064.
+    listed s 10065 t _ e10064 (λ e10065.
+    listed s 10066 t _ e10065 (λ e10066.
+    listed s 10067 t _ e10066 (λ e10067.
+    listed s 10070 t _ e10067 (λ e10070.
+    listed s 10071 t _ e10070 (λ e10071.
+    listed s 10074 t _ e10071 (λ e10074.
+    listed s 10076 t _ e10074 (λ e10076.
+    listed s 10077 t _ e10076 (λ e10077.
+    listed s 10081 t _ e10077 (λ e10081.
+    listed s 10083 t _ e10081 (λ e10083.
+    absurd cc)))))))))))))))))))))
+
+in_table : (s t : ℕ) (b d : Bool) → cond b (file_refusal s) (cond d (state_refusal s) (session_refusal s)) ≡ Some t → s ≡ t
+in_table s t true d e = file_same s t e
+in_table s t false true e = state_same s t e
+in_table s t false false e = session_same s t e
+
+refusal_same : (s t : ℕ) → refusal_at s ≡ Some t → s ≡ t
+unfolding refusal_at
+refusal_same s t e = in_table s t (nat_lt s 100) (nat_lt s 10034) e
+
+-- a refusal of SETATTR with the bitmap behind it
+abbrev with_bitmap : ℕ → List ℕ → ReadOf Outcome
+with_bitmap s q = in_normal_form (Some trimmed) (read_at bitmap q) >>= λ x. Ok (SetAttrRefused s, x.1)
+
+setattr_found : (s : ℕ) (bytes r q rest : List ℕ) (o : Outcome) → IsResult (SetAttrRefused s) → read_at uint bytes ≡ Ok (34, r) → read_at uint r ≡ Ok (s, q)
+    → with_bitmap s q ≡ Ok (o, rest) → Found o bytes rest
+setattr_found s bytes r q rest o good number_is status_is e =
+    let a = bind_ok (in_normal_form (Some trimmed) (read_at bitmap q)) _ (o, rest) e in
+    let same : (SetAttrRefused s, a.0.1) ≡ (o, rest) = ok_is (SetAttrRefused s, a.0.1) (o, rest) a.2 in
+    let b = normal_ok (Some trimmed) (read_at bitmap q) a.0.0 a.0.1 a.1 in
+    let value_read : read_at (pair uint bitmap) r ≡ Ok ((s, b.0), a.0.1) = pair_from bitmap r q a.0.1 s b.0 status_is b.1 in
+    let all_read : read_at (pair uint (pair uint bitmap)) bytes ≡ Ok ((34, (s, b.0)), a.0.1) = pair_from (pair uint bitmap) bytes r a.0.1 34 (s, b.0) number_is value_read in
+    let stands : Stands (outcome_item (SetAttrRefused s)) bytes a.0.1 = ((34, (s, b.0)), begins_from_read (pair uint (pair uint bitmap)) (34, (s, b.0)) bytes a.0.1 all_read, refl) in
+    subst (λ (y : Outcome × List ℕ). Found y.0 bytes y.1) same (good, stands)
+
+known_found : (n s : ℕ) (bytes r q rest : List ℕ) (o : Outcome) → refusal_at s ≡ Some s → s ≢ 0 → read_at uint bytes ≡ Ok (n, r) → read_at uint r ≡ Ok (s, q)
+    → refused_from n q (Some s) ≡ Ok (o, rest) → Found o bytes rest
+known_found n s bytes r q rest o known other number_is status_is e =
+    elim (cases_eq n 34) [
+      | inl eq ↦ setattr_found s bytes r q rest o (known, other) (number_is ∙ ap (λ (m : ℕ). Ok (m, r)) eq) status_is (sym (ap (λ (m : ℕ). refused_from m q (Some s)) eq) ∙ e)
+      | inr ne ↦ plain_found n s (Refused n s) bytes r q rest o refl (known, ne, other) number_is status_is (sym (ap (λ b. cond b (with_bitmap s q) (alone (Refused n s) q)) (ne_eqb n 34 ne)) ∙ e)
+    ]
+
+from_found : (n s : ℕ) (bytes r q rest : List ℕ) (o : Outcome) (found : Option ℕ) → refusal_at s ≡ found → s ≢ 0 → read_at uint bytes ≡ Ok (n, r) → read_at uint r ≡ Ok (s, q)
+    → refused_from n q found ≡ Ok (o, rest) → Found o bytes rest
+from_found n s bytes r q rest o None at other number_is status_is e = absurd cc
+from_found n s bytes r q rest o (Some t) at other number_is status_is e =
+    let same : s ≡ t = refusal_same s t at in
+    let again : Some s ≡ Some t = ap (λ (m : ℕ). Some m) same in
+    known_found n s bytes r q rest o (at ∙ sym again) other number_is status_is (ap (refused_from n q) again ∙ e)
+
+refused_found : (n s : ℕ) (bytes r q rest : List ℕ) (o : Outcome) → s ≢ 0 → read_at uint bytes ≡ Ok (n, r) → read_at uint r ≡ Ok (s, q) → refused_at n s q ≡ Ok (o, rest) → Found o bytes rest
+unfolding refused_at
+refused_found n s bytes r q rest o other number_is status_is e = from_found n s bytes r q rest o (refusal_at s) refl other number_is status_is e
+
+behind_found : (n s : ℕ) (bytes r q rest : List ℕ) (o : Outcome) → read_at uint bytes ≡ Ok (n, r) → read_at uint r ≡ Ok (s, q) → behind_status n s q ≡ Ok (o, rest) → Found o bytes rest
+unfolding behind_status
+behind_found n s bytes r q rest o number_is status_is e =
+    elim (cases_eq s 0) [
+      | inl eq ↦ all_done_found n bytes r q rest o number_is (status_is ∙ ap (λ (m : ℕ). Ok (m, q)) eq) (sym (ap (λ b. cond b (done_at n q) (refused_at n s q)) (eq-eqb s 0 eq)) ∙ e)
+      | inr ne ↦ refused_found n s bytes r q rest o ne number_is status_is (sym (ap (λ b. cond b (done_at n q) (refused_at n s q)) (ne_eqb s 0 ne)) ∙ e)
+    ]
+
+pub result_found : (o : Outcome) (bytes rest : List ℕ) → result_at bytes ≡ Ok (o, rest) → Found o bytes rest
+unfolding result_at
+result_found o bytes rest e =
+    let a = bind_ok (read_at uint bytes) _ (o, rest) e in
+    let b = bind_ok (read_at uint a.0.1) _ (o, rest) a.2 in
+    behind_found a.0.0 b.0.0 bytes a.0.1 b.0.1 rest o a.1 b.1 b.2
+
+pub no_further : (o : Outcome) (front rest other : List ℕ) → result_at (front ++ rest) ≡ Ok (o, rest) → result_at (front ++ other) ≡ Ok (o, other)
+no_further o front rest other e =
+    let f = result_found o (front ++ rest) rest e in
+    let s = f.1 in
+    let front_is : front ≡ s.1.front = same_front front s.1.front rest s.1.parts in
+    result_is o (front ++ other) other f.0 (s.0, record { front = s.1.front; spelled = s.1.spelled; parts = ap (λ (x : List ℕ). x ++ other) front_is }, s.2)

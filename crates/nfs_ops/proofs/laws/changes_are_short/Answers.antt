@@ -1,0 +1,5 @@
+use Rattle.nfs_ops.proofs.Bounds.{change_short}
+use Rattle.nfs_ops.proofs.laws.changes_are_short.Goals as goal
+
+pub returns : goal.returns
+returns c = change_short
