@@ -1,10 +1,11 @@
 -- How many bytes a result takes at most.
-use Rattle.std.proofs.Common.{◌≡◌, refl, ap, ◌∙◌, ℕ, ◌+◌, ◌*◌, ◌≤◌, List, [], ◌∷◌, length, Result, Ok, Err, replicate, inl, inr, IsTrue, is_ok, arith, true, false, cond, ◌==◌}
+use Rattle.std.proofs.Common.{◌≡◌, refl, ap, ◌∙◌, ℕ, ◌+◌, ◌*◌, ◌≤◌, List, [], ◌∷◌, length, Option, Some, None, Result, Ok, Err, replicate, inl, inr, IsTrue, is_ok, arith, true, false, cond, ◌==◌}
 use Rattle.std.specs.Int.{w32, to_be_bytes}
 use Rattle.std.specs.List.{flat_map, sum_by}
 use Rattle.std.proofs.lemmas.List.{length-append, length-replicate}
 use Rattle.std.proofs.lemmas.List.Sums.{sum_by-cons}
 use Rattle.xdr_wire.specs.Xdr.{Xdr, Value, uint, hyper, boolean, fixed, opaque, pair, chain, fields, padded, padding, spelling, link}
+use Rattle.xdr_wire.specs.Wire.{at_most_one}
 use Rattle.xdr_wire.specs.Buffer.{Buffer, Puts}
 use Rattle.xdr_wire.proofs.Words.{length_words}
 use Rattle.nfs_types.specs.Forms.{trimmed, front_word, stateid, bitmap, attributes}
@@ -87,6 +88,11 @@ words_few ws whole = omega (arith, trimmed_short ws, whole)
 pub handle_short : (h : Handle) → length (handle_value h) ≤ 128
 handle_short (Sent item) = item.within
 handle_short (Object n) = omega arith
+
+-- the words of an array of at most one
+pub at_most : (o : Option ℕ) → length (at_most_one (λ n. n) o) ≤ 1
+at_most None = omega arith
+at_most (Some n) = omega arith
 
 -- ---- results
 

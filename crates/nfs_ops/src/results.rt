@@ -7,7 +7,7 @@ ghost use Rattle.nfs_ops.specs.ResultViews.{result_view};
 
 use crate::always::Zeros;
 use crate::op_result::OpResult;
-use nfs_types::{Bitmap, StateId, Status};
+use nfs_types::{Bitmap, Status};
 use std::alloc::Allocator;
 use xdr_wire::{Full, Spell, Writer};
 
@@ -24,11 +24,11 @@ fn refusal(status: Status) -> u32
     }
 }
 
-/// Says to the prover how long the array of a stateid is.
-fn is_whole(stateid: &StateId)
-    ensures { length stateid.now.other ≡ 12 }
+/// Says to the prover how long an array is.
+fn is_whole<const N: usize>(bytes: &[u8; N])
+    ensures { length bytes.now ≡ N }
 {
-    let _other = stateid.other;
+    let _bytes = *bytes;
 }
 
 /// Writes a refusal. That of SETATTR has an empty bitmap behind its status.
@@ -60,7 +60,7 @@ pub fn write_result<A: Allocator>(outcome: OpResult, writer: &mut Writer<A>) -> 
     match outcome {
         OpResult::Access(r) => (3u32, (0u32, r)).write(writer),
         OpResult::Close(r) => {
-            is_whole(&r.stateid);
+            is_whole(&r.stateid.other);
             (4u32, (0u32, r)).write(writer)
         }
         OpResult::Commit => (5u32, (0u32, Zeros)).write(writer),
@@ -72,7 +72,7 @@ pub fn write_result<A: Allocator>(outcome: OpResult, writer: &mut Writer<A>) -> 
         OpResult::LookupP => (16u32, 0u32).write(writer),
         OpResult::NVerify => (17u32, 0u32).write(writer),
         OpResult::Open(r) => {
-            is_whole(&r.stateid);
+            is_whole(&r.stateid.other);
             (18u32, (0u32, r)).write(writer)
         }
         OpResult::PutFh => (22u32, 0u32).write(writer),
@@ -88,9 +88,15 @@ pub fn write_result<A: Allocator>(outcome: OpResult, writer: &mut Writer<A>) -> 
         OpResult::Verify => (37u32, 0u32).write(writer),
         OpResult::Write(r) => (38u32, (0u32, r)).write(writer),
         OpResult::ExchangeId(r) => (42u32, (0u32, r)).write(writer),
-        OpResult::CreateSession(r) => (43u32, (0u32, r)).write(writer),
+        OpResult::CreateSession(r) => {
+            is_whole(&r.session);
+            (43u32, (0u32, r)).write(writer)
+        }
         OpResult::DestroySession => (44u32, 0u32).write(writer),
-        OpResult::Sequence(r) => (53u32, (0u32, r)).write(writer),
+        OpResult::Sequence(r) => {
+            is_whole(&r.session);
+            (53u32, (0u32, r)).write(writer)
+        }
         OpResult::DestroyClientId => (57u32, 0u32).write(writer),
         OpResult::ReclaimComplete => (58u32, 0u32).write(writer),
         OpResult::Refused(number, status) => write_refusal(number, refusal(status), writer),

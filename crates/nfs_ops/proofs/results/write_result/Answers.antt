@@ -1,6 +1,7 @@
 -- What is written of each is what its form and its value spell, and takes no more bytes than is said.
-use Rattle.std.proofs.Common.{sym, arith, le_refl}
-use Rattle.nfs_ops.proofs.Sizes.{fits, words_short, other_is_whole, open_short}
+use Rattle.std.proofs.Common.{sym, arith}
+use Rattle.nfs_ops.specs.Views.{close_result_value, create_result_value, getattr_result_value, getfh_result_value, open_result_value, read_result_value, readdir_result_value, readlink_result_value, setattr_result_value, exchange_id_result_value, create_session_result_value, sequence_result_value}
+use Rattle.nfs_ops.proofs.Sizes.{fits, words_few, handle_short, at_most, close_short, create_short, getattr_short, getfh_short, open_short, read_short, readdir_short, readlink_short, setattr_short, exchange_id_short, create_session_short, sequence_short}
 use Rattle.nfs_ops.proofs.results.write_result.Goals as goal
 
 pub returns-in-Access-clause-has_spelling : goal.returns-in-Access-clause-has_spelling
@@ -25,7 +26,7 @@ pub returns-in-Close-clause-puts : goal.returns-in-Close-clause-puts
 returns-in-Close-clause-puts g c = rw c.in-Close.is c.write-in-Close.ensures.puts
 
 pub returns-in-Close-clause-fits : goal.returns-in-Close-clause-fits
-returns-in-Close-clause-fits g c = rw c.in-Close.is (λ room. fits _ _ _ c.write-in-Close.result 24 c.write-in-Close.ensures.puts (omega (arith, other_is_whole c.in-Close.r.stateid.other c.is_whole.ensures)) room)
+returns-in-Close-clause-fits g c = rw c.in-Close.is (λ room. fits _ _ _ c.write-in-Close.result 24 c.write-in-Close.ensures.puts (close_short (close_result_value c.in-Close.r) c.is_whole.ensures) room)
 
 pub returns-in-Commit-clause-has_spelling : goal.returns-in-Commit-clause-has_spelling
 returns-in-Commit-clause-has_spelling g c = rw c.in-Commit.is c.write-in-Commit.ensures.has_spelling
@@ -49,7 +50,7 @@ pub returns-in-Create-clause-puts : goal.returns-in-Create-clause-puts
 returns-in-Create-clause-puts g c = rw c.in-Create.is c.write-in-Create.ensures.puts
 
 pub returns-in-Create-clause-fits : goal.returns-in-Create-clause-fits
-returns-in-Create-clause-fits g c = rw c.in-Create.is (λ room. fits _ _ _ c.write-in-Create.result 64 c.write-in-Create.ensures.puts (omega (arith, words_short c.in-Create.r.set.words c.in-Create.r.set.whole)) room)
+returns-in-Create-clause-fits g c = rw c.in-Create.is (λ room. fits _ _ _ c.write-in-Create.result 64 c.write-in-Create.ensures.puts (create_short (create_result_value c.in-Create.r) (words_few c.in-Create.r.set.words c.in-Create.r.set.whole)) room)
 
 pub returns-in-GetAttr-clause-has_spelling : goal.returns-in-GetAttr-clause-has_spelling
 returns-in-GetAttr-clause-has_spelling g c = rw c.in-GetAttr.is c.write-in-GetAttr.ensures.has_spelling
@@ -61,7 +62,7 @@ pub returns-in-GetAttr-clause-puts : goal.returns-in-GetAttr-clause-puts
 returns-in-GetAttr-clause-puts g c = rw c.in-GetAttr.is c.write-in-GetAttr.ensures.puts
 
 pub returns-in-GetAttr-clause-fits : goal.returns-in-GetAttr-clause-fits
-returns-in-GetAttr-clause-fits g c = rw c.in-GetAttr.is (λ room. fits _ _ _ c.write-in-GetAttr.result _ c.write-in-GetAttr.ensures.puts (le_refl _) room)
+returns-in-GetAttr-clause-fits g c = rw c.in-GetAttr.is (λ room. fits _ _ _ c.write-in-GetAttr.result _ c.write-in-GetAttr.ensures.puts (getattr_short (getattr_result_value c.in-GetAttr.r)) room)
 
 pub returns-in-GetFh-clause-has_spelling : goal.returns-in-GetFh-clause-has_spelling
 returns-in-GetFh-clause-has_spelling g c = rw c.in-GetFh.is c.write-in-GetFh.ensures.has_spelling
@@ -73,7 +74,7 @@ pub returns-in-GetFh-clause-puts : goal.returns-in-GetFh-clause-puts
 returns-in-GetFh-clause-puts g c = rw c.in-GetFh.is c.write-in-GetFh.ensures.puts
 
 pub returns-in-GetFh-clause-fits : goal.returns-in-GetFh-clause-fits
-returns-in-GetFh-clause-fits g c = rw c.in-GetFh.is (λ room. fits _ _ _ c.write-in-GetFh.result _ c.write-in-GetFh.ensures.puts (le_refl _) room)
+returns-in-GetFh-clause-fits g c = rw c.in-GetFh.is (λ room. fits _ _ _ c.write-in-GetFh.result 140 c.write-in-GetFh.ensures.puts (getfh_short (getfh_result_value c.in-GetFh.r) (handle_short c.in-GetFh.r.handle)) room)
 
 pub returns-in-Link-clause-has_spelling : goal.returns-in-Link-clause-has_spelling
 returns-in-Link-clause-has_spelling g c = rw c.in-Link.is c.write-in-Link.ensures.has_spelling
@@ -133,7 +134,7 @@ pub returns-in-Open-clause-puts : goal.returns-in-Open-clause-puts
 returns-in-Open-clause-puts g c = rw c.in-Open.is c.write-in-Open.ensures.puts
 
 pub returns-in-Open-clause-fits : goal.returns-in-Open-clause-fits
-returns-in-Open-clause-fits g c = rw c.in-Open.is (λ room. fits _ _ _ c.write-in-Open.result 88 c.write-in-Open.ensures.puts (open_short c.in-Open.r.stateid.seqid c.in-Open.r.stateid.other c.in-Open.r.change.before c.in-Open.r.change.after c.in-Open.r.set.words c.is_whole-in-Open.ensures c.in-Open.r.set.whole) room)
+returns-in-Open-clause-fits g c = rw c.in-Open.is (λ room. fits _ _ _ c.write-in-Open.result 88 c.write-in-Open.ensures.puts (open_short (open_result_value c.in-Open.r) c.is_whole-in-Open.ensures (words_few c.in-Open.r.set.words c.in-Open.r.set.whole)) room)
 
 pub returns-in-PutFh-clause-has_spelling : goal.returns-in-PutFh-clause-has_spelling
 returns-in-PutFh-clause-has_spelling g c = rw c.in-PutFh.is c.write-in-PutFh.ensures.has_spelling
@@ -169,7 +170,7 @@ pub returns-in-Read-clause-puts : goal.returns-in-Read-clause-puts
 returns-in-Read-clause-puts g c = rw c.in-Read.is c.write-in-Read.ensures.puts
 
 pub returns-in-Read-clause-fits : goal.returns-in-Read-clause-fits
-returns-in-Read-clause-fits g c = rw c.in-Read.is (λ room. fits _ _ _ c.write-in-Read.result _ c.write-in-Read.ensures.puts (le_refl _) room)
+returns-in-Read-clause-fits g c = rw c.in-Read.is (λ room. fits _ _ _ c.write-in-Read.result _ c.write-in-Read.ensures.puts (read_short (read_result_value c.in-Read.r)) room)
 
 pub returns-in-ReadDir-clause-has_spelling : goal.returns-in-ReadDir-clause-has_spelling
 returns-in-ReadDir-clause-has_spelling g c = rw c.in-ReadDir.is c.write-in-ReadDir.ensures.has_spelling
@@ -181,7 +182,7 @@ pub returns-in-ReadDir-clause-puts : goal.returns-in-ReadDir-clause-puts
 returns-in-ReadDir-clause-puts g c = rw c.in-ReadDir.is c.write-in-ReadDir.ensures.puts
 
 pub returns-in-ReadDir-clause-fits : goal.returns-in-ReadDir-clause-fits
-returns-in-ReadDir-clause-fits g c = rw c.in-ReadDir.is (λ room. fits _ _ _ c.write-in-ReadDir.result _ c.write-in-ReadDir.ensures.puts (le_refl _) room)
+returns-in-ReadDir-clause-fits g c = rw c.in-ReadDir.is (λ room. fits _ _ _ c.write-in-ReadDir.result _ c.write-in-ReadDir.ensures.puts (readdir_short (readdir_result_value c.in-ReadDir.r)) room)
 
 pub returns-in-ReadLink-clause-has_spelling : goal.returns-in-ReadLink-clause-has_spelling
 returns-in-ReadLink-clause-has_spelling g c = rw c.in-ReadLink.is c.write-in-ReadLink.ensures.has_spelling
@@ -193,7 +194,7 @@ pub returns-in-ReadLink-clause-puts : goal.returns-in-ReadLink-clause-puts
 returns-in-ReadLink-clause-puts g c = rw c.in-ReadLink.is c.write-in-ReadLink.ensures.puts
 
 pub returns-in-ReadLink-clause-fits : goal.returns-in-ReadLink-clause-fits
-returns-in-ReadLink-clause-fits g c = rw c.in-ReadLink.is (λ room. fits _ _ _ c.write-in-ReadLink.result _ c.write-in-ReadLink.ensures.puts (le_refl _) room)
+returns-in-ReadLink-clause-fits g c = rw c.in-ReadLink.is (λ room. fits _ _ _ c.write-in-ReadLink.result _ c.write-in-ReadLink.ensures.puts (readlink_short (readlink_result_value c.in-ReadLink.r)) room)
 
 pub returns-in-Remove-clause-has_spelling : goal.returns-in-Remove-clause-has_spelling
 returns-in-Remove-clause-has_spelling g c = rw c.in-Remove.is c.write-in-Remove.ensures.has_spelling
@@ -253,7 +254,7 @@ pub returns-in-SetAttr-clause-puts : goal.returns-in-SetAttr-clause-puts
 returns-in-SetAttr-clause-puts g c = rw c.in-SetAttr.is c.write-in-SetAttr.ensures.puts
 
 pub returns-in-SetAttr-clause-fits : goal.returns-in-SetAttr-clause-fits
-returns-in-SetAttr-clause-fits g c = rw c.in-SetAttr.is (λ room. fits _ _ _ c.write-in-SetAttr.result 44 c.write-in-SetAttr.ensures.puts (omega (arith, words_short c.in-SetAttr.r.set.words c.in-SetAttr.r.set.whole)) room)
+returns-in-SetAttr-clause-fits g c = rw c.in-SetAttr.is (λ room. fits _ _ _ c.write-in-SetAttr.result 44 c.write-in-SetAttr.ensures.puts (setattr_short (setattr_result_value c.in-SetAttr.r) (words_few c.in-SetAttr.r.set.words c.in-SetAttr.r.set.whole)) room)
 
 pub returns-in-Verify-clause-has_spelling : goal.returns-in-Verify-clause-has_spelling
 returns-in-Verify-clause-has_spelling g c = rw c.in-Verify.is c.write-in-Verify.ensures.has_spelling
@@ -289,7 +290,7 @@ pub returns-in-ExchangeId-clause-puts : goal.returns-in-ExchangeId-clause-puts
 returns-in-ExchangeId-clause-puts g c = rw c.in-ExchangeId.is c.write-in-ExchangeId.ensures.puts
 
 pub returns-in-ExchangeId-clause-fits : goal.returns-in-ExchangeId-clause-fits
-returns-in-ExchangeId-clause-fits g c = rw c.in-ExchangeId.is (λ room. fits _ _ _ c.write-in-ExchangeId.result _ c.write-in-ExchangeId.ensures.puts (le_refl _) room)
+returns-in-ExchangeId-clause-fits g c = rw c.in-ExchangeId.is (λ room. fits _ _ _ c.write-in-ExchangeId.result 72 c.write-in-ExchangeId.ensures.puts (exchange_id_short (exchange_id_result_value c.in-ExchangeId.r) c.in-ExchangeId.r.server.within c.in-ExchangeId.r.scope.within) room)
 
 pub returns-in-CreateSession-clause-has_spelling : goal.returns-in-CreateSession-clause-has_spelling
 returns-in-CreateSession-clause-has_spelling g c = rw c.in-CreateSession.is c.write-in-CreateSession.ensures.has_spelling
@@ -301,7 +302,7 @@ pub returns-in-CreateSession-clause-puts : goal.returns-in-CreateSession-clause-
 returns-in-CreateSession-clause-puts g c = rw c.in-CreateSession.is c.write-in-CreateSession.ensures.puts
 
 pub returns-in-CreateSession-clause-fits : goal.returns-in-CreateSession-clause-fits
-returns-in-CreateSession-clause-fits g c = rw c.in-CreateSession.is (λ room. fits _ _ _ c.write-in-CreateSession.result _ c.write-in-CreateSession.ensures.puts (le_refl _) room)
+returns-in-CreateSession-clause-fits g c = rw c.in-CreateSession.is (λ room. fits _ _ _ c.write-in-CreateSession.result 96 c.write-in-CreateSession.ensures.puts (create_session_short (create_session_result_value c.in-CreateSession.r) c.is_whole-in-CreateSession.ensures (at_most c.in-CreateSession.r.fore.rdma) (at_most c.in-CreateSession.r.back.rdma)) room)
 
 pub returns-in-DestroySession-clause-has_spelling : goal.returns-in-DestroySession-clause-has_spelling
 returns-in-DestroySession-clause-has_spelling g c = rw c.in-DestroySession.is c.write-in-DestroySession.ensures.has_spelling
@@ -325,7 +326,7 @@ pub returns-in-Sequence-clause-puts : goal.returns-in-Sequence-clause-puts
 returns-in-Sequence-clause-puts g c = rw c.in-Sequence.is c.write-in-Sequence.ensures.puts
 
 pub returns-in-Sequence-clause-fits : goal.returns-in-Sequence-clause-fits
-returns-in-Sequence-clause-fits g c = rw c.in-Sequence.is (λ room. fits _ _ _ c.write-in-Sequence.result _ c.write-in-Sequence.ensures.puts (le_refl _) room)
+returns-in-Sequence-clause-fits g c = rw c.in-Sequence.is (λ room. fits _ _ _ c.write-in-Sequence.result 44 c.write-in-Sequence.ensures.puts (sequence_short (sequence_result_value c.in-Sequence.r) c.is_whole-in-Sequence.ensures) room)
 
 pub returns-in-DestroyClientId-clause-has_spelling : goal.returns-in-DestroyClientId-clause-has_spelling
 returns-in-DestroyClientId-clause-has_spelling g c = rw c.in-DestroyClientId.is c.write-in-DestroyClientId.ensures.has_spelling
