@@ -1,6 +1,9 @@
 use std::alloc::Allocator;
 use xdr_wire::{Full, Reader, Spell, Wire, Writer, XdrFault};
 
+/// The number of ACCESS.
+pub const OP_ACCESS: u32 = 3;
+
 /// Which of these rights the caller has. The arguments of ACCESS (RFC 8881, section 18.1).
 #[derive(Clone, Copy)]
 pub struct AccessArgs {

@@ -2,6 +2,9 @@ use nfs_types::StateId;
 use std::alloc::Allocator;
 use xdr_wire::{Full, Reader, Spell, Wire, Writer, XdrFault};
 
+/// The number of CLOSE.
+pub const OP_CLOSE: u32 = 4;
+
 /// Ends an open. The arguments of CLOSE (RFC 8881, section 18.2).
 #[derive(Clone, Copy)]
 pub struct CloseArgs {

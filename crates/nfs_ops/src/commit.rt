@@ -1,6 +1,9 @@
 use std::alloc::Allocator;
 use xdr_wire::{Full, Reader, Spell, Wire, Writer, XdrFault};
 
+/// The number of COMMIT.
+pub const OP_COMMIT: u32 = 5;
+
 /// Wants the bytes written so far to be stable. The arguments of COMMIT (RFC 8881, section 18.3).
 #[derive(Clone, Copy)]
 pub struct CommitArgs {

@@ -4,6 +4,9 @@ use nfs_types::{Attributes, Bitmap};
 use std::alloc::Allocator;
 use xdr_wire::{Full, Reader, Spell, Wire, Writer, XdrFault};
 
+/// The number of CREATE.
+pub const OP_CREATE: u32 = 6;
+
 /// The type of an object to be made, with what it needs (RFC 8881, section 18.4, `createtype4`).
 #[derive(Clone, Copy)]
 pub enum CreateType<'a> {

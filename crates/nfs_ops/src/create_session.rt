@@ -3,6 +3,9 @@ use crate::channel::Channel;
 use std::alloc::Allocator;
 use xdr_wire::{Array, Full, Reader, Spell, Wire, Writer, XdrFault};
 
+/// The number of CREATE_SESSION.
+pub const OP_CREATE_SESSION: u32 = 43;
+
 /// Makes a session of a client. The arguments of CREATE_SESSION (RFC 8881, section 18.36).
 #[derive(Drop)]
 pub struct CreateSessionArgs<'a> {

@@ -3,6 +3,9 @@ use crate::implementation::Implementation;
 use std::alloc::Allocator;
 use xdr_wire::{AtMostOne, Full, Opaque, Reader, Spell, Wire, Writer, XdrFault};
 
+/// The number of EXCHANGE_ID.
+pub const OP_EXCHANGE_ID: u32 = 42;
+
 /// The bytes of the server's name.
 pub const MAX_SERVER: u32 = 11;
 

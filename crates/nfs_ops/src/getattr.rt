@@ -2,6 +2,9 @@ use nfs_types::{Attributes, Bitmap};
 use std::alloc::Allocator;
 use xdr_wire::{Full, Reader, Spell, Wire, Writer, XdrFault};
 
+/// The number of GETATTR.
+pub const OP_GETATTR: u32 = 9;
+
 /// Asks for attributes. The arguments of GETATTR (RFC 8881, section 18.7).
 #[derive(Clone, Copy)]
 pub struct GetAttrArgs {

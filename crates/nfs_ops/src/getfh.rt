@@ -2,6 +2,9 @@ use nfs_types::Handle;
 use std::alloc::Allocator;
 use xdr_wire::{Full, Reader, Spell, Wire, Writer, XdrFault};
 
+/// The number of GETFH.
+pub const OP_GETFH: u32 = 10;
+
 /// The current filehandle. The result of GETFH (RFC 8881, section 18.8).
 #[derive(Clone, Copy)]
 pub struct GetFhResult<'a> {

@@ -3,6 +3,9 @@ use crate::change_info::ChangeInfo;
 use std::alloc::Allocator;
 use xdr_wire::{Full, Reader, Spell, Wire, Writer, XdrFault};
 
+/// The number of LINK.
+pub const OP_LINK: u32 = 11;
+
 /// Gives the saved object one more name. The arguments of LINK (RFC 8881, section 18.9).
 #[derive(Clone, Copy)]
 pub struct LinkArgs<'a> {

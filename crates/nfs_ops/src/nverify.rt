@@ -2,6 +2,9 @@ use nfs_types::Attributes;
 use std::alloc::Allocator;
 use xdr_wire::{Full, Reader, Spell, Wire, Writer, XdrFault};
 
+/// The number of NVERIFY.
+pub const OP_NVERIFY: u32 = 17;
+
 /// Goes on only if attributes differ. The arguments of NVERIFY (RFC 8881, section 18.15).
 #[derive(Clone, Copy)]
 pub struct NVerifyArgs<'a> {

@@ -25,11 +25,18 @@ use crate::sequence::SequenceArgs;
 use crate::setattr::SetAttrArgs;
 use crate::verify::VerifyArgs;
 use crate::write::WriteArgs;
+use crate::{
+    OP_ACCESS, OP_CLOSE, OP_COMMIT, OP_CREATE, OP_CREATE_SESSION, OP_DESTROY_CLIENTID,
+    OP_DESTROY_SESSION, OP_EXCHANGE_ID, OP_GETATTR, OP_GETFH, OP_LINK, OP_LOOKUP, OP_LOOKUPP,
+    OP_NVERIFY, OP_OPEN, OP_PUTFH, OP_PUTROOTFH, OP_READ, OP_READDIR, OP_READLINK,
+    OP_RECLAIM_COMPLETE, OP_REMOVE, OP_RENAME, OP_RESTOREFH, OP_SAVEFH, OP_SEQUENCE, OP_SETATTR,
+    OP_VERIFY, OP_WRITE,
+};
 use std::alloc::Allocator;
 use xdr_wire::{Full, Opaque, Reader, Spell, Wire, Writer, XdrFault};
 
 /// The number under which a missing number and one that no operation has are answered, OP_ILLEGAL.
-pub(crate) const ILLEGAL: u32 = 10_044;
+pub(crate) const OP_ILLEGAL: u32 = 10_044;
 
 /// An operation with its arguments (RFC 8881, sections 16.2 and 18), or why there is none.
 #[derive(Drop)]
@@ -109,37 +116,37 @@ impl<'a> Op<'a> {
         ensures { result ≡ number_of (op_view self.now) }
     {
         match self {
-            Op::Access(_) => 3,
-            Op::Close(_) => 4,
-            Op::Commit(_) => 5,
-            Op::Create(_) => 6,
-            Op::GetAttr(_) => 9,
-            Op::GetFh => 10,
-            Op::Link(_) => 11,
-            Op::Lookup(_) => 15,
-            Op::LookupP => 16,
-            Op::NVerify(_) => 17,
-            Op::Open(_) => 18,
-            Op::PutFh(_) => 22,
-            Op::PutRootFh => 24,
-            Op::Read(_) => 25,
-            Op::ReadDir(_) => 26,
-            Op::ReadLink => 27,
-            Op::Remove(_) => 28,
-            Op::Rename(_) => 29,
-            Op::RestoreFh => 31,
-            Op::SaveFh => 32,
-            Op::SetAttr(_) => 34,
-            Op::Verify(_) => 37,
-            Op::Write(_) => 38,
-            Op::ExchangeId(_) => 42,
-            Op::CreateSession(_) => 43,
-            Op::DestroySession(_) => 44,
-            Op::Sequence(_) => 53,
-            Op::DestroyClientId(_) => 57,
-            Op::ReclaimComplete(_) => 58,
+            Op::Access(_) => OP_ACCESS,
+            Op::Close(_) => OP_CLOSE,
+            Op::Commit(_) => OP_COMMIT,
+            Op::Create(_) => OP_CREATE,
+            Op::GetAttr(_) => OP_GETATTR,
+            Op::GetFh => OP_GETFH,
+            Op::Link(_) => OP_LINK,
+            Op::Lookup(_) => OP_LOOKUP,
+            Op::LookupP => OP_LOOKUPP,
+            Op::NVerify(_) => OP_NVERIFY,
+            Op::Open(_) => OP_OPEN,
+            Op::PutFh(_) => OP_PUTFH,
+            Op::PutRootFh => OP_PUTROOTFH,
+            Op::Read(_) => OP_READ,
+            Op::ReadDir(_) => OP_READDIR,
+            Op::ReadLink => OP_READLINK,
+            Op::Remove(_) => OP_REMOVE,
+            Op::Rename(_) => OP_RENAME,
+            Op::RestoreFh => OP_RESTOREFH,
+            Op::SaveFh => OP_SAVEFH,
+            Op::SetAttr(_) => OP_SETATTR,
+            Op::Verify(_) => OP_VERIFY,
+            Op::Write(_) => OP_WRITE,
+            Op::ExchangeId(_) => OP_EXCHANGE_ID,
+            Op::CreateSession(_) => OP_CREATE_SESSION,
+            Op::DestroySession(_) => OP_DESTROY_SESSION,
+            Op::Sequence(_) => OP_SEQUENCE,
+            Op::DestroyClientId(_) => OP_DESTROY_CLIENTID,
+            Op::ReclaimComplete(_) => OP_RECLAIM_COMPLETE,
             Op::Unsupported(number) | Op::Bad(number) => *number,
-            Op::Illegal => ILLEGAL,
+            Op::Illegal => OP_ILLEGAL,
         }
     }
 }

@@ -5,6 +5,9 @@ use nfs_types::{Attributes, Bitmap, StateId};
 use std::alloc::Allocator;
 use xdr_wire::{Full, Opaque, Reader, Spell, Wire, Writer, XdrFault};
 
+/// The number of OPEN.
+pub const OP_OPEN: u32 = 18;
+
 /// Whether the file of an OPEN may be made (RFC 8881, section 18.16, `openflag4`). Exclusive creation isn't supported.
 #[derive(Clone, Copy)]
 pub enum OpenHow<'a> {

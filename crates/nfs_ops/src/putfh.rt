@@ -2,6 +2,9 @@ use nfs_types::Handle;
 use std::alloc::Allocator;
 use xdr_wire::{Full, Reader, Spell, Wire, Writer, XdrFault};
 
+/// The number of PUTFH.
+pub const OP_PUTFH: u32 = 22;
+
 /// Goes to an object by its filehandle. The arguments of PUTFH (RFC 8881, section 18.19).
 #[derive(Clone, Copy)]
 pub struct PutFhArgs<'a> {

@@ -3,6 +3,9 @@ use nfs_types::StateId;
 use std::alloc::Allocator;
 use xdr_wire::{Full, Opaque, Reader, Spell, Wire, Writer, XdrFault};
 
+/// The number of READ.
+pub const OP_READ: u32 = 25;
+
 /// Asks for bytes of a file. The arguments of READ (RFC 8881, section 18.22).
 #[derive(Clone, Copy)]
 pub struct ReadArgs {

@@ -4,6 +4,9 @@ use nfs_types::{Attributes, Bitmap};
 use std::alloc::Allocator;
 use xdr_wire::{Chain, Full, Reader, Spell, Wire, Writer, XdrFault};
 
+/// The number of READDIR.
+pub const OP_READDIR: u32 = 26;
+
 /// Asks for entries of a directory. The arguments of READDIR (RFC 8881, section 18.23).
 #[derive(Clone, Copy)]
 pub struct ReadDirArgs {

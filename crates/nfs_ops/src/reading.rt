@@ -4,8 +4,15 @@ ghost use Rattle.nfs_ops.specs.Operations.{next_at, arguments_at, to_open_at, to
 ghost use Rattle.nfs_ops.specs.Operations as specs;
 ghost use Rattle.nfs_ops.specs.OpViews.{op_view, after};
 
-use crate::op::{ILLEGAL, Op};
+use crate::op::{OP_ILLEGAL, Op};
 use crate::unsupported::{is_exchange_id_unsupported, is_open_unsupported};
+use crate::{
+    OP_ACCESS, OP_CLOSE, OP_COMMIT, OP_CREATE, OP_CREATE_SESSION, OP_DESTROY_CLIENTID,
+    OP_DESTROY_SESSION, OP_EXCHANGE_ID, OP_GETATTR, OP_GETFH, OP_LINK, OP_LOOKUP, OP_LOOKUPP,
+    OP_NVERIFY, OP_OPEN, OP_PUTFH, OP_PUTROOTFH, OP_READ, OP_READDIR, OP_READLINK,
+    OP_RECLAIM_COMPLETE, OP_REMOVE, OP_RENAME, OP_RESTOREFH, OP_SAVEFH, OP_SEQUENCE, OP_SETATTR,
+    OP_VERIFY, OP_WRITE,
+};
 use xdr_wire::{Reader, Wire, XdrFault};
 
 /// Reads the arguments of an OPEN.
@@ -14,7 +21,7 @@ fn read_open<'a>(reader: &mut Reader<'a>) -> Result<Op<'a>, XdrFault>
 {
     match Wire::read(reader) {
         Ok(arguments) => Ok(Op::Open(arguments)),
-        Err(_) if is_open_unsupported(reader) => Ok(Op::Unsupported(18)),
+        Err(_) if is_open_unsupported(reader) => Ok(Op::Unsupported(OP_OPEN)),
         Err(fault) => Err(fault),
     }
 }
@@ -25,7 +32,7 @@ fn read_exchange_id<'a>(reader: &mut Reader<'a>) -> Result<Op<'a>, XdrFault>
 {
     match Wire::read(reader) {
         Ok(arguments) => Ok(Op::ExchangeId(arguments)),
-        Err(_) if is_exchange_id_unsupported(reader) => Ok(Op::Unsupported(42)),
+        Err(_) if is_exchange_id_unsupported(reader) => Ok(Op::Unsupported(OP_EXCHANGE_ID)),
         Err(fault) => Err(fault),
     }
 }
@@ -46,17 +53,17 @@ fn read_to_open<'a>(number: u32, reader: &mut Reader<'a>) -> Result<Op<'a>, XdrF
     ensures { Gives op_view reader.old reader.new result (to_open_at number reader.old) }
 {
     match number {
-        3 => Ok(Op::Access(Wire::read(reader)?)),
-        4 => Ok(Op::Close(Wire::read(reader)?)),
-        5 => Ok(Op::Commit(Wire::read(reader)?)),
-        6 => Ok(Op::Create(Wire::read(reader)?)),
-        9 => Ok(Op::GetAttr(Wire::read(reader)?)),
-        10 => Ok(Op::GetFh),
-        11 => Ok(Op::Link(Wire::read(reader)?)),
-        15 => Ok(Op::Lookup(Wire::read(reader)?)),
-        16 => Ok(Op::LookupP),
-        17 => Ok(Op::NVerify(Wire::read(reader)?)),
-        18 => read_open(reader),
+        OP_ACCESS => Ok(Op::Access(Wire::read(reader)?)),
+        OP_CLOSE => Ok(Op::Close(Wire::read(reader)?)),
+        OP_COMMIT => Ok(Op::Commit(Wire::read(reader)?)),
+        OP_CREATE => Ok(Op::Create(Wire::read(reader)?)),
+        OP_GETATTR => Ok(Op::GetAttr(Wire::read(reader)?)),
+        OP_GETFH => Ok(Op::GetFh),
+        OP_LINK => Ok(Op::Link(Wire::read(reader)?)),
+        OP_LOOKUP => Ok(Op::Lookup(Wire::read(reader)?)),
+        OP_LOOKUPP => Ok(Op::LookupP),
+        OP_NVERIFY => Ok(Op::NVerify(Wire::read(reader)?)),
+        OP_OPEN => read_open(reader),
         _ => Ok(no_operation(number)),
     }
 }
@@ -67,15 +74,15 @@ fn read_to_savefh<'a>(number: u32, reader: &mut Reader<'a>) -> Result<Op<'a>, Xd
     ensures { Gives op_view reader.old reader.new result (to_savefh_at number reader.old) }
 {
     match number {
-        22 => Ok(Op::PutFh(Wire::read(reader)?)),
-        24 => Ok(Op::PutRootFh),
-        25 => Ok(Op::Read(Wire::read(reader)?)),
-        26 => Ok(Op::ReadDir(Wire::read(reader)?)),
-        27 => Ok(Op::ReadLink),
-        28 => Ok(Op::Remove(Wire::read(reader)?)),
-        29 => Ok(Op::Rename(Wire::read(reader)?)),
-        31 => Ok(Op::RestoreFh),
-        32 => Ok(Op::SaveFh),
+        OP_PUTFH => Ok(Op::PutFh(Wire::read(reader)?)),
+        OP_PUTROOTFH => Ok(Op::PutRootFh),
+        OP_READ => Ok(Op::Read(Wire::read(reader)?)),
+        OP_READDIR => Ok(Op::ReadDir(Wire::read(reader)?)),
+        OP_READLINK => Ok(Op::ReadLink),
+        OP_REMOVE => Ok(Op::Remove(Wire::read(reader)?)),
+        OP_RENAME => Ok(Op::Rename(Wire::read(reader)?)),
+        OP_RESTOREFH => Ok(Op::RestoreFh),
+        OP_SAVEFH => Ok(Op::SaveFh),
         _ => Ok(no_operation(number)),
     }
 }
@@ -86,15 +93,15 @@ fn read_to_reclaim_complete<'a>(number: u32, reader: &mut Reader<'a>) -> Result<
     ensures { Gives op_view reader.old reader.new result (to_reclaim_complete_at number reader.old) }
 {
     match number {
-        34 => Ok(Op::SetAttr(Wire::read(reader)?)),
-        37 => Ok(Op::Verify(Wire::read(reader)?)),
-        38 => Ok(Op::Write(Wire::read(reader)?)),
-        42 => read_exchange_id(reader),
-        43 => Ok(Op::CreateSession(Wire::read(reader)?)),
-        44 => Ok(Op::DestroySession(Wire::read(reader)?)),
-        53 => Ok(Op::Sequence(Wire::read(reader)?)),
-        57 => Ok(Op::DestroyClientId(Wire::read(reader)?)),
-        58 => Ok(Op::ReclaimComplete(Wire::read(reader)?)),
+        OP_SETATTR => Ok(Op::SetAttr(Wire::read(reader)?)),
+        OP_VERIFY => Ok(Op::Verify(Wire::read(reader)?)),
+        OP_WRITE => Ok(Op::Write(Wire::read(reader)?)),
+        OP_EXCHANGE_ID => read_exchange_id(reader),
+        OP_CREATE_SESSION => Ok(Op::CreateSession(Wire::read(reader)?)),
+        OP_DESTROY_SESSION => Ok(Op::DestroySession(Wire::read(reader)?)),
+        OP_SEQUENCE => Ok(Op::Sequence(Wire::read(reader)?)),
+        OP_DESTROY_CLIENTID => Ok(Op::DestroyClientId(Wire::read(reader)?)),
+        OP_RECLAIM_COMPLETE => Ok(Op::ReclaimComplete(Wire::read(reader)?)),
         _ => Ok(no_operation(number)),
     }
 }
@@ -105,8 +112,8 @@ fn read_arguments<'a>(number: u32, reader: &mut Reader<'a>) -> Result<Op<'a>, Xd
     ensures { Gives op_view reader.old reader.new result (arguments_at number reader.old) }
 {
     match number {
-        0..22 => read_to_open(number, reader),
-        22..34 => read_to_savefh(number, reader),
+        0..OP_PUTFH => read_to_open(number, reader),
+        OP_PUTFH..OP_SETATTR => read_to_savefh(number, reader),
         _ => read_to_reclaim_complete(number, reader),
     }
 }
@@ -118,6 +125,6 @@ pub fn next_op<'a>(reader: &mut Reader<'a>) -> Op<'a>
 {
     match reader.u32() {
         Ok(number) => read_arguments(number, reader).unwrap_or(Op::Bad(number)),
-        Err(_) => Op::Bad(ILLEGAL),
+        Err(_) => Op::Bad(OP_ILLEGAL),
     }
 }

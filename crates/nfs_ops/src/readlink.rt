@@ -1,6 +1,9 @@
 use std::alloc::Allocator;
 use xdr_wire::{Full, Opaque, Reader, Spell, Wire, Writer, XdrFault};
 
+/// The number of READLINK.
+pub const OP_READLINK: u32 = 27;
+
 /// The most bytes of a symbolic link's text.
 pub const MAX_TEXT: u32 = 1_024;
 

@@ -3,6 +3,9 @@ use crate::change_info::ChangeInfo;
 use std::alloc::Allocator;
 use xdr_wire::{Full, Reader, Spell, Wire, Writer, XdrFault};
 
+/// The number of REMOVE.
+pub const OP_REMOVE: u32 = 28;
+
 /// Removes a name. The arguments of REMOVE (RFC 8881, section 18.25).
 #[derive(Clone, Copy)]
 pub struct RemoveArgs<'a> {

@@ -3,6 +3,9 @@ use crate::change_info::ChangeInfo;
 use std::alloc::Allocator;
 use xdr_wire::{Full, Reader, Spell, Wire, Writer, XdrFault};
 
+/// The number of RENAME.
+pub const OP_RENAME: u32 = 29;
+
 /// Moves a name. The arguments of RENAME (RFC 8881, section 18.26).
 #[derive(Clone, Copy)]
 pub struct RenameArgs<'a> {

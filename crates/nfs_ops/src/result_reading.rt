@@ -7,6 +7,13 @@ ghost use Rattle.nfs_ops.specs.ResultViews.{result_view};
 
 use crate::always::Zeros;
 use crate::op_result::OpResult;
+use crate::{
+    OP_ACCESS, OP_CLOSE, OP_COMMIT, OP_CREATE, OP_CREATE_SESSION, OP_DESTROY_CLIENTID,
+    OP_DESTROY_SESSION, OP_EXCHANGE_ID, OP_GETATTR, OP_GETFH, OP_LINK, OP_LOOKUP, OP_LOOKUPP,
+    OP_NVERIFY, OP_OPEN, OP_PUTFH, OP_PUTROOTFH, OP_READ, OP_READDIR, OP_READLINK,
+    OP_RECLAIM_COMPLETE, OP_REMOVE, OP_RENAME, OP_RESTOREFH, OP_SAVEFH, OP_SEQUENCE, OP_SETATTR,
+    OP_VERIFY, OP_WRITE,
+};
 use nfs_types::{Bitmap, Status};
 use xdr_wire::{Reader, Wire, XdrFault};
 
@@ -106,20 +113,20 @@ fn read_done_to_open<'a>(number: u32, reader: &mut Reader<'a>) -> Result<OpResul
     ensures { Gives result_view reader.old reader.new result (done_to_open_at number reader.old) }
 {
     match number {
-        3 => Ok(OpResult::Access(Wire::read(reader)?)),
-        4 => Ok(OpResult::Close(Wire::read(reader)?)),
-        5 => {
+        OP_ACCESS => Ok(OpResult::Access(Wire::read(reader)?)),
+        OP_CLOSE => Ok(OpResult::Close(Wire::read(reader)?)),
+        OP_COMMIT => {
             let Zeros = Wire::read(reader)?;
             Ok(OpResult::Commit)
         }
-        6 => Ok(OpResult::Create(Wire::read(reader)?)),
-        9 => Ok(OpResult::GetAttr(Wire::read(reader)?)),
-        10 => Ok(OpResult::GetFh(Wire::read(reader)?)),
-        11 => Ok(OpResult::Link(Wire::read(reader)?)),
-        15 => Ok(OpResult::Lookup),
-        16 => Ok(OpResult::LookupP),
-        17 => Ok(OpResult::NVerify),
-        18 => Ok(OpResult::Open(Wire::read(reader)?)),
+        OP_CREATE => Ok(OpResult::Create(Wire::read(reader)?)),
+        OP_GETATTR => Ok(OpResult::GetAttr(Wire::read(reader)?)),
+        OP_GETFH => Ok(OpResult::GetFh(Wire::read(reader)?)),
+        OP_LINK => Ok(OpResult::Link(Wire::read(reader)?)),
+        OP_LOOKUP => Ok(OpResult::Lookup),
+        OP_LOOKUPP => Ok(OpResult::LookupP),
+        OP_NVERIFY => Ok(OpResult::NVerify),
+        OP_OPEN => Ok(OpResult::Open(Wire::read(reader)?)),
         _ => Err(XdrFault::BadChoice),
     }
 }
@@ -130,15 +137,15 @@ fn read_done_to_savefh<'a>(number: u32, reader: &mut Reader<'a>) -> Result<OpRes
     ensures { Gives result_view reader.old reader.new result (done_to_savefh_at number reader.old) }
 {
     match number {
-        22 => Ok(OpResult::PutFh),
-        24 => Ok(OpResult::PutRootFh),
-        25 => Ok(OpResult::Read(Wire::read(reader)?)),
-        26 => Ok(OpResult::ReadDir(Wire::read(reader)?)),
-        27 => Ok(OpResult::ReadLink(Wire::read(reader)?)),
-        28 => Ok(OpResult::Remove(Wire::read(reader)?)),
-        29 => Ok(OpResult::Rename(Wire::read(reader)?)),
-        31 => Ok(OpResult::RestoreFh),
-        32 => Ok(OpResult::SaveFh),
+        OP_PUTFH => Ok(OpResult::PutFh),
+        OP_PUTROOTFH => Ok(OpResult::PutRootFh),
+        OP_READ => Ok(OpResult::Read(Wire::read(reader)?)),
+        OP_READDIR => Ok(OpResult::ReadDir(Wire::read(reader)?)),
+        OP_READLINK => Ok(OpResult::ReadLink(Wire::read(reader)?)),
+        OP_REMOVE => Ok(OpResult::Remove(Wire::read(reader)?)),
+        OP_RENAME => Ok(OpResult::Rename(Wire::read(reader)?)),
+        OP_RESTOREFH => Ok(OpResult::RestoreFh),
+        OP_SAVEFH => Ok(OpResult::SaveFh),
         _ => Err(XdrFault::BadChoice),
     }
 }
@@ -152,15 +159,15 @@ fn read_done_to_reclaim_complete<'a>(
     ensures { Gives result_view reader.old reader.new result (done_to_reclaim_complete_at number reader.old) }
 {
     match number {
-        34 => Ok(OpResult::SetAttr(Wire::read(reader)?)),
-        37 => Ok(OpResult::Verify),
-        38 => Ok(OpResult::Write(Wire::read(reader)?)),
-        42 => Ok(OpResult::ExchangeId(Wire::read(reader)?)),
-        43 => Ok(OpResult::CreateSession(Wire::read(reader)?)),
-        44 => Ok(OpResult::DestroySession),
-        53 => Ok(OpResult::Sequence(Wire::read(reader)?)),
-        57 => Ok(OpResult::DestroyClientId),
-        58 => Ok(OpResult::ReclaimComplete),
+        OP_SETATTR => Ok(OpResult::SetAttr(Wire::read(reader)?)),
+        OP_VERIFY => Ok(OpResult::Verify),
+        OP_WRITE => Ok(OpResult::Write(Wire::read(reader)?)),
+        OP_EXCHANGE_ID => Ok(OpResult::ExchangeId(Wire::read(reader)?)),
+        OP_CREATE_SESSION => Ok(OpResult::CreateSession(Wire::read(reader)?)),
+        OP_DESTROY_SESSION => Ok(OpResult::DestroySession),
+        OP_SEQUENCE => Ok(OpResult::Sequence(Wire::read(reader)?)),
+        OP_DESTROY_CLIENTID => Ok(OpResult::DestroyClientId),
+        OP_RECLAIM_COMPLETE => Ok(OpResult::ReclaimComplete),
         _ => Err(XdrFault::BadChoice),
     }
 }
@@ -171,8 +178,8 @@ fn read_done<'a>(number: u32, reader: &mut Reader<'a>) -> Result<OpResult<'a>, X
     ensures { Gives result_view reader.old reader.new result (done_at number reader.old) }
 {
     match number {
-        0..22 => read_done_to_open(number, reader),
-        22..34 => read_done_to_savefh(number, reader),
+        0..OP_PUTFH => read_done_to_open(number, reader),
+        OP_PUTFH..OP_SETATTR => read_done_to_savefh(number, reader),
         _ => read_done_to_reclaim_complete(number, reader),
     }
 }
@@ -186,9 +193,9 @@ fn read_behind_refusal<'a>(
     ensures { Gives result_view reader.old reader.new result (refused_from number reader.old (Some (refusal status))) }
 {
     match number {
-        34 => {
+        OP_SETATTR => {
             let _set: Bitmap = Wire::read(reader)?;
-            Ok(OpResult::Refused(34, status))
+            Ok(OpResult::Refused(OP_SETATTR, status))
         }
         _ => Ok(OpResult::Refused(number, status)),
     }

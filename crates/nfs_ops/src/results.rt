@@ -7,12 +7,16 @@ ghost use Rattle.nfs_ops.specs.ResultViews.{result_view};
 
 use crate::always::Zeros;
 use crate::op_result::OpResult;
+use crate::{
+    OP_ACCESS, OP_CLOSE, OP_COMMIT, OP_CREATE, OP_CREATE_SESSION, OP_DESTROY_CLIENTID,
+    OP_DESTROY_SESSION, OP_EXCHANGE_ID, OP_GETATTR, OP_GETFH, OP_LINK, OP_LOOKUP, OP_LOOKUPP,
+    OP_NVERIFY, OP_OPEN, OP_PUTFH, OP_PUTROOTFH, OP_READ, OP_READDIR, OP_READLINK,
+    OP_RECLAIM_COMPLETE, OP_REMOVE, OP_RENAME, OP_RESTOREFH, OP_SAVEFH, OP_SEQUENCE, OP_SETATTR,
+    OP_VERIFY, OP_WRITE,
+};
 use nfs_types::{Bitmap, Status};
 use std::alloc::Allocator;
 use xdr_wire::{Full, Spell, Writer};
-
-/// The number of SETATTR, whose results have a bitmap after a refusal too.
-const SETATTR: u32 = 34;
 
 /// The number of a refusal's status.
 fn refusal(status: Status) -> u32
@@ -42,8 +46,8 @@ fn write_refusal<A: Allocator>(
     ensures fits { most (refused number refusal) ≤ writer.old.room → IsTrue (is_ok result) }
     ensures puts { Puts writer.old writer.new (item_spelling (outcome_item (refused number refusal))) result }
 {
-    if number == SETATTR {
-        (SETATTR, (refusal, Bitmap::empty())).write(writer)
+    if number == OP_SETATTR {
+        (OP_SETATTR, (refusal, Bitmap::empty())).write(writer)
     } else {
         (number, refusal).write(writer)
     }
@@ -58,47 +62,47 @@ pub fn write_result<A: Allocator>(outcome: OpResult, writer: &mut Writer<A>) -> 
     ensures puts { Puts writer.old writer.new (item_spelling (outcome_item (result_view outcome.entry))) result }
 {
     match outcome {
-        OpResult::Access(r) => (3u32, (0u32, r)).write(writer),
+        OpResult::Access(r) => (OP_ACCESS, (0u32, r)).write(writer),
         OpResult::Close(r) => {
             is_whole(&r.stateid.other);
-            (4u32, (0u32, r)).write(writer)
+            (OP_CLOSE, (0u32, r)).write(writer)
         }
-        OpResult::Commit => (5u32, (0u32, Zeros)).write(writer),
-        OpResult::Create(r) => (6u32, (0u32, r)).write(writer),
-        OpResult::GetAttr(r) => (9u32, (0u32, r)).write(writer),
-        OpResult::GetFh(r) => (10u32, (0u32, r)).write(writer),
-        OpResult::Link(r) => (11u32, (0u32, r)).write(writer),
-        OpResult::Lookup => (15u32, 0u32).write(writer),
-        OpResult::LookupP => (16u32, 0u32).write(writer),
-        OpResult::NVerify => (17u32, 0u32).write(writer),
+        OpResult::Commit => (OP_COMMIT, (0u32, Zeros)).write(writer),
+        OpResult::Create(r) => (OP_CREATE, (0u32, r)).write(writer),
+        OpResult::GetAttr(r) => (OP_GETATTR, (0u32, r)).write(writer),
+        OpResult::GetFh(r) => (OP_GETFH, (0u32, r)).write(writer),
+        OpResult::Link(r) => (OP_LINK, (0u32, r)).write(writer),
+        OpResult::Lookup => (OP_LOOKUP, 0u32).write(writer),
+        OpResult::LookupP => (OP_LOOKUPP, 0u32).write(writer),
+        OpResult::NVerify => (OP_NVERIFY, 0u32).write(writer),
         OpResult::Open(r) => {
             is_whole(&r.stateid.other);
-            (18u32, (0u32, r)).write(writer)
+            (OP_OPEN, (0u32, r)).write(writer)
         }
-        OpResult::PutFh => (22u32, 0u32).write(writer),
-        OpResult::PutRootFh => (24u32, 0u32).write(writer),
-        OpResult::Read(r) => (25u32, (0u32, r)).write(writer),
-        OpResult::ReadDir(r) => (26u32, (0u32, r)).write(writer),
-        OpResult::ReadLink(r) => (27u32, (0u32, r)).write(writer),
-        OpResult::Remove(r) => (28u32, (0u32, r)).write(writer),
-        OpResult::Rename(r) => (29u32, (0u32, r)).write(writer),
-        OpResult::RestoreFh => (31u32, 0u32).write(writer),
-        OpResult::SaveFh => (32u32, 0u32).write(writer),
-        OpResult::SetAttr(r) => (34u32, (0u32, r)).write(writer),
-        OpResult::Verify => (37u32, 0u32).write(writer),
-        OpResult::Write(r) => (38u32, (0u32, r)).write(writer),
-        OpResult::ExchangeId(r) => (42u32, (0u32, r)).write(writer),
+        OpResult::PutFh => (OP_PUTFH, 0u32).write(writer),
+        OpResult::PutRootFh => (OP_PUTROOTFH, 0u32).write(writer),
+        OpResult::Read(r) => (OP_READ, (0u32, r)).write(writer),
+        OpResult::ReadDir(r) => (OP_READDIR, (0u32, r)).write(writer),
+        OpResult::ReadLink(r) => (OP_READLINK, (0u32, r)).write(writer),
+        OpResult::Remove(r) => (OP_REMOVE, (0u32, r)).write(writer),
+        OpResult::Rename(r) => (OP_RENAME, (0u32, r)).write(writer),
+        OpResult::RestoreFh => (OP_RESTOREFH, 0u32).write(writer),
+        OpResult::SaveFh => (OP_SAVEFH, 0u32).write(writer),
+        OpResult::SetAttr(r) => (OP_SETATTR, (0u32, r)).write(writer),
+        OpResult::Verify => (OP_VERIFY, 0u32).write(writer),
+        OpResult::Write(r) => (OP_WRITE, (0u32, r)).write(writer),
+        OpResult::ExchangeId(r) => (OP_EXCHANGE_ID, (0u32, r)).write(writer),
         OpResult::CreateSession(r) => {
             is_whole(&r.session);
-            (43u32, (0u32, r)).write(writer)
+            (OP_CREATE_SESSION, (0u32, r)).write(writer)
         }
-        OpResult::DestroySession => (44u32, 0u32).write(writer),
+        OpResult::DestroySession => (OP_DESTROY_SESSION, 0u32).write(writer),
         OpResult::Sequence(r) => {
             is_whole(&r.session);
-            (53u32, (0u32, r)).write(writer)
+            (OP_SEQUENCE, (0u32, r)).write(writer)
         }
-        OpResult::DestroyClientId => (57u32, 0u32).write(writer),
-        OpResult::ReclaimComplete => (58u32, 0u32).write(writer),
+        OpResult::DestroyClientId => (OP_DESTROY_CLIENTID, 0u32).write(writer),
+        OpResult::ReclaimComplete => (OP_RECLAIM_COMPLETE, 0u32).write(writer),
         OpResult::Refused(number, status) => write_refusal(number, refusal(status), writer),
     }
 }

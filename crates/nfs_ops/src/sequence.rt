@@ -2,6 +2,9 @@ use crate::always::Always;
 use std::alloc::Allocator;
 use xdr_wire::{Full, Reader, Spell, Wire, Writer, XdrFault};
 
+/// The number of SEQUENCE.
+pub const OP_SEQUENCE: u32 = 53;
+
 /// Begins a call of a session. The arguments of SEQUENCE (RFC 8881, section 18.46).
 #[derive(Clone, Copy)]
 pub struct SequenceArgs {

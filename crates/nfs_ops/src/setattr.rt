@@ -2,6 +2,9 @@ use nfs_types::{Attributes, Bitmap, StateId};
 use std::alloc::Allocator;
 use xdr_wire::{Full, Reader, Spell, Wire, Writer, XdrFault};
 
+/// The number of SETATTR.
+pub const OP_SETATTR: u32 = 34;
+
 /// Sets attributes. The arguments of SETATTR (RFC 8881, section 18.30).
 #[derive(Clone, Copy)]
 pub struct SetAttrArgs<'a> {

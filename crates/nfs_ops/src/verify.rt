@@ -2,6 +2,9 @@ use nfs_types::Attributes;
 use std::alloc::Allocator;
 use xdr_wire::{Full, Reader, Spell, Wire, Writer, XdrFault};
 
+/// The number of VERIFY.
+pub const OP_VERIFY: u32 = 37;
+
 /// Goes on only if attributes are the same. The arguments of VERIFY (RFC 8881, section 18.31).
 #[derive(Clone, Copy)]
 pub struct VerifyArgs<'a> {

@@ -4,6 +4,9 @@ use nfs_types::StateId;
 use std::alloc::Allocator;
 use xdr_wire::{Full, Reader, Spell, Wire, Writer, XdrFault};
 
+/// The number of WRITE.
+pub const OP_WRITE: u32 = 38;
+
 /// How far bytes that are written are to reach (RFC 8881, section 18.32, `stable_how4`).
 #[derive(Clone, Copy)]
 pub enum StableHow {
