@@ -30,7 +30,7 @@ with_padding n = n + padding n
 abbrev pub plain_size : ℕ
 plain_size = 8
 
--- the most bytes of a result of an operation that has changed the tree, whichever it is
+-- The most bytes of a result of any operation that can change the tree: who has as much room runs it, and can tell how it went.
 abbrev pub change_size : ℕ
 change_size = 256
 

@@ -113,7 +113,7 @@ most ReclaimComplete = plain_size
 most (Refused n status) = plain_size
 most (SetAttrRefused status) = setattr_refused_size
 
--- a change of the tree that was made
+-- the operation can change the tree, and is OK
 abbrev pub is_change : Outcome → Bool
 is_change (Create v) = true
 is_change (Link v) = true

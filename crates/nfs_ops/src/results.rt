@@ -54,7 +54,8 @@ fn write_refusal<A: Allocator>(
 }
 
 /// Writes a result: its number, its status and, where that is OK, what the operation gives. `Full` exactly where the room is
-/// less than that takes; then nothing is written.
+/// less than that takes; then nothing is written. It takes at most what `most` says: at most 256 bytes of a CREATE, LINK,
+/// OPEN, REMOVE, RENAME, SETATTR or WRITE, and at most 12 of a refusal.
 pub fn write_result<A: Allocator>(outcome: OpResult, writer: &mut Writer<A>) -> Result<(), Full>
     ensures has_spelling { OnOk result (ItemHasSpelling (outcome_item (result_view outcome.entry))) }
     ensures in_normal_form { OnOk result (ItemIsNormal (outcome_item (result_view outcome.entry))) }
