@@ -121,6 +121,8 @@ link_size = 28
 abbrev pub lookup_args : Xdr
 lookup_args = bytes
 
+-- 16 LOOKUPP (18.14): nothing; nothing
+
 -- 17 NVERIFY (18.15): the attributes that are to differ
 abbrev pub nverify_args : Xdr
 nverify_args = attributes
@@ -175,6 +177,8 @@ open_by_other_claim = fields (uint ∷ uint ∷ uint ∷ hyper ∷ opaque 1024 �
 -- 22 PUTFH (18.19): the filehandle
 abbrev pub putfh_args : Xdr
 putfh_args = handle
+
+-- 24 PUTROOTFH (18.21): nothing; nothing
 
 -- 25 READ (18.22): stateid, offset, count; whether the end was reached, the bytes
 abbrev pub read_args : Xdr
@@ -246,6 +250,10 @@ rename_result = fields (change_info ∷ change_info ∷ [])
 
 abbrev pub rename_size : ℕ
 rename_size = 48
+
+-- 31 RESTOREFH (18.27): nothing; nothing
+
+-- 32 SAVEFH (18.28): nothing; nothing
 
 -- 34 SETATTR (18.30): stateid, attributes; the attributes that were set, which stand there after a refusal too
 abbrev pub setattr_args : Xdr
