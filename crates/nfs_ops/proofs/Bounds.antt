@@ -1,5 +1,5 @@
 -- The greatest size of each result bounds each of its spellings.
-use Rattle.std.proofs.Common.{◌≡◌, ℕ, ◌≤◌, length, true, arith}
+use Rattle.std.proofs.Common.{◌≡◌, ◌≤◌, length, true, arith}
 use Rattle.nfs_ops.specs.Items.{ItemHasSpelling, item_spelling}
 use Rattle.nfs_ops.specs.Forms.{change_size, setattr_refused_size}
 use Rattle.nfs_ops.specs.Results.{Outcome, Access, Close, Commit, Create, GetAttr, GetFh, Link, Lookup, LookupP, NVerify, Open, PutFh, PutRootFh, Read, ReadDir, ReadLink, Remove, Rename, RestoreFh, SaveFh, SetAttr, Verify, Write, ExchangeId, CreateSession, DestroySession, Sequence, DestroyClientId, ReclaimComplete, Refused, SetAttrRefused, outcome_item, most, is_change, is_refusal}

@@ -14,7 +14,7 @@ use Rattle.nfs_types.specs.declared.handle.Handle.{Handle}
 use Rattle.nfs_types.specs.declared.handle.Handle.TheVariants.{Sent, Object}
 use Rattle.nfs_ops.specs.Forms.{with_padding, always, zeros, bytes, change_info, channel, entry, size_of_entry, close_result, create_result, getattr_result, getfh_result, open_result, read_result, readdir_result, readlink_result, rename_result, setattr_result, write_result, exchange_id_result, create_session_result, sequence_result}
 use Rattle.nfs_ops.specs.Items.{item_spelling}
-use Rattle.nfs_ops.specs.Results.{Outcome, Access, Close, Commit, Create, GetAttr, GetFh, Link, Lookup, LookupP, NVerify, Open, PutFh, PutRootFh, Read, ReadDir, ReadLink, Remove, Rename, RestoreFh, SaveFh, SetAttr, Verify, Write, ExchangeId, CreateSession, DestroySession, Sequence, DestroyClientId, ReclaimComplete, Refused, SetAttrRefused, outcome_item, most}
+use Rattle.nfs_ops.specs.Results.{Outcome, Close, Create, GetAttr, GetFh, Open, Read, ReadDir, ReadLink, Rename, SetAttr, Write, ExchangeId, CreateSession, Sequence, outcome_item, most}
 
 -- what is at most n bytes long is written where there is room for n
 pub fits : {E : Type 0} (old new : Buffer) (item : List ℕ) (r : Result (Unit {0}) E) (n : ℕ) → Puts old new item r → length item ≤ n → n ≤ old.room → IsTrue (is_ok r)
