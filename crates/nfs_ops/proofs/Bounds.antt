@@ -2,8 +2,8 @@
 use Rattle.std.proofs.Common.{◌≡◌, ◌≤◌, length, true, arith}
 use Rattle.nfs_ops.specs.Items.{ItemHasSpelling, item_spelling}
 use Rattle.nfs_ops.specs.Forms.{change_size, setattr_refused_size}
-use Rattle.nfs_ops.specs.Results.{Outcome, Access, Close, Commit, Create, GetAttr, GetFh, Link, Lookup, LookupP, NVerify, Open, PutFh, PutRootFh, Read, ReadDir, ReadLink, Remove, Rename, RestoreFh, SaveFh, SetAttr, Verify, Write, ExchangeId, CreateSession, DestroySession, Sequence, DestroyClientId, ReclaimComplete, Refused, SetAttrRefused, outcome_item, most, is_change, is_refusal}
-use Rattle.nfs_ops.proofs.Sizes.{zeros_is, change_info_is, close_short, create_short, getattr_short, getfh_short, open_short, read_short, readdir_short, readlink_short, rename_short, setattr_short, write_short, exchange_id_short, create_session_short, sequence_short}
+use Rattle.nfs_ops.specs.Results.{Outcome, Access, Close, Commit, Create, GetAttr, GetFh, Link, Lookup, LookupP, NVerify, Open, PutFh, PutRootFh, Read, ReadDir, ReadLink, Remove, Rename, RestoreFh, SaveFh, SetAttr, Verify, Write, ExchangeId, CreateSession, DestroySession, Sequence, DestroyClientId, ReclaimComplete, Refused, SetAttrRefused, outcome_item, most, carries_bytes, is_change, is_refusal}
+use Rattle.nfs_ops.proofs.Sizes.{zeros_is, change_info_is, close_short, create_short, getattr_is, getattr_short, getfh_short, open_short, read_is, read_short, readdir_is, readdir_short, readlink_is, readlink_short, rename_short, setattr_short, write_short, exchange_id_short, create_session_short, sequence_short}
 
 pub bounded : (o : Outcome) → ItemHasSpelling (outcome_item o) → length (item_spelling (outcome_item o)) ≤ most o
 bounded (Access v) h = omega arith
@@ -37,6 +37,13 @@ bounded DestroyClientId h = omega arith
 bounded ReclaimComplete h = omega arith
 bounded (Refused n status) h = omega arith
 bounded (SetAttrRefused status) h = omega arith
+
+pub carried_is : (o : Outcome) → carries_bytes o ≡ true → length (item_spelling (outcome_item o)) ≡ most o
+carried_is (GetAttr v) e = getattr_is v
+carried_is (Read v) e = read_is v
+carried_is (ReadDir v) e = readdir_is v
+carried_is (ReadLink v) e = readlink_is v
+carried_is _ e = absurd cc
 
 pub change_short : (o : Outcome) → is_change o ≡ true → most o ≤ change_size
 change_short (Create v) e = omega arith

@@ -102,8 +102,11 @@ close_short v whole = omega (arith, stateid_is v whole)
 pub create_short : (v : Value create_result) → length v.1 ≤ 8 → size (Create v) ≤ 64
 create_short v few = omega (arith, two change_info bitmap v, change_info_is v.0, bitmap_is v.1, few)
 
+pub getattr_is : (v : Value getattr_result) → size (GetAttr v) ≡ most (GetAttr v)
+getattr_is v = omega (arith, attributes_is v)
+
 pub getattr_short : (v : Value getattr_result) → size (GetAttr v) ≤ most (GetAttr v)
-getattr_short v = omega (arith, attributes_is v)
+getattr_short v = omega (arith, getattr_is v)
 
 pub getfh_short : (v : Value getfh_result) → length v ≤ 128 → size (GetFh v) ≤ 140
 getfh_short v short = omega (arith, opaque_is 128 v, rounded (length v) 32 short)
@@ -115,14 +118,23 @@ behind_change = fields (always 0 ∷ bitmap ∷ always 0 ∷ [])
 pub open_short : (v : Value open_result) → length v.0.1 ≡ 12 → length v.1.1.1.0 ≤ 8 → size (Open v) ≤ 88
 open_short v whole few = omega (arith, two stateid (pair change_info behind_change) v, two change_info behind_change v.1, two (always 0) (pair bitmap (always 0)) v.1.1, two bitmap (always 0) v.1.1.1, stateid_is v.0 whole, change_info_is v.1.0, always_is 0 v.1.1.0, bitmap_is v.1.1.1.0, always_is 0 v.1.1.1.1, few)
 
+pub read_is : (v : Value read_result) → size (Read v) ≡ most (Read v)
+read_is v = omega (arith, opaque_is 32768 v.1)
+
 pub read_short : (v : Value read_result) → size (Read v) ≤ most (Read v)
-read_short v = omega (arith, opaque_is 32768 v.1)
+read_short v = omega (arith, read_is v)
+
+pub readdir_is : (v : Value readdir_result) → size (ReadDir v) ≡ most (ReadDir v)
+readdir_is v = omega (arith, two zeros (pair (chain entry) boolean) v, zeros_is v.0, two (chain entry) boolean v.1, length-append (flat_map (link (spelling entry)) v.1.0) (to_be_bytes w32 0), entries_are v.1.0)
 
 pub readdir_short : (v : Value readdir_result) → size (ReadDir v) ≤ most (ReadDir v)
-readdir_short v = omega (arith, two zeros (pair (chain entry) boolean) v, zeros_is v.0, two (chain entry) boolean v.1, length-append (flat_map (link (spelling entry)) v.1.0) (to_be_bytes w32 0), entries_are v.1.0)
+readdir_short v = omega (arith, readdir_is v)
+
+pub readlink_is : (v : Value readlink_result) → size (ReadLink v) ≡ most (ReadLink v)
+readlink_is v = omega (arith, opaque_is 1024 v)
 
 pub readlink_short : (v : Value readlink_result) → size (ReadLink v) ≤ most (ReadLink v)
-readlink_short v = omega (arith, opaque_is 1024 v)
+readlink_short v = omega (arith, readlink_is v)
 
 pub rename_short : (v : Value rename_result) → size (Rename v) ≤ 48
 rename_short v = omega (arith, two change_info change_info v, change_info_is v.0, change_info_is v.1)

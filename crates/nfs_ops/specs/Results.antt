@@ -113,6 +113,14 @@ most ReclaimComplete = plain_size
 most (Refused n status) = plain_size
 most (SetAttrRefused status) = setattr_refused_size
 
+-- the results whose size is a function of what an object or a request makes long
+abbrev pub carries_bytes : Outcome → Bool
+carries_bytes (GetAttr v) = true
+carries_bytes (Read v) = true
+carries_bytes (ReadDir v) = true
+carries_bytes (ReadLink v) = true
+carries_bytes _ = false
+
 -- the operation can change the tree, and is OK
 abbrev pub is_change : Outcome → Bool
 is_change (Create v) = true

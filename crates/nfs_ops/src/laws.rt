@@ -1,7 +1,7 @@
 ghost use Rattle.std.specs.Prelude.{◌≡◌, ◌≤◌, ◌↔◌, ◌++◌, ℕ, List, length, Ok, true};
 ghost use Rattle.nfs_ops.specs.Items.{Stands, ItemHasSpelling, ItemIsNormal, item_spelling};
 ghost use Rattle.nfs_ops.specs.Forms.{change_size, setattr_refused_size};
-ghost use Rattle.nfs_ops.specs.Results.{Outcome, outcome_item, most, is_change, is_refusal};
+ghost use Rattle.nfs_ops.specs.Results.{Outcome, outcome_item, most, carries_bytes, is_change, is_refusal};
 ghost use Rattle.nfs_ops.specs.ResultReading.{result_at};
 ghost use Rattle.nfs_ops.specs.Readable.{IsResult};
 ghost use Rattle.nfs_ops.specs.Operations.{Operation, op_item, is_built, next_at};
@@ -45,6 +45,11 @@ pub fn a_written_result_is_read()
 /// bytes that it carries.
 pub fn results_are_bounded()
     ensures { (o : Outcome) → ItemHasSpelling (outcome_item o) → length (item_spelling (outcome_item o)) ≤ most o }
+{}
+
+/// Of a GETATTR, READ, READDIR or READLINK that is OK it is the very number of bytes that are written.
+pub fn sizes_of_carried_bytes_are_exact()
+    ensures { (o : Outcome) → carries_bytes o ≡ true → length (item_spelling (outcome_item o)) ≡ most o }
 {}
 
 /// The result of a CREATE, LINK, OPEN, REMOVE, RENAME, SETATTR or WRITE that is OK has at most 256 bytes.

@@ -91,5 +91,6 @@ pub use writing::write_op;
 pub use laws::{
     a_result_that_is_read_stands, a_result_that_stands_is_read, a_written_result_is_read,
     changes_are_short, reading_a_result_looks_no_further, reading_is_spelling,
-    reading_looks_no_further, refusals_are_short, results_are_bounded, what_is_written_is_read,
+    reading_looks_no_further, refusals_are_short, results_are_bounded,
+    sizes_of_carried_bytes_are_exact, what_is_written_is_read,
 };

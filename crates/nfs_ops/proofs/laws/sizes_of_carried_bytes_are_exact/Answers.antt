@@ -1,0 +1,5 @@
+use Rattle.nfs_ops.proofs.Bounds.{carried_is}
+use Rattle.nfs_ops.proofs.laws.sizes_of_carried_bytes_are_exact.Goals as goal
+
+pub returns : goal.returns
+returns c = carried_is
