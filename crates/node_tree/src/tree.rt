@@ -1,5 +1,5 @@
 //! The tree: what it refuses, and that it stays one.
-ghost use Rattle.std.specs.Prelude.{◌≡◌, ◌≢◌, ◌<◌, ◌≤◌, ◌^◌, ◌++◌, nat_lt, length, drop, MatchOption, OnOk, OnErr, IfOk, IsOk, IsOkUnless, IfSome, IsSome, Some};
+ghost use Rattle.std.specs.Prelude.{◌≡◌, ◌≢◌, ◌<◌, ◌≤◌, ◌^◌, ◌++◌, [], nat_lt, length, drop, MatchOption, OnOk, OnErr, IfOk, IsOk, IsOkUnless, IfSome, IsSome, Some};
 ghost use Rattle.std.specs.Option.{option_copied};
 ghost use Rattle.acl_shape.specs.Bounds.{IsBounded};
 ghost use Rattle.node_tree.specs.World.{object, kind_of, bytes_of, bytes_at, child_named, name_after, has_entries, link_count, parent_of};
@@ -311,13 +311,14 @@ impl<A: Allocator + Copy> Tree<A> {
     }
 
     /// Writes data into a file, and zeros between its end and the offset (WRITE: RFC 8881, section 18.32). The file's times are
-    /// set. No data change nothing, at any offset.
+    /// set. No data change nothing, at any offset, and take no memory.
     ///
     /// Refused: the data would end above [`crate::MAX_BYTES`], [`TreeFault::FBig`]; [`TreeFault::Memory`].
     pub fn write(&mut self, file: u64, offset: u64, more: &[u8], at: At) -> Result<(), TreeFault>
         requires tick { IsTick self.old at.tick }
         requires file { kind_of self.old file ≡ Some Kind.File }
         ensures refused { MatchOption (write_refusal offset more.now) (IsOkUnless result TreeFault.Memory) (λ fault. result ≡ Err fault) }
+        ensures nothing { more.now ≡ [] → IsOk result }
         ensures ok { OnOk result (self.new ≡ with_write self.old file offset more.now at) }
         ensures err { OnErr result (self.new ≡ self.old) }
         ensures judged { KeepsJudged self.old self.new }
