@@ -1,8 +1,8 @@
 -- In a sound world the walk up tells what lies below a directory: no way up is longer than there are numbers.
-use Rattle.std.proofs.Common.{◌≡◌, ◌≢◌, ℕ, zero, suc, ◌+◌, ◌<◌, ◌≤◌, Bool, true, false, ◌||◌, List, [], ◌∷◌, length, refl, ap, sym, ◌∙◌, subst, arith, Some, None, nat_eq, true≢false}
-use Rattle.std.specs.Prelude.{Option, IsSome, is_some, find, ◌==◌}
+use Rattle.std.proofs.Common.{◌≡◌, ℕ, zero, suc, ◌<◌, ◌≤◌, Bool, true, false, ◌||◌, List, [], ◌∷◌, length, refl, ap, sym, ◌∙◌, subst, arith, Some, None, nat_eq, true≢false}
+use Rattle.std.specs.Prelude.{Option, find, ◌==◌}
 use Rattle.std.specs.List.{list_any, IsDistinct, AllByRecursion}
-use Rattle.std.specs.Option.{option_map, option_map_or}
+use Rattle.std.specs.Option.{option_map}
 use Rattle.std.proofs.lemmas.Bool.Decides.{Decides-eqb}
 use Rattle.std.proofs.lemmas.Map.Keys.{IsDistinct-cons}
 use Rattle.std.proofs.lemmas.Map.Made.{IsDistinct-from_AllPairs}

@@ -1,5 +1,5 @@
 -- The world of a file server: objects by number, names by cookie, and the counters (RFC 8881, sections 4.2, 5.8 and 18.23).
--- An object has no path, and a directory no list of its own.
+-- An object has no path. A directory holds no names itself: they stand beside the objects.
 use Rattle.std.specs.Prelude.{ℕ, Bool, false, ◌==◌, ◌&&◌, nat_lt, nat_eq, if◌then◌else◌, List, [], count_by, find, take, drop, Option, None}
 use Rattle.std.specs.List.{list_any}
 use Rattle.std.specs.Option.{option_map, option_map_or}
