@@ -1,5 +1,5 @@
 //! A tree beside its guard.
-ghost use Rattle.std.specs.Prelude.{◌≡◌, ◌≢◌, ◌+◌, ◌<◌, ◌≤◌, ◌^◌, [], ◌++◌, length, drop, if◌then◌else◌, MatchOption, OnOk, OnErr, IfOk, IsOk, IsOkUnless, IfSome, IsSome, Some};
+ghost use Rattle.std.specs.Prelude.{◌≡◌, ◌≢◌, ◌+◌, ◌<◌, ◌≤◌, ◌^◌, [], ◌++◌, length, drop, if◌then◌else◌, MatchOption, OnOk, OnErr, IfOk, IsOk, IsOkUnless, IfSome, IsSome, IsTrue, Some};
 ghost use Rattle.std.specs.Option.{option_copied};
 ghost use Rattle.acl_shape.specs.Bounds.{IsBounded};
 ghost use Rattle.node_tree.specs.World.{object, kind_of, bytes_of, bytes_at, child_named, name_after, has_entries, link_count, parent_of};
@@ -8,7 +8,7 @@ ghost use Rattle.node_tree.specs.Refusals.{add_refusal, link_refusal, unlink_ref
 ghost use Rattle.node_tree.specs.Sound.{IsSound, IsTick, IsNextName, most_bytes};
 ghost use Rattle.node_tree.specs.Judged.{judged_of};
 ghost use Rattle.access_guard.specs.Lists.{granted_at};
-ghost use Rattle.access_guard.specs.Decisions.{decision};
+ghost use Rattle.access_guard.specs.Decisions.{decision, is_granted};
 ghost use Rattle.access_guard.specs.Lines.{lines, most_lines};
 ghost use Rattle.access_guard.specs.Log.{held, settled};
 ghost use Rattle.access_guard.specs.Memory.{Agrees};
@@ -64,6 +64,7 @@ impl<A: Allocator + Copy> GuardedTree<A> {
         requires { length self.old.log.held + most_lines demand ≤ MOST_HELD }
         ensures decision { result ≡ decision (judged_of self.old.world) caller.now demand }
         ensures state { self.new ≡ record self.old { log = held (lines (judged_of self.old.world) caller.now op demand) self.old.log } }
+        ensures few { IsTrue (is_granted result) → length self.new.log.held + 1 ≤ length self.old.log.held + most_lines demand }
     {
         self.guard.decide(demand, &self.tree, caller, op)
     }
