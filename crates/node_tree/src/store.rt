@@ -5,7 +5,7 @@ ghost use Rattle.std.specs.Option.{option_copied};
 ghost use Rattle.node_tree.specs.World.{object, bytes_of, bytes_at, child_named, name_after, is_named, is_directory_at, has_name, has_entries, name_count, link_count, parent_of};
 ghost use Rattle.node_tree.specs.Ways.{is_within};
 ghost use Rattle.node_tree.specs.Changes.{alone, made, changed, touched, retold, without, released, other_names, written, resized, with_new, with_link, without_name, with_move, with_bytes, with_size, with_list, with_owner};
-ghost use Rattle.node_tree.specs.Refusals.{add_refusal, link_refusal, has_left, has_room, goes_below_itself, may_replace, place_refusal, replace_refusal, move_refusal};
+ghost use Rattle.node_tree.specs.Refusals.{add_refusal, link_refusal, has_left, has_room, goes_below_itself, may_replace, place_refusal, replace_refusal, move_refusal, rename_refusal};
 
 use crate::at::At;
 use crate::edits;
@@ -153,14 +153,18 @@ impl<A: Allocator + Copy> Store<A> {
         self.name_count(directory) < MAX_NAMES
     }
 
-    /// Whether the store has room for an object more, and the counters for its number, stamp and cookie.
-    pub fn has_room_for_object(&self) -> bool
-        ensures { result ≡ (nat_lt (length self.now.objects) MAX_OBJECTS && has_left self.now.next_number && has_left self.now.next_stamp && has_left self.now.next_cookie) }
+    /// Whether there is room for an object more.
+    pub fn has_object_room(&self) -> bool
+        ensures { result ≡ nat_lt (length self.now.objects) MAX_OBJECTS }
     {
         self.objects.len() < MAX_OBJECTS
-            && self.next_number < END
-            && self.next_stamp < END
-            && self.next_cookie < END
+    }
+
+    /// Whether the counters have a number, a stamp and a cookie left for an object more.
+    pub fn has_counters(&self) -> bool
+        ensures { result ≡ (has_left self.now.next_number && has_left self.now.next_stamp && has_left self.now.next_cookie) }
+    {
+        self.next_number < END && self.next_stamp < END && self.next_cookie < END
     }
 
     /// Whether there is a cookie left.
@@ -194,7 +198,7 @@ impl<A: Allocator + Copy> Store<A> {
         if self.find(directory, name).is_some() {
             return Some(TreeFault::Exist);
         }
-        if self.has_room(directory) && self.has_room_for_object() {
+        if self.has_room(directory) && self.has_object_room() && self.has_counters() {
             return None;
         }
         Some(TreeFault::NoSpc)
@@ -280,6 +284,16 @@ impl<A: Allocator + Copy> Store<A> {
             Some(target) => self.replace_fault(to, child, target),
             None => self.place_fault(from, to, child),
         }
+    }
+
+    /// Why the child of a name may not get another name.
+    pub fn rename_fault(&self, from: u64, old: &[u8], to: u64, new: &[u8]) -> Option<TreeFault>
+        ensures { result ≡ rename_refusal self.now from old.now to new.now }
+    {
+        let Some(child) = self.find(from, old) else {
+            return Some(TreeFault::NoEnt);
+        };
+        self.move_fault(from, to, child, self.find(to, new))
     }
 }
 
