@@ -1,9 +1,8 @@
 -- A decision that is told by summaries which are remembered looks at no entry.
-use Rattle.std.proofs.Common.{◌≡◌, ◌↔◌, ℕ, ◌^◌, ◌<◌, ◌∙◌, Bool, true, false, ◌&&◌, ◌||◌, cond, List, [], ◌∷◌, ◌++◌, length, Some, None, refl, ap, sym, subst, inl, inr, ◌⊎◌, arith}
-use Rattle.std.specs.Prelude.{Option, All, MatchOption, IsSome, ◌==◌}
+use Rattle.std.proofs.Common.{◌≡◌, ℕ, ◌^◌, ◌<◌, ◌∙◌, Bool, true, false, ◌&&◌, ◌||◌, cond, List, [], ◌∷◌, ◌++◌, length, Some, None, refl, ap, subst, inl, inr, ◌⊎◌, arith}
+use Rattle.std.specs.Prelude.{Option, All, MatchOption, IsSome}
 use Rattle.std.specs.Option.{option_map, option_map_or}
 use Rattle.std.specs.Map.{lookup, lookup_entry, remove_entry}
-use Rattle.std.proofs.lemmas.Bool.{and_parts}
 use Rattle.std.proofs.lemmas.Bool.Decides.{Decides-eqb}
 use Rattle.std.proofs.lemmas.List.Elements.{All-nil, All-cons, All-head, All-tail}
 use Rattle.lru.specs.LruCache.{promoted}
@@ -16,7 +15,7 @@ use Rattle.acl_list.specs.declared.mask.TheConstants.{DELETE, DELETE_CHILD}
 use Rattle.acl_list.specs.declared.answer.Summary.{Summary}
 use Rattle.acl_list.specs.declared.answer.Verdict.TheVariants as verdicts
 use Rattle.acl_list.specs.declared.answer.Mention.{Mention}
-use Rattle.acl_list.specs.declared.answer.Mention.TheVariants.{AllowedBy, Unmentioned}
+use Rattle.acl_list.specs.declared.answer.Mention.TheVariants.{Unmentioned}
 use Rattle.acl_list.proofs.Covering.{granted_iff_covered}
 use Rattle.acl_list.proofs.Watching.{unwatched_iff}
 use Rattle.acl_list.proofs.OneBit.{verdict-bit}
@@ -27,8 +26,8 @@ use Rattle.access_guard.specs.declared.memory.Key.{Key}
 use Rattle.access_guard.specs.Keys.{is_key}
 use Rattle.access_guard.specs.Lists.{Lists, names, sum_of, grants, is_quiet}
 use Rattle.access_guard.specs.Memory.{Memory, LooksUp, LooksUpFor, Decides, key_of, examined_more, used, learnt, tells, tells_removal, is_told, walked}
-use Rattle.access_guard.specs.History.{looks_at, looks_for}
-use Rattle.access_guard.specs.Telling.{IsAllow, IsAllowed, IsQuietAt, IsQuiet, AreHits}
+use Rattle.access_guard.specs.History.{looks_for}
+use Rattle.access_guard.specs.Telling.{IsAllow, IsAllowed, IsQuiet, AreHits}
 use Rattle.access_guard.proofs.Telling.{Fits}
 
 -- ---- what a summary tells

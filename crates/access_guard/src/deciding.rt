@@ -1,5 +1,5 @@
 //! What the lists of objects answer.
-ghost use Rattle.std.specs.Prelude.{◌≡◌, ◌+◌, ◌^◌, ◌≤◌, ℕ, length};
+ghost use Rattle.std.specs.Prelude.{◌≡◌, ◌+◌, ◌^◌, ◌≤◌, ℕ, length, IsTrue};
 ghost use Rattle.acl_list.specs.Deciding.{mentioned};
 ghost use Rattle.node_tree.specs.Judged.{judged_of};
 ghost use Rattle.access_guard.specs.Decisions as specs;
@@ -27,6 +27,7 @@ impl<A: Allocator + Copy> Trail<A> {
         requires { length self.old.held + lines.most_lines demand ≤ MOST_HELD }
         ensures decision { result ≡ specs.decision (judged_of tree.now) caller.now demand }
         ensures lines { self.new ≡ held (lines.lines (judged_of tree.now) caller.now op demand) self.old }
+        ensures few { IsTrue (specs.is_granted result) → length self.new.held + 1 ≤ length self.old.held + lines.most_lines demand }
     {
         match demand {
             Demand::Bits { object, mask } => self.decide_bits(object, mask, tree, caller, op),
@@ -47,6 +48,7 @@ impl<A: Allocator + Copy> Trail<A> {
         requires { length self.old.held + lines.most_lines (Demand.Bits object mask) ≤ MOST_HELD }
         ensures decision { result ≡ specs.decision (judged_of tree.now) caller.now (Demand.Bits object mask) }
         ensures lines { self.new ≡ held (lines.lines (judged_of tree.now) caller.now op (Demand.Bits object mask)) self.old }
+        ensures few { IsTrue (specs.is_granted result) → length self.new.held + 1 ≤ length self.old.held + lines.most_lines (Demand.Bits object mask) }
     {
         let decision = answer(object, mask, verdict_at(tree, caller, object, mask));
         let granted = decision.is_granted();
@@ -72,6 +74,7 @@ impl<A: Allocator + Copy> Trail<A> {
         requires { length self.old.held + lines.most_lines (Demand.Removal parent target) ≤ MOST_HELD }
         ensures decision { result ≡ specs.decision (judged_of tree.now) caller.now (Demand.Removal parent target) }
         ensures lines { self.new ≡ held (lines.lines (judged_of tree.now) caller.now op (Demand.Removal parent target)) self.old }
+        ensures few { IsTrue (specs.is_granted result) → length self.new.held + 1 ≤ length self.old.held + lines.most_lines (Demand.Removal parent target) }
     {
         let on_target = mention_at(tree, caller, target, DELETE);
         let on_parent = mention_at(tree, caller, parent, DELETE_CHILD);

@@ -1,5 +1,5 @@
 //! The guard.
-ghost use Rattle.std.specs.Prelude.{◌≡◌, ◌+◌, ◌≤◌, [], length, IfOk};
+ghost use Rattle.std.specs.Prelude.{◌≡◌, ◌+◌, ◌≤◌, [], length, IfOk, IsTrue};
 ghost use Rattle.std.specs.Map.Iter.{ShowsInOrder, deref, deref_pair};
 ghost use Rattle.std.specs.NonZero.{non_zero_usize_get};
 ghost use Rattle.acl_list.specs.declared.answer.Summary.{Summary};
@@ -7,7 +7,7 @@ ghost use Rattle.access_guard.specs.declared.line.Line.{Line};
 ghost use Rattle.access_guard.specs.declared.memory.Key.{Key};
 ghost use Rattle.node_tree.specs.Judged.{judged_of};
 ghost use Rattle.access_guard.specs.Lists.{granted_at};
-ghost use Rattle.access_guard.specs.Decisions.{decision};
+ghost use Rattle.access_guard.specs.Decisions.{decision, is_granted};
 ghost use Rattle.access_guard.specs.Lines.{lines, most_lines};
 ghost use Rattle.access_guard.specs.Log.{held, settled};
 ghost use Rattle.node_tree.specs.World.{World};
@@ -71,7 +71,8 @@ impl<A: Allocator + Copy> Guard<A> {
     ///
     /// Its lines are held until [`Guard::settle`]. First come those of the AUDIT and ALARM entries that watch, entry by entry:
     /// of a removal the target's with DELETE, then the parent's with DELETE_CHILD, and with ADD_FILE too where neither DELETE nor
-    /// DELETE_CHILD is mentioned. Then on refusal comes the DENY line.
+    /// DELETE_CHILD is mentioned. Then on refusal comes the DENY line. A grant has at most one line for each entry of the lists
+    /// that it looks at: 64 of [`Demand::Bits`], and 128 of [`Demand::Removal`].
     ///
     /// What lists come to is remembered, if there is memory for it: the answer and the lines are the same without. Each object is
     /// looked up once, of a removal the target first. Where what is remembered tells that the demand is granted and that no entry
@@ -87,6 +88,7 @@ impl<A: Allocator + Copy> Guard<A> {
         requires room { length self.old.log.held + most_lines demand ≤ MOST_HELD }
         ensures decision { result ≡ decision (judged_of tree.now) caller.now demand }
         ensures lines { self.new.log ≡ held (lines (judged_of tree.now) caller.now op demand) self.old.log }
+        ensures few { IsTrue (is_granted result) → length self.new.log.held + 1 ≤ length self.old.log.held + most_lines demand }
         ensures memory { Decides (judged_of tree.now) caller.now demand self.old.memory self.new.memory }
         ensures agrees { Agrees self.new.memory.remembered tree.now }
     {

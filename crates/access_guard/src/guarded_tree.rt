@@ -1,14 +1,14 @@
 //! A tree beside its guard.
-ghost use Rattle.std.specs.Prelude.{◌≡◌, ◌≢◌, ◌+◌, ◌<◌, ◌≤◌, ◌^◌, [], ◌++◌, length, drop, if◌then◌else◌, MatchOption, OnOk, OnErr, IfOk, IsOk, IsOkUnless, IfSome, IsSome, Some};
+ghost use Rattle.std.specs.Prelude.{◌≡◌, ◌≢◌, ◌+◌, ◌<◌, ◌≤◌, ◌^◌, [], ◌++◌, nat_lt, length, drop, if◌then◌else◌, MatchOption, OnOk, OnErr, IfOk, IsOk, IsOkUnless, IfSome, IsSome, IsTrue, Some};
 ghost use Rattle.std.specs.Option.{option_copied};
 ghost use Rattle.acl_shape.specs.Bounds.{IsBounded};
 ghost use Rattle.node_tree.specs.World.{object, kind_of, bytes_of, bytes_at, child_named, name_after, has_entries, link_count, parent_of};
 ghost use Rattle.node_tree.specs.Changes.{made, with_new, with_link, unlinked, renamed, with_write, with_size, with_list, with_owner};
-ghost use Rattle.node_tree.specs.Refusals.{add_refusal, link_refusal, unlink_refusal, rename_refusal, write_refusal, resize_refusal};
+ghost use Rattle.node_tree.specs.Refusals.{has_room, add_refusal, link_refusal, unlink_refusal, rename_refusal, write_refusal, resize_refusal};
 ghost use Rattle.node_tree.specs.Sound.{IsSound, IsTick, IsNextName, most_bytes};
 ghost use Rattle.node_tree.specs.Judged.{judged_of};
 ghost use Rattle.access_guard.specs.Lists.{granted_at};
-ghost use Rattle.access_guard.specs.Decisions.{decision};
+ghost use Rattle.access_guard.specs.Decisions.{decision, is_granted};
 ghost use Rattle.access_guard.specs.Lines.{lines, most_lines};
 ghost use Rattle.access_guard.specs.Log.{held, settled};
 ghost use Rattle.access_guard.specs.Memory.{Agrees};
@@ -18,7 +18,7 @@ use crate::guard::Guard;
 use crate::trail::MOST_HELD;
 use access_rows::Demand;
 use acl_list::{AclList, Caller, Kind};
-use node_tree::{At, DirEntry, NewObject, Node, ROOT, Tree, TreeFault};
+use node_tree::{At, DirEntry, MAX_OBJECTS, NewObject, Node, ROOT, Tree, TreeFault};
 use std::alloc::{AllocError, Allocator, Global};
 use std::hash::RandomState;
 use std::marker::Model;
@@ -64,6 +64,7 @@ impl<A: Allocator + Copy> GuardedTree<A> {
         requires { length self.old.log.held + most_lines demand ≤ MOST_HELD }
         ensures decision { result ≡ decision (judged_of self.old.world) caller.now demand }
         ensures state { self.new ≡ record self.old { log = held (lines (judged_of self.old.world) caller.now op demand) self.old.log } }
+        ensures few { IsTrue (is_granted result) → length self.new.log.held + 1 ≤ length self.old.log.held + most_lines demand }
     {
         self.guard.decide(demand, &self.tree, caller, op)
     }
@@ -169,6 +170,27 @@ impl<A: Allocator + Copy> GuardedTree<A> {
         ensures next { IfSome (option_copied result) (IsNextName self.now.world directory cookie) }
     {
         self.tree.list_after(directory, cookie)
+    }
+
+    /// As [`Tree::has_room`].
+    pub fn has_room(&self, directory: u64) -> bool
+        ensures { result ≡ has_room self.now.world.names directory }
+    {
+        self.tree.has_room(directory)
+    }
+
+    /// As [`Tree::has_object_room`].
+    pub fn has_object_room(&self) -> bool
+        ensures { result ≡ nat_lt (length self.now.world.objects) MAX_OBJECTS }
+    {
+        self.tree.has_object_room()
+    }
+
+    /// As [`Tree::rename_fault`].
+    pub fn rename_fault(&self, from: u64, old: &[u8], to: u64, new: &[u8]) -> Option<TreeFault>
+        ensures { result ≡ rename_refusal self.now.world from old.now to new.now }
+    {
+        self.tree.rename_fault(from, old, to, new)
     }
 
     /// As [`Tree::read`].

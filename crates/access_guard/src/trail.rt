@@ -1,8 +1,9 @@
 //! The lines that a guard writes.
-ghost use Rattle.std.specs.Prelude.{◌≡◌, ◌+◌, ◌<◌, ◌≤◌, [], ◌∷◌, length, IfOk};
+ghost use Rattle.std.specs.Prelude.{◌≡◌, ◌+◌, ◌<◌, ◌≤◌, [], ◌∷◌, length, IfOk, IsTrue};
 ghost use Rattle.std.specs.Map.Iter.{ShowsInOrder, deref};
 ghost use Rattle.node_tree.specs.Judged.{judged, judged_of};
 ghost use Rattle.std.specs.List.{filter_map, enumerate_from};
+ghost use Rattle.access_guard.specs.Decisions.{is_granted};
 ghost use Rattle.access_guard.specs.Lines.{watch_line, watch_lines, deny_lines};
 ghost use Rattle.acl_shape.specs.declared.bounds.TheConstants.{MAX_ENTRIES};
 ghost use Rattle.access_guard.specs.Lines as specs;
@@ -124,10 +125,11 @@ impl<A: Allocator + Copy> Trail<A> {
         }
     }
 
-    /// Writes the line of a refusal.
+    /// Writes the line of a refusal. A grant has none.
     pub(crate) fn deny(&mut self, op: u32, decision: Decision, caller: &Caller)
         requires { length self.old.held < MOST_HELD }
-        ensures { self.new ≡ held (deny_lines caller.now op decision) self.old }
+        ensures lines { self.new ≡ held (deny_lines caller.now op decision) self.old }
+        ensures granted { IsTrue (is_granted decision) → self.new ≡ self.old }
     {
         if let Decision::Refused {
             object,

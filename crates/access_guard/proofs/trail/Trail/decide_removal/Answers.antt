@@ -11,4 +11,4 @@ returns-clause-lines g c =
     c.args.self.now c.watch.new.self c.watch-2.new.self c.deny.new.self
     (c.mention_at-on_target.ensures places.delete refl) (c.mention_at-on_parent.ensures places.delete_child refl)
     c.removal-decision.ensures c.is_granted-granted.ensures c.parent_mask.ensures
-    c.watch.ensures.lines c.watch-2.ensures.lines c.deny.ensures
+    c.watch.ensures.lines c.watch-2.ensures.lines c.deny.ensures.lines
