@@ -1,0 +1,174 @@
+-- Rows, what is OK, and what is refused for access.
+use Rattle.std.proofs.Common.{◌≡◌, ◌≢◌, ◌⊎◌, ℕ, Bool, true, false, ◌&&◌, cond, List, refl, sym, ap, ◌∙◌, subst, append-nil}
+use Rattle.std.proofs.Common.{inl, inr}
+use Rattle.std.specs.Prelude.{[], ◌∷◌, ◌++◌, Option, Some, None, if◌then◌else◌}
+use Rattle.std.proofs.lemmas.List.{append_assoc}
+use Rattle.rpc_record.specs.Identity.{Identity}
+use Rattle.nfs_types.specs.declared.status.Status.{Status}
+use Rattle.nfs_types.specs.declared.status.Status.TheVariants as statuses
+use Rattle.access_rows.specs.declared.demand.Demand.{Demand}
+use Rattle.access_guard.specs.declared.decision.Decision.{Decision}
+use Rattle.access_guard.specs.declared.decision.Decision.TheVariants as decisions
+use Rattle.access_guard.specs.declared.line.Line.{Line}
+use Rattle.access_guard.specs.Lists.{Lists}
+use Rattle.access_guard.specs.Decisions.{decision, is_granted}
+use Rattle.access_guard.specs.Lines.{demand_lines as watching, deny_lines}
+use Rattle.compound_run.specs.Sight.{Sight}
+use Rattle.compound_run.specs.Questions.{Question, Holds, Valid, Row, Suffices, failure, trace, all_granted, demand_lines}
+use Rattle.compound_run.specs.Exact.{Passes, Fails, ArePassed, FailsFirst, IsRefusedByRow, ArePassedOrSuffice, EndsInRefusal}
+
+-- ---- rows
+
+pub rows_decide : (caller : Identity) (s : Sight) (before behind : List Question) (demands : Sight → List (Option Demand)) → ArePassed caller s before
+    → failure caller s (before ++ Row demands ∷ behind) ≡ (if all_granted s.lists caller (demands s) then failure caller s behind else Some statuses.Access)
+rows_decide caller s [] behind demands passed = refl
+rows_decide caller s (Holds test status ∷ before) behind demands passed = rw passed.0 (rows_decide caller s before behind demands passed.1)
+rows_decide caller s (Valid None ∷ before) behind demands passed = rows_decide caller s before behind demands passed.1
+rows_decide caller s (Valid (Some status) ∷ before) behind demands passed = absurd (some_none status passed.0)
+  where
+    some_none : (status : Status) → Some status ≡ None → ⊥
+    some_none status h = cc
+rows_decide caller s (Row others ∷ before) behind demands passed = rw passed.0 (rows_decide caller s before behind demands passed.1)
+rows_decide caller s (Suffices test ∷ before) behind demands passed = rw passed.0 (rows_decide caller s before behind demands passed.1)
+
+-- ---- what is OK
+
+some_apart : (status : Status) → Some status ≢ None
+some_apart status h = cc
+
+-- a choice between more questions and a status
+both : (b : Bool) (more : Option Status) (status : Status) → cond b more (Some status) ≡ None → (b ≡ true) × (more ≡ None)
+both true more status h = (refl, h)
+both false more status h = absurd (some_apart status h)
+
+none_of : (b : Bool) (more : Option Status) (status : Status) → b ≡ true → more ≡ None → cond b more (Some status) ≡ None
+none_of b more status is none = rw is none
+
+suffices : (b : Bool) (more : Option Status) (A : Type 0) → (more ≡ None → A) → cond b None more ≡ None → (b ≡ true) ⊎ ((b ≡ false) × A)
+suffices true more A goes h = inl refl
+suffices false more A goes h = inr (refl, goes h)
+
+pub passed : (caller : Identity) (s : Sight) (questions : List Question) → failure caller s questions ≡ None → ArePassedOrSuffice caller s questions
+passed caller s [] h = tt
+passed caller s (Holds test status ∷ questions) h = let x = both (test s) (failure caller s questions) status h in (x.0, passed caller s questions x.1)
+passed caller s (Valid None ∷ questions) h = (refl, passed caller s questions h)
+passed caller s (Valid (Some status) ∷ questions) h = absurd (some_apart status h)
+passed caller s (Row demands ∷ questions) h =
+    let x = both (all_granted s.lists caller (demands s)) (failure caller s questions) statuses.Access h in (x.0, passed caller s questions x.1)
+passed caller s (Suffices test ∷ questions) h = suffices (test s) (failure caller s questions) (ArePassedOrSuffice caller s questions) (passed caller s questions) h
+
+pub is_ok : (caller : Identity) (s : Sight) (questions : List Question) → ArePassedOrSuffice caller s questions → failure caller s questions ≡ None
+is_ok caller s [] h = refl
+is_ok caller s (Holds test status ∷ questions) h = none_of (test s) (failure caller s questions) status h.0 (is_ok caller s questions h.1)
+is_ok caller s (Valid None ∷ questions) h = is_ok caller s questions h.1
+is_ok caller s (Valid (Some status) ∷ questions) h = absurd (some_apart status h.0)
+is_ok caller s (Row demands ∷ questions) h = none_of (all_granted s.lists caller (demands s)) (failure caller s questions) statuses.Access h.0 (is_ok caller s questions h.1)
+is_ok caller s (Suffices test ∷ questions) (inl is) = rw is refl
+is_ok caller s (Suffices test ∷ questions) (inr more) = rw more.0 (is_ok caller s questions more.1)
+
+-- ---- what is refused for access
+
+-- no question of these fails by ACCESS but a row
+abbrev pub Apart : Status → List Question → Type 0
+Apart status [] = Unit {0}
+Apart status (Holds test other ∷ questions) = (other ≢ status) × Apart status questions
+Apart status (Valid fault ∷ questions) = (fault ≢ Some status) × Apart status questions
+Apart status (Row demands ∷ questions) = Apart status questions
+Apart status (Suffices test ∷ questions) = Apart status questions
+
+-- which of two comes
+either : (b : Bool) (more : Option Status) (status : Status) → status ≢ statuses.Access → cond b more (Some status) ≡ Some statuses.Access → (b ≡ true) × (more ≡ Some statuses.Access)
+either true more status apart h = (refl, h)
+either false more status apart h = absurd (apart (some_same h))
+  where
+    some_same : Some status ≡ Some statuses.Access → status ≡ statuses.Access
+    some_same h = cc
+
+none_apart : None ≢ Some statuses.Access
+none_apart h = cc
+
+row_or : (b : Bool) (more : Option Status) (A : Type 0) → (b ≡ false → A) → (b ≡ true → more ≡ Some statuses.Access → A) → cond b more (Some statuses.Access) ≡ Some statuses.Access → A
+row_or true more A refused granted h = granted refl h
+row_or false more A refused granted h = refused refl
+
+not_enough : (b : Bool) (more : Option Status) → cond b None more ≡ Some statuses.Access → (b ≡ false) × (more ≡ Some statuses.Access)
+not_enough true more h = absurd (none_apart h)
+not_enough false more h = (refl, h)
+
+behind : (caller : Identity) (s : Sight) (q : Question) (questions : List Question) → Passes caller s q → IsRefusedByRow caller s questions → IsRefusedByRow caller s (q ∷ questions)
+behind caller s q questions passes r = record { demands = r.demands; first = inr (passes, r.first) }
+
+pub refused_by_row : (caller : Identity) (s : Sight) (questions : List Question) → Apart statuses.Access questions → failure caller s questions ≡ Some statuses.Access → IsRefusedByRow caller s questions
+refused_by_row caller s [] apart h = absurd (none_apart h)
+refused_by_row caller s (Holds test status ∷ questions) apart h =
+    let x = either (test s) (failure caller s questions) status apart.0 h in behind caller s (Holds test status) questions x.0 (refused_by_row caller s questions apart.1 x.1)
+refused_by_row caller s (Valid None ∷ questions) apart h = behind caller s (Valid None) questions refl (refused_by_row caller s questions apart.1 h)
+refused_by_row caller s (Valid (Some status) ∷ questions) apart h = absurd (apart.0 h)
+refused_by_row caller s (Row demands ∷ questions) apart h =
+    row_or (all_granted s.lists caller (demands s)) (failure caller s questions) (IsRefusedByRow caller s (Row demands ∷ questions))
+    (λ refused. record { demands = demands; first = inl (refl, refused) })
+    (λ granted more. behind caller s (Row demands) questions granted (refused_by_row caller s questions apart more)) h
+refused_by_row caller s (Suffices test ∷ questions) apart h =
+    let x = not_enough (test s) (failure caller s questions) h in behind caller s (Suffices test) questions x.0 (refused_by_row caller s questions apart x.1)
+
+pub by_row : (caller : Identity) (s : Sight) (questions : List Question) (demands : Sight → List (Option Demand)) → FailsFirst caller s questions (Row demands) → failure caller s questions ≡ Some statuses.Access
+by_row caller s [] demands first = absurd first
+by_row caller s (q ∷ questions) demands (inl is) =
+    subst (λ q. Fails caller s q → failure caller s (q ∷ questions) ≡ Some statuses.Access) (sym is.0) (λ refused. rw refused refl) is.1
+by_row caller s (Holds test status ∷ questions) demands (inr more) = rw more.0 (by_row caller s questions demands more.1)
+by_row caller s (Valid None ∷ questions) demands (inr more) = by_row caller s questions demands more.1
+by_row caller s (Valid (Some status) ∷ questions) demands (inr more) = absurd (some_apart status more.0)
+by_row caller s (Row others ∷ questions) demands (inr more) = rw more.0 (by_row caller s questions demands more.1)
+by_row caller s (Suffices test ∷ questions) demands (inr more) = rw more.0 (by_row caller s questions demands more.1)
+
+-- ---- the lines of a refusal
+
+more_before : (caller : Identity) (op : ℕ) (lists : Lists) (first last : List Line) → EndsInRefusal caller op lists last → EndsInRefusal caller op lists (first ++ last)
+more_before caller op lists first last e = record {
+  demand = e.demand;
+  object = e.object;
+  mask = e.mask;
+  cause = e.cause;
+  before = first ++ e.before;
+  refused = e.refused;
+  told = ap (λ x. first ++ x) e.told ∙ sym (append_assoc first e.before _);
+}
+
+nothing_behind : (caller : Identity) (op : ℕ) (lists : Lists) (all : List Line) → EndsInRefusal caller op lists all → EndsInRefusal caller op lists (all ++ [])
+nothing_behind caller op lists all e = subst (EndsInRefusal caller op lists) (sym (append-nil all)) e
+
+demands_end : (caller : Identity) (op : ℕ) (lists : Lists) (demands : List (Option Demand)) → all_granted lists caller demands ≡ false → EndsInRefusal caller op lists (demand_lines lists caller op demands)
+demands_end caller op lists [] h = absurd (true_false h)
+  where
+    true_false : true ≡ false → ⊥
+    true_false h = cc
+demands_end caller op lists (None ∷ demands) h = demands_end caller op lists demands h
+demands_end caller op lists (Some d ∷ demands) h = of (decision lists caller d) refl (demands_end caller op lists demands) h
+  where
+    of : (x : Decision) → decision lists caller d ≡ x → (all_granted lists caller demands ≡ false → EndsInRefusal caller op lists (demand_lines lists caller op demands))
+        → is_granted x && all_granted lists caller demands ≡ false
+        → EndsInRefusal caller op lists ((watching lists caller op (is_granted x) d ++ deny_lines caller op x) ++ cond (is_granted x) (demand_lines lists caller op demands) [])
+    of decisions.Granted is goes h = more_before caller op lists (watching lists caller op true d ++ []) (demand_lines lists caller op demands) (goes h)
+    of (decisions.Refused object mask cause) is goes h = nothing_behind caller op lists _ (record {
+      demand = d;
+      object = object;
+      mask = mask;
+      cause = cause;
+      before = watching lists caller op false d;
+      refused = is;
+      told = refl;
+    })
+
+pub ends_in_refusal : (caller : Identity) (op : ℕ) (s : Sight) (questions : List Question) → Apart statuses.Access questions → failure caller s questions ≡ Some statuses.Access
+    → EndsInRefusal caller op s.lists (trace caller op s questions)
+ends_in_refusal caller op s [] apart h = absurd (none_apart h)
+ends_in_refusal caller op s (Holds test status ∷ questions) apart h =
+    let x = either (test s) (failure caller s questions) status apart.0 h in rw x.0 (ends_in_refusal caller op s questions apart.1 x.1)
+ends_in_refusal caller op s (Valid None ∷ questions) apart h = ends_in_refusal caller op s questions apart.1 h
+ends_in_refusal caller op s (Valid (Some status) ∷ questions) apart h = absurd (apart.0 h)
+ends_in_refusal caller op s (Row demands ∷ questions) apart h =
+    row_or (all_granted s.lists caller (demands s)) (failure caller s questions) (EndsInRefusal caller op s.lists (trace caller op s (Row demands ∷ questions)))
+    (λ refused. rw refused (nothing_behind caller op s.lists _ (demands_end caller op s.lists (demands s) refused)))
+    (λ granted more. rw granted (more_before caller op s.lists (demand_lines s.lists caller op (demands s)) _ (ends_in_refusal caller op s questions apart more))) h
+ends_in_refusal caller op s (Suffices test ∷ questions) apart h =
+    let x = not_enough (test s) (failure caller s questions) h in rw x.0 (ends_in_refusal caller op s questions apart x.1)

@@ -1,0 +1,15 @@
+pub mod Answering
+pub mod Behind
+pub mod Bounds
+pub mod Creating
+pub mod Demanding
+pub mod Bridges
+pub mod Ending
+pub mod Exempt
+pub mod Rooms
+pub mod Rows
+pub mod Exactly
+pub mod Running
+pub mod Seen
+pub mod Statuses
+pub mod Texts

@@ -1,0 +1,26 @@
+use Rattle.std.proofs.Common.{◌≡◌, ap}
+use Rattle.std.specs.Prelude.{Option, Some, None, Err}
+use Rattle.nfs_types.specs.declared.status.Status.{Status}
+use Rattle.nfs_types.specs.declared.status.Status.TheVariants as statuses
+use Rattle.nfs_ops.specs.Results.{Outcome}
+use Rattle.compound_run.specs.Sight.{whole}
+use Rattle.compound_run.specs.Questions.{told}
+use Rattle.compound_run.specs.Operations.{meaning}
+use Rattle.compound_run.proofs.Exactly.{refused_by_row, by_row, ends_in_refusal}
+use Rattle.compound_run.proofs.Statuses.{meaning_apart}
+use Rattle.compound_run.proofs.laws.access_is_exact.Goals as goal
+
+-- what is told is the failure
+told_failure : (f : Option Status) (o : Outcome) → told f o ≡ Err statuses.Access → f ≡ Some statuses.Access
+told_failure None o h = cc
+told_failure (Some status) o h = cc
+
+pub returns-clause-exact : goal.returns-clause-exact
+returns-clause-exact c caller w p op = (
+  λ told. refused_by_row caller (whole w) (meaning p op).questions (meaning_apart p op) (told_failure _ _ told),
+  λ row. ap (λ f. told f ((meaning p op).answer (whole w))) (by_row caller (whole w) (meaning p op).questions row.demands row.first),
+)
+
+pub returns-clause-told : goal.returns-clause-told
+returns-clause-told c caller w p op told =
+    ends_in_refusal caller (meaning p op).number (whole w) (meaning p op).questions (meaning_apart p op) (told_failure _ _ told)

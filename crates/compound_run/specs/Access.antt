@@ -1,0 +1,28 @@
+-- ACCESS (RFC 8881, section 18.1): which of the rights that are asked have a meaning for the object, and which of these its list
+-- grants. It asks nothing of the list, and writes no line.
+use Rattle.std.specs.Prelude.{ℕ, [], unwrap_or}
+use Rattle.xdr_wire.specs.Xdr.{Value}
+use Rattle.acl_list.specs.declared.entry.Kind.TheVariants.{File}
+use Rattle.nfs_ops.specs.Forms.{access_result}
+use Rattle.nfs_ops.specs.Results as results
+use Rattle.access_rows.specs.declared.rights.Rights.{Rights}
+use Rattle.access_rows.specs.Rights.{rights_of}
+use Rattle.access_guard.specs.Lists.{granted_at}
+use Rattle.compound_run.specs.Sight.{Sight}
+use Rattle.compound_run.specs.Meaning.{Place, Meaning, stays, with_handle, here}
+
+abbrev pub told_rights : Rights → Value access_result
+told_rights r = (r.supported, r.granted)
+
+-- the rights of an object
+abbrev pub rights_at : Place → ℕ → Sight → Rights
+rights_at p asked s = rights_of (unwrap_or (s.kinds (here p)) File) asked (granted_at s.lists p.caller (here p))
+
+abbrev pub access : Place → ℕ → Meaning
+access p asked = record {
+  number = 3;
+  questions = with_handle p.files.current [];
+  answer = λ s. results.Access (told_rights (rights_at p asked s));
+  effect = stays;
+  goes = λ s. p.files;
+}

@@ -1,0 +1,59 @@
+-- What lists have to do with outcomes (RFC 8881, sections 6.2.1 and 18).
+use Rattle.std.specs.Prelude.{◌≡◌, ◌⊎◌, ℕ, true, false, List, [], ◌∷◌, ◌++◌, Option, None, IsSome}
+use Rattle.rpc_record.specs.Identity.{Identity}
+use Rattle.access_rows.specs.declared.demand.Demand.{Demand}
+use Rattle.access_guard.specs.declared.decision.Cause.{Cause}
+use Rattle.access_guard.specs.declared.decision.Decision.TheVariants as decisions
+use Rattle.access_guard.specs.declared.line.Line.{Line}
+use Rattle.access_guard.specs.declared.line.LineKind.TheVariants.{Deny}
+use Rattle.access_guard.specs.Lists.{Lists}
+use Rattle.access_guard.specs.Decisions.{decision}
+use Rattle.compound_run.specs.Sight.{Sight}
+use Rattle.compound_run.specs.Questions.{Question, Holds, Valid, Row, Suffices, all_granted}
+
+-- the question is passed, and the next one is asked
+abbrev pub Passes : Identity → Sight → Question → Type 0
+Passes caller s (Holds test status) = test s ≡ true
+Passes caller s (Valid fault) = fault ≡ None
+Passes caller s (Row demands) = all_granted s.lists caller (demands s) ≡ true
+Passes caller s (Suffices test) = test s ≡ false
+
+abbrev pub Fails : Identity → Sight → Question → Type 0
+Fails caller s (Holds test status) = test s ≡ false
+Fails caller s (Valid fault) = IsSome fault
+Fails caller s (Row demands) = all_granted s.lists caller (demands s) ≡ false
+Fails caller s (Suffices test) = ⊥
+
+-- each of these is passed
+abbrev pub ArePassed : Identity → Sight → List Question → Type 0
+ArePassed caller s [] = Unit {0}
+ArePassed caller s (q ∷ questions) = Passes caller s q × ArePassed caller s questions
+
+-- it is the first of these that fails: those before it are passed
+abbrev pub FailsFirst : Identity → Sight → List Question → Question → Type 0
+FailsFirst caller s [] f = ⊥
+FailsFirst caller s (q ∷ questions) f = ((q ≡ f) × Fails caller s q) ⊎ (Passes caller s q × FailsFirst caller s questions f)
+
+-- a row of demands is the first that fails
+pub record IsRefusedByRow (caller : Identity) (s : Sight) (questions : List Question) : Type 0 where
+  pub demands : Sight → List (Option Demand)
+  pub first : FailsFirst caller s questions (Row demands)
+
+-- each question is passed, up to one that suffices
+abbrev pub ArePassedOrSuffice : Identity → Sight → List Question → Type 0
+ArePassedOrSuffice caller s [] = Unit {0}
+ArePassedOrSuffice caller s (Holds test status ∷ questions) = (test s ≡ true) × ArePassedOrSuffice caller s questions
+ArePassedOrSuffice caller s (Valid fault ∷ questions) = (fault ≡ None) × ArePassedOrSuffice caller s questions
+ArePassedOrSuffice caller s (Row demands ∷ questions) = (all_granted s.lists caller (demands s) ≡ true) × ArePassedOrSuffice caller s questions
+ArePassedOrSuffice caller s (Suffices test ∷ questions) = (test s ≡ true) ⊎ ((test s ≡ false) × ArePassedOrSuffice caller s questions)
+
+-- The last of the lines is the DENY line of a demand that the lists refuse: it tells the object, what was asked of it, and the first
+-- entry that denies it, else the lowest bit that none allows.
+pub record EndsInRefusal (caller : Identity) (op : ℕ) (lists : Lists) (lines : List Line) : Type 0 where
+  pub demand : Demand
+  pub object : ℕ
+  pub mask : ℕ
+  pub cause : Cause
+  pub before : List Line
+  pub refused : decision lists caller demand ≡ decisions.Refused object mask cause
+  pub told : lines ≡ before ++ record { kind = Deny; uid = caller.uid; op = op; object = object; mask = mask; granted = false; cause = cause } ∷ []

@@ -1,0 +1,58 @@
+-- An operation asks questions in their order. Its outcome is the status of the first that fails, else OK; the decisions of its rows
+-- write lines into the trail, up to and with the first that is refused (RFC 8881, sections 6.2.1 and 18).
+use Rattle.std.specs.Prelude.{ℕ, Bool, true, ◌&&◌, if◌then◌else◌, List, [], ◌∷◌, ◌++◌, Option, Some, None, Result, Ok, Err}
+use Rattle.rpc_record.specs.Identity.{Identity}
+use Rattle.nfs_types.specs.declared.status.Status.{Status}
+use Rattle.nfs_types.specs.declared.status.Status.TheVariants as statuses
+use Rattle.access_rows.specs.declared.demand.Demand.{Demand}
+use Rattle.access_guard.specs.declared.line.Line.{Line}
+use Rattle.access_guard.specs.Lists.{Lists}
+use Rattle.access_guard.specs.Decisions.{decision, is_granted}
+use Rattle.access_guard.specs.Lines.{lines}
+use Rattle.compound_run.specs.Sight.{Sight}
+
+pub data Question : Type 0 where
+  -- it holds, or the outcome is this status
+  Holds : (Sight → Bool) → Status → Question
+  -- the arguments are without a fault, or the outcome is the fault
+  Valid : Option Status → Question
+  -- the lists grant these demands, each where there is one, or the outcome is ACCESS
+  Row : (Sight → List (Option Demand)) → Question
+  -- where it holds nothing more is asked, and the outcome is OK
+  Suffices : (Sight → Bool) → Question
+
+abbrev pub all_granted : Lists → Identity → List (Option Demand) → Bool
+all_granted lists caller [] = true
+all_granted lists caller (None ∷ demands) = all_granted lists caller demands
+all_granted lists caller (Some d ∷ demands) = is_granted (decision lists caller d) && all_granted lists caller demands
+
+-- the status of the first question that fails
+abbrev pub failure : Identity → Sight → List Question → Option Status
+failure caller s [] = None
+failure caller s (Holds test status ∷ questions) = if test s then failure caller s questions else Some status
+failure caller s (Valid None ∷ questions) = failure caller s questions
+failure caller s (Valid (Some status) ∷ questions) = Some status
+failure caller s (Row demands ∷ questions) = if all_granted s.lists caller (demands s) then failure caller s questions else Some statuses.Access
+failure caller s (Suffices test ∷ questions) = if test s then None else failure caller s questions
+
+-- the lines of demands, up to and with the first that is refused
+abbrev pub demand_lines : Lists → Identity → ℕ → List (Option Demand) → List Line
+demand_lines lists caller op [] = []
+demand_lines lists caller op (None ∷ demands) = demand_lines lists caller op demands
+demand_lines lists caller op (Some d ∷ demands) =
+    lines lists caller op d ++ (if is_granted (decision lists caller d) then demand_lines lists caller op demands else [])
+
+-- the lines of the questions of the operation of this number
+abbrev pub trace : Identity → ℕ → Sight → List Question → List Line
+trace caller op s [] = []
+trace caller op s (Holds test status ∷ questions) = if test s then trace caller op s questions else []
+trace caller op s (Valid None ∷ questions) = trace caller op s questions
+trace caller op s (Valid (Some status) ∷ questions) = []
+trace caller op s (Row demands ∷ questions) =
+    demand_lines s.lists caller op (demands s) ++ (if all_granted s.lists caller (demands s) then trace caller op s questions else [])
+trace caller op s (Suffices test ∷ questions) = if test s then [] else trace caller op s questions
+
+-- what is told: the result, or the status of a refusal
+abbrev pub told : {R : Type 0} → Option Status → R → Result R Status
+told None result = Ok result
+told (Some status) result = Err status

@@ -1,0 +1,193 @@
+//! The tree that is served, in the words of what an operation sees of it.
+ghost use Rattle.std.specs.Prelude.{◌≡◌, ◌≢◌, ◌<◌, ◌≤◌, ◌^◌, if◌then◌else◌, length, true, false, Ok, Err, Some, None, IfOk, IfSome, IsSome, IsOkUnless, MatchResult, OnOk, OnErr};
+ghost use Rattle.acl_shape.specs.Bounds.{IsBounded};
+ghost use Rattle.nfs_types.specs.Name.{name_fault};
+ghost use Rattle.node_tree.specs.World.{object, kind_of, has_entries, link_count};
+ghost use Rattle.node_tree.specs.Changes.{made, with_new, with_link, unlinked, renamed};
+ghost use Rattle.node_tree.specs.Sound.{IsTick, most_bytes};
+ghost use Rattle.node_tree.specs.Refusals.{has_left};
+ghost use Rattle.compound_run.specs.Sight.{child, whole};
+ghost use Rattle.compound_run.specs.Meaning.{at, may_name};
+ghost use Rattle.compound_run.specs.Create.{may_add};
+ghost use Rattle.compound_run.specs.Rename.{is_one, is_below, may_replace, may_move};
+ghost use Rattle.compound_run.specs.Views.{is_inval, is_exist};
+
+use access_guard::GuardedTree;
+use nfs_types::{Moment, Status, check_name};
+use node_tree::{At, Kind, MAX_LINKS, NewObject, TreeFault};
+use std::alloc::{Allocator, Global};
+
+/// No counter reaches this one.
+const COUNTS: u64 = 1 << 63;
+
+/// The tree that is served, with the guard of its lists.
+#[derive(Drop)]
+pub(crate) struct Export<A: Allocator + Copy = Global> {
+    pub alloc: A,
+    pub tree: GuardedTree<A>,
+}
+
+/// What is wrong with a name, if anything is.
+pub(crate) fn check(name: &[u8]) -> Result<(), Status>
+    ensures fault { MatchResult result (λ done. name_fault name.now ≡ None) (λ status. name_fault name.now ≡ Some status) }
+    ensures short { OnOk result (length name.now ≤ 255) }
+{
+    match check_name(name) {
+        Some(fault) => Err(fault),
+        None => Ok(()),
+    }
+}
+
+/// The status of a change that is refused where it is known that only space or memory can be wanting.
+fn status_of(fault: TreeFault) -> Status
+    ensures memory { fault ≡ TreeFault.Memory → result ≡ Status.Delay }
+    ensures space { fault ≡ TreeFault.NoSpc → result ≡ Status.NoSpc }
+{
+    match fault {
+        TreeFault::Memory => Status::Delay,
+        _ => Status::NoSpc,
+    }
+}
+
+/// Whether a rename is refused since a directory would come to lie below itself.
+fn tells_below(fault: Option<TreeFault>) -> bool
+    ensures { result ≡ is_inval fault }
+{
+    matches!(fault, Some(TreeFault::Inval))
+}
+
+/// Whether a rename is refused for what has the new name.
+fn tells_taken(fault: Option<TreeFault>) -> bool
+    ensures { result ≡ is_exist fault }
+{
+    matches!(fault, Some(TreeFault::Exist))
+}
+
+#[tactic(auto, using(crate::proofs::Bridges::bridges))]
+impl<A: Allocator + Copy> Export<A> {
+    /// The child of a name in a directory.
+    pub fn find(&self, directory: u64, name: &[u8]) -> Option<u64>
+        ensures child { result ≡ child (whole self.now.tree.world) directory name.now }
+        ensures live { IfSome result (λ child. IsSome (object self.now.tree.world child)) }
+    {
+        self.tree.find(directory, name)
+    }
+
+    /// When a change is made at this moment, if the counter of ticks has one left.
+    pub fn tick(&self, now: Moment) -> Option<At>
+        ensures value { result ≡ (if has_left self.now.tree.world.next_tick then Some (at now self.now.tree.world) else None) }
+        ensures tick { IfSome result (λ at. IsTick self.now.tree.world at.tick) }
+    {
+        let tick = self.tree.next_tick();
+        if tick >= COUNTS {
+            return None;
+        }
+        Some(At { tick, moment: now })
+    }
+
+    /// Makes an object under a name that nothing has. `NoSpc`: there is no space for it. `Delay`: there is no memory for it.
+    pub fn add(
+        &mut self,
+        directory: u64,
+        name: &[u8],
+        new: NewObject<A>,
+        at: At,
+    ) -> Result<u64, Status>
+        requires tick { IsTick self.old.tree.world at.tick }
+        requires live { kind_of self.old.tree.world directory ≡ Some Kind.Directory }
+        requires short { length name.now ≤ 255 }
+        requires bounded { IsBounded new.list }
+        requires bytes { length new.bytes.items ≤ most_bytes new.kind }
+        requires free { child (whole self.old.tree.world) directory name.now ≡ None }
+        ensures full { may_add (whole self.old.tree.world) directory ≡ false → result ≡ Err Status.NoSpc }
+        ensures space { may_add (whole self.old.tree.world) directory ≡ true → IsOkUnless result Status.Delay }
+        ensures number { IfOk result (λ number. number ≡ self.old.tree.world.next_number) }
+        ensures ok { OnOk result (self.new.tree ≡ record self.old.tree { world = with_new self.old.tree.world directory name.now (made new self.old.tree.world.next_stamp at) at }) }
+        ensures err { OnErr result (self.new.tree ≡ self.old.tree) }
+    {
+        self.tree.add(directory, name, new, at).map_err(status_of)
+    }
+
+    /// Gives an object a name that nothing has. `NoSpc`: there is no space for it. `Delay`: there is no memory for it.
+    pub fn add_name(
+        &mut self,
+        directory: u64,
+        name: &[u8],
+        number: u64,
+        at: At,
+    ) -> Result<(), Status>
+        requires tick { IsTick self.old.tree.world at.tick }
+        requires live { kind_of self.old.tree.world directory ≡ Some Kind.Directory }
+        requires there { IsSome (object self.old.tree.world number) }
+        requires plain { kind_of self.old.tree.world number ≢ Some Kind.Directory }
+        requires short { length name.now ≤ 255 }
+        requires free { child (whole self.old.tree.world) directory name.now ≡ None }
+        requires few { link_count self.old.tree.world.names number < MAX_LINKS }
+        ensures full { may_name (whole self.old.tree.world) directory ≡ false → result ≡ Err Status.NoSpc }
+        ensures space { may_name (whole self.old.tree.world) directory ≡ true → IsOkUnless result Status.Delay }
+        ensures ok { OnOk result (self.new.tree ≡ record self.old.tree { world = with_link self.old.tree.world directory name.now number at }) }
+        ensures err { OnErr result (self.new.tree ≡ self.old.tree) }
+    {
+        self.tree
+            .link(directory, name, number, at)
+            .map_err(status_of)
+    }
+
+    /// Takes away the name of a child that holds nothing.
+    pub fn unlink(&mut self, directory: u64, name: &[u8], target: u64, at: At)
+        requires tick { IsTick self.old.tree.world at.tick }
+        requires child { child (whole self.old.tree.world) directory name.now ≡ Some target }
+        requires empty { has_entries self.old.tree.world.names target ≡ false }
+        ensures { self.new.tree ≡ record self.old.tree { world = unlinked self.old.tree.world directory name.now at } }
+    {
+        if self.tree.unlink(directory, name, at).is_err() {
+            unreachable!();
+        }
+    }
+
+    /// Whether a child that gets another name, which isn't its own, would come to lie below itself.
+    pub fn is_below(&self, from: u64, old: &[u8], to: u64, new: &[u8], moved: u64) -> bool
+        requires child { child (whole self.now.tree.world) from old.now ≡ Some moved }
+        requires other { is_one (Some moved) (child (whole self.now.tree.world) to new.now) ≡ false }
+        ensures { result ≡ is_below (whole self.now.tree.world) moved to }
+    {
+        let _moved = moved;
+        tells_below(self.tree.rename_fault(from, old, to, new))
+    }
+
+    /// Whether a child can replace what has another name, if anything has it.
+    pub fn may_replace(&self, from: u64, old: &[u8], to: u64, new: &[u8], moved: u64) -> bool
+        requires child { child (whole self.now.tree.world) from old.now ≡ Some moved }
+        requires other { is_one (Some moved) (child (whole self.now.tree.world) to new.now) ≡ false }
+        requires above { is_below (whole self.now.tree.world) moved to ≡ false }
+        ensures { result ≡ may_replace (whole self.now.tree.world) moved (child (whole self.now.tree.world) to new.now) }
+    {
+        let _moved = moved;
+        !tells_taken(self.tree.rename_fault(from, old, to, new))
+    }
+
+    /// Gives a child another name that it may have. `NoSpc`: there is no space for it. `Delay`: there is no memory for it.
+    pub fn rename_child(
+        &mut self,
+        from: u64,
+        old: &[u8],
+        to: u64,
+        new: &[u8],
+        moved: u64,
+        at: At,
+    ) -> Result<(), Status>
+        requires tick { IsTick self.old.tree.world at.tick }
+        requires live { kind_of self.old.tree.world to ≡ Some Kind.Directory }
+        requires short { length new.now ≤ 255 }
+        requires child { child (whole self.old.tree.world) from old.now ≡ Some moved }
+        requires other { is_one (Some moved) (child (whole self.old.tree.world) to new.now) ≡ false }
+        requires above { is_below (whole self.old.tree.world) moved to ≡ false }
+        requires may { may_replace (whole self.old.tree.world) moved (child (whole self.old.tree.world) to new.now) ≡ true }
+        ensures full { may_move (whole self.old.tree.world) from to (child (whole self.old.tree.world) to new.now) ≡ false → result ≡ Err Status.NoSpc }
+        ensures space { may_move (whole self.old.tree.world) from to (child (whole self.old.tree.world) to new.now) ≡ true → IsOkUnless result Status.Delay }
+        ensures ok { OnOk result (self.new.tree ≡ record self.old.tree { world = renamed self.old.tree.world from old.now to new.now at }) }
+        ensures err { OnErr result (self.new.tree ≡ self.old.tree) }
+    {
+        self.tree.rename(from, old, to, new, at).map_err(status_of)
+    }
+}

@@ -1,0 +1,52 @@
+//! What follows from the definitions alone.
+ghost use Rattle.std.specs.Prelude.{◌≡◌, ◌≢◌, ◌↔◌, ℕ, if◌then◌else◌, true, false, List, ◌∷◌, ◌++◌, Option, Some, None, Err};
+ghost use Rattle.rpc_record.specs.Identity.{Identity};
+ghost use Rattle.nfs_types.specs.declared.status.Status.TheVariants as statuses;
+ghost use Rattle.nfs_ops.specs.Operations.{Operation};
+ghost use Rattle.node_tree.specs.World.{World};
+ghost use Rattle.node_tree.specs.Judged.{judged_of};
+ghost use Rattle.access_rows.specs.declared.demand.Demand.{Demand};
+ghost use Rattle.compound_run.specs.Sight.{Sight, whole};
+ghost use Rattle.compound_run.specs.Questions.{Question, Row, failure, trace, all_granted};
+ghost use Rattle.compound_run.specs.Meaning.{Place};
+ghost use Rattle.compound_run.specs.Operations.{meaning, may_delay};
+ghost use Rattle.compound_run.specs.Runs.{outcome};
+ghost use Rattle.compound_run.specs.Exact.{ArePassed, ArePassedOrSuffice, IsRefusedByRow, EndsInRefusal};
+ghost use Rattle.compound_run.specs.Lookup.{lookup};
+ghost use Rattle.compound_run.specs.Remove.{remove};
+ghost use Rattle.compound_run.specs.Disclosure.{DisclosesNothing};
+
+/// What stands behind a row of demands is an outcome only where the lists grant each of them; else the outcome is ACCESS.
+pub fn rows_decide()
+    ensures { (caller : Identity) (s : Sight) (before behind : List Question) (demands : Sight → List (Option Demand)) → ArePassed caller s before →
+        failure caller s (before ++ Row demands ∷ behind) ≡ (if all_granted s.lists caller (demands s) then failure caller s behind else Some statuses.Access) }
+{}
+
+/// An operation is OK exactly where each of its questions is passed, up to one that suffices.
+pub fn ok_is_exact()
+    ensures { (caller : Identity) (s : Sight) (questions : List Question) → (failure caller s questions ≡ None) ↔ ArePassedOrSuffice caller s questions }
+{}
+
+/// An operation answers ACCESS exactly where a row of demands is its first question that fails (`exact`). Its last line is then the
+/// DENY line of a demand that the lists refuse, which names the first denying entry, else the lowest bit that none allows (`told`).
+/// That nothing changes, a step says of every outcome that isn't OK.
+pub fn access_is_exact()
+    ensures exact { (caller : Identity) (w : World) (p : Place) (op : Operation) → (outcome (meaning p op) caller w ≡ Err statuses.Access) ↔ IsRefusedByRow caller (whole w) (meaning p op).questions }
+    ensures told { (caller : Identity) (w : World) (p : Place) (op : Operation) → outcome (meaning p op) caller w ≡ Err statuses.Access →
+        EndsInRefusal caller (meaning p op).number (judged_of w) (trace caller (meaning p op).number (whole w) (meaning p op).questions) }
+{}
+
+/// An operation that takes no memory never answers DELAY: all but CREATE, LINK and RENAME.
+pub fn others_never_delay()
+    ensures { (caller : Identity) (w : World) (p : Place) (op : Operation) → may_delay op ≡ false → outcome (meaning p op) caller w ≢ Err statuses.Delay }
+{}
+
+/// In two worlds that look alike to a caller, LOOKUP tells that caller the same, with the same lines.
+pub fn lookup_discloses_nothing()
+    ensures { (p : Place) (name : List ℕ) → DisclosesNothing (lookup p name) }
+{}
+
+/// The same of REMOVE.
+pub fn remove_discloses_nothing()
+    ensures { (p : Place) (name : List ℕ) → DisclosesNothing (remove p name) }
+{}

@@ -1,0 +1,16 @@
+//! Opens of files.
+
+/// A file that is open (RFC 8881, section 18.16).
+#[derive(Clone, Copy, Debug, PartialEq, Eq)]
+pub struct Open {
+    /// Its number.
+    pub number: u64,
+    /// The number of the client that has it open.
+    pub client: u64,
+    /// The number of the file.
+    pub object: u64,
+    /// To read 1, to write 2, for both 3.
+    pub access: u32,
+    /// How often it was opened.
+    pub seqid: u32,
+}

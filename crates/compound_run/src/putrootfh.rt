@@ -1,0 +1,22 @@
+//! PUTROOTFH (RFC 8881, section 18.21).
+ghost use Rattle.compound_run.specs.PutRootFh.{put_root_fh};
+ghost use Rattle.compound_run.specs.Runs.{IsAnswered, place, point_at};
+ghost use Rattle.compound_run.specs.Views.{view, sender_of};
+
+use crate::export::Export;
+use crate::files::Files;
+use crate::turn::Turn;
+use nfs_ops::OpResult;
+use nfs_types::Status;
+use std::alloc::Allocator;
+
+impl<A: Allocator + Copy> Export<A> {
+    /// The root becomes current.
+    pub fn put_root_fh<'s>(&self, turn: Turn<'_>, files: &mut Files) -> Result<OpResult<'s>, Status>
+        ensures { IsAnswered (put_root_fh (place (sender_of turn.entry) files.old turn.entry.room)) (sender_of turn.entry) (point_at self.now.tree files.old) (view result) (point_at self.now.tree files.new) }
+    {
+        let _turn = turn;
+        files.current = Some(self.tree.root());
+        Ok(OpResult::PutRootFh)
+    }
+}
