@@ -1,0 +1,27 @@
+//! Tests of `compound_run`: COMPOUNDs from bytes to bytes, with the tree and the trail that they leave.
+#![tactic(auto)]
+
+#[cfg(test)]
+mod heads;
+#[cfg(test)]
+mod limits;
+#[cfg(test)]
+mod memory;
+#[cfg(test)]
+mod modes;
+#[cfg(test)]
+mod outcomes;
+#[cfg(test)]
+mod pictures;
+#[cfg(test)]
+mod remembered;
+#[cfg(test)]
+mod removals;
+#[cfg(test)]
+mod script;
+#[cfg(test)]
+mod servers;
+#[cfg(test)]
+mod spelling;
+#[cfg(test)]
+mod trees;

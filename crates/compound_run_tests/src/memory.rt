@@ -1,0 +1,200 @@
+//! Every growth refused.
+
+use crate::pictures::tree_text;
+use crate::servers::{BOB, server_of};
+use crate::spelling::call_of;
+use crate::trees::root;
+use acl_list::{Entry, EntryKind, Who};
+use compound_run::{Args, RESULTS_LIMIT, RunEnd, Server};
+use linked_list_allocator::LocalHeap;
+use node_tree::EPOCH;
+use rpc_record::Caller;
+use std::alloc::Global;
+use std::hash::RandomState;
+use std::process::Abort;
+use std::test::Fail;
+use who_book::Book;
+
+/// Calls, and whether their last operation may want memory. With ample memory each is OK.
+static CALLS: [(&str, bool); 12] = [
+    ("PUTROOTFH CREATE 2 'directory 0 0", true),
+    ("PUTROOTFH CREATE 5 ~100 'link 0 0", true),
+    ("PUTROOTFH LOOKUP 'link SAVEFH PUTROOTFH LINK ~ff", true),
+    ("PUTROOTFH SAVEFH LOOKUP 'directory RENAME 'link ~80", true),
+    ("PUTROOTFH CREATE 2 'many #3b", true),
+    ("PUTROOTFH LOOKUP 'directory LOOKUPP", false),
+    ("PUTROOTFH LOOKUP 'directory LOOKUP ~80 READLINK", false),
+    ("PUTROOTFH LOOKUP 'directory LOOKUP ~80 GETFH", false),
+    ("PUTROOTFH SAVEFH RESTOREFH ACCESS 3f", false),
+    ("PUTROOTFH REMOVE ~ff", false),
+    ("PUTROOTFH LOOKUP 'directory REMOVE ~80", false),
+    ("PUTROOTFH REMOVE 'directory", false),
+];
+
+const OK: [u8; 4] = [0, 0, 0, 0];
+
+/// The status DELAY, 10008.
+const DELAY: [u8; 4] = [0, 0, 0x27, 0x18];
+
+/// What came of calls: whether one of each was delayed, how many since the heap is this one, and how many heaps had none.
+#[derive(Clone, Copy, Debug)]
+struct Seen {
+    delayed: [bool; 12],
+    delays: u32,
+    ample: u32,
+}
+
+/// What a call is made on.
+#[derive(Drop)]
+struct Site<'a> {
+    server: Server<&'a LocalHeap>,
+    out: Vec<u8, &'a LocalHeap>,
+}
+
+/// What is looked at before and after a call.
+#[derive(Debug, Drop, PartialEq, Eq)]
+struct Picture {
+    tree: Vec<u8>,
+    total: u64,
+}
+
+fn look(alloc: Global, site: &Site<'_>) -> Result<Picture, Fail> {
+    Ok(Picture {
+        tree: tree_text(alloc, site.server.tree(), 12)?,
+        total: site.server.guard().total(),
+    })
+}
+
+fn entry(kind: EntryKind, flags: u32, mask: u32) -> Entry {
+    Entry {
+        kind,
+        flags,
+        mask,
+        who: Who::Everyone,
+    }
+}
+
+/// A server over this heap, with room for results. What changes its root is told. `None`: the heap is too small.
+fn build<'a>(alloc: Global, heap: &'a LocalHeap, hasher: RandomState) -> Option<Site<'a>> {
+    let list = [
+        entry(EntryKind::Audit, 0x30, 0x47),
+        entry(EntryKind::Allow, 0, 0x1f_07ff),
+    ];
+    let out = Vec::with_capacity(heap, RESULTS_LIMIT).ok()?;
+    let tree = root(heap, &list).ok()?;
+    let server = server_of(heap, Book::default(alloc), tree, hasher).ok()?;
+    Some(Site { server, out })
+}
+
+/// The status of what a call gives.
+fn status(alloc: Global, site: &mut Site<'_>, call: &str) -> Result<[u8; 4], Fail> {
+    let bytes = call_of(alloc, call)?;
+    let caller = Caller::new(BOB.0, BOB.1, &[]);
+    let args = Args {
+        bytes: &bytes,
+        record_len: bytes.len(),
+    };
+    site.out.truncate(0);
+    if site.out.capacity() < RESULTS_LIMIT || !site.out.is_empty() {
+        return Err(Fail::new("no room"));
+    }
+    let end = site.server.run_bare(args, &caller, EPOCH, &mut site.out);
+    match (end, site.out.as_slice()) {
+        (RunEnd::Replied, [a, b, c, d, ..]) => Ok([*a, *b, *c, *d]),
+        _ => Err(Fail::new("no results")),
+    }
+}
+
+/// Makes a call. Where it is delayed all is as before; where none was it is OK.
+fn act(
+    rt: &impl Abort,
+    alloc: Global,
+    site: &mut Site<'_>,
+    index: usize,
+    seen: &mut Seen,
+) -> Result<(), Fail> {
+    let Some((call, grows)) = CALLS.get(index) else {
+        return Ok(());
+    };
+    let before = look(alloc, site)?;
+    let status = status(alloc, site, call)?;
+    if status == DELAY {
+        assert!(rt; *grows, "{call}");
+        assert_eq!(rt; look(alloc, site)?, before, "{call}");
+        seen.delays = seen.delays.saturating_add(1);
+        if let Some(delayed) = seen.delayed.get_mut(index) {
+            *delayed = true;
+        }
+    } else if seen.delays == 0 {
+        assert_eq!(rt; status, OK, "{call}");
+    }
+    Ok(())
+}
+
+/// Makes each call.
+fn act_all(
+    rt: &impl Abort,
+    alloc: Global,
+    site: &mut Site<'_>,
+    seen: &mut Seen,
+) -> Result<bool, Fail> {
+    seen.delays = 0;
+    for index in 0..CALLS.len() {
+        act(rt, alloc, site, index, seen)?;
+    }
+    if seen.delays == 0 {
+        seen.ample = seen.ample.saturating_add(1);
+    }
+    Ok(true)
+}
+
+/// Makes the calls over a heap of this size, and tells whether it was large enough for a server.
+fn attempt(
+    rt: &impl Abort,
+    alloc: Global,
+    hasher: RandomState,
+    size: usize,
+    seen: &mut Seen,
+) -> Result<bool, Fail> {
+    let heap = LocalHeap::new(alloc, size)?;
+    let Some(mut site) = build(alloc, &heap, hasher) else {
+        return Ok(false);
+    };
+    act_all(rt, alloc, &mut site, seen)
+}
+
+/// Over each size of a heap about the least that has a server, what wants memory is done, or delayed with all as it was, and no other
+/// operation is ever delayed; with ample memory none is.
+#[test]
+fn refused_growth_is_told(rt: HostRuntime) -> Result<(), Fail> {
+    let mut seen = Seen {
+        delayed: [false; 12],
+        delays: 0,
+        ample: 0,
+    };
+    let mut least = 0usize;
+    for pages in 0..2048usize {
+        least = pages * 4096;
+        if attempt(&rt, rt.alloc(), RandomState::new(&rt)?, least, &mut seen)? {
+            break;
+        }
+    }
+    for step in 0..512usize {
+        attempt(
+            &rt,
+            rt.alloc(),
+            RandomState::new(&rt)?,
+            least.saturating_sub(4096).saturating_add(step * 32),
+            &mut seen,
+        )?;
+    }
+    let delayed = seen.delayed;
+    assert_eq!(rt;
+        delayed,
+        [
+            true, true, true, true, true, false, false, false, false, false, false, false
+        ]
+    );
+    assert!(rt; seen.ample > 0);
+    Ok(())
+}

@@ -1,0 +1,112 @@
+//! Servers, and calls that they answer.
+
+use crate::pictures::trail_text;
+use crate::spelling::{answer_of, call_of};
+use compound_run::{Args, RESULTS_LIMIT, RunEnd, Server};
+use node_tree::{Moment, Tree};
+use rpc_record::Caller as Identity;
+use std::alloc::{AllocError, Allocator, Global};
+use std::hash::RandomState;
+use std::num::NonZeroUsize;
+use std::process::Abort;
+use std::test::Fail;
+use who_book::Book;
+
+/// Who calls: the uid, the gid, and a group more.
+pub type Caller = (u32, u32, u32);
+
+pub const ROOT: Caller = (0, 0, 0);
+
+pub const ALICE: Caller = (1001, 100, 100);
+
+pub const BOB: Caller = (1002, 7, 7);
+
+/// In the group of bob.
+pub const CAROL: Caller = (1003, 7, 100);
+
+/// A call and its answer.
+pub type Row = (Caller, &'static str, &'static str);
+
+/// A server of this tree, and no names for numbers.
+pub fn server_of<A: Allocator + Copy>(
+    alloc: A,
+    book: Book,
+    tree: Tree<A>,
+    hasher: RandomState,
+) -> Result<Server<A>, AllocError> {
+    let capacity = NonZeroUsize::new(16).unwrap_or(NonZeroUsize::MIN);
+    Server::new(alloc, tree, book, capacity, hasher)
+}
+
+/// A server of the sample tree.
+pub fn sample_server(alloc: Global, hasher: RandomState) -> Result<Server, AllocError> {
+    server_of(alloc, Book::default(alloc), Tree::sample(alloc)?, hasher)
+}
+
+/// The results of these arguments, or `None` where they are garbage.
+pub fn run(
+    alloc: Global,
+    server: &mut Server,
+    who: Caller,
+    seconds: i64,
+    bytes: &[u8],
+) -> Result<Option<Vec<u8>>, AllocError> {
+    let caller = Identity::new(who.0, who.1, &[who.2]);
+    let now = Moment {
+        seconds,
+        nanoseconds: 0,
+    };
+    let args = Args {
+        bytes,
+        record_len: bytes.len(),
+    };
+    let mut out = Vec::with_capacity(alloc, RESULTS_LIMIT)?;
+    match server.run_bare(args, &caller, now, &mut out) {
+        RunEnd::Replied => Ok(Some(out)),
+        RunEnd::Garbage => Ok(None),
+    }
+}
+
+/// Sees that a call at this second is answered so.
+fn see(
+    rt: &impl Abort,
+    alloc: Global,
+    server: &mut Server,
+    seconds: i64,
+    row: &Row,
+) -> Result<(), Fail> {
+    let (who, call, answer) = row;
+    let bytes = call_of(alloc, call)?;
+    let wanted = answer_of(alloc, answer)?;
+    let given = run(alloc, server, *who, seconds, &bytes)?;
+    assert_eq!(rt;
+        given.as_ref().map(|given| given.as_slice()),
+        Some(wanted.as_slice()),
+        "{seconds}: {call}"
+    );
+    Ok(())
+}
+
+/// Sees the answers of calls, the first of them at second 1.
+pub fn play(rt: &impl Abort, alloc: Global, server: &mut Server, rows: &[Row]) -> Result<(), Fail> {
+    let mut seconds = 0i64;
+    for row in rows {
+        seconds = seconds.saturating_add(1);
+        see(rt, alloc, server, seconds, row)?;
+    }
+    Ok(())
+}
+
+/// Sees that the trail has these lines, and has had no others.
+pub fn see_trail(
+    rt: &impl Abort,
+    alloc: Global,
+    server: &Server,
+    total: u64,
+    wanted: &str,
+) -> Result<(), Fail> {
+    let given = trail_text(alloc, server.guard())?;
+    assert_eq!(rt; given.as_slice(), wanted.as_bytes());
+    assert_eq!(rt; server.guard().total(), total);
+    Ok(())
+}

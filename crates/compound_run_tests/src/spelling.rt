@@ -1,0 +1,203 @@
+//! Operations and their results as text: words with spaces between them.
+//!
+//! | Word | Bytes |
+//! |---|---|
+//! | the name of an operation or of a status | its number |
+//! | hexadecimal digits | that number |
+//! | `'x` | the bytes `x` with their length and padding |
+//! | `~n` | the same of so many letters `a` |
+//! | `@n` | the filehandle of an object |
+//! | `a>b` | a directory's change before and after |
+//! | `#n` | attributes: a list of so many entries that allow user 5 to read |
+
+use std::alloc::Global;
+use std::test::Fail;
+
+/// Operations (RFC 8881, section 18).
+static OPERATIONS: [(&str, u32); 24] = [
+    ("ACCESS", 3),
+    ("CREATE", 6),
+    ("GETATTR", 9),
+    ("GETFH", 10),
+    ("LINK", 11),
+    ("LOCK", 12),
+    ("LOOKUP", 15),
+    ("LOOKUPP", 16),
+    ("OPEN", 18),
+    ("PUTFH", 22),
+    ("PUTROOTFH", 24),
+    ("READDIR", 26),
+    ("READLINK", 27),
+    ("REMOVE", 28),
+    ("RENAME", 29),
+    ("RESTOREFH", 31),
+    ("SAVEFH", 32),
+    ("EXCHANGE_ID", 42),
+    ("CREATE_SESSION", 43),
+    ("DESTROY_SESSION", 44),
+    ("SEQUENCE", 53),
+    ("DESTROY_CLIENTID", 57),
+    ("RECLAIM_COMPLETE", 58),
+    ("ILLEGAL", 10044),
+];
+
+/// Statuses (RFC 8881, section 15.1).
+static STATUSES: [(&str, u32); 27] = [
+    ("ok", 0),
+    ("perm", 1),
+    ("noent", 2),
+    ("access", 13),
+    ("exist", 17),
+    ("notdir", 20),
+    ("isdir", 21),
+    ("inval", 22),
+    ("nospc", 28),
+    ("mlink", 31),
+    ("nametoolong", 63),
+    ("notempty", 66),
+    ("stale", 70),
+    ("badhandle", 10001),
+    ("notsupp", 10004),
+    ("badtype", 10007),
+    ("nofilehandle", 10020),
+    ("minorvers", 10021),
+    ("symlink", 10029),
+    ("attrnotsupp", 10032),
+    ("badxdr", 10036),
+    ("badowner", 10039),
+    ("badchar", 10040),
+    ("badname", 10041),
+    ("illegal", 10044),
+    ("toomanyops", 10070),
+    ("wrongtype", 10083),
+];
+
+fn number_of(names: &[(&str, u32)], word: &str) -> Option<u32> {
+    for (name, number) in names {
+        if *name == word {
+            return Some(*number);
+        }
+    }
+    None
+}
+
+fn hex(word: &str) -> Result<u32, Fail> {
+    Ok(u32::from_str_radix(word, 16)?)
+}
+
+fn put(out: &mut Vec<u8>, number: u32) -> Result<(), Fail> {
+    out.extend_from_slice(&number.to_be_bytes())?;
+    Ok(())
+}
+
+fn put_all(out: &mut Vec<u8>, numbers: &[u32]) -> Result<(), Fail> {
+    for number in numbers {
+        put(out, *number)?;
+    }
+    Ok(())
+}
+
+fn put_text(out: &mut Vec<u8>, text: &[u8]) -> Result<(), Fail> {
+    put(out, u32::try_from(text.len())?)?;
+    out.extend_from_slice(text)?;
+    let padding = (4 - text.len() % 4) % 4;
+    out.extend_from_slice(&[0; 3][..padding])?;
+    Ok(())
+}
+
+fn put_letters(out: &mut Vec<u8>, count: u32) -> Result<(), Fail> {
+    put(out, count)?;
+    for _ in 0..count {
+        out.push(b'a')?;
+    }
+    for _ in 0..(4 - count % 4) % 4 {
+        out.push(0)?;
+    }
+    Ok(())
+}
+
+fn put_list(out: &mut Vec<u8>, count: u32) -> Result<(), Fail> {
+    let bytes = count.saturating_mul(20).saturating_add(4);
+    put_all(out, &[1, 0x1000, bytes, count])?;
+    for _ in 0..count {
+        put_all(out, &[0, 0, 1, 1, 0x3500_0000])?;
+    }
+    Ok(())
+}
+
+/// Puts the bytes of a word.
+fn put_word(out: &mut Vec<u8>, word: &str) -> Result<(), Fail> {
+    if let Some(text) = word.strip_prefix('\'') {
+        return put_text(out, text.as_bytes());
+    }
+    if let Some(count) = word.strip_prefix('~') {
+        return put_letters(out, hex(count)?);
+    }
+    if let Some(count) = word.strip_prefix('#') {
+        return put_list(out, hex(count)?);
+    }
+    if let Some(object) = word.strip_prefix('@') {
+        return put_all(out, &[16, 0, 0, 0, hex(object)?]);
+    }
+    if let Some((before, after)) = word.split_once('>') {
+        return put_all(out, &[1, 0, hex(before)?, 0, hex(after)?]);
+    }
+    if let Some(number) = number_of(&OPERATIONS, word).or(number_of(&STATUSES, word)) {
+        return put(out, number);
+    }
+    put(out, hex(word)?)
+}
+
+/// How many operations words name.
+fn count_of(words: &str) -> u32 {
+    let mut count = 0u32;
+    for word in words.split_whitespace() {
+        if number_of(&OPERATIONS, word).is_some() {
+            count = count.saturating_add(1);
+        }
+    }
+    count
+}
+
+/// Puts the bytes of words.
+pub fn spell(out: &mut Vec<u8>, words: &str) -> Result<(), Fail> {
+    for word in words.split_whitespace() {
+        put_word(out, word)?;
+    }
+    Ok(())
+}
+
+/// Puts the arguments of a COMPOUND of these operations, without a tag.
+fn put_call(out: &mut Vec<u8>, operations: &str) -> Result<(), Fail> {
+    put_all(out, &[0, 1, count_of(operations)])?;
+    spell(out, operations)
+}
+
+/// Puts the results of a COMPOUND without a tag: its status, and those of its operations.
+fn put_answer(out: &mut Vec<u8>, results: &str) -> Result<(), Fail> {
+    let (status, results) = results.split_once(' ').unwrap_or((results, ""));
+    put_word(out, status)?;
+    put_all(out, &[0, count_of(results)])?;
+    spell(out, results)
+}
+
+/// The bytes of words.
+pub fn bytes_of(alloc: Global, words: &str) -> Result<Vec<u8>, Fail> {
+    let mut out = Vec::new(alloc);
+    spell(&mut out, words)?;
+    Ok(out)
+}
+
+/// The arguments of a COMPOUND.
+pub fn call_of(alloc: Global, operations: &str) -> Result<Vec<u8>, Fail> {
+    let mut out = Vec::new(alloc);
+    put_call(&mut out, operations)?;
+    Ok(out)
+}
+
+/// The results of a COMPOUND.
+pub fn answer_of(alloc: Global, results: &str) -> Result<Vec<u8>, Fail> {
+    let mut out = Vec::new(alloc);
+    put_answer(&mut out, results)?;
+    Ok(out)
+}
