@@ -7,16 +7,17 @@ use Rattle.rpc_record.specs.Faults.{reply_to}
 use Rattle.rpc_record.specs.Reply.{reply_bytes}
 use Rattle.rpc_record.specs.declared.reply.Reply.{Reply}
 use Rattle.rpc_record.specs.declared.reply.Reply.TheVariants.{Success, GarbageArgs}
-use Rattle.nfs_hub.specs.Compound.{compound}
+use Rattle.who_book.specs.Content.{nameless}
+use Rattle.node_tree.specs.Sample.{sample}
+use Rattle.compound_run.specs.State.{State, Answers, fresh}
 
--- What the server keeps from one call to the next. The tree is constant and nothing else is kept, so it is nothing.
+-- what the server keeps from one call to the next
 abbrev pub Served : Type 0
-Served = Unit {0}
+Served = State
 
--- A call of COMPOUND with these arguments, at this moment, may give these results (none: the arguments are garbage) and
--- leave the server so.
-abbrev pub Answers : Served → Moment → Identity → List ℕ → Option (List ℕ) → Served → Type 0
-Answers old now caller arguments results new = (results ≡ compound caller arguments) × (new ≡ old)
+-- what it begins with: the sample tree, a book without names, and an empty trail
+abbrev pub first : Served
+first = fresh sample nameless
 
 -- what becomes of a record: it has a reply, or it breaks its connection
 pub data Fate : Type 0 where

@@ -1,13 +1,5 @@
-pub mod Sample
-pub mod Granting
-pub mod Operations
-pub mod OpViews
-pub mod Compound
-pub mod Exact
-pub mod Runs
 pub mod Answer
 pub mod Machine
 pub mod Connection
-pub mod ArgumentViews
 pub mod Hub
 pub mod Served

@@ -1,6 +1,6 @@
 //! One connection: where its stream is, and the replies that are pending.
-ghost use Rattle.std.specs.Prelude.{ℕ, List, [], false, ◌≡◌, ◌↔◌, ◌≤◌, min, length, take, drop, vec_len, IsTrue, IsErr, Err};
-ghost use Rattle.nfs_hub.specs.Machine.{Connected, PieceOn, fresh};
+ghost use Rattle.std.specs.Prelude.{ℕ, List, [], false, ◌++◌, ◌≡◌, ◌↔◌, ◌≤◌, min, length, take, drop, vec_len, IsTrue, IsErr, Err};
+ghost use Rattle.nfs_hub.specs.Machine.{Connected, PieceOn, CameToBreak, fresh};
 
 use crate::server::Bare;
 use nfs_types::Moment;
@@ -54,19 +54,20 @@ impl<A: Allocator + Copy> Connection<A> {
     /// connection, and what comes after it does nothing.
     pub(crate) fn feed(
         &mut self,
-        server: &Bare<A>,
+        bare: &mut Bare<A>,
         piece: &[u8],
         now: Moment,
     ) -> Result<(), ConnectionFault>
-        ensures leads { (s : Connected) → IsConnection self.old s → (t : Connected) × IsConnection self.new t × PieceOn piece.now now tt s tt t }
+        ensures leads { (s : Connected) → IsConnection self.old s → (t : Connected) × IsConnection self.new t × PieceOn piece.now now bare.old.server s bare.new.server t }
         ensures broken { IsTrue self.new.broken ↔ IsErr result }
-        ensures stays { IsTrue self.old.broken → (result ≡ Err ConnectionFault.Broken) × (self.new ≡ self.old) }
+        ensures breaks { result ≡ Err ConnectionFault.Broken → (s : Connected) → IsConnection self.old s → s.broken ≡ false → CameToBreak now bare.old.server s.pending (s.rest ++ piece.now) bare.new.server self.new.pending.items }
+        ensures stays { IsTrue self.old.broken → (result ≡ Err ConnectionFault.Broken) × (self.new ≡ self.old) × (bare.new.server ≡ bare.old.server) }
     {
         a_framer_stands_for_a_rest();
         if self.broken {
             return Err(ConnectionFault::Broken);
         }
-        let served = self.serve(server, piece, now);
+        let served = self.serve(bare, piece, now);
         self.broken = served.is_err();
         served
     }
@@ -94,8 +95,13 @@ impl<A: Allocator + Copy> Connection<A> {
         mem::replace(&mut self.pending, Vec::new(alloc))
     }
 
-    fn serve(&mut self, server: &Bare<A>, piece: &[u8], now: Moment) -> Result<(), ConnectionFault>
-        ensures { FeedGives result self.old self.new tt tt now piece.now }
+    fn serve(
+        &mut self,
+        bare: &mut Bare<A>,
+        piece: &[u8],
+        now: Moment,
+    ) -> Result<(), ConnectionFault>
+        ensures { FeedGives result self.old self.new bare.old.server bare.new.server now piece.now }
     {
         let mut at = 0;
         loop {
@@ -110,7 +116,7 @@ impl<A: Allocator + Copy> Connection<A> {
                     let Ok(()) = self.content.extend_from_slice(&piece[from..to]) else {
                         return Err(ConnectionFault::Memory);
                     };
-                    if let Err(fault) = server.answer(&self.content, now, &mut self.pending) {
+                    if let Err(fault) = bare.answer(&self.content, now, &mut self.pending) {
                         return Err(fault);
                     }
                     self.content.clear();

@@ -5,9 +5,11 @@ ghost use Rattle.nfs_hub.specs.Machine.{Event, Connect, Piece, Take, Close};
 use crate::connection::{Connection, ConnectionFault};
 use crate::fault::HubFault;
 use crate::server::Bare;
+use compound_run::Server;
 use nfs_types::Moment;
 use std::alloc::{AllocError, Allocator, Global};
 use std::collections::BTreeMap;
+use std::hash::RandomState;
 use std::marker::Model;
 
 /// The most connections that are open at once, broken ones among them.
@@ -36,7 +38,7 @@ impl Model for ConnId {
 #[derive(Drop)]
 pub struct Hub<A: Allocator + Copy = Global> {
     alloc: A,
-    server: Bare<A>,
+    bare: Bare<A>,
     connections: BTreeMap<u64, Connection<A>, A>,
     next: u64,
 }
@@ -44,18 +46,27 @@ pub struct Hub<A: Allocator + Copy = Global> {
 impl<A: Allocator + Copy> Hub<A> {
     ghost use Rattle.nfs_hub.specs.Machine.{State, Step};
     ghost use Rattle.nfs_hub.specs.Served.{IsPending};
-    ghost use Rattle.nfs_hub.specs.Hub.{IsHub, LeadsTo, Goes, ConnectGives, TakeGives, broken_at};
+    ghost use Rattle.nfs_hub.specs.Hub.{IsHub, LeadsTo, Goes, ConnectGives, TakeGives, BreaksSo, broken_at};
 
-    /// A hub over the sample tree, without sessions: a root with the file `notes` and the directory `pub`.
-    pub fn bare(alloc: A) -> Result<Self, AllocError>
+    /// A hub over the sample tree, without sessions: a root with the file `notes` and the directory `pub`. The book of names takes
+    /// only `Global`; this one has no names, and takes no memory. What the server remembers of lists is found by `hasher`. `Err`: there
+    /// is no memory for the hub.
+    pub fn bare(alloc: A, global: Global, hasher: RandomState) -> Result<Self, AllocError>
         ensures { IfOk result (λ hub. LeadsTo [] hub) }
     {
         Ok(Hub {
             alloc,
-            server: Bare::new(alloc)?,
+            bare: Bare::new(alloc, global, hasher)?,
             connections: BTreeMap::new(alloc),
             next: 1,
         })
+    }
+
+    /// The server behind the connections.
+    pub fn server(&self) -> &Server<A>
+        ensures { (s : State) → IsHub self.now s → s.served ≡ result.now }
+    {
+        &self.bare.server
     }
 
     /// Opens a connection. `TooMany` exactly where as many are open as may be, else `Exhausted` exactly where no number
@@ -137,13 +148,14 @@ impl<A: Allocator + Copy> Hub<A> {
         ensures no_such { IsErrOf result HubFault.NoSuch ↔ IsNone (broken_at self.old conn) }
         ensures broken { broken_at self.new conn ≡ option_map (λ was. is_err result) (broken_at self.old conn) }
         ensures stays { broken_at self.old conn ≡ Some true → result ≡ Err HubFault.Broken }
+        ensures breaks { result ≡ Err HubFault.Broken → broken_at self.old conn ≡ Some false → BreaksSo conn piece.now now self.old self.new }
         ensures faults { (result ≢ Err HubFault.TooMany) × (result ≢ Err HubFault.Exhausted) }
     {
         let Some(connection) = self.connections.get_mut(&conn.number) else {
             return Err(HubFault::NoSuch);
         };
         connection
-            .feed(&self.server, piece, now)
+            .feed(&mut self.bare, piece, now)
             .map_err(|fault| match fault {
                 ConnectionFault::Broken => HubFault::Broken,
                 ConnectionFault::Memory => HubFault::Memory,

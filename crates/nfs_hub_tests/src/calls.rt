@@ -2,10 +2,11 @@
 
 use crate::words::{ACCESS_NOTES, ACCESS_NOTES_REPLY, NULL, bytes_of, record_of, replies};
 use std::alloc::Global;
+use std::hash::RandomState;
 use std::test::Fail;
 
-/// Streams and their replies, as words. The answers stand in RFC 5531, section 9, and RFC 8881, sections 16.1 and 18.1.
-static STREAMS: [(&str, &str, &str); 7] = [
+/// Streams and their replies, as words. The answers stand in RFC 5531, section 9, and RFC 8881, sections 16.1, 18.1 and 18.4.
+static STREAMS: [(&str, &str, &str); 8] = [
     ("null", NULL, "80000018 1 1 0 0 0 0"),
     (
         "version 3",
@@ -24,6 +25,13 @@ static STREAMS: [(&str, &str, &str); 7] = [
         "80000044 2 1 0 0 0 0 0 0 3 18 0 f 0 3 0 2d 0",
     ),
     (
+        "CREATE of a directory in pub, whose change goes from 3 to 4; and a LOOKUP of it, and GETFH: it is the object 4",
+        "80000070 2 0 2 186a3 4 1 1 14 0 0 3ea 64 0 0 0 0 1 3 18 f 3 70756200 6 2 1 64000000 0 0 \
+         80000068 3 0 2 186a3 4 1 1 14 0 0 3ea 64 0 0 0 0 1 4 18 f 3 70756200 f 1 64000000 a",
+        "80000054 2 1 0 0 0 0 0 0 3 18 0 f 0 6 0 1 0 3 0 4 0 \
+         80000058 3 1 0 0 0 0 0 0 4 18 0 f 0 f 0 a 0 10 0 0 0 4",
+    ),
+    (
         "a compound with no credential",
         "8000003c 2 0 2 186a3 4 1 0 0 0 0 0 1 1 18 0",
         "80000014 2 1 1 1 5",
@@ -37,11 +45,12 @@ static STREAMS: [(&str, &str, &str); 7] = [
 
 #[test]
 fn records_are_answered(rt: HostRuntime) -> Result<(), Fail> {
+    let hasher = RandomState::new(&rt)?;
     for (name, call, reply) in STREAMS.iter() {
         let stream = bytes_of(rt.alloc(), call)?;
         let wanted = bytes_of(rt.alloc(), reply)?;
         for piece in 1..=stream.len() {
-            let given = replies(rt.alloc(), &stream, piece)?;
+            let given = replies(rt.alloc(), hasher, &stream, piece)?;
             assert_eq!(rt;
                 given.as_slice(),
                 wanted.as_slice(),
@@ -58,7 +67,7 @@ const HEAD: &str = "2 0 2 186a3 4 1 1 14 0 0 3ea 64 0 0 0";
 const ACCEPTED: &str = "2 1 0 0 0 0";
 
 /// Arguments of COMPOUND and its results (RFC 8881, sections 15.1, 16.2, 18.1, 18.13 and 18.21).
-static COMPOUNDS: [(&str, &str, &str); 27] = [
+static COMPOUNDS: [(&str, &str, &str); 30] = [
     ("no operations", "2 61620000 1 0", "0 2 61620000 0"),
     ("minor version 0", "0 0 1", "2725 0 0"),
     ("minor version before the count", "0 2 ffffffff", "2725 0 0"),
@@ -72,9 +81,28 @@ static COMPOUNDS: [(&str, &str, &str); 27] = [
     ("operation 2", "0 1 1 2", "273c 0 1 273c 273c"),
     ("operation 59", "0 1 1 3b", "273c 0 1 273c 273c"),
     ("a missing operation", "0 1 2 18", "2734 0 2 18 0 273c 2734"),
-    ("READDIR isn't built", "0 1 1 1a", "2714 0 1 1a 2714"),
-    ("EXCHANGE_ID isn't built", "0 1 1 2a", "2714 0 1 2a 2714"),
-    ("operation 58", "0 1 1 3a", "2714 0 1 3a 2714"),
+    (
+        "READDIR isn't built",
+        "0 1 1 1a 0 0 0 0 100 100 0",
+        "2714 0 1 1a 2714",
+    ),
+    ("READDIR with no argument", "0 1 1 1a", "2734 0 1 1a 2734"),
+    (
+        "EXCHANGE_ID, which is of sessions",
+        "0 1 1 2a 0 0 1 61000000 0 0 0",
+        "2714 0 1 2a 2714",
+    ),
+    (
+        "EXCHANGE_ID with no argument",
+        "0 1 1 2a",
+        "2734 0 1 2a 2734",
+    ),
+    ("operation 58", "0 1 1 3a 0", "2714 0 1 3a 2714"),
+    (
+        "operation 58 with no argument",
+        "0 1 1 3a",
+        "2734 0 1 3a 2734",
+    ),
     (
         "LOOKUP with no filehandle",
         "0 1 1 f 1 61000000",
@@ -146,11 +174,12 @@ static COMPOUNDS: [(&str, &str, &str); 27] = [
 
 #[test]
 fn compounds_are_answered(rt: HostRuntime) -> Result<(), Fail> {
+    let hasher = RandomState::new(&rt)?;
     for (name, arguments, results) in COMPOUNDS.iter() {
         let stream = record_of(rt.alloc(), HEAD, arguments)?;
         let wanted = record_of(rt.alloc(), ACCEPTED, results)?;
         for piece in 1..=stream.len() {
-            let given = replies(rt.alloc(), &stream, piece)?;
+            let given = replies(rt.alloc(), hasher, &stream, piece)?;
             assert_eq!(rt;
                 given.as_slice(),
                 wanted.as_slice(),
@@ -172,10 +201,11 @@ static GARBAGE: [(&str, &str); 5] = [
 
 #[test]
 fn garbage_is_told(rt: HostRuntime) -> Result<(), Fail> {
+    let hasher = RandomState::new(&rt)?;
     for (name, arguments) in GARBAGE.iter() {
         let stream = record_of(rt.alloc(), HEAD, arguments)?;
         let wanted = record_of(rt.alloc(), "2 1 0 0 0 4", "")?;
-        let given = replies(rt.alloc(), &stream, 7)?;
+        let given = replies(rt.alloc(), hasher, &stream, 7)?;
         assert_eq!(rt; given.as_slice(), wanted.as_slice(), "{name}");
     }
     Ok(())
@@ -192,12 +222,13 @@ fn long_tag(alloc: Global) -> Result<String, Fail> {
 
 #[test]
 fn a_long_tag_comes_back(rt: HostRuntime) -> Result<(), Fail> {
+    let hasher = RandomState::new(&rt)?;
     let tag = long_tag(rt.alloc())?;
     let arguments = format!(in rt.alloc(); "{tag} 1 0")?;
     let results = format!(in rt.alloc(); "0 {tag} 0")?;
     let stream = record_of(rt.alloc(), HEAD, arguments.as_str())?;
     let wanted = record_of(rt.alloc(), ACCEPTED, results.as_str())?;
-    let given = replies(rt.alloc(), &stream, 4096)?;
+    let given = replies(rt.alloc(), hasher, &stream, 4096)?;
     assert_eq!(rt; given.as_slice(), wanted.as_slice());
     Ok(())
 }

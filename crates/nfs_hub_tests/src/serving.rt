@@ -3,6 +3,8 @@
 use crate::words::{ACCESS_NOTES, ACCESS_NOTES_REPLY, EPOCH, NULL, bytes_of};
 use nfs_hub::{Clock, Hub, ServeEnd, serve};
 use nfs_types::Moment;
+use std::alloc::Global;
+use std::hash::RandomState;
 use std::io;
 use std::io::{ErrorKind, Read, Write};
 use std::test::Fail;
@@ -84,7 +86,7 @@ impl Write for Narrow {
 fn a_call_is_served(rt: HostRuntime) -> Result<(), Fail> {
     let call = bytes_of(rt.alloc(), ACCESS_NOTES)?;
     let wanted = bytes_of(rt.alloc(), ACCESS_NOTES_REPLY)?;
-    let mut hub = Hub::bare(rt.alloc())?;
+    let mut hub = Hub::bare(rt.alloc(), rt.alloc(), RandomState::new(&rt)?)?;
     let mut written = Vec::new(rt.alloc());
     let end = serve(&mut hub, &mut call.as_slice(), &mut written, &Epoch, 10);
     assert_eq!(rt; end, ServeEnd::Ended);
@@ -92,94 +94,139 @@ fn a_call_is_served(rt: HostRuntime) -> Result<(), Fail> {
     Ok(())
 }
 
+/// How serving these bytes ends, and how many bytes are written.
+fn served(alloc: Global, hasher: RandomState, bytes: &[u8]) -> Result<(ServeEnd, usize), Fail> {
+    let mut hub = Hub::bare(alloc, alloc, hasher)?;
+    let mut written = Vec::new(alloc);
+    let mut reader = bytes;
+    let end = serve(&mut hub, &mut reader, &mut written, &Epoch, 10);
+    Ok((end, written.len()))
+}
+
 /// Every front of a call, and then the end: nothing is written, and it ended inside a record, or before one.
 #[test]
 fn a_front_of_a_call_is_inside(rt: HostRuntime) -> Result<(), Fail> {
+    let hasher = RandomState::new(&rt)?;
     let call = bytes_of(rt.alloc(), ACCESS_NOTES)?;
     for len in 0..call.len() {
-        let mut hub = Hub::bare(rt.alloc())?;
-        let mut written = Vec::new(rt.alloc());
-        let end = serve(&mut hub, &mut &call[..len], &mut written, &Epoch, 10);
         let wanted = if len == 0 {
             ServeEnd::Ended
         } else {
             ServeEnd::Inside
         };
-        assert_eq!(rt; end, wanted, "{len} bytes");
-        assert_eq!(rt; written.len(), 0, "{len} bytes");
+        let told = served(rt.alloc(), hasher, &call[..len])?;
+        assert!(rt; told == (wanted, 0), "{len} bytes");
     }
     Ok(())
 }
 
+/// How serving a call ends where the reader fails after so many reads, and how many bytes are written.
+fn read_so_far(
+    alloc: Global,
+    hasher: RandomState,
+    call: &[u8],
+    reads_left: usize,
+) -> Result<(ServeEnd, usize), Fail> {
+    let mut hub = Hub::bare(alloc, alloc, hasher)?;
+    let mut written = Vec::new(alloc);
+    let mut reader = Failing {
+        bytes: call,
+        reads_left,
+    };
+    let end = serve(&mut hub, &mut reader, &mut written, &Epoch, 100);
+    Ok((end, written.len()))
+}
+
 #[test]
 fn a_reader_fails(rt: HostRuntime) -> Result<(), Fail> {
+    let hasher = RandomState::new(&rt)?;
     let call = bytes_of(rt.alloc(), NULL)?;
     for reads_left in 0..12usize {
-        let mut hub = Hub::bare(rt.alloc())?;
-        let mut written = Vec::new(rt.alloc());
-        let mut reader = Failing {
-            bytes: &call,
-            reads_left,
-        };
-        let end = serve(&mut hub, &mut reader, &mut written, &Epoch, 100);
         let wanted = if reads_left < 10 {
             ServeEnd::Read
         } else {
             ServeEnd::Ended
         };
-        assert_eq!(rt; end, wanted, "after {reads_left} reads");
         let bytes = if reads_left < 9 { 0 } else { 28 };
-        assert_eq!(rt; written.len(), bytes, "after {reads_left} reads");
+        let told = read_so_far(rt.alloc(), hasher, &call, reads_left)?;
+        assert!(rt; told == (wanted, bytes), "after {reads_left} reads");
     }
     Ok(())
 }
 
+/// How serving a call ends where the writer stops after so many writes, and whether the connection is closed.
+fn written_so_far(
+    alloc: Global,
+    hasher: RandomState,
+    call: &[u8],
+    writes_left: usize,
+    fails: bool,
+) -> Result<(ServeEnd, bool), Fail> {
+    let mut hub = Hub::bare(alloc, alloc, hasher)?;
+    let mut writer = Narrow {
+        taken: 0,
+        writes_left,
+        fails,
+    };
+    let mut reader = call;
+    let end = serve(&mut hub, &mut reader, &mut writer, &Epoch, 100);
+    let is_closed = hub.connect().is_ok();
+    Ok((end, is_closed))
+}
+
 #[test]
 fn a_writer_fails(rt: HostRuntime) -> Result<(), Fail> {
+    let hasher = RandomState::new(&rt)?;
     let call = bytes_of(rt.alloc(), NULL)?;
     for writes_left in 0..12usize {
-        for fails in [false, true] {
-            let mut hub = Hub::bare(rt.alloc())?;
-            let mut writer = Narrow {
-                taken: 0,
-                writes_left,
-                fails,
-            };
-            let end = serve(&mut hub, &mut call.as_slice(), &mut writer, &Epoch, 100);
-            let wanted = if writes_left < 10 {
-                ServeEnd::Write
-            } else {
-                ServeEnd::Ended
-            };
-            assert_eq!(rt; end, wanted, "after {writes_left} writes");
-            assert_eq!(rt; hub.connect().is_ok(), true, "the connection is closed");
-        }
+        let wanted = if writes_left < 10 {
+            ServeEnd::Write
+        } else {
+            ServeEnd::Ended
+        };
+        let silent = written_so_far(rt.alloc(), hasher, &call, writes_left, false)?;
+        assert!(rt; silent == (wanted, true), "after {writes_left} writes");
+        let loud = written_so_far(rt.alloc(), hasher, &call, writes_left, true)?;
+        assert!(rt; loud == (wanted, true), "after {writes_left} writes");
     }
     Ok(())
 }
 
 #[test]
 fn an_endless_reader_uses_up_the_turns(rt: HostRuntime) -> Result<(), Fail> {
-    let mut hub = Hub::bare(rt.alloc())?;
+    let mut hub = Hub::bare(rt.alloc(), rt.alloc(), RandomState::new(&rt)?)?;
     let mut written = Vec::new(rt.alloc());
     let end = serve(&mut hub, &mut Zeros, &mut written, &Epoch, 1000);
     assert_eq!(rt; end, ServeEnd::Turns);
     Ok(())
 }
 
+/// How serving a stream ends, and serving it again while a connection is open; and how many bytes are written in all.
+fn served_twice(
+    alloc: Global,
+    hasher: RandomState,
+    stream: &[u8],
+) -> Result<(ServeEnd, ServeEnd, usize), Fail> {
+    let mut hub = Hub::bare(alloc, alloc, hasher)?;
+    let mut written = Vec::new(alloc);
+    let mut reader = stream;
+    let first = serve(&mut hub, &mut reader, &mut written, &Epoch, 10);
+    let _open = hub.connect()?;
+    let mut reader = stream;
+    let second = serve(&mut hub, &mut reader, &mut written, &Epoch, 10);
+    Ok((first, second, written.len()))
+}
+
 /// A stream that breaks ends so, with the replies before it written; and a hub with no room for a connection says so.
 #[test]
 fn other_ends(rt: HostRuntime) -> Result<(), Fail> {
+    let hasher = RandomState::new(&rt)?;
     let mut stream = bytes_of(rt.alloc(), NULL)?;
     stream.extend_from_slice(&[0x80, 2, 0, 1])?;
-    let mut hub = Hub::bare(rt.alloc())?;
-    let mut written = Vec::new(rt.alloc());
-    let end = serve(&mut hub, &mut stream.as_slice(), &mut written, &Epoch, 10);
-    assert_eq!(rt; end, ServeEnd::Broken);
-    assert_eq!(rt; written.len(), 28);
-    let _open = hub.connect()?;
-    let end = serve(&mut hub, &mut stream.as_slice(), &mut written, &Epoch, 10);
-    assert_eq!(rt; end, ServeEnd::TooMany);
-    assert_eq!(rt; written.len(), 28);
+    let told = served_twice(rt.alloc(), hasher, &stream)?;
+    assert!(rt;
+        told == (ServeEnd::Broken, ServeEnd::TooMany, 28),
+        "{told:?}"
+    );
     Ok(())
 }

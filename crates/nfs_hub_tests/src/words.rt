@@ -3,6 +3,7 @@
 use nfs_hub::Hub;
 use nfs_types::Moment;
 use std::alloc::Global;
+use std::hash::RandomState;
 use std::test::Fail;
 
 pub const EPOCH: Moment = Moment {
@@ -18,6 +19,10 @@ pub const ACCESS_NOTES: &str =
     "80000064 2 0 2 186a3 4 1 1 14 0 0 3ea 64 0 0 0 0 1 3 18 f 5 6e6f7465 73000000 3 2d";
 
 pub const ACCESS_NOTES_REPLY: &str = "80000044 2 1 0 0 0 0 0 0 3 18 0 f 0 3 0 2d 1";
+
+/// PUTROOTFH, LOOKUP of `pub` and CREATE of the directory `d` in it, by user 1002 in group 100.
+pub const CREATE_D: &str =
+    "80000070 2 0 2 186a3 4 1 1 14 0 0 3ea 64 0 0 0 0 1 3 18 f 3 70756200 6 2 1 64000000 0 0";
 
 /// The words as bytes, high byte first.
 pub fn bytes_of(alloc: Global, words: &str) -> Result<Vec<u8>, Fail> {
@@ -40,8 +45,13 @@ pub fn record_of(alloc: Global, head: &str, words: &str) -> Result<Vec<u8>, Fail
 }
 
 /// What a new hub of the sample tree answers to a stream that comes in pieces of this many bytes.
-pub fn replies(alloc: Global, stream: &[u8], piece: usize) -> Result<Vec<u8>, Fail> {
-    let mut hub = Hub::bare(alloc)?;
+pub fn replies(
+    alloc: Global,
+    hasher: RandomState,
+    stream: &[u8],
+    piece: usize,
+) -> Result<Vec<u8>, Fail> {
+    let mut hub = Hub::bare(alloc, alloc, hasher)?;
     let conn = hub.connect()?;
     for part in stream.chunks(piece.max(1)) {
         hub.feed(conn, part, EPOCH)?;

@@ -10,6 +10,7 @@ use anyhow::Result;
 use clap::{Arg, ArgAction, Command};
 use clock::SystemClock;
 use nfs_hub::{Hub, HubFault, ServeEnd, serve};
+use std::hash::RandomState;
 use std::process::ExitCode;
 use std::{env, io};
 
@@ -31,7 +32,8 @@ fn main(rt: HostRuntime) -> Result<ExitCode> {
         rt.eprint(&error)?;
         return Ok(ExitCode::from(2));
     }
-    let Ok(mut hub) = Hub::bare(alloc) else {
+    let hasher = RandomState::new(&rt)?;
+    let Ok(mut hub) = Hub::bare(alloc, alloc, hasher) else {
         eprintln!(rt; "nfsd: hub {}", HubFault::Memory as u8)?;
         return Ok(ExitCode::FAILURE);
     };
