@@ -95,7 +95,7 @@ not_enough : (b : Bool) (more : Option Status) → cond b None more ≡ Some sta
 not_enough true more h = absurd (none_apart h)
 not_enough false more h = (refl, h)
 
-behind : (caller : Identity) (s : Sight) (q : Question) (questions : List Question) → Passes caller s q → IsRefusedByRow caller s questions → IsRefusedByRow caller s (q ∷ questions)
+abbrev behind : (caller : Identity) (s : Sight) (q : Question) (questions : List Question) → Passes caller s q → IsRefusedByRow caller s questions → IsRefusedByRow caller s (q ∷ questions)
 behind caller s q questions passes r = record { demands = r.demands; first = inr (passes, r.first) }
 
 pub refused_by_row : (caller : Identity) (s : Sight) (questions : List Question) → Apart statuses.Access questions → failure caller s questions ≡ Some statuses.Access → IsRefusedByRow caller s questions
@@ -123,9 +123,10 @@ by_row caller s (Suffices test ∷ questions) demands (inr more) = rw more.0 (by
 
 -- ---- the lines of a refusal
 
-more_before : (caller : Identity) (op : ℕ) (lists : Lists) (first last : List Line) → EndsInRefusal caller op lists last → EndsInRefusal caller op lists (first ++ last)
-more_before caller op lists first last e = record {
+more_before : (caller : Identity) (op : ℕ) (lists : Lists) (demands : List (Option Demand)) (first last : List Line) → EndsInRefusal caller op lists demands last → EndsInRefusal caller op lists demands (first ++ last)
+more_before caller op lists demands first last e = record {
   demand = e.demand;
+  asked = e.asked;
   object = e.object;
   mask = e.mask;
   cause = e.cause;
@@ -134,23 +135,49 @@ more_before caller op lists first last e = record {
   told = ap (λ x. first ++ x) e.told ∙ sym (append_assoc first e.before _);
 }
 
-nothing_behind : (caller : Identity) (op : ℕ) (lists : Lists) (all : List Line) → EndsInRefusal caller op lists all → EndsInRefusal caller op lists (all ++ [])
-nothing_behind caller op lists all e = subst (EndsInRefusal caller op lists) (sym (append-nil all)) e
+nothing_behind : (caller : Identity) (op : ℕ) (lists : Lists) (demands : List (Option Demand)) (all : List Line) → EndsInRefusal caller op lists demands all → EndsInRefusal caller op lists demands (all ++ [])
+nothing_behind caller op lists demands all e = subst (EndsInRefusal caller op lists demands) (sym (append-nil all)) e
 
-demands_end : (caller : Identity) (op : ℕ) (lists : Lists) (demands : List (Option Demand)) → all_granted lists caller demands ≡ false → EndsInRefusal caller op lists (demand_lines lists caller op demands)
+one_demand_more : (caller : Identity) (op : ℕ) (lists : Lists) (d : Demand) (demands : List (Option Demand)) (all : List Line) → EndsInRefusal caller op lists demands all → EndsInRefusal caller op lists (Some d ∷ demands) all
+one_demand_more caller op lists d demands all e = record {
+  demand = e.demand;
+  asked = inr e.asked;
+  object = e.object;
+  mask = e.mask;
+  cause = e.cause;
+  before = e.before;
+  refused = e.refused;
+  told = e.told;
+}
+
+none_more : (caller : Identity) (op : ℕ) (lists : Lists) (demands : List (Option Demand)) (all : List Line) → EndsInRefusal caller op lists demands all → EndsInRefusal caller op lists (None ∷ demands) all
+none_more caller op lists demands all e = record {
+  demand = e.demand;
+  asked = e.asked;
+  object = e.object;
+  mask = e.mask;
+  cause = e.cause;
+  before = e.before;
+  refused = e.refused;
+  told = e.told;
+}
+
+demands_end : (caller : Identity) (op : ℕ) (lists : Lists) (demands : List (Option Demand)) → all_granted lists caller demands ≡ false → EndsInRefusal caller op lists demands (demand_lines lists caller op demands)
 demands_end caller op lists [] h = absurd (true_false h)
   where
     true_false : true ≡ false → ⊥
     true_false h = cc
-demands_end caller op lists (None ∷ demands) h = demands_end caller op lists demands h
+demands_end caller op lists (None ∷ demands) h = none_more caller op lists demands _ (demands_end caller op lists demands h)
 demands_end caller op lists (Some d ∷ demands) h = of (decision lists caller d) refl (demands_end caller op lists demands) h
   where
-    of : (x : Decision) → decision lists caller d ≡ x → (all_granted lists caller demands ≡ false → EndsInRefusal caller op lists (demand_lines lists caller op demands))
+    of : (x : Decision) → decision lists caller d ≡ x → (all_granted lists caller demands ≡ false → EndsInRefusal caller op lists demands (demand_lines lists caller op demands))
         → is_granted x && all_granted lists caller demands ≡ false
-        → EndsInRefusal caller op lists ((watching lists caller op (is_granted x) d ++ deny_lines caller op x) ++ cond (is_granted x) (demand_lines lists caller op demands) [])
-    of decisions.Granted is goes h = more_before caller op lists (watching lists caller op true d ++ []) (demand_lines lists caller op demands) (goes h)
-    of (decisions.Refused object mask cause) is goes h = nothing_behind caller op lists _ (record {
+        → EndsInRefusal caller op lists (Some d ∷ demands) ((watching lists caller op (is_granted x) d ++ deny_lines caller op x) ++ cond (is_granted x) (demand_lines lists caller op demands) [])
+    of decisions.Granted is goes h =
+        one_demand_more caller op lists d demands _ (more_before caller op lists demands (watching lists caller op true d ++ []) (demand_lines lists caller op demands) (goes h))
+    of (decisions.Refused object mask cause) is goes h = nothing_behind caller op lists (Some d ∷ demands) _ (record {
       demand = d;
+      asked = inl refl;
       object = object;
       mask = mask;
       cause = cause;
@@ -159,16 +186,29 @@ demands_end caller op lists (Some d ∷ demands) h = of (decision lists caller d
       told = refl;
     })
 
+-- a row refuses, and its lines end so
+pub record EndsSo (caller : Identity) (op : ℕ) (s : Sight) (questions : List Question) (lines : List Line) : Type 0 where
+  pub row : IsRefusedByRow caller s questions
+  pub ends : EndsInRefusal caller op s.lists (row.demands s) lines
+
+passed_before : (caller : Identity) (op : ℕ) (s : Sight) (q : Question) (questions : List Question) (first last : List Line) → Passes caller s q → EndsSo caller op s questions last → EndsSo caller op s (q ∷ questions) (first ++ last)
+passed_before caller op s q questions first last passes e = record { row = behind caller s q questions passes e.row; ends = more_before caller op s.lists (e.row.demands s) first last e.ends }
+
 pub ends_in_refusal : (caller : Identity) (op : ℕ) (s : Sight) (questions : List Question) → Apart statuses.Access questions → failure caller s questions ≡ Some statuses.Access
-    → EndsInRefusal caller op s.lists (trace caller op s questions)
+    → EndsSo caller op s questions (trace caller op s questions)
 ends_in_refusal caller op s [] apart h = absurd (none_apart h)
 ends_in_refusal caller op s (Holds test status ∷ questions) apart h =
-    let x = either (test s) (failure caller s questions) status apart.0 h in rw x.0 (ends_in_refusal caller op s questions apart.1 x.1)
-ends_in_refusal caller op s (Valid None ∷ questions) apart h = ends_in_refusal caller op s questions apart.1 h
+    let x = either (test s) (failure caller s questions) status apart.0 h in
+    rw x.0 (passed_before caller op s (Holds test status) questions [] _ x.0 (ends_in_refusal caller op s questions apart.1 x.1))
+ends_in_refusal caller op s (Valid None ∷ questions) apart h = passed_before caller op s (Valid None) questions [] _ refl (ends_in_refusal caller op s questions apart.1 h)
 ends_in_refusal caller op s (Valid (Some status) ∷ questions) apart h = absurd (apart.0 h)
 ends_in_refusal caller op s (Row demands ∷ questions) apart h =
-    row_or (all_granted s.lists caller (demands s)) (failure caller s questions) (EndsInRefusal caller op s.lists (trace caller op s (Row demands ∷ questions)))
-    (λ refused. rw refused (nothing_behind caller op s.lists _ (demands_end caller op s.lists (demands s) refused)))
-    (λ granted more. rw granted (more_before caller op s.lists (demand_lines s.lists caller op (demands s)) _ (ends_in_refusal caller op s questions apart more))) h
+    row_or (all_granted s.lists caller (demands s)) (failure caller s questions) (EndsSo caller op s (Row demands ∷ questions) (trace caller op s (Row demands ∷ questions)))
+    (λ refused. record {
+      row = record { demands = demands; first = inl (refl, refused) };
+      ends = rw refused (nothing_behind caller op s.lists (demands s) _ (demands_end caller op s.lists (demands s) refused));
+    })
+    (λ granted more. rw granted (passed_before caller op s (Row demands) questions (demand_lines s.lists caller op (demands s)) _ granted (ends_in_refusal caller op s questions apart more))) h
 ends_in_refusal caller op s (Suffices test ∷ questions) apart h =
-    let x = not_enough (test s) (failure caller s questions) h in rw x.0 (ends_in_refusal caller op s questions apart x.1)
+    let x = not_enough (test s) (failure caller s questions) h in
+    rw x.0 (passed_before caller op s (Suffices test) questions [] _ x.0 (ends_in_refusal caller op s questions apart x.1))

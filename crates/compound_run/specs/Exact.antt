@@ -1,5 +1,5 @@
 -- What lists have to do with outcomes (RFC 8881, sections 6.2.1 and 18).
-use Rattle.std.specs.Prelude.{◌≡◌, ◌⊎◌, ℕ, true, false, List, [], ◌∷◌, ◌++◌, Option, None, IsSome}
+use Rattle.std.specs.Prelude.{◌≡◌, ◌⊎◌, ℕ, true, false, List, [], ◌∷◌, ◌++◌, Option, Some, None, IsSome}
 use Rattle.rpc_record.specs.Identity.{Identity}
 use Rattle.access_rows.specs.declared.demand.Demand.{Demand}
 use Rattle.access_guard.specs.declared.decision.Cause.{Cause}
@@ -47,10 +47,17 @@ ArePassedOrSuffice caller s (Valid fault ∷ questions) = (fault ≡ None) × Ar
 ArePassedOrSuffice caller s (Row demands ∷ questions) = (all_granted s.lists caller (demands s) ≡ true) × ArePassedOrSuffice caller s questions
 ArePassedOrSuffice caller s (Suffices test ∷ questions) = (test s ≡ true) ⊎ ((test s ≡ false) × ArePassedOrSuffice caller s questions)
 
--- The last of the lines is the DENY line of a demand that the lists refuse: it tells the object, what was asked of it, and the first
--- entry that denies it, else the lowest bit that none allows.
-pub record EndsInRefusal (caller : Identity) (op : ℕ) (lists : Lists) (lines : List Line) : Type 0 where
+-- it is one of the demands of a row
+abbrev pub IsAsked : Demand → List (Option Demand) → Type 0
+IsAsked demand [] = ⊥
+IsAsked demand (None ∷ demands) = IsAsked demand demands
+IsAsked demand (Some d ∷ demands) = (demand ≡ d) ⊎ IsAsked demand demands
+
+-- The last of the lines is the DENY line of a demand of the row, one that the lists refuse: it tells the object, what was asked of it,
+-- and the first entry that denies it, else the lowest bit that none allows.
+pub record EndsInRefusal (caller : Identity) (op : ℕ) (lists : Lists) (demands : List (Option Demand)) (lines : List Line) : Type 0 where
   pub demand : Demand
+  pub asked : IsAsked demand demands
   pub object : ℕ
   pub mask : ℕ
   pub cause : Cause

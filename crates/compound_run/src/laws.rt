@@ -28,12 +28,12 @@ pub fn ok_is_exact()
 {}
 
 /// An operation answers ACCESS exactly where a row of demands is its first question that fails (`exact`). Its last line is then the
-/// DENY line of a demand that the lists refuse, which names the first denying entry, else the lowest bit that none allows (`told`).
+/// DENY line of a demand of that row, which names the first denying entry, else the lowest bit that none allows (`told`).
 /// That nothing changes, a step says of every outcome that isn't OK.
 pub fn access_is_exact()
     ensures exact { (caller : Identity) (w : World) (p : Place) (op : Operation) → (outcome (meaning p op) caller w ≡ Err statuses.Access) ↔ IsRefusedByRow caller (whole w) (meaning p op).questions }
     ensures told { (caller : Identity) (w : World) (p : Place) (op : Operation) → outcome (meaning p op) caller w ≡ Err statuses.Access →
-        EndsInRefusal caller (meaning p op).number (judged_of w) (trace caller (meaning p op).number (whole w) (meaning p op).questions) }
+        (row : IsRefusedByRow caller (whole w) (meaning p op).questions) × EndsInRefusal caller (meaning p op).number (judged_of w) (row.demands (whole w)) (trace caller (meaning p op).number (whole w) (meaning p op).questions) }
 {}
 
 /// An operation that takes no memory never answers DELAY: all but CREATE, LINK and RENAME.

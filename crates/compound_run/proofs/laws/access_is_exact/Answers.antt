@@ -23,4 +23,4 @@ returns-clause-exact c caller w p op = (
 
 pub returns-clause-told : goal.returns-clause-told
 returns-clause-told c caller w p op told =
-    ends_in_refusal caller (meaning p op).number (whole w) (meaning p op).questions (meaning_apart p op) (told_failure _ _ told)
+    let e = ends_in_refusal caller (meaning p op).number (whole w) (meaning p op).questions (meaning_apart p op) (told_failure _ _ told) in (e.row, e.ends)
