@@ -4,6 +4,7 @@ pub mod ItemViews
 pub mod UnsupportedViews
 pub mod Views
 pub mod Operations
+pub mod Names
 pub mod OpViews
 pub mod ResultReading
 pub mod Results
