@@ -12,7 +12,7 @@ use Rattle.access_rows.specs.declared.demand.Demand.TheVariants.{Bits, Removal}
 use Rattle.access_guard.specs.declared.memory.Key.{Key}
 use Rattle.access_guard.specs.Keys.{is_key}
 use Rattle.access_guard.specs.Lists.{Lists, sum_of}
-use Rattle.access_guard.specs.Memory.{Memory, LooksUp, LooksUpFor, Decides, key_of, examined_more, used, learnt, is_told, walked}
+use Rattle.access_guard.specs.Memory.{Memory, LooksUp, LooksUpAt, LooksUpFor, Decides, key_of, examined_more, used, learnt, is_told, walked}
 use Rattle.access_guard.specs.History.{IsLookUp, AreLookUps, looks_at, looks_for}
 
 pub looks_in_turn : (capacity : ℕ) (first second : List (Key × Summary)) (old between new : List (Key × Summary)) → AreLookUps capacity first old between → AreLookUps capacity second between new → AreLookUps capacity (first ++ second) old new
@@ -53,3 +53,11 @@ decision-looks lists caller demand old new (between, looks, walk) =
     let leaves = walk-leaves lists demand (is_told lists caller demand) between in
     let made = looks-for lists caller demand old between looks in
     (subst (λ es. AreLookUps old.capacity (looks_for lists caller demand) old.remembered es) (sym (ap (λ (m : Memory). m.remembered) walk ∙ leaves.0)) made.0, ap (λ (m : Memory). m.capacity) walk ∙ leaves.1 ∙ made.1)
+
+-- ---- how many summaries may be remembered
+
+pub look_up_keeps : (lists : Lists) (caller : Identity) (object : ℕ) (old new : Memory) → LooksUpAt lists caller object old new → new.capacity ≡ old.capacity
+look_up_keeps lists caller object old new looks = (looks-at caller (lists object) old new looks).1
+
+pub decision_keeps : (lists : Lists) (caller : Identity) (demand : Demand) (old new : Memory) → Decides lists caller demand old new → new.capacity ≡ old.capacity
+decision_keeps lists caller demand old new decides = (decision-looks lists caller demand old new decides).1

@@ -1,10 +1,11 @@
 //! A tree beside its guard.
-ghost use Rattle.std.specs.Prelude.{◌≡◌, ◌≢◌, ◌+◌, ◌<◌, ◌≤◌, ◌^◌, [], ◌++◌, nat_lt, length, drop, if◌then◌else◌, MatchOption, OnOk, OnErr, IfOk, IsOk, IsOkUnless, IfSome, IsSome, IsTrue, Some};
+ghost use Rattle.std.specs.Prelude.{◌≡◌, ◌≢◌, ◌+◌, ◌<◌, ◌≤◌, ◌^◌, [], ◌++◌, length, drop, if◌then◌else◌, MatchOption, OnOk, OnErr, IfOk, IsOk, IsOkUnless, IfSome, IsSome, IsTrue, Some};
 ghost use Rattle.std.specs.Option.{option_copied};
+ghost use Rattle.std.specs.NonZero.{non_zero_usize_get};
 ghost use Rattle.acl_shape.specs.Bounds.{IsBounded};
 ghost use Rattle.node_tree.specs.World.{object, kind_of, bytes_of, bytes_at, child_named, name_after, has_entries, link_count, parent_of};
 ghost use Rattle.node_tree.specs.Changes.{made, with_new, with_link, unlinked, renamed, with_write, with_size, with_list, with_owner};
-ghost use Rattle.node_tree.specs.Refusals.{has_room, add_refusal, link_refusal, unlink_refusal, rename_refusal, write_refusal, resize_refusal};
+ghost use Rattle.node_tree.specs.Refusals.{add_refusal, link_refusal, unlink_refusal, rename_refusal, write_refusal, resize_refusal};
 ghost use Rattle.node_tree.specs.Sound.{IsSound, IsTick, IsNextName, most_bytes};
 ghost use Rattle.node_tree.specs.Judged.{judged_of};
 ghost use Rattle.access_guard.specs.Lists.{granted_at};
@@ -12,13 +13,14 @@ ghost use Rattle.access_guard.specs.Decisions.{decision, is_granted};
 ghost use Rattle.access_guard.specs.Lines.{lines, most_lines};
 ghost use Rattle.access_guard.specs.Log.{held, settled};
 ghost use Rattle.access_guard.specs.Memory.{Agrees};
+ghost use Rattle.access_guard.specs.Guarded.{unjudged};
 
 use crate::decision::Decision;
 use crate::guard::Guard;
 use crate::trail::MOST_HELD;
 use access_rows::Demand;
 use acl_list::{AclList, Caller, Kind};
-use node_tree::{At, DirEntry, MAX_OBJECTS, NewObject, Node, ROOT, Tree, TreeFault};
+use node_tree::{At, DirEntry, NewObject, Node, ROOT, Tree, TreeFault};
 use std::alloc::{AllocError, Allocator, Global};
 use std::hash::RandomState;
 use std::marker::Model;
@@ -38,7 +40,7 @@ impl<A: Allocator> Model for GuardedTree<A> {
 
     ghost Value = { Guarded };
 
-    ghost view = { λ t. record { world = t.tree; log = t.guard.log } };
+    ghost view = { λ t. record { world = t.tree; log = t.guard.log; capacity = t.guard.memory.capacity } };
 
     ghost invariant = { λ t. Agrees t.guard.memory.remembered t.tree };
 }
@@ -53,7 +55,7 @@ impl<A: Allocator + Copy> GuardedTree<A> {
         capacity: NonZeroUsize,
         hasher: RandomState,
     ) -> Result<Self, AllocError>
-        ensures { IfOk result (λ guarded. guarded ≡ record { world = tree; log = record { held = []; trail = []; total = 0 } }) }
+        ensures { IfOk result (λ guarded. guarded ≡ unjudged tree (non_zero_usize_get capacity)) }
     {
         let guard = Guard::new(alloc, capacity, hasher)?;
         Ok(GuardedTree { tree, guard })
@@ -70,6 +72,7 @@ impl<A: Allocator + Copy> GuardedTree<A> {
     }
 
     /// The bits that an object's list grants the caller, as in [`Guard::grants`].
+    #[tactic(auto, using(crate::proofs::Calls::look_up_keeps))]
     pub fn grants(&mut self, object: u64, caller: &Caller) -> u32
         ensures mask { result ≡ granted_at (judged_of self.old.world) caller.now object }
         ensures state { self.new ≡ self.old }
@@ -87,6 +90,7 @@ impl<A: Allocator + Copy> GuardedTree<A> {
     /// The guard, which agrees with the tree.
     pub fn guard(&self) -> &Guard<A>
         ensures log { result.now.log ≡ self.now.log }
+        ensures capacity { result.now.memory.capacity ≡ self.now.capacity }
         ensures agrees { Agrees result.now.memory.remembered self.now.world }
     {
         &self.guard
@@ -172,20 +176,6 @@ impl<A: Allocator + Copy> GuardedTree<A> {
         self.tree.list_after(directory, cookie)
     }
 
-    /// As [`Tree::has_room`].
-    pub fn has_room(&self, directory: u64) -> bool
-        ensures { result ≡ has_room self.now.world.names directory }
-    {
-        self.tree.has_room(directory)
-    }
-
-    /// As [`Tree::has_object_room`].
-    pub fn has_object_room(&self) -> bool
-        ensures { result ≡ nat_lt (length self.now.world.objects) MAX_OBJECTS }
-    {
-        self.tree.has_object_room()
-    }
-
     /// As [`Tree::rename_fault`].
     pub fn rename_fault(&self, from: u64, old: &[u8], to: u64, new: &[u8]) -> Option<TreeFault>
         ensures { result ≡ rename_refusal self.now.world from old.now to new.now }
@@ -269,6 +259,7 @@ impl<A: Allocator + Copy> GuardedTree<A> {
         requires live { kind_of self.old.world to ≡ Some Kind.Directory }
         requires short { length new.now ≤ 255 }
         ensures refused { MatchOption (rename_refusal self.old.world from old.now to new.now) (IsOkUnless result TreeFault.Memory) (λ fault. result ≡ Err fault) }
+        ensures same { IfSome (child_named self.old.world from old.now) (λ child. child_named self.old.world to new.now ≡ Some child → IsOk result) }
         ensures ok { OnOk result (self.new ≡ record self.old { world = renamed self.old.world from old.now to new.now at }) }
         ensures err { OnErr result (self.new ≡ self.old) }
     {

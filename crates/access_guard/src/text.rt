@@ -1,6 +1,5 @@
 //! The text of a line.
-ghost use Rattle.std.specs.Prelude.{◌≡◌, ◌+◌, ◌≤◌, [], ◌++◌, length, codes, IfSome};
-ghost use Rattle.std.specs.Option.{option_copied};
+ghost use Rattle.std.specs.Prelude.{◌≡◌, ◌+◌, ◌≤◌, [], ◌++◌, length, codes};
 ghost use Rattle.access_guard.specs.Text.{line_text, mask_text, number_text};
 ghost use Rattle.access_guard.specs.Text as specs;
 
@@ -8,6 +7,7 @@ use crate::decision::Cause;
 use crate::line::{Line, LineKind};
 use hex::encode_to_slice;
 use itoa::Buffer;
+use nfs_ops::operation_name;
 use std::marker::Model;
 
 /// The most bytes of the text of a line.
@@ -143,44 +143,4 @@ fn end_name(kind: LineKind, granted: bool) -> &'static [u8]
         LineKind::Audit | LineKind::Alarm => b" refused",
         LineKind::Deny => b"",
     }
-}
-
-#[tactic(auto, unfolding(crate::specs::Text::operation_name))]
-fn operation_name(op: u32) -> Option<&'static [u8]>
-    ensures name { option_copied result ≡ specs.operation_name op }
-    ensures short { IfSome result (λ name. length name.now ≤ 20) }
-{
-    let name: &'static [u8] = match op {
-        3 => b"ACCESS",
-        4 => b"CLOSE",
-        5 => b"COMMIT",
-        6 => b"CREATE",
-        9 => b"GETATTR",
-        10 => b"GETFH",
-        11 => b"LINK",
-        15 => b"LOOKUP",
-        16 => b"LOOKUPP",
-        17 => b"NVERIFY",
-        18 => b"OPEN",
-        22 => b"PUTFH",
-        24 => b"PUTROOTFH",
-        25 => b"READ",
-        26 => b"READDIR",
-        27 => b"READLINK",
-        28 => b"REMOVE",
-        29 => b"RENAME",
-        31 => b"RESTOREFH",
-        32 => b"SAVEFH",
-        34 => b"SETATTR",
-        37 => b"VERIFY",
-        38 => b"WRITE",
-        42 => b"EXCHANGE_ID",
-        43 => b"CREATE_SESSION",
-        44 => b"DESTROY_SESSION",
-        53 => b"SEQUENCE",
-        57 => b"DESTROY_CLIENTID",
-        58 => b"RECLAIM_COMPLETE",
-        _ => return None,
-    };
-    Some(name)
 }

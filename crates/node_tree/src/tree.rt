@@ -1,10 +1,10 @@
 //! The tree: what it refuses, and that it stays one.
-ghost use Rattle.std.specs.Prelude.{◌≡◌, ◌≢◌, ◌<◌, ◌≤◌, ◌^◌, ◌++◌, [], nat_lt, length, drop, MatchOption, OnOk, OnErr, IfOk, IsOk, IsOkUnless, IfSome, IsSome, Some};
+ghost use Rattle.std.specs.Prelude.{◌≡◌, ◌≢◌, ◌<◌, ◌≤◌, ◌^◌, ◌++◌, [], length, drop, MatchOption, OnOk, OnErr, IfOk, IsOk, IsOkUnless, IfSome, IsSome, Some};
 ghost use Rattle.std.specs.Option.{option_copied};
 ghost use Rattle.acl_shape.specs.Bounds.{IsBounded};
 ghost use Rattle.node_tree.specs.World.{object, kind_of, bytes_of, bytes_at, child_named, name_after, has_entries, link_count, parent_of};
 ghost use Rattle.node_tree.specs.Changes.{alone, root_of, made, with_new, with_link, unlinked, renamed, with_write, with_size, with_list, with_owner};
-ghost use Rattle.node_tree.specs.Refusals.{has_room, add_refusal, link_refusal, unlink_refusal, rename_refusal, write_refusal, resize_refusal};
+ghost use Rattle.node_tree.specs.Refusals.{add_refusal, link_refusal, unlink_refusal, rename_refusal, write_refusal, resize_refusal};
 ghost use Rattle.node_tree.specs.Judged.{KeepsJudged};
 ghost use Rattle.node_tree.specs.Sample.{sample};
 ghost use Rattle.node_tree.specs.Sound.{IsSound, IsTick, IsNextName, most_bytes};
@@ -12,7 +12,7 @@ ghost use Rattle.node_tree.specs.Sound.{IsSound, IsTick, IsNextName, most_bytes}
 use crate::at::{At, from_start};
 use crate::entry::DirEntry;
 use crate::fault::TreeFault;
-use crate::limits::{MAX_BYTES, MAX_OBJECTS, ROOT};
+use crate::limits::{MAX_BYTES, ROOT};
 use crate::node::{NewObject, Node};
 use crate::store::Store;
 use acl_list::{AclList, Kind};
@@ -109,20 +109,6 @@ impl<A: Allocator + Copy> Tree<A> {
         ensures next { IfSome (option_copied result) (IsNextName self.now directory cookie) }
     {
         self.store.list_after(directory, cookie)
-    }
-
-    /// Whether a directory has room for a name more: at most [`crate::MAX_NAMES`].
-    pub fn has_room(&self, directory: u64) -> bool
-        ensures { result ≡ has_room self.now.names directory }
-    {
-        self.store.has_room(directory)
-    }
-
-    /// Whether there is room for an object more: at most [`crate::MAX_OBJECTS`].
-    pub fn has_object_room(&self) -> bool
-        ensures { result ≡ nat_lt (length self.now.objects) MAX_OBJECTS }
-    {
-        self.store.has_object_room()
     }
 
     /// Why [`Tree::rename`] would be refused, want of memory apart: the first line of its table that fits. `None`: it wouldn't be
@@ -292,6 +278,7 @@ impl<A: Allocator + Copy> Tree<A> {
         requires live { kind_of self.old to ≡ Some Kind.Directory }
         requires short { length new.now ≤ 255 }
         ensures refused { MatchOption (rename_refusal self.old from old.now to new.now) (IsOkUnless result TreeFault.Memory) (λ fault. result ≡ Err fault) }
+        ensures same { IfSome (child_named self.old from old.now) (λ child. child_named self.old to new.now ≡ Some child → IsOk result) }
         ensures ok { OnOk result (self.new ≡ renamed self.old from old.now to new.now at) }
         ensures err { OnErr result (self.new ≡ self.old) }
         ensures judged { KeepsJudged self.old self.new }
