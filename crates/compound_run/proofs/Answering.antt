@@ -13,10 +13,10 @@ use Rattle.compound_run.specs.Compound.{left_behind, opening, arguments_from, An
 use Rattle.compound_run.specs.State.{State, Answers, tree_of}
 
 abbrev pub state_of : Guarded → Content → State
-state_of t book = record { world = t.world; trail = t.log.trail; total = t.log.total; book = book }
+state_of t book = record { world = t.world; trail = t.log.trail; total = t.log.total; capacity = t.capacity; book = book }
 
 tree_is : (s : State) (t : Guarded) (book : Content) → s ≡ state_of t book → t.log.held ≡ [] → tree_of s ≡ t
-tree_is s t book is settled = ap tree_of is ∙ (λ i. record { world = t.world; log = record { held = sym settled i; trail = t.log.trail; total = t.log.total } })
+tree_is s t book is settled = ap tree_of is ∙ (λ i. record { world = t.world; log = record { held = sym settled i; trail = t.log.trail; total = t.log.total }; capacity = t.capacity })
 
 opened : (from : Sender) (arguments : List ℕ) (old new : Guarded) (v : Value opening) (operations : List ℕ) (bytes : List ℕ) → arguments_from (read_at opening arguments) ≡ Some (v, operations)
     → AnswersOpened from v operations old bytes new → AnswersBare from arguments old (Some bytes) new

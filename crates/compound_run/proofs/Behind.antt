@@ -25,7 +25,7 @@ pub behind : (m : Meaning) (rest : List Question) (from : Sender) (t : Guarded) 
     → IsAnsweredOrDelayed (record m { questions = rest }) from (point_at mid files) r new → IsAnsweredOrDelayed m from (point_at t files) r new
 behind m rest from t files lines mid r new failures traces is a = record {
   answered = λ told. answered (at.answered told);
-  delayed = λ told. let d = at.delayed told in record { world = d.world; files = d.files; trail = d.trail; total = d.total };
+  delayed = λ told. let d = at.delayed told in record { world = d.world; files = d.files; trail = d.trail; total = d.total; capacity = d.capacity };
 }
   where
     at : IsAnsweredOrDelayed (record m { questions = rest }) from (point_at (holding lines t) files) r new
@@ -39,4 +39,5 @@ behind m rest from t files lines mid r new failures traces is a = record {
       files = b.files;
       world_stays = b.world_stays;
       files_stay = b.files_stay;
+      capacity = b.capacity;
     }

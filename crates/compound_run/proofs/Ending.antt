@@ -22,6 +22,7 @@ settle m from old r new a = record {
   files = a.files;
   world_stays = a.world_stays;
   files_stay = a.files_stay;
+  capacity = a.capacity;
 }
 
 -- whatever an operation is called to answer
@@ -35,7 +36,7 @@ delayed : (m : Meaning) (from : Sender) (old new : Point) → old.log.held ≡ [
     → record new { log = settled false new.log } ≡ old
 delayed m from old new empty a =
     let d = a.delayed refl in
-    λ i. record { world = d.world i; log = record { held = sym empty i; trail = d.trail i; total = d.total i }; files = d.files i }
+    λ i. record { world = d.world i; log = record { held = sym empty i; trail = d.trail i; total = d.total i }; capacity = d.capacity i; files = d.files i }
 
 may : (from : Sender) (room : ℕ) (op : Operation) (old new : Point) → AnswersSo (may_delay op) (meaning (place from old.files room) op) from old (Err statuses.Delay) new → may_delay op ≡ true
 may from room op old new a = of (may_delay op) refl

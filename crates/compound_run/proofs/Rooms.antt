@@ -27,6 +27,7 @@ roomy p m from ends old r new room a = record {
   files = a.files;
   world_stays = a.world_stays;
   files_stay = a.files_stay;
+  capacity = a.capacity;
 }
 
 roomy_so : (b : Bool) (p : Place) (m : Meaning) (from : Sender) (old : Point) (r : Result Outcome Status) (new : Point) → nat_le LEAST_ROOM p.room ≡ true
@@ -49,11 +50,12 @@ crowded p m from old room = record {
   files = tt;
   world_stays = refl;
   files_stay = refl;
+  capacity = refl;
 }
 
 -- there is no room
 pub too_late : (b run : Bool) (p : Place) (m : Meaning) (from : Sender) (old : Point) → run && nat_lt p.room LEAST_ROOM ≡ true
     → AnswersSo b (in_room run p m) from old (Err statuses.RepTooBig) old
-too_late true true p m from old room = record { answered = λ told. crowded p m from old (wanting p.room room); delayed = λ told. record { world = refl; files = refl; trail = refl; total = refl } }
+too_late true true p m from old room = record { answered = λ told. crowded p m from old (wanting p.room room); delayed = λ told. record { world = refl; files = refl; trail = refl; total = refl; capacity = refl } }
 too_late false true p m from old room = crowded p m from old (wanting p.room room)
 too_late b false p m from old room = cc

@@ -24,10 +24,12 @@ use Rattle.compound_run.specs.Operations.{meaning, may_delay}
 pub record Point : Type 0 where
   pub world : World
   pub log : Log
+  -- how many summaries the guard may remember
+  pub capacity : ℕ
   pub files : Files
 
 abbrev pub point_at : Guarded → Files → Point
-point_at tree files = record { world = tree.world; log = tree.log; files = files }
+point_at tree files = record { world = tree.world; log = tree.log; capacity = tree.capacity; files = files }
 
 -- a COMPOUND begins with no filehandle
 abbrev pub no_files : Files
@@ -55,6 +57,7 @@ pub record Answered (m : Meaning) (from : Sender) (ends : Log → Log) (old : Po
   pub files : OnOk result (new.files ≡ m.goes (whole old.world))
   pub world_stays : OnErr result (new.world ≡ old.world)
   pub files_stay : OnErr result (new.files ≡ old.files)
+  pub capacity : new.capacity ≡ old.capacity
 
 abbrev pub is_delay_status : Status → Bool
 is_delay_status statuses.Delay = true
@@ -70,6 +73,7 @@ pub record Delayed (old new : Point) : Type 0 where
   pub files : new.files ≡ old.files
   pub trail : new.log.trail ≡ old.log.trail
   pub total : new.log.total ≡ old.log.total
+  pub capacity : new.capacity ≡ old.capacity
 
 -- the lines wait for the operation's end
 abbrev pub waits : Log → Log

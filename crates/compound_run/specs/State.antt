@@ -17,16 +17,18 @@ pub record State : Type 0 where
   -- the last lines, in order, and how many there were in all
   pub trail : List Line
   pub total : ℕ
+  -- how many summaries of lists are remembered at most: no answer tells it, and nothing changes it
+  pub capacity : ℕ
   -- the book of names, which never changes
   pub book : Content
 
 -- a server that has run nothing yet
-abbrev pub fresh : World → Content → State
-fresh w book = record { world = w; trail = []; total = 0; book = book }
+abbrev pub fresh : World → Content → ℕ → State
+fresh w book capacity = record { world = w; trail = []; total = 0; capacity = capacity; book = book }
 
 -- between COMPOUNDs no line is held
 abbrev pub tree_of : State → Guarded
-tree_of s = record { world = s.world; log = record { held = []; trail = s.trail; total = s.total } }
+tree_of s = record { world = s.world; log = record { held = []; trail = s.trail; total = s.total }; capacity = s.capacity }
 
 abbrev pub sender : State → Identity → Moment → Sender
 sender s caller now = record { caller = caller; now = now; book = s.book }

@@ -1,5 +1,6 @@
 //! The server: a tree of objects, its guard, and a book of names.
 ghost use Rattle.std.specs.Prelude.{◌≡◌, ◌+◌, ◌≤◌, [], IfOk, vec_len, vec_capacity};
+ghost use Rattle.std.specs.NonZero.{non_zero_usize_get};
 ghost use Rattle.access_guard.specs.Memory.{Agrees};
 ghost use Rattle.compound_run.specs.State.{fresh, Answers, RunsBare};
 
@@ -58,7 +59,7 @@ impl<A: Allocator + Copy> Model for Server<A> {
 
     ghost Value = { State };
 
-    ghost view = { λ s. record { world = s.export.tree.world; trail = s.export.tree.log.trail; total = s.export.tree.log.total; book = s.book } };
+    ghost view = { λ s. record { world = s.export.tree.world; trail = s.export.tree.log.trail; total = s.export.tree.log.total; capacity = s.export.tree.capacity; book = s.book } };
 
     ghost invariant = { λ s. (s.export.tree.log.held ≡ []) × (length s.head.bytes + s.head.room ≡ HEAD_LIMIT) × (length s.results.bytes + s.results.room ≡ REPLY_LIMIT) };
 }
@@ -73,7 +74,7 @@ impl<A: Allocator + Copy> Server<A> {
         capacity: NonZeroUsize,
         hasher: RandomState,
     ) -> Result<Self, AllocError>
-        ensures { IfOk result (λ server. server ≡ fresh tree book) }
+        ensures { IfOk result (λ server. server ≡ fresh tree book (non_zero_usize_get capacity)) }
     {
         Ok(Server {
             export: Export {
@@ -130,6 +131,7 @@ impl<A: Allocator + Copy> Server<A> {
     /// The guard, with the trail. What it remembers is what the lists come to now.
     pub fn guard(&self) -> &Guard<A>
         ensures log { result.now.log ≡ record { held = []; trail = self.now.trail; total = self.now.total } }
+        ensures capacity { result.now.memory.capacity ≡ self.now.capacity }
         ensures agrees { Agrees result.now.memory.remembered self.now.world }
     {
         self.export.tree.guard()

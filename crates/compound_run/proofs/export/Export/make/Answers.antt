@@ -18,6 +18,7 @@ returns g c =
         files = search rules;
         world_stays = search rules;
         files_stay = search rules;
+        capacity = search rules;
       };
       delayed = search rules;
     }

@@ -25,6 +25,7 @@ returns-then-is_one g c =
         files = search rules;
         world_stays = search rules;
         files_stay = search rules;
+        capacity = search rules;
       };
       delayed = search rules;
     }
