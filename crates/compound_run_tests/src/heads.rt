@@ -1,12 +1,17 @@
 //! What stands around the operations: tag, minor version, count, and the most that they give.
 
-use crate::servers::{BOB, Row, play, run, sample_server, see_trail};
+use crate::servers::{BOB, Row, Sight, on_sample, play, run, see_trail};
 use crate::spelling::bytes_of;
 use compound_run::Server;
 use std::alloc::Global;
 use std::hash::RandomState;
 use std::process::Abort;
 use std::test::Fail;
+
+/// Sees that results are there and are these: of the arguments of these words, which are told otherwise.
+fn see_bytes(rt: &impl Abort, given: Option<&[u8]>, wanted: &[u8], words: &str) {
+    assert_eq!(rt; given, Some(wanted), "{words}");
+}
 
 /// Sees that bob's call with these arguments gives these results.
 fn see(
@@ -19,11 +24,8 @@ fn see(
     let bytes = bytes_of(alloc, words)?;
     let wanted = bytes_of(alloc, results)?;
     let given = run(alloc, server, BOB, 0, &bytes)?;
-    assert_eq!(rt;
-        given.as_ref().map(|given| given.as_slice()),
-        Some(wanted.as_slice()),
-        "{words}"
-    );
+    let given = given.as_ref().map(|given| given.as_slice());
+    see_bytes(rt, given, &wanted, words);
     Ok(())
 }
 
@@ -129,17 +131,20 @@ fn most() -> &'static [(&'static str, &'static str)] {
     &MOST
 }
 
-fn see_heads(rt: &impl Abort, alloc: Global, server: &mut Server) -> Result<(), Fail> {
-    see_all(rt, alloc, server, heads())?;
-    see_garbage(rt, alloc, server, garbage())?;
-    play(rt, alloc, server, long_link())?;
-    see_all(rt, alloc, server, most())?;
-    assert_eq!(rt; server.opens().len(), 0);
-    see_trail(rt, alloc, server, 0, "")
+struct HeadWords;
+
+impl Sight for HeadWords {
+    fn see(rt: &impl Abort, alloc: Global, server: &mut Server) -> Result<(), Fail> {
+        see_all(rt, alloc, server, heads())?;
+        see_garbage(rt, alloc, server, garbage())?;
+        play(rt, alloc, server, long_link())?;
+        see_all(rt, alloc, server, most())?;
+        assert_eq!(rt; server.opens().len(), 0);
+        see_trail(rt, alloc, server, 0, "")
+    }
 }
 
 #[test]
 fn heads_are_read_and_written(rt: HostRuntime) -> Result<(), Fail> {
-    let mut server = sample_server(rt.alloc(), RandomState::new(&rt)?)?;
-    see_heads(&rt, rt.alloc(), &mut server)
+    on_sample::<HeadWords>(&rt, rt.alloc(), RandomState::new(&rt)?)
 }

@@ -1,4 +1,5 @@
-//! Tests of `compound_run`: COMPOUNDs from bytes to bytes, with the tree and the trail that they leave.
+//! Tests of `compound_run`: COMPOUNDs from bytes to bytes, with the tree and the trail that they leave; and the calls of one table also through
+//! `nfs_hub`, as records on a connection that come in pieces.
 #![tactic(auto)]
 
 #[cfg(test)]
@@ -13,6 +14,8 @@ mod modes;
 mod outcomes;
 #[cfg(test)]
 mod pictures;
+#[cfg(test)]
+mod pieces;
 #[cfg(test)]
 mod remembered;
 #[cfg(test)]

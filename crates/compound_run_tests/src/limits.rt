@@ -1,6 +1,6 @@
 //! Directories, links and trees that are full.
 
-use crate::servers::{BOB, Row, play, see_trail, server_of};
+use crate::servers::{BOB, Row, Sight, on, play, see_trail, server_of};
 use crate::trees::{ALL, add, fill, link_often, root_of};
 use acl_list::Kind;
 use compound_run::Server;
@@ -109,15 +109,19 @@ fn calls() -> &'static [Row] {
     &FULL_DIRECTORY
 }
 
-fn see_full(rt: &impl Abort, alloc: Global, server: &mut Server) -> Result<(), Fail> {
-    play(rt, alloc, server, calls())?;
-    see_trail(rt, alloc, server, 0, "")
+struct FullDirectory;
+
+impl Sight for FullDirectory {
+    fn see(rt: &impl Abort, alloc: Global, server: &mut Server) -> Result<(), Fail> {
+        play(rt, alloc, server, calls())?;
+        see_trail(rt, alloc, server, 0, "")
+    }
 }
 
 #[test]
 fn a_full_directory_is_told(rt: HostRuntime) -> Result<(), Fail> {
-    let mut server = full_server(rt.alloc(), RandomState::new(&rt)?)?;
-    see_full(&rt, rt.alloc(), &mut server)
+    let server = full_server(rt.alloc(), RandomState::new(&rt)?)?;
+    on::<FullDirectory>(&rt, rt.alloc(), server)
 }
 
 /// Over 16,384 objects: the root, the directories `a` to `d`, 2 to 5, and what is in them, last of all the link `z` in `d`. A name more is no
@@ -179,9 +183,17 @@ fn last_calls() -> &'static [Row] {
     &FULL_TREE
 }
 
+struct FullTree;
+
+impl Sight for FullTree {
+    fn see(rt: &impl Abort, alloc: Global, server: &mut Server) -> Result<(), Fail> {
+        play(rt, alloc, server, last_calls())
+    }
+}
+
 /// It looks through as many names for each that it adds, so `rt try --test` needs more seconds for it.
 #[test]
 fn a_full_tree_is_told(rt: HostRuntime) -> Result<(), Fail> {
-    let mut server = full_tree_server(rt.alloc(), RandomState::new(&rt)?)?;
-    play(&rt, rt.alloc(), &mut server, last_calls())
+    let server = full_tree_server(rt.alloc(), RandomState::new(&rt)?)?;
+    on::<FullTree>(&rt, rt.alloc(), server)
 }

@@ -105,7 +105,43 @@ fn status(alloc: Global, site: &mut Site<'_>, call: &str) -> Result<[u8; 4], Fai
     }
 }
 
-/// Makes a call. Where it is delayed all is as before; where none was it is OK.
+fn calls() -> &'static [(&'static str, bool)] {
+    &CALLS
+}
+
+fn see_pictures(rt: &impl Abort, after: &Picture, before: &Picture, call: &str) {
+    assert_eq!(rt; after, before, "{call}");
+}
+
+/// Sees that all is as it was before a call.
+fn see_unchanged(
+    rt: &impl Abort,
+    alloc: Global,
+    site: &Site<'_>,
+    before: &Picture,
+    call: &str,
+) -> Result<(), Fail> {
+    let after = look(alloc, site)?;
+    see_pictures(rt, &after, before, call);
+    Ok(())
+}
+
+/// Makes a call, and tells its status. Where it is delayed all is as before.
+fn see_call(
+    rt: &impl Abort,
+    alloc: Global,
+    site: &mut Site<'_>,
+    call: &str,
+) -> Result<[u8; 4], Fail> {
+    let before = look(alloc, site)?;
+    let status = status(alloc, site, call)?;
+    if status == DELAY {
+        see_unchanged(rt, alloc, site, &before, call)?;
+    }
+    Ok(status)
+}
+
+/// Makes a call. Only what may want memory is delayed; where nothing was the call is OK.
 fn act(
     rt: &impl Abort,
     alloc: Global,
@@ -113,14 +149,12 @@ fn act(
     index: usize,
     seen: &mut Seen,
 ) -> Result<(), Fail> {
-    let Some((call, grows)) = CALLS.get(index) else {
+    let Some((call, grows)) = calls().get(index) else {
         return Ok(());
     };
-    let before = look(alloc, site)?;
-    let status = status(alloc, site, call)?;
+    let status = see_call(rt, alloc, site, call)?;
     if status == DELAY {
         assert!(rt; *grows, "{call}");
-        assert_eq!(rt; look(alloc, site)?, before, "{call}");
         seen.delays = seen.delays.saturating_add(1);
         if let Some(delayed) = seen.delayed.get_mut(index) {
             *delayed = true;

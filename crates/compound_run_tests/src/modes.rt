@@ -1,7 +1,7 @@
 //! The lists and the modes of what is made.
 
 use crate::pictures::list_text;
-use crate::servers::{BOB, Caller, Row, play, sample_server, see_trail, server_of};
+use crate::servers::{BOB, Caller, Row, Sight, on, on_sample, play, see_trail, server_of};
 use crate::trees::root_of;
 use compound_run::Server;
 use std::alloc::Global;
@@ -227,11 +227,19 @@ fn set() -> &'static [&'static str] {
     &SET
 }
 
+struct SetLists;
+
+impl Sight for SetLists {
+    fn see(rt: &impl Abort, alloc: Global, server: &mut Server) -> Result<(), Fail> {
+        see_made(rt, alloc, server, settings(), set())
+    }
+}
+
 #[test]
 fn modes_and_lists_are_set(rt: HostRuntime) -> Result<(), Fail> {
     let list = "A:b:27:1002 A:0:67:EVERYONE@";
-    let mut server = server(rt.alloc(), RandomState::new(&rt)?, list)?;
-    see_made(&rt, rt.alloc(), &mut server, settings(), set())
+    let server = server(rt.alloc(), RandomState::new(&rt)?, list)?;
+    on::<SetLists>(&rt, rt.alloc(), server)
 }
 
 /// User 1002 in group 100.
@@ -288,15 +296,18 @@ fn first_lists() -> &'static [&'static str] {
     &FIRST_LISTS
 }
 
-fn see_first(rt: &impl Abort, alloc: Global, server: &mut Server) -> Result<(), Fail> {
-    let line = "DENY uid=1002 op=REMOVE obj=1 mask=00000002 missing=00000002\n";
-    see_made(rt, alloc, server, first(), first_lists())?;
-    see_trail(rt, alloc, server, 1, line)
+struct FirstDirectory;
+
+impl Sight for FirstDirectory {
+    fn see(rt: &impl Abort, alloc: Global, server: &mut Server) -> Result<(), Fail> {
+        let line = "DENY uid=1002 op=REMOVE obj=1 mask=00000002 missing=00000002\n";
+        see_made(rt, alloc, server, first(), first_lists())?;
+        see_trail(rt, alloc, server, 1, line)
+    }
 }
 
 /// The sample tree, in which nothing is inherited.
 #[test]
 fn a_first_directory_is_made(rt: HostRuntime) -> Result<(), Fail> {
-    let mut server = sample_server(rt.alloc(), RandomState::new(&rt)?)?;
-    see_first(&rt, rt.alloc(), &mut server)
+    on_sample::<FirstDirectory>(&rt, rt.alloc(), RandomState::new(&rt)?)
 }

@@ -1,6 +1,6 @@
 //! Each outcome of each operation that calls can bring about.
 
-use crate::servers::{ALICE, BOB, CAROL, ROOT, Row, play, sample_server, see_trail};
+use crate::servers::{ALICE, BOB, CAROL, ROOT, Row, Sight, on_sample, play, see_trail};
 use compound_run::Server;
 use std::alloc::Global;
 use std::hash::RandomState;
@@ -68,10 +68,6 @@ static DONE: [Row; 12] = [
     ),
 ];
 
-fn done() -> &'static [Row] {
-    &DONE
-}
-
 /// The rights that ACCESS tells: of the root, of `notes`, of a link, and of nothing that has a meaning.
 static RIGHTS: [Row; 10] = [
     (BOB, "PUTROOTFH ACCESS 3f", "ok PUTROOTFH ok ACCESS ok 1f 3"),
@@ -97,10 +93,6 @@ static RIGHTS: [Row; 10] = [
         "ok PUTROOTFH ok LOOKUP ok ACCESS ok 0 0",
     ),
 ];
-
-fn rights() -> &'static [Row] {
-    &RIGHTS
-}
 
 /// What is read, and what isn't built or needs a session.
 static READ: [Row; 25] = [
@@ -159,10 +151,6 @@ static READ: [Row; 25] = [
     (BOB, "RECLAIM_COMPLETE 2", "badxdr RECLAIM_COMPLETE badxdr"),
 ];
 
-fn read() -> &'static [Row] {
-    &READ
-}
-
 /// Filehandles: of 16 bytes, the first eight zero, of an object that is there.
 static HANDLES: [Row; 12] = [
     (BOB, "PUTFH 0", "badhandle PUTFH badhandle"),
@@ -186,10 +174,6 @@ static HANDLES: [Row; 12] = [
         "nofilehandle PUTROOTFH ok RESTOREFH nofilehandle",
     ),
 ];
-
-fn handles() -> &'static [Row] {
-    &HANDLES
-}
 
 /// LOOKUP and LOOKUPP: the kind comes before the name, and both before the lists.
 static LOOKUPS: [Row; 20] = [
@@ -259,10 +243,6 @@ static LOOKUPS: [Row; 20] = [
     (ALICE, "PUTFH @4 LOOKUPP", "access PUTFH ok LOOKUPP access"),
 ];
 
-fn lookups() -> &'static [Row] {
-    &LOOKUPS
-}
-
 /// READLINK: of a link of bob, whose group carol is in.
 static LINK_TEXTS: [Row; 5] = [
     (BOB, "READLINK", "nofilehandle READLINK nofilehandle"),
@@ -287,10 +267,6 @@ static LINK_TEXTS: [Row; 5] = [
         "access PUTFH ok READLINK access",
     ),
 ];
-
-fn link_texts() -> &'static [Row] {
-    &LINK_TEXTS
-}
 
 /// CREATE: the type comes before the name, the name before a link's text, and the lists before what has the name.
 static CREATIONS: [Row; 20] = [
@@ -392,10 +368,6 @@ static CREATIONS: [Row; 20] = [
     ),
 ];
 
-fn creations() -> &'static [Row] {
-    &CREATIONS
-}
-
 /// Attributes: one that isn't supported, one that can't be set, bytes that don't spell them, then the list, the mode, the owner and the
 /// group; and a size is for files. All that comes before the lists are asked; that the owner is the caller, and the group one of the caller's,
 /// comes after it.
@@ -493,10 +465,6 @@ static ATTRIBUTES: [Row; 19] = [
     (BOB, "PUTFH @3 LOOKUP 'x", "noent PUTFH ok LOOKUP noent"),
 ];
 
-fn attributes() -> &'static [Row] {
-    &ATTRIBUTES
-}
-
 /// LINK: filehandles, kinds, the name, the lists, and what has the name; and of an object that is gone.
 static LINKS: [Row; 12] = [
     (BOB, "LINK 0", "nofilehandle LINK nofilehandle"),
@@ -557,10 +525,6 @@ static LINKS: [Row; 12] = [
     ),
 ];
 
-fn links() -> &'static [Row] {
-    &LINKS
-}
-
 /// REMOVE: the lists are asked before the name is looked up, and once more before the child is looked into.
 static REMOVALS: [Row; 12] = [
     (BOB, "REMOVE 0", "nofilehandle REMOVE nofilehandle"),
@@ -604,10 +568,6 @@ static REMOVALS: [Row; 12] = [
         "stale PUTFH ok CREATE ok b>c 0 SAVEFH ok PUTFH ok REMOVE ok c>d RESTOREFH stale",
     ),
 ];
-
-fn removals() -> &'static [Row] {
-    &REMOVALS
-}
 
 /// RENAME: what can't be is told before the lists are asked a second time. At the end directories are made, one of a group that carol is in
 /// but that isn't her first.
@@ -746,10 +706,6 @@ static RENAMES: [Row; 28] = [
     ),
 ];
 
-fn renames() -> &'static [Row] {
-    &RENAMES
-}
-
 /// What was refused, in that order. A demand of several bits is told whole; what its line names is the first entry that denies, else the
 /// lowest bit that none allows.
 static LINES: &str = "DENY uid=1001 op=LOOKUP obj=4 mask=00000020 missing=00000020
@@ -770,27 +726,44 @@ DENY uid=1002 op=RENAME obj=1 mask=00000004 missing=00000004
 DENY uid=1002 op=LOOKUP obj=11 mask=00000020 missing=00000020
 ";
 
+/// The tables in the order in which they are played: what one makes is there for the next.
+pub fn tables() -> [&'static [Row]; 11] {
+    [
+        &DONE,
+        &RIGHTS,
+        &READ,
+        &HANDLES,
+        &LOOKUPS,
+        &LINK_TEXTS,
+        &CREATIONS,
+        &ATTRIBUTES,
+        &LINKS,
+        &REMOVALS,
+        &RENAMES,
+    ]
+}
+
 fn lines() -> &'static str {
     LINES
 }
 
-fn see_outcomes(rt: &impl Abort, alloc: Global, server: &mut Server) -> Result<(), Fail> {
-    play(rt, alloc, server, done())?;
-    play(rt, alloc, server, rights())?;
-    play(rt, alloc, server, read())?;
-    play(rt, alloc, server, handles())?;
-    play(rt, alloc, server, lookups())?;
-    play(rt, alloc, server, link_texts())?;
-    play(rt, alloc, server, creations())?;
-    play(rt, alloc, server, attributes())?;
-    play(rt, alloc, server, links())?;
-    play(rt, alloc, server, removals())?;
-    play(rt, alloc, server, renames())?;
+/// Sees the trail that the tables leave.
+pub fn see_lines(rt: &impl Abort, alloc: Global, server: &Server) -> Result<(), Fail> {
     see_trail(rt, alloc, server, 16, lines())
+}
+
+struct Outcomes;
+
+impl Sight for Outcomes {
+    fn see(rt: &impl Abort, alloc: Global, server: &mut Server) -> Result<(), Fail> {
+        for rows in tables() {
+            play(rt, alloc, server, rows)?;
+        }
+        see_lines(rt, alloc, server)
+    }
 }
 
 #[test]
 fn outcomes_are_told(rt: HostRuntime) -> Result<(), Fail> {
-    let mut server = sample_server(rt.alloc(), RandomState::new(&rt)?)?;
-    see_outcomes(&rt, rt.alloc(), &mut server)
+    on_sample::<Outcomes>(&rt, rt.alloc(), RandomState::new(&rt)?)
 }

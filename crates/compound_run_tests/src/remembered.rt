@@ -1,6 +1,6 @@
 //! What is remembered from one call to the next.
 
-use crate::servers::{BOB, Row, play, sample_server};
+use crate::servers::{BOB, Row, Sight, on_sample, play};
 use compound_run::Server;
 use std::alloc::Global;
 use std::hash::RandomState;
@@ -14,18 +14,21 @@ fn once() -> &'static [Row] {
 }
 
 /// The second of two equal calls looks at no list: the guard remembers what the first one learnt.
-fn see_remembered(rt: &impl Abort, alloc: Global, server: &mut Server) -> Result<(), Fail> {
-    play(rt, alloc, server, once())?;
-    let examined = server.guard().examined();
-    assert!(rt; examined >= 5);
-    assert!(rt; server.guard().remembered().next().is_some());
-    play(rt, alloc, server, once())?;
-    assert_eq!(rt; server.guard().examined(), examined);
-    Ok(())
+struct Remembered;
+
+impl Sight for Remembered {
+    fn see(rt: &impl Abort, alloc: Global, server: &mut Server) -> Result<(), Fail> {
+        play(rt, alloc, server, once())?;
+        let examined = server.guard().examined();
+        assert!(rt; examined >= 5);
+        assert!(rt; server.guard().remembered().next().is_some());
+        play(rt, alloc, server, once())?;
+        assert_eq!(rt; server.guard().examined(), examined);
+        Ok(())
+    }
 }
 
 #[test]
 fn decisions_are_remembered(rt: HostRuntime) -> Result<(), Fail> {
-    let mut server = sample_server(rt.alloc(), RandomState::new(&rt)?)?;
-    see_remembered(&rt, rt.alloc(), &mut server)
+    on_sample::<Remembered>(&rt, rt.alloc(), RandomState::new(&rt)?)
 }

@@ -1,7 +1,7 @@
 //! Names that go or move over trees with lists of their own, and the lines that are written.
 
 use crate::pictures::tree_text;
-use crate::servers::{BOB, Row, play, sample_server, see_trail, server_of};
+use crate::servers::{BOB, Row, Sight, on, on_sample, play, see_trail, server_of};
 use crate::trees::{add, link, root_of, set_list};
 use acl_list::Kind;
 use compound_run::Server;
@@ -359,16 +359,19 @@ fn see_tree(rt: &impl Abort, alloc: Global, server: &Server, wanted: &str) -> Re
     Ok(())
 }
 
-fn see_moves(rt: &impl Abort, alloc: Global, server: &mut Server) -> Result<(), Fail> {
-    play(rt, alloc, server, moves())?;
-    see_tree(rt, alloc, server, moved())?;
-    see_trail(rt, alloc, server, 0, "")
+struct DatedMoves;
+
+impl Sight for DatedMoves {
+    fn see(rt: &impl Abort, alloc: Global, server: &mut Server) -> Result<(), Fail> {
+        play(rt, alloc, server, moves())?;
+        see_tree(rt, alloc, server, moved())?;
+        see_trail(rt, alloc, server, 0, "")
+    }
 }
 
 #[test]
 fn moves_are_dated(rt: HostRuntime) -> Result<(), Fail> {
-    let mut server = sample_server(rt.alloc(), RandomState::new(&rt)?)?;
-    see_moves(&rt, rt.alloc(), &mut server)
+    on_sample::<DatedMoves>(&rt, rt.alloc(), RandomState::new(&rt)?)
 }
 
 /// The list of a link with two names.
@@ -415,14 +418,18 @@ fn two_names_server(alloc: Global, hasher: RandomState) -> Result<Server, Fail> 
     Ok(server_of(alloc, Book::default(alloc), tree, hasher)?)
 }
 
-fn see_two_names(rt: &impl Abort, alloc: Global, server: &mut Server) -> Result<(), Fail> {
-    play(rt, alloc, server, two_names())?;
-    see_trail(rt, alloc, server, 2, two_refusals())
+struct TwoNames;
+
+impl Sight for TwoNames {
+    fn see(rt: &impl Abort, alloc: Global, server: &mut Server) -> Result<(), Fail> {
+        play(rt, alloc, server, two_names())?;
+        see_trail(rt, alloc, server, 2, two_refusals())
+    }
 }
 
 /// A list that is set through one name is that of the other.
 #[test]
 fn a_list_has_no_name(rt: HostRuntime) -> Result<(), Fail> {
-    let mut server = two_names_server(rt.alloc(), RandomState::new(&rt)?)?;
-    see_two_names(&rt, rt.alloc(), &mut server)
+    let server = two_names_server(rt.alloc(), RandomState::new(&rt)?)?;
+    on::<TwoNames>(&rt, rt.alloc(), server)
 }

@@ -1,7 +1,7 @@
 //! A hundred calls of three callers, and the tree and the trail that they leave.
 
 use crate::pictures::tree_text;
-use crate::servers::{ALICE, BOB, ROOT, Row, run, sample_server, see_trail};
+use crate::servers::{ALICE, BOB, ROOT, Row, Sight, on_sample, run, see_bytes, see_trail};
 use crate::spelling::{bytes_of, call_of};
 use compound_run::Server;
 use std::alloc::Global;
@@ -201,11 +201,8 @@ fn see(
     let bytes = call_of(alloc, call)?;
     let wanted = bytes_of(alloc, status)?;
     let given = run(alloc, server, *who, seconds, &bytes)?;
-    assert_eq!(rt;
-        given.as_ref().and_then(|given| given.get(..4)),
-        Some(wanted.as_slice()),
-        "{seconds}: {call}"
-    );
+    let given = given.as_ref().and_then(|given| given.get(..4));
+    see_bytes(rt, given, &wanted, seconds, call);
     Ok(())
 }
 
@@ -239,14 +236,17 @@ fn see_tree(rt: &impl Abort, alloc: Global, server: &Server) -> Result<(), Fail>
     Ok(())
 }
 
-fn see_script(rt: &impl Abort, alloc: Global, server: &mut Server) -> Result<(), Fail> {
-    see_all(rt, alloc, server, calls())?;
-    see_tree(rt, alloc, server)?;
-    see_trail(rt, alloc, server, 22, lines())
+struct Script;
+
+impl Sight for Script {
+    fn see(rt: &impl Abort, alloc: Global, server: &mut Server) -> Result<(), Fail> {
+        see_all(rt, alloc, server, calls())?;
+        see_tree(rt, alloc, server)?;
+        see_trail(rt, alloc, server, 22, lines())
+    }
 }
 
 #[test]
 fn a_hundred_calls_leave_this(rt: HostRuntime) -> Result<(), Fail> {
-    let mut server = sample_server(rt.alloc(), RandomState::new(&rt)?)?;
-    see_script(&rt, rt.alloc(), &mut server)
+    on_sample::<Script>(&rt, rt.alloc(), RandomState::new(&rt)?)
 }

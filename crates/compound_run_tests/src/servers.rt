@@ -43,6 +43,25 @@ pub fn sample_server(alloc: Global, hasher: RandomState) -> Result<Server, Alloc
     server_of(alloc, Book::default(alloc), Tree::sample(alloc)?, hasher)
 }
 
+/// What is seen on a server.
+pub trait Sight {
+    fn see(rt: &impl Abort, alloc: Global, server: &mut Server) -> Result<(), Fail>;
+}
+
+/// Sees it on this server, which is dropped here: once for all that is seen.
+pub fn on<S: Sight>(rt: &impl Abort, alloc: Global, mut server: Server) -> Result<(), Fail> {
+    S::see(rt, alloc, &mut server)
+}
+
+/// Sees it on a server of the sample tree.
+pub fn on_sample<S: Sight>(
+    rt: &impl Abort,
+    alloc: Global,
+    hasher: RandomState,
+) -> Result<(), Fail> {
+    on::<S>(rt, alloc, sample_server(alloc, hasher)?)
+}
+
 /// The results of these arguments, or `None` where they are garbage.
 pub fn run(
     alloc: Global,
@@ -67,6 +86,25 @@ pub fn run(
     }
 }
 
+/// Sees that bytes are there and are these: of the call at this place, which is told otherwise.
+pub fn see_bytes(rt: &impl Abort, given: Option<&[u8]>, wanted: &[u8], place: i64, call: &str) {
+    assert_eq!(rt; given, Some(wanted), "{place}: {call}");
+}
+
+/// Sees that these are the results of a row's call.
+pub fn see_answer(
+    rt: &impl Abort,
+    alloc: Global,
+    given: Option<&[u8]>,
+    place: i64,
+    row: &Row,
+) -> Result<(), Fail> {
+    let (_, call, answer) = row;
+    let wanted = answer_of(alloc, answer)?;
+    see_bytes(rt, given, &wanted, place, call);
+    Ok(())
+}
+
 /// Sees that a call at this second is answered so.
 fn see(
     rt: &impl Abort,
@@ -75,16 +113,11 @@ fn see(
     seconds: i64,
     row: &Row,
 ) -> Result<(), Fail> {
-    let (who, call, answer) = row;
+    let (who, call, _) = row;
     let bytes = call_of(alloc, call)?;
-    let wanted = answer_of(alloc, answer)?;
     let given = run(alloc, server, *who, seconds, &bytes)?;
-    assert_eq!(rt;
-        given.as_ref().map(|given| given.as_slice()),
-        Some(wanted.as_slice()),
-        "{seconds}: {call}"
-    );
-    Ok(())
+    let given = given.as_ref().map(|given| given.as_slice());
+    see_answer(rt, alloc, given, seconds, row)
 }
 
 /// Sees the answers of calls, the first of them at second 1.

@@ -1,26 +1,32 @@
 //! Connections: opened, broken, closed, and over small heaps.
 
-use crate::words::{ACCESS_NOTES, CREATE_D, EPOCH, NULL, bytes_of};
+use crate::plain::{bare, close, connect, feed, take_out};
+use crate::words::{ACCESS_NOTES, CREATE_D, NULL, bytes_of};
 use linked_list_allocator::LocalHeap;
 use nfs_hub::{Hub, HubFault};
-use std::alloc::Global;
+use std::alloc::{Allocator, Global};
 use std::hash::RandomState;
+use std::process::Abort;
 use std::test::Fail;
+
+fn see_connections(rt: &impl Abort, hub: &mut Hub) -> Result<(), Fail> {
+    let first = connect(hub)?;
+    assert_eq!(rt; connect(hub).err(), Some(HubFault::TooMany));
+    assert_eq!(rt; close(hub, first), Ok(()));
+    assert_eq!(rt; close(hub, first), Err(HubFault::NoSuch));
+    assert_eq!(rt; feed(hub, first, &[0]), Err(HubFault::NoSuch));
+    let mut out = [0u8; 8];
+    assert_eq!(rt; take_out(hub, first, &mut out), Err(HubFault::NoSuch));
+    let second = connect(hub)?;
+    assert_eq!(rt; feed(hub, second, &[0]), Ok(()));
+    assert_eq!(rt; close(hub, first), Err(HubFault::NoSuch));
+    Ok(())
+}
 
 #[test]
 fn a_connection_is_opened_and_closed(rt: HostRuntime) -> Result<(), Fail> {
-    let mut hub = Hub::bare(rt.alloc(), rt.alloc(), RandomState::new(&rt)?)?;
-    let first = hub.connect()?;
-    assert_eq!(rt; hub.connect().err(), Some(HubFault::TooMany));
-    assert_eq!(rt; hub.close(first), Ok(()));
-    assert_eq!(rt; hub.close(first), Err(HubFault::NoSuch));
-    assert_eq!(rt; hub.feed(first, &[0], EPOCH), Err(HubFault::NoSuch));
-    let mut out = [0u8; 8];
-    assert_eq!(rt; hub.take_out(first, &mut out), Err(HubFault::NoSuch));
-    let second = hub.connect()?;
-    assert_eq!(rt; hub.feed(second, &[0], EPOCH), Ok(()));
-    assert_eq!(rt; hub.close(first), Err(HubFault::NoSuch));
-    Ok(())
+    let mut hub = bare(rt.alloc(), rt.alloc(), RandomState::new(&rt)?)?;
+    see_connections(&rt, &mut hub)
 }
 
 /// What breaks a connection: a header above the limit, a record that is no call, and a credential of 401 bytes.
@@ -35,48 +41,74 @@ static BREAKING: [(&str, &str); 5] = [
     ),
 ];
 
+fn breaking() -> &'static [(&'static str, &'static str)] {
+    &BREAKING
+}
+
+/// A call, and these bytes behind it.
+fn broken_stream(alloc: Global, call: &[u8], bad: &str) -> Result<Vec<u8>, Fail> {
+    let mut stream = bytes_of(alloc, bad)?;
+    stream.extend_from_slice(call)?;
+    stream.rotate_right(call.len());
+    Ok(stream)
+}
+
 /// How often a connection tells that it is broken, where a call stands before the bad record; and how many bytes then come out of it, in
 /// pieces of 20.
 fn broken_by(
+    hub: &mut Hub,
+    call: &[u8],
+    stream: &[u8],
+) -> Result<(bool, bool, usize, usize, usize), HubFault> {
+    let conn = connect(hub)?;
+    let first = feed(hub, conn, stream) == Err(HubFault::Broken);
+    let again = feed(hub, conn, call) == Err(HubFault::Broken);
+    let mut out = [0u8; 20];
+    let a = take_out(hub, conn, &mut out)?;
+    let b = take_out(hub, conn, &mut out)?;
+    let c = take_out(hub, conn, &mut out)?;
+    Ok((first, again, a, b, c))
+}
+
+fn see_broken(
+    rt: &impl Abort,
     alloc: Global,
     hasher: RandomState,
+    name: &str,
     bad: &str,
-) -> Result<(bool, bool, usize, usize, usize), Fail> {
+) -> Result<(), Fail> {
     let call = bytes_of(alloc, NULL)?;
-    let mut stream = bytes_of(alloc, bad)?;
-    stream.extend_from_slice(&call)?;
-    stream.rotate_right(call.len());
-    let mut hub = Hub::bare(alloc, alloc, hasher)?;
-    let conn = hub.connect()?;
-    let first = hub.feed(conn, &stream, EPOCH) == Err(HubFault::Broken);
-    let again = hub.feed(conn, &call, EPOCH) == Err(HubFault::Broken);
-    let mut out = [0u8; 20];
-    let a = hub.take_out(conn, &mut out)?;
-    let b = hub.take_out(conn, &mut out)?;
-    let c = hub.take_out(conn, &mut out)?;
-    Ok((first, again, a, b, c))
+    let stream = broken_stream(alloc, &call, bad)?;
+    let mut hub = bare(alloc, alloc, hasher)?;
+    let told = broken_by(&mut hub, &call, &stream);
+    assert!(rt; told == Ok((true, true, 20, 8, 0)), "{name}");
+    Ok(())
 }
 
 /// The reply to a call before it in the piece still comes.
 #[test]
 fn a_connection_breaks(rt: HostRuntime) -> Result<(), Fail> {
     let hasher = RandomState::new(&rt)?;
-    for (name, bad) in BREAKING.iter() {
-        let told = broken_by(rt.alloc(), hasher, bad)?;
-        assert!(rt; told == (true, true, 20, 8, 0), "{name}");
+    for (name, bad) in breaking() {
+        see_broken(&rt, rt.alloc(), hasher, name, bad)?;
     }
     Ok(())
+}
+
+/// How many bytes are answered to a stream in one piece.
+fn answered(hub: &mut Hub, stream: &[u8]) -> Result<usize, HubFault> {
+    let conn = connect(hub)?;
+    feed(hub, conn, stream)?;
+    let mut out = [0u8; 128];
+    take_out(hub, conn, &mut out)
 }
 
 /// Fragments are joined: empty ones, and a call in two of them.
 #[test]
 fn fragments_are_joined(rt: HostRuntime) -> Result<(), Fail> {
-    let mut hub = Hub::bare(rt.alloc(), rt.alloc(), RandomState::new(&rt)?)?;
-    let conn = hub.connect()?;
     let stream = bytes_of(rt.alloc(), "0 0 10 1 0 2 186a3 80000018 4 0 0 0 0 0")?;
-    assert_eq!(rt; hub.feed(conn, &stream, EPOCH), Ok(()));
-    let mut out = [0u8; 64];
-    assert_eq!(rt; hub.take_out(conn, &mut out), Ok(28));
+    let mut hub = bare(rt.alloc(), rt.alloc(), RandomState::new(&rt)?)?;
+    assert_eq!(rt; answered(&mut hub, &stream), Ok(28));
     Ok(())
 }
 
@@ -84,9 +116,8 @@ fn fragments_are_joined(rt: HostRuntime) -> Result<(), Fail> {
 #[test]
 fn the_server_is_changed(rt: HostRuntime) -> Result<(), Fail> {
     let stream = bytes_of(rt.alloc(), CREATE_D)?;
-    let mut hub = Hub::bare(rt.alloc(), rt.alloc(), RandomState::new(&rt)?)?;
-    let conn = hub.connect()?;
-    hub.feed(conn, &stream, EPOCH)?;
+    let mut hub = bare(rt.alloc(), rt.alloc(), RandomState::new(&rt)?)?;
+    assert_eq!(rt; answered(&mut hub, &stream), Ok(88));
     assert_eq!(rt; hub.server().tree().find(3, b"d"), Some(4));
     assert_eq!(rt; hub.server().guard().total(), 0);
     Ok(())
@@ -105,29 +136,31 @@ enum Fate {
     Wrong,
 }
 
+/// What becomes of a call to a hub.
+fn fate_of<A: Allocator + Copy>(hub: &mut Hub<A>, call: &[u8]) -> Fate {
+    let Ok(conn) = connect(hub) else {
+        return Fate::Refused;
+    };
+    let mut out = [0u8; 128];
+    let fed = feed(hub, conn, call);
+    match (fed, take_out(hub, conn, &mut out)) {
+        (Ok(()), Ok(taken)) => Fate::Answered(taken),
+        (Err(HubFault::Memory), Ok(0)) => Fate::Broken,
+        _ => Fate::Wrong,
+    }
+}
+
 /// A call to a hub over a heap of this size.
 fn over_heap(alloc: Global, hasher: RandomState, call: &[u8], size: usize) -> Result<Fate, Fail> {
     let heap = LocalHeap::new(alloc, size)?;
-    let Ok(mut hub) = Hub::bare(&heap, alloc, hasher) else {
-        return Ok(if heap.used() == 0 {
-            Fate::Refused
-        } else {
-            Fate::Wrong
-        });
-    };
-    let Ok(conn) = hub.connect() else {
-        return Ok(Fate::Refused);
-    };
-    let mut out = [0u8; 128];
-    let fed = hub.feed(conn, call, EPOCH);
-    let taken = hub.take_out(conn, &mut out)?;
-    if fed == Ok(()) {
-        return Ok(Fate::Answered(taken));
+    if let Ok(mut hub) = bare(&heap, alloc, hasher) {
+        return Ok(fate_of(&mut hub, call));
     }
-    if fed == Err(HubFault::Memory) && taken == 0 {
-        return Ok(Fate::Broken);
-    }
-    Ok(Fate::Wrong)
+    Ok(if heap.used() == 0 {
+        Fate::Refused
+    } else {
+        Fate::Wrong
+    })
 }
 
 /// Over every size of a small heap a call is answered as with ample memory, or the connection breaks with `Memory` and has

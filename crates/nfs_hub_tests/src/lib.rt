@@ -6,6 +6,8 @@ mod calls;
 #[cfg(test)]
 mod connections;
 #[cfg(test)]
+mod plain;
+#[cfg(test)]
 mod serving;
 #[cfg(test)]
 mod words;

@@ -1,21 +1,13 @@
 //! Serving over readers and writers in memory, some of which fail.
 
-use crate::words::{ACCESS_NOTES, ACCESS_NOTES_REPLY, EPOCH, NULL, bytes_of};
-use nfs_hub::{Clock, Hub, ServeEnd, serve};
-use nfs_types::Moment;
+use crate::plain::{bare, connect, serve_all};
+use crate::words::{ACCESS_NOTES, ACCESS_NOTES_REPLY, NULL, bytes_of};
+use nfs_hub::ServeEnd;
 use std::alloc::Global;
 use std::hash::RandomState;
 use std::io;
 use std::io::{ErrorKind, Read, Write};
 use std::test::Fail;
-
-struct Epoch;
-
-impl Clock for Epoch {
-    fn now(&self) -> Moment {
-        EPOCH
-    }
-}
 
 /// Gives its bytes in pieces of at most five, and fails at the read of this number.
 #[derive(Drop)]
@@ -86,9 +78,9 @@ impl Write for Narrow {
 fn a_call_is_served(rt: HostRuntime) -> Result<(), Fail> {
     let call = bytes_of(rt.alloc(), ACCESS_NOTES)?;
     let wanted = bytes_of(rt.alloc(), ACCESS_NOTES_REPLY)?;
-    let mut hub = Hub::bare(rt.alloc(), rt.alloc(), RandomState::new(&rt)?)?;
+    let mut hub = bare(rt.alloc(), rt.alloc(), RandomState::new(&rt)?)?;
     let mut written = Vec::new(rt.alloc());
-    let end = serve(&mut hub, &mut call.as_slice(), &mut written, &Epoch, 10);
+    let end = serve_all(&mut hub, &mut call.as_slice(), &mut written, 10);
     assert_eq!(rt; end, ServeEnd::Ended);
     assert_eq!(rt; written.as_slice(), wanted.as_slice());
     Ok(())
@@ -96,10 +88,10 @@ fn a_call_is_served(rt: HostRuntime) -> Result<(), Fail> {
 
 /// How serving these bytes ends, and how many bytes are written.
 fn served(alloc: Global, hasher: RandomState, bytes: &[u8]) -> Result<(ServeEnd, usize), Fail> {
-    let mut hub = Hub::bare(alloc, alloc, hasher)?;
+    let mut hub = bare(alloc, alloc, hasher)?;
     let mut written = Vec::new(alloc);
     let mut reader = bytes;
-    let end = serve(&mut hub, &mut reader, &mut written, &Epoch, 10);
+    let end = serve_all(&mut hub, &mut reader, &mut written, 10);
     Ok((end, written.len()))
 }
 
@@ -127,13 +119,13 @@ fn read_so_far(
     call: &[u8],
     reads_left: usize,
 ) -> Result<(ServeEnd, usize), Fail> {
-    let mut hub = Hub::bare(alloc, alloc, hasher)?;
+    let mut hub = bare(alloc, alloc, hasher)?;
     let mut written = Vec::new(alloc);
     let mut reader = Failing {
         bytes: call,
         reads_left,
     };
-    let end = serve(&mut hub, &mut reader, &mut written, &Epoch, 100);
+    let end = serve_all(&mut hub, &mut reader, &mut written, 100);
     Ok((end, written.len()))
 }
 
@@ -162,15 +154,15 @@ fn written_so_far(
     writes_left: usize,
     fails: bool,
 ) -> Result<(ServeEnd, bool), Fail> {
-    let mut hub = Hub::bare(alloc, alloc, hasher)?;
+    let mut hub = bare(alloc, alloc, hasher)?;
     let mut writer = Narrow {
         taken: 0,
         writes_left,
         fails,
     };
     let mut reader = call;
-    let end = serve(&mut hub, &mut reader, &mut writer, &Epoch, 100);
-    let is_closed = hub.connect().is_ok();
+    let end = serve_all(&mut hub, &mut reader, &mut writer, 100);
+    let is_closed = connect(&mut hub).is_ok();
     Ok((end, is_closed))
 }
 
@@ -194,9 +186,9 @@ fn a_writer_fails(rt: HostRuntime) -> Result<(), Fail> {
 
 #[test]
 fn an_endless_reader_uses_up_the_turns(rt: HostRuntime) -> Result<(), Fail> {
-    let mut hub = Hub::bare(rt.alloc(), rt.alloc(), RandomState::new(&rt)?)?;
+    let mut hub = bare(rt.alloc(), rt.alloc(), RandomState::new(&rt)?)?;
     let mut written = Vec::new(rt.alloc());
-    let end = serve(&mut hub, &mut Zeros, &mut written, &Epoch, 1000);
+    let end = serve_all(&mut hub, &mut Zeros, &mut written, 1000);
     assert_eq!(rt; end, ServeEnd::Turns);
     Ok(())
 }
@@ -206,15 +198,15 @@ fn served_twice(
     alloc: Global,
     hasher: RandomState,
     stream: &[u8],
-) -> Result<(ServeEnd, ServeEnd, usize), Fail> {
-    let mut hub = Hub::bare(alloc, alloc, hasher)?;
+) -> Result<(ServeEnd, bool, ServeEnd, usize), Fail> {
+    let mut hub = bare(alloc, alloc, hasher)?;
     let mut written = Vec::new(alloc);
     let mut reader = stream;
-    let first = serve(&mut hub, &mut reader, &mut written, &Epoch, 10);
-    let _open = hub.connect()?;
+    let first = serve_all(&mut hub, &mut reader, &mut written, 10);
+    let is_open = connect(&mut hub).is_ok();
     let mut reader = stream;
-    let second = serve(&mut hub, &mut reader, &mut written, &Epoch, 10);
-    Ok((first, second, written.len()))
+    let second = serve_all(&mut hub, &mut reader, &mut written, 10);
+    Ok((first, is_open, second, written.len()))
 }
 
 /// A stream that breaks ends so, with the replies before it written; and a hub with no room for a connection says so.
@@ -225,7 +217,7 @@ fn other_ends(rt: HostRuntime) -> Result<(), Fail> {
     stream.extend_from_slice(&[0x80, 2, 0, 1])?;
     let told = served_twice(rt.alloc(), hasher, &stream)?;
     assert!(rt;
-        told == (ServeEnd::Broken, ServeEnd::TooMany, 28),
+        told == (ServeEnd::Broken, true, ServeEnd::TooMany, 28),
         "{told:?}"
     );
     Ok(())

@@ -1,0 +1,59 @@
+//! The calls of a hub, bare of what is proved of them, so that a test's proof doesn't carry it along.
+
+use crate::words::EPOCH;
+use nfs_hub::{Clock, ConnId, Hub, HubFault, ServeEnd, serve};
+use nfs_types::Moment;
+use std::alloc::{AllocError, Allocator, Global};
+use std::hash::RandomState;
+use std::io::{Read, Write};
+
+struct Epoch;
+
+impl Clock for Epoch {
+    fn now(&self) -> Moment {
+        EPOCH
+    }
+}
+
+pub fn bare<A: Allocator + Copy>(
+    alloc: A,
+    global: Global,
+    hasher: RandomState,
+) -> Result<Hub<A>, AllocError> {
+    Hub::bare(alloc, global, hasher)
+}
+
+pub fn connect<A: Allocator + Copy>(hub: &mut Hub<A>) -> Result<ConnId, HubFault> {
+    hub.connect()
+}
+
+pub fn close<A: Allocator + Copy>(hub: &mut Hub<A>, conn: ConnId) -> Result<(), HubFault> {
+    hub.close(conn)
+}
+
+/// Each call is made at the epoch.
+pub fn feed<A: Allocator + Copy>(
+    hub: &mut Hub<A>,
+    conn: ConnId,
+    piece: &[u8],
+) -> Result<(), HubFault> {
+    hub.feed(conn, piece, EPOCH)
+}
+
+pub fn take_out<A: Allocator + Copy>(
+    hub: &mut Hub<A>,
+    conn: ConnId,
+    buf: &mut [u8],
+) -> Result<usize, HubFault> {
+    hub.take_out(conn, buf)
+}
+
+/// Each call is made at the epoch.
+pub fn serve_all<A: Allocator + Copy, R: Read, W: Write>(
+    hub: &mut Hub<A>,
+    reader: &mut R,
+    writer: &mut W,
+    turns: u64,
+) -> ServeEnd {
+    serve(hub, reader, writer, &Epoch, turns)
+}
