@@ -4,22 +4,31 @@ use std::test::Fail;
 use who_book::{Book, BookFault};
 
 /// Four settings that are in range.
-const SETTINGS: &str = "domain = 'd'\nroot_owner = 0\nroot_group = 0\nroot_mode = 0\n";
+fn settings() -> &'static str {
+    "domain = 'd'\nroot_owner = 0\nroot_group = 0\nroot_mode = 0\n"
+}
+
+/// The text of some pieces.
+fn joined(alloc: Global, pieces: &[&str]) -> Result<String, AllocError> {
+    let mut text = String::new(alloc);
+    for piece in pieces {
+        text.push_str(*piece)?;
+    }
+    Ok(text)
+}
 
 /// The number of a text's fault, or 0 where it is a book.
-fn answer(alloc: Global, text: &str) -> u8 {
+fn answer_of(alloc: Global, text: &str) -> u8 {
     match Book::read(alloc, text) {
         Ok(_) => 0,
         Err(fault) => fault as u8,
     }
 }
 
-/// The text of three parts.
-fn joined(alloc: Global, first: &str, second: &str, third: &str) -> Result<String, AllocError> {
-    let mut text = String::from_str(alloc, first)?;
-    text.push_str(second)?;
-    text.push_str(third)?;
-    Ok(text)
+/// The number of the fault of a text of some pieces, or 0 where it is a book.
+fn answer(alloc: Global, pieces: &[&str]) -> Result<u8, AllocError> {
+    let text = joined(alloc, pieces)?;
+    Ok(answer_of(alloc, text.as_str()))
 }
 
 #[test]
@@ -68,13 +77,17 @@ static KEYS: [(&str, u8); 15] = [
     ),
 ];
 
+fn keys_table() -> &'static [(&'static str, u8)] {
+    &KEYS
+}
+
 /// Keys that are missing, unknown, written otherwise or given twice.
 #[test]
 fn keys(rt: HostRuntime) -> Result<(), Fail> {
-    for (settings, want) in &KEYS {
-        let want = *want;
-        let text = joined(rt.alloc(), settings, "[users]\n", "[groups]\n")?;
-        assert_eq!(rt; answer(rt.alloc(), text.as_str()), want, "{settings}");
+    for row in keys_table() {
+        let (settings, want) = *row;
+        let got = answer(rt.alloc(), &[settings, "[users]\n[groups]\n"])?;
+        assert_eq!(rt; got, want, "{settings}");
     }
     Ok(())
 }
@@ -103,45 +116,40 @@ static OWNERS: [(&str, u8); 20] = [
     ("1979-05-27T07:32:00Z", 2),
 ];
 
-/// Values of `root_owner`.
+fn numbers_table() -> &'static [(&'static str, u8)] {
+    &OWNERS
+}
+
+/// The answer of a text with a value of one key, and 0 for the other.
+fn number<'a>(
+    alloc: Global,
+    key: &'a str,
+    value: &'a str,
+    other: &'a str,
+) -> Result<u8, AllocError> {
+    answer(
+        alloc,
+        &[
+            "domain='d'\n",
+            key,
+            "=",
+            value,
+            "\n",
+            other,
+            "=0\nroot_mode=0\n[users]\n[groups]\n",
+        ],
+    )
+}
+
+/// Values of `root_owner`, and of `root_group`.
 #[test]
 fn owners(rt: HostRuntime) -> Result<(), Fail> {
-    for (value, want) in &OWNERS {
-        let want = *want;
-        let first = joined(
-            rt.alloc(),
-            "domain='d'\nroot_owner=",
-            value,
-            "\nroot_group=0\n",
-        )?;
-        let text = joined(
-            rt.alloc(),
-            first.as_str(),
-            "root_mode=0\n[users]\n",
-            "[groups]\n",
-        )?;
-        assert_eq!(rt;
-            answer(rt.alloc(), text.as_str()),
-            want,
-            "root_owner {value}"
-        );
-        let first = joined(
-            rt.alloc(),
-            "domain='d'\nroot_group=",
-            value,
-            "\nroot_owner=0\n",
-        )?;
-        let text = joined(
-            rt.alloc(),
-            first.as_str(),
-            "root_mode=0\n[users]\n",
-            "[groups]\n",
-        )?;
-        assert_eq!(rt;
-            answer(rt.alloc(), text.as_str()),
-            want,
-            "root_group {value}"
-        );
+    for row in numbers_table() {
+        let (value, want) = *row;
+        let owner = number(rt.alloc(), "root_owner", value, "root_group")?;
+        assert_eq!(rt; owner, want, "root_owner {value}");
+        let group = number(rt.alloc(), "root_group", value, "root_owner")?;
+        assert_eq!(rt; group, want, "root_group {value}");
     }
     Ok(())
 }
@@ -163,18 +171,25 @@ static MODES: [(&str, u8); 13] = [
     ("root_mode=4096\ndomain=1\n", 2),
 ];
 
+fn modes_table() -> &'static [(&'static str, u8)] {
+    &MODES
+}
+
+/// The answer of a text with a mode and a domain.
+fn mode_and_domain(alloc: Global, value: &str) -> Result<u8, AllocError> {
+    answer(
+        alloc,
+        &["root_owner=0\nroot_group=0\n", value, "[users]\n[groups]\n"],
+    )
+}
+
 /// Values of `root_mode`, and of `domain`.
 #[test]
 fn modes_and_domains(rt: HostRuntime) -> Result<(), Fail> {
-    for (value, want) in &MODES {
-        let want = *want;
-        let text = joined(
-            rt.alloc(),
-            "root_owner=0\nroot_group=0\n",
-            value,
-            "[users]\n[groups]\n",
-        )?;
-        assert_eq!(rt; answer(rt.alloc(), text.as_str()), want, "{value}");
+    for row in modes_table() {
+        let (value, want) = *row;
+        let got = mode_and_domain(rt.alloc(), value)?;
+        assert_eq!(rt; got, want, "{value}");
     }
     Ok(())
 }
@@ -209,17 +224,29 @@ static ROWS: [(&str, u8); 26] = [
     ("alice = 1979-05-27\n", 2),
 ];
 
+fn rows_table() -> &'static [(&'static str, u8)] {
+    &ROWS
+}
+
+/// The answer of a text with a table of some rows, and an empty one.
+fn table(
+    alloc: Global,
+    table: &'static str,
+    rows: &'static str,
+    empty: &'static str,
+) -> Result<u8, AllocError> {
+    answer(alloc, &[settings(), table, rows, empty])
+}
+
 /// Rows of a table of names, as users and as groups.
 #[test]
 fn rows(rt: HostRuntime) -> Result<(), Fail> {
-    for (rows, want) in &ROWS {
-        let want = *want;
-        let users = joined(rt.alloc(), SETTINGS, "[users]\n", rows)?;
-        let text = joined(rt.alloc(), users.as_str(), "[groups]\n", "")?;
-        assert_eq!(rt; answer(rt.alloc(), text.as_str()), want, "users {rows}");
-        let groups = joined(rt.alloc(), SETTINGS, "[groups]\n", rows)?;
-        let text = joined(rt.alloc(), groups.as_str(), "[users]\n", "")?;
-        assert_eq!(rt; answer(rt.alloc(), text.as_str()), want, "groups {rows}");
+    for row in rows_table() {
+        let (rows, want) = *row;
+        let users = table(rt.alloc(), "[users]\n", rows, "[groups]\n")?;
+        assert_eq!(rt; users, want, "users {rows}");
+        let groups = table(rt.alloc(), "[groups]\n", rows, "[users]\n")?;
+        assert_eq!(rt; groups, want, "groups {rows}");
     }
     Ok(())
 }
@@ -243,22 +270,34 @@ static TABLES: [(&str, u8); 15] = [
     ("[users\n[groups]\n", 1),
 ];
 
+fn tables_table() -> &'static [(&'static str, u8)] {
+    &TABLES
+}
+
+/// Texts without a table.
+static NO_TABLES: [(&str, u8); 5] = [
+    ("", 2),
+    ("\n# nothing\n", 2),
+    ("book", 1),
+    ("=", 1),
+    ("\u{0}", 1),
+];
+
+fn no_tables() -> &'static [(&'static str, u8)] {
+    &NO_TABLES
+}
+
 /// How the tables stand in the document.
 #[test]
 fn tables(rt: HostRuntime) -> Result<(), Fail> {
-    for (tables, want) in &TABLES {
-        let want = *want;
-        let text = joined(rt.alloc(), SETTINGS, tables, "")?;
-        assert_eq!(rt; answer(rt.alloc(), text.as_str()), want, "{tables}");
+    for row in tables_table() {
+        let (tables, want) = *row;
+        let got = answer(rt.alloc(), &[settings(), tables])?;
+        assert_eq!(rt; got, want, "{tables}");
     }
-    for (text, want) in [
-        ("", 2),
-        ("\n# nothing\n", 2),
-        ("book", 1),
-        ("=", 1),
-        ("\u{0}", 1),
-    ] {
-        assert_eq!(rt; answer(rt.alloc(), text), want, "{text}");
+    for row in no_tables() {
+        let (text, want) = *row;
+        assert_eq!(rt; answer_of(rt.alloc(), text), want, "{text}");
     }
     Ok(())
 }
@@ -272,49 +311,75 @@ fn repeated(alloc: Global, piece: &str, times: u32) -> Result<String, AllocError
     Ok(text)
 }
 
+/// The answer of a text whose domain is so many pieces.
+fn long_domain(alloc: Global, piece: &str, times: u32) -> Result<u8, AllocError> {
+    let domain = repeated(alloc, piece, times)?;
+    answer(
+        alloc,
+        &[
+            "domain='",
+            domain.as_str(),
+            "'\nroot_owner=0\nroot_group=0\nroot_mode=0\n[users]\n[groups]\n",
+        ],
+    )
+}
+
+/// The answer of a text with a user whose name is so many pieces.
+fn long_name(alloc: Global, piece: &str, times: u32) -> Result<u8, AllocError> {
+    let name = repeated(alloc, piece, times)?;
+    answer(
+        alloc,
+        &[settings(), "[users]\n'", name.as_str(), "' = 1\n[groups]\n"],
+    )
+}
+
+/// Pieces, how often they stand in a domain, and in a name, and the answer of the text.
+static LENGTHS: [(&str, u32, u32, u8); 4] = [
+    ("x", 128, 64, 0),
+    ("x", 129, 65, 3),
+    ("ü", 64, 32, 0),
+    ("ü", 65, 33, 3),
+];
+
+fn lengths_table() -> &'static [(&'static str, u32, u32, u8)] {
+    &LENGTHS
+}
+
 /// The longest domain has 128 bytes of UTF-8, the longest name 64.
 #[test]
 fn lengths(rt: HostRuntime) -> Result<(), Fail> {
-    for (piece, times, want) in [("x", 128u32, 0), ("x", 129, 3), ("ü", 64, 0), ("ü", 65, 3)] {
-        let domain = repeated(rt.alloc(), piece, times)?;
-        let first = joined(rt.alloc(), "domain='", domain.as_str(), "'\nroot_owner=0\n")?;
-        let text = joined(
-            rt.alloc(),
-            first.as_str(),
-            "root_group=0\nroot_mode=0\n",
-            "[users]\n[groups]\n",
-        )?;
-        assert_eq!(rt;
-            answer(rt.alloc(), text.as_str()),
-            want,
-            "domain of {times} {piece}"
-        );
-    }
-    for (piece, times, want) in [("x", 64u32, 0), ("x", 65, 3), ("ü", 32, 0), ("ü", 33, 3)] {
-        let name = repeated(rt.alloc(), piece, times)?;
-        let row = joined(rt.alloc(), "[users]\n'", name.as_str(), "' = 1\n")?;
-        let text = joined(rt.alloc(), SETTINGS, row.as_str(), "[groups]\n")?;
-        assert_eq!(rt;
-            answer(rt.alloc(), text.as_str()),
-            want,
-            "name of {times} {piece}"
-        );
+    for row in lengths_table() {
+        let (piece, in_domain, in_name, want) = *row;
+        let domain = long_domain(rt.alloc(), piece, in_domain)?;
+        assert_eq!(rt; domain, want, "domain of {in_domain} {piece}");
+        let name = long_name(rt.alloc(), piece, in_name)?;
+        assert_eq!(rt; name, want, "name of {in_name} {piece}");
     }
     Ok(())
+}
+
+/// A row of the table of users.
+fn push_row(alloc: Global, text: &mut String, number: u32) -> Result<(), AllocError> {
+    let row = format!(in alloc; "n{number} = {number}\n")?;
+    text.push_str(row.as_str())
+}
+
+/// The answer of a text with so many users.
+fn many_names(alloc: Global, names: u32) -> Result<u8, AllocError> {
+    let mut text = joined(alloc, &[settings(), "[users]\n"])?;
+    for number in 0..names {
+        push_row(alloc, &mut text, number)?;
+    }
+    text.push_str("[groups]\n")?;
+    Ok(answer_of(alloc, text.as_str()))
 }
 
 /// A table has at most 1,024 names.
 #[test]
 fn counts(rt: HostRuntime) -> Result<(), Fail> {
     for (names, want) in [(1023u32, 0), (1024, 0), (1025, 3)] {
-        let mut text = String::from_str(rt.alloc(), SETTINGS)?;
-        text.push_str("[users]\n")?;
-        for number in 0..names {
-            let row = format!(in rt.alloc(); "n{number} = {number}\n")?;
-            text.push_str(row.as_str())?;
-        }
-        text.push_str("[groups]\n")?;
-        assert_eq!(rt; answer(rt.alloc(), text.as_str()), want, "{names} names");
+        let got = many_names(rt.alloc(), names)?;
+        assert_eq!(rt; got, want, "{names} names");
     }
     Ok(())
 }
