@@ -2,6 +2,8 @@
 use acl_list::Kind;
 use nfs_types::{Attributes, Attrs, AttrsFault, Bitmap, Status, read_attrs};
 use std::alloc::{AllocError, Allocator, Global};
+use std::process::Abort;
+use std::test::Fail;
 use who_book::Book;
 use xdr_wire::{Full, Reader, Spell, Wire, Writer, XdrFault};
 
@@ -28,6 +30,20 @@ pub fn written<T: Spell>(
     let mut writer = Writer::new(alloc, room)?;
     let answer = value.write(&mut writer);
     Ok((writer.into_bytes(), answer))
+}
+
+/// Sees that a value is written as these bytes into a buffer of this room.
+pub fn see_written<T: Spell>(
+    rt: &impl Abort,
+    alloc: Global,
+    room: usize,
+    value: T,
+    want: &[u8],
+) -> Result<(), Fail> {
+    let (bytes, answer) = written(alloc, room, value)?;
+    assert_eq!(rt; answer, Ok(()));
+    assert_eq!(rt; bytes.as_slice(), want);
+    Ok(())
 }
 
 /// The set of one number.

@@ -2,11 +2,13 @@
 use crate::given;
 use acl_list::{Entry, EntryKind, Kind, Who};
 use nfs_types::{Bitmap, GivenAttributes, Moment, ObjectFacts, Status};
+use std::alloc::Global;
+use std::process::Abort;
 use std::test::Fail;
 use who_book::Book;
 use xdr_wire::Full;
 
-pub static LIST: [Entry; 2] = [
+static LIST: [Entry; 2] = [
     Entry {
         kind: EntryKind::Allow,
         flags: 0,
@@ -21,6 +23,10 @@ pub static LIST: [Entry; 2] = [
     },
 ];
 
+fn list() -> &'static [Entry; 2] {
+    &LIST
+}
+
 /// A file of two bytes.
 pub fn facts() -> ObjectFacts<'static> {
     ObjectFacts {
@@ -29,7 +35,7 @@ pub fn facts() -> ObjectFacts<'static> {
         change: 7,
         size: 2,
         error: Status::Ok,
-        entries: &LIST,
+        entries: list(),
         mode: 0o640,
         links: 1,
         owner: 1001,
@@ -93,67 +99,119 @@ static VALUES: [(u32, &[u32]); 28] = [
     (75, &[0]),
 ];
 
-/// Each attribute alone, with its set and its length before it; with a byte less of room, nothing.
-#[test]
-fn each_attribute(rt: HostRuntime) -> Result<(), Fail> {
-    let book = Book::default(rt.alloc());
+fn values() -> &'static [(u32, &'static [u32])] {
+    &VALUES
+}
+
+/// An attribute alone, with its set and its length before it; with a byte less of room, nothing.
+fn see_attribute(
+    rt: &impl Abort,
+    alloc: Global,
+    book: &Book,
+    number: u32,
+    words: &[u32],
+) -> Result<(), Fail> {
     let facts = facts();
-    for (number, words) in &VALUES {
-        let given = GivenAttributes {
-            book: &book,
-            facts: &facts,
-            asked: given::only(*number),
-        };
-        let value = given::bytes(rt.alloc(), words)?;
-        let (bytes, answer) = given::written(rt.alloc(), 256, given)?;
-        assert_eq!(rt; answer, Ok(()), "{number}");
-        assert!(rt; bytes.as_slice().ends_with(value.as_slice()), "{number}");
-        let (set, _) = given::written(rt.alloc(), 36, given::only(*number))?;
-        assert!(rt; bytes.as_slice().starts_with(set.as_slice()), "{number}");
-        assert_eq!(rt;
-            bytes.len(),
-            set.len().saturating_add(4).saturating_add(value.len()),
-            "{number}"
-        );
-        let (nothing, refused) = given::written(rt.alloc(), bytes.len().saturating_sub(1), given)?;
-        assert_eq!(rt; refused, Err(Full), "{number}");
-        assert!(rt; nothing.is_empty(), "{number}");
+    let given = GivenAttributes {
+        book,
+        facts: &facts,
+        asked: given::only(number),
+    };
+    let (bytes, answer) = given::written(alloc, 256, given)?;
+    assert_eq!(rt; answer, Ok(()), "{number}");
+    see_parts(rt, alloc, number, words, &bytes)?;
+    let (nothing, refused) = given::written(alloc, bytes.len().saturating_sub(1), given)?;
+    assert_eq!(rt; refused, Err(Full), "{number}");
+    assert!(rt; nothing.is_empty(), "{number}");
+    Ok(())
+}
+
+/// Sees that the bytes are the set of the number, a length and the words of its value.
+fn see_parts(
+    rt: &impl Abort,
+    alloc: Global,
+    number: u32,
+    words: &[u32],
+    bytes: &[u8],
+) -> Result<(), Fail> {
+    let value = given::bytes(alloc, words)?;
+    assert!(rt; bytes.ends_with(value.as_slice()), "{number}");
+    let (set, _) = given::written(alloc, 36, given::only(number))?;
+    assert!(rt; bytes.starts_with(set.as_slice()), "{number}");
+    assert_eq!(rt;
+        bytes.len(),
+        set.len().saturating_add(4).saturating_add(value.len()),
+        "{number}"
+    );
+    Ok(())
+}
+
+fn see_each_attribute(rt: &impl Abort, alloc: Global, book: &Book) -> Result<(), Fail> {
+    for (number, words) in values() {
+        see_attribute(rt, alloc, book, *number, words)?;
     }
     Ok(())
 }
 
-/// All attributes at once, in the order of their numbers, and none of those that aren't supported.
+/// Each attribute alone, with its set and its length before it; with a byte less of room, nothing.
 #[test]
-fn all_attributes(rt: HostRuntime) -> Result<(), Fail> {
+fn each_attribute(rt: HostRuntime) -> Result<(), Fail> {
     let book = Book::default(rt.alloc());
-    let facts = facts();
-    let mut values = Vec::new(rt.alloc());
+    see_each_attribute(&rt, rt.alloc(), &book)
+}
+
+/// Behind the head, the values of all attributes, in the order of their numbers.
+fn all_values(alloc: Global, head: &[u32]) -> Result<Vec<u8>, Fail> {
+    let mut all = given::bytes(alloc, head)?;
+    for (_, words) in values() {
+        add_words(alloc, &mut all, words)?;
+    }
+    Ok(all)
+}
+
+fn add_words(alloc: Global, bytes: &mut Vec<u8>, words: &[u32]) -> Result<(), Fail> {
+    let more = given::bytes(alloc, words)?;
+    bytes.extend_from_slice(more.as_slice())?;
+    Ok(())
+}
+
+/// The numbers of all attributes, and one that isn't supported.
+fn all_numbers() -> Bitmap {
     let mut asked = given::only(14);
-    for (number, words) in &VALUES {
-        values.extend_from_slice(given::bytes(rt.alloc(), words)?.as_slice())?;
+    for (number, _) in values() {
         if *number < 256 {
             asked = asked.with(*number);
         }
     }
+    asked
+}
+
+fn see_asked(
+    rt: &impl Abort,
+    alloc: Global,
+    room: usize,
+    asked: Bitmap,
+    want: &[u8],
+) -> Result<(), Fail> {
+    let book = Book::default(alloc);
+    let facts = facts();
     let given = GivenAttributes {
         book: &book,
         facts: &facts,
         asked,
     };
-    let (bytes, answer) = given::written(rt.alloc(), 1024, given)?;
-    assert_eq!(rt; answer, Ok(()));
+    given::see_written(rt, alloc, room, given, want)
+}
+
+/// All attributes at once, in the order of their numbers, and none of those that aren't supported.
+#[test]
+fn all_attributes(rt: HostRuntime) -> Result<(), Fail> {
+    let asked = all_numbers();
     let head = [3, 0xe818_3fff, 0x00b0_003a, 0x0000_0800, 248];
-    let mut want = given::bytes(rt.alloc(), &head)?;
-    want.extend_from_slice(values.as_slice())?;
-    assert_eq!(rt; bytes, want);
-    let nothing = GivenAttributes {
-        book: &book,
-        facts: &facts,
-        asked: given::only(255),
-    };
-    let (bytes, answer) = given::written(rt.alloc(), 8, nothing)?;
-    assert_eq!(rt; answer, Ok(()));
-    assert_eq!(rt; bytes, given::bytes(rt.alloc(), &[0, 0])?);
+    let want = all_values(rt.alloc(), &head)?;
+    see_asked(&rt, rt.alloc(), 1024, asked, &want)?;
+    let nothing = given::bytes(rt.alloc(), &[0, 0])?;
+    see_asked(&rt, rt.alloc(), 8, given::only(255), &nothing)?;
     assert!(rt; asked.is_within(&asked) && !asked.is_within(&Bitmap::supported()));
     Ok(())
 }

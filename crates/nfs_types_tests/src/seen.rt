@@ -1,10 +1,11 @@
 //! Attributes as a client reads and writes them.
 use crate::{given, object};
 use nfs_types::{
-    Ace, Aces, Attributes, GivenAttributes, SeenAttributes, ShownAttributes, Status, read_given,
-    write_given,
+    Ace, Aces, Attributes, Bitmap, GivenAttributes, SeenAttributes, ShownAttributes, Status,
+    read_given, write_given,
 };
 use std::alloc::{AllocError, Global};
+use std::process::Abort;
 use std::test::Fail;
 use who_book::Book;
 use xdr_wire::{Full, Opaque, Writer, XdrFault};
@@ -39,23 +40,8 @@ fn first_who<'a>(seen: &mut SeenAttributes<'a>) -> Option<&'a [u8]> {
     }
 }
 
-/// What a server gives is what a client reads.
-#[test]
-fn what_is_given_is_seen(rt: HostRuntime) -> Result<(), Fail> {
-    let book = Book::default(rt.alloc());
-    let mut facts = object::facts();
-    facts.error = Status::Access;
-    let mut asked = given::only(1);
-    for number in [4, 11, 12, 33, 36, 37] {
-        asked = asked.with(number);
-    }
-    let given = GivenAttributes {
-        book: &book,
-        facts: &facts,
-        asked,
-    };
-    let (bytes, _) = given::written(rt.alloc(), 512, given)?;
-    let mut seen = seen(&bytes)?;
+fn see_seen(rt: &impl Abort, bytes: &[u8]) -> Result<(), Fail> {
+    let mut seen = seen(bytes)?;
     assert_eq!(rt; seen.kind, Some(1));
     assert_eq!(rt; seen.size, Some(2));
     assert_eq!(rt; seen.error, Some(13));
@@ -64,6 +50,30 @@ fn what_is_given_is_seen(rt: HostRuntime) -> Result<(), Fail> {
     assert_eq!(rt; seen.group.map(|text| text.bytes), Some(b"100".as_slice()));
     assert_eq!(rt; first_who(&mut seen), Some(b"OWNER@".as_slice()));
     Ok(())
+}
+
+/// The numbers of type, size, rdattr_error, acl, mode, owner and group.
+fn seven_numbers() -> Bitmap {
+    let mut asked = given::only(1);
+    for number in [4, 11, 12, 33, 36, 37] {
+        asked = asked.with(number);
+    }
+    asked
+}
+
+/// What a server gives is what a client reads.
+#[test]
+fn what_is_given_is_seen(rt: HostRuntime) -> Result<(), Fail> {
+    let book = Book::default(rt.alloc());
+    let mut facts = object::facts();
+    facts.error = Status::Access;
+    let given = GivenAttributes {
+        book: &book,
+        facts: &facts,
+        asked: seven_numbers(),
+    };
+    let (bytes, _) = given::written(rt.alloc(), 512, given)?;
+    see_seen(&rt, &bytes)
 }
 
 /// Why a client doesn't take what was given.
@@ -75,12 +85,62 @@ static UNSEEN: [(&[u32], XdrFault); 5] = [
     (&[2, 0, 0x10, 8, 1, 1], XdrFault::BadPad),
 ];
 
+fn cases_of_unseen() -> &'static [(&'static [u32], XdrFault)] {
+    &UNSEEN
+}
+
+fn see_unseen(rt: &impl Abort, alloc: Global, words: &[u32], fault: XdrFault) -> Result<(), Fail> {
+    let bytes = given::bytes(alloc, words)?;
+    assert_eq!(rt; seen(&bytes).err(), Some(fault), "{words:?}");
+    Ok(())
+}
+
 #[test]
 fn what_is_not_seen(rt: HostRuntime) -> Result<(), Fail> {
-    for (words, fault) in &UNSEEN {
-        let bytes = given::bytes(rt.alloc(), words)?;
-        assert_eq!(rt; seen(&bytes).err(), Some(*fault), "{words:?}");
+    for (words, fault) in cases_of_unseen() {
+        see_unseen(&rt, rt.alloc(), words, *fault)?;
     }
+    Ok(())
+}
+
+static SHOWN: [u32; 15] = [
+    2,
+    0,
+    5,
+    13,
+    1,
+    1,
+    2,
+    3,
+    1,
+    0x3700_0000,
+    0x1a0,
+    1,
+    0x3000_0000,
+    3,
+    0x3130_3000,
+];
+
+fn words_shown() -> &'static [u32] {
+    &SHOWN
+}
+
+fn see_shown(rt: &impl Abort, alloc: Global, all: &ShownAttributes<'_>) -> Result<(), Fail> {
+    let want = given::bytes(alloc, words_shown())?;
+    assert_eq!(rt; shown(alloc, 60, all)?, (want, Ok(())));
+    Ok(())
+}
+
+fn see_without_room(rt: &impl Abort, alloc: Global, all: &ShownAttributes<'_>) -> Result<(), Fail> {
+    let (nothing, refused) = shown(alloc, 59, all)?;
+    assert!(rt; nothing.is_empty() && refused.is_err());
+    Ok(())
+}
+
+fn see_set(rt: &impl Abort, alloc: Global, all: &ShownAttributes<'_>) -> Result<(), Fail> {
+    let want = given::bytes(alloc, &[2, 0x1812, 0x32])?;
+    let (set, _) = given::written(alloc, 12, all.set())?;
+    assert_eq!(rt; set, want);
     Ok(())
 }
 
@@ -102,28 +162,7 @@ fn what_is_shown(rt: HostRuntime) -> Result<(), Fail> {
         owner: Opaque::new(b"0"),
         group: Opaque::new(b"100"),
     };
-    let words = [
-        2,
-        0,
-        5,
-        13,
-        1,
-        1,
-        2,
-        3,
-        1,
-        0x3700_0000,
-        0x1a0,
-        1,
-        0x3000_0000,
-        3,
-        0x3130_3000,
-    ];
-    let want = given::bytes(rt.alloc(), &words)?;
-    assert_eq!(rt; shown(rt.alloc(), 60, &all)?, (want, Ok(())));
-    let (nothing, refused) = shown(rt.alloc(), 59, &all)?;
-    assert!(rt; nothing.is_empty() && refused.is_err());
-    let (set, _) = given::written(rt.alloc(), 12, all.set())?;
-    assert_eq!(rt; set, given::bytes(rt.alloc(), &[2, 0x1812, 0x32])?);
-    Ok(())
+    see_shown(&rt, rt.alloc(), &all)?;
+    see_without_room(&rt, rt.alloc(), &all)?;
+    see_set(&rt, rt.alloc(), &all)
 }

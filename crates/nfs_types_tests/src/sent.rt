@@ -3,6 +3,8 @@ use crate::given;
 use acl_list::Kind;
 use linked_list_allocator::LocalHeap;
 use nfs_types::{AttrsFault, Status};
+use std::alloc::{AllocError, Global};
+use std::process::Abort;
 use std::test::Fail;
 use who_book::Book;
 
@@ -74,16 +76,36 @@ static REFUSED: [(&str, &[u32], Status); 20] = [
     ("no bitmap", &[9, 0], Status::BadXdr),
 ];
 
+fn cases_of_refusals() -> &'static [(&'static str, &'static [u32], Status)] {
+    &REFUSED
+}
+
+fn see_refusal(
+    rt: &impl Abort,
+    alloc: Global,
+    book: &Book,
+    name: &str,
+    words: &[u32],
+    status: Status,
+) -> Result<(), Fail> {
+    let bytes = given::bytes(alloc, words)?;
+    let refusal = given::attrs(alloc, book, Kind::File, &bytes).err();
+    assert_eq!(rt; refusal, Some(AttrsFault::Refused(status)), "{name}");
+    Ok(())
+}
+
+fn see_refusals(rt: &impl Abort, alloc: Global, book: &Book) -> Result<(), Fail> {
+    for (name, words, status) in cases_of_refusals() {
+        see_refusal(rt, alloc, book, name, words, *status)?;
+    }
+    Ok(())
+}
+
 /// The first fault over the whole set.
 #[test]
 fn what_is_refused(rt: HostRuntime) -> Result<(), Fail> {
     let book = Book::default(rt.alloc());
-    for (name, words, status) in &REFUSED {
-        let bytes = given::bytes(rt.alloc(), words)?;
-        let refusal = given::attrs(rt.alloc(), &book, Kind::File, &bytes).err();
-        assert_eq!(rt; refusal, Some(AttrsFault::Refused(*status)), "{name}");
-    }
-    Ok(())
+    see_refusals(&rt, rt.alloc(), &book)
 }
 
 /// Size 5, the list `A:00:00000001:OWNER@` and `A:08:00000002:7`, mode 0o7777, owner 4294967295, group 0.
@@ -113,28 +135,120 @@ static ALL: [u32; 23] = [
     0x3935_0000,
 ];
 
-/// Everything that can be set, and nothing.
-#[test]
-fn what_is_taken(rt: HostRuntime) -> Result<(), Fail> {
-    let book = Book::default(rt.alloc());
-    let mut bytes = given::bytes(rt.alloc(), &ALL)?;
-    bytes.extend_from_slice(given::bytes(rt.alloc(), &[1, 0x3000_0000])?.as_slice())?;
-    let bytes = bytes.as_slice();
-    let on_a_file = given::attrs(rt.alloc(), &book, Kind::File, bytes)?;
+fn words_of_all() -> &'static [u32] {
+    &ALL
+}
+
+fn bytes_of_all(alloc: Global) -> Result<Vec<u8>, Fail> {
+    let mut bytes = given::bytes(alloc, words_of_all())?;
+    let group = given::bytes(alloc, &[1, 0x3000_0000])?;
+    bytes.extend_from_slice(group.as_slice())?;
+    Ok(bytes)
+}
+
+fn see_on_a_file(rt: &impl Abort, alloc: Global, book: &Book, bytes: &[u8]) -> Result<(), Fail> {
+    let on_a_file = given::attrs(alloc, book, Kind::File, bytes)?;
     assert_eq!(rt; on_a_file.size, Some(5));
     assert_eq!(rt; on_a_file.list.as_ref().map(|list| list.len()), Some(1));
     assert_eq!(rt; on_a_file.mode, Some(0o7777));
     assert_eq!(rt; on_a_file.owner, Some(u32::MAX));
     assert_eq!(rt; on_a_file.group, Some(0));
-    let on_a_directory = given::attrs(rt.alloc(), &book, Kind::Directory, bytes)?;
+    Ok(())
+}
+
+fn see_on_a_directory(
+    rt: &impl Abort,
+    alloc: Global,
+    book: &Book,
+    bytes: &[u8],
+) -> Result<(), Fail> {
+    let on_a_directory = given::attrs(alloc, book, Kind::Directory, bytes)?;
     assert_eq!(rt;
         on_a_directory.list.as_ref().map(|list| list.len()),
         Some(2)
     );
-    let none = given::bytes(rt.alloc(), &[3, 0, 0, 0, 0])?;
-    let nothing = given::attrs(rt.alloc(), &book, Kind::Link, &none)?;
+    Ok(())
+}
+
+fn see_nothing(rt: &impl Abort, alloc: Global, book: &Book) -> Result<(), Fail> {
+    let none = given::bytes(alloc, &[3, 0, 0, 0, 0])?;
+    let nothing = given::attrs(alloc, book, Kind::Link, &none)?;
     assert!(rt; nothing.size.is_none() && nothing.mode.is_none() && nothing.list.is_none());
     assert!(rt; nothing.owner.is_none() && nothing.group.is_none());
+    Ok(())
+}
+
+/// Everything that can be set, and nothing.
+#[test]
+fn what_is_taken(rt: HostRuntime) -> Result<(), Fail> {
+    let book = Book::default(rt.alloc());
+    let bytes = bytes_of_all(rt.alloc())?;
+    see_on_a_file(&rt, rt.alloc(), &book, &bytes)?;
+    see_on_a_directory(&rt, rt.alloc(), &book, &bytes)?;
+    see_nothing(&rt, rt.alloc(), &book)
+}
+
+/// Whether there is memory in the heap for the list.
+fn see_list(rt: &impl Abort, heap: &LocalHeap, book: &Book, good: &[u8], size: usize) -> bool {
+    match given::attrs(heap, book, Kind::File, good) {
+        Ok(attrs) => {
+            assert_eq!(rt;
+                attrs.list.as_ref().map(|list| list.len()),
+                Some(1),
+                "at {size}"
+            );
+            true
+        }
+        Err(fault) => {
+            assert_eq!(rt; fault, AttrsFault::Memory, "at {size}");
+            false
+        }
+    }
+}
+
+fn see_fault(rt: &impl Abort, heap: &LocalHeap, book: &Book, bad: &[u8], size: usize) {
+    let fault = given::attrs(heap, book, Kind::File, bad).err();
+    assert_eq!(rt;
+        fault,
+        Some(AttrsFault::Refused(Status::Inval)),
+        "at {size}"
+    );
+}
+
+/// Whether there is memory for the list in a heap of this size. Nothing is left behind in it.
+fn see_at_size(
+    rt: &impl Abort,
+    alloc: Global,
+    book: &Book,
+    good: &[u8],
+    bad: &[u8],
+    size: usize,
+) -> Result<bool, AllocError> {
+    let heap = LocalHeap::new(alloc, size)?;
+    let made = see_list(rt, &heap, book, good, size);
+    see_fault(rt, &heap, book, bad, size);
+    assert_eq!(rt; heap.used(), 0, "at {size}");
+    Ok(made)
+}
+
+fn see_sizes(
+    rt: &impl Abort,
+    alloc: Global,
+    book: &Book,
+    good: &[u8],
+    bad: &[u8],
+) -> Result<(), Fail> {
+    let mut refused = 0u32;
+    let mut made = 0u32;
+    for size in 0..256usize {
+        if see_at_size(rt, alloc, book, good, bad, size)? {
+            made = made.saturating_add(1);
+        } else {
+            refused = refused.saturating_add(1);
+        }
+    }
+    assert!(rt; refused > 20, "refused {refused}");
+    assert!(rt; made > 50, "made {made}");
     Ok(())
 }
 
@@ -147,33 +261,5 @@ fn memory_is_refused(rt: HostRuntime) -> Result<(), Fail> {
         rt.alloc(),
         &[2, 0x1000, 0x2, 28, 1, 0, 0, 1, 1, 0x3700_0000, 0x1000],
     )?;
-    let mut refused = 0u32;
-    let mut made = 0u32;
-    for size in 0..256usize {
-        let heap = LocalHeap::new(rt.alloc(), size)?;
-        match given::attrs(&heap, &book, Kind::File, &good) {
-            Ok(attrs) => {
-                made = made.saturating_add(1);
-                assert_eq!(rt;
-                    attrs.list.as_ref().map(|list| list.len()),
-                    Some(1),
-                    "at {size}"
-                );
-            }
-            Err(fault) => {
-                refused = refused.saturating_add(1);
-                assert_eq!(rt; fault, AttrsFault::Memory, "at {size}");
-            }
-        }
-        let fault = given::attrs(&heap, &book, Kind::File, &bad).err();
-        assert_eq!(rt;
-            fault,
-            Some(AttrsFault::Refused(Status::Inval)),
-            "at {size}"
-        );
-        assert_eq!(rt; heap.used(), 0, "at {size}");
-    }
-    assert!(rt; refused > 20, "refused {refused}");
-    assert!(rt; made > 50, "made {made}");
-    Ok(())
+    see_sizes(&rt, rt.alloc(), &book, &good, &bad)
 }

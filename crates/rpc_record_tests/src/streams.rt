@@ -1,8 +1,10 @@
 //! Streams of records, in every cut.
 
 use crate::connection::Connection;
-use crate::words::{LOOKUP_CALL, bytes_of};
+use crate::words::{bytes_of, lookup_call};
 use rpc_record::{Framer, RECORD_LIMIT, Step};
+use std::alloc::Global;
+use std::process::Abort;
 use std::test::Fail;
 
 /// A stream, what is answered to it, and whether it breaks.
@@ -13,7 +15,7 @@ struct Case {
     broken: bool,
 }
 
-const CASES: [Case; 21] = [
+static CASES: [Case; 21] = [
     Case {
         name: "NULL",
         stream: &[0x8000_0028, 1, 0, 2, 0x0001_86a3, 4, 0, 0, 0, 0, 0],
@@ -213,9 +215,13 @@ const CASES: [Case; 21] = [
     },
 ];
 
+fn cases() -> &'static [Case] {
+    &CASES
+}
+
 /// Feeds the stream in pieces of `cut` bytes.
 fn feed_in_pieces(
-    rt: &HostRuntime,
+    alloc: Global,
     connection: &mut Connection,
     stream: &[u8],
     cut: usize,
@@ -225,33 +231,99 @@ fn feed_in_pieces(
     }
     for piece in stream.chunks(cut) {
         if !connection.broken {
-            connection.feed(rt.alloc(), piece)?;
+            connection.feed(alloc, piece)?;
         }
     }
     Ok(())
 }
 
+/// What is answered to a stream that comes in pieces of `cut` bytes, and whether it breaks.
+fn answered(alloc: Global, stream: &[u8], cut: usize) -> Result<(Vec<u8>, bool), Fail> {
+    let mut connection = Connection::new(alloc);
+    feed_in_pieces(alloc, &mut connection, stream, cut)?;
+    let Connection { out, broken, .. } = connection;
+    Ok((out, broken))
+}
+
+/// Sees what is answered to a case's stream that comes in pieces of `cut` bytes.
+fn see_cut(
+    rt: &impl Abort,
+    alloc: Global,
+    case: &Case,
+    stream: &[u8],
+    reply: &[u8],
+    cut: usize,
+) -> Result<(), Fail> {
+    let (out, broken) = answered(alloc, stream, cut)?;
+    assert_eq!(rt;
+        out.as_slice(),
+        reply,
+        "{} cut every {cut} bytes",
+        case.name
+    );
+    assert_eq!(rt; broken, case.broken, "{} cut every {cut} bytes", case.name);
+    Ok(())
+}
+
+fn see_each_cut(
+    rt: &impl Abort,
+    alloc: Global,
+    case: &Case,
+    stream: &[u8],
+    reply: &[u8],
+) -> Result<(), Fail> {
+    for cut in 1..=stream.len() {
+        see_cut(rt, alloc, case, stream, reply, cut)?;
+    }
+    Ok(())
+}
+
+fn see_case(rt: &impl Abort, alloc: Global, case: &Case) -> Result<(), Fail> {
+    let stream = bytes_of(alloc, case.stream)?;
+    let reply = bytes_of(alloc, case.reply)?;
+    see_each_cut(rt, alloc, case, &stream, &reply)
+}
+
 #[test]
 fn streams_in_every_cut(rt: HostRuntime) -> Result<(), Fail> {
-    for case in &CASES {
-        let stream = bytes_of(rt.alloc(), case.stream)?;
-        let reply = bytes_of(rt.alloc(), case.reply)?;
-        for cut in 1..=stream.len() {
-            let mut connection = Connection::new(rt.alloc());
-            feed_in_pieces(&rt, &mut connection, &stream, cut)?;
-            assert_eq!(rt;
-                connection.out.as_slice(),
-                reply.as_slice(),
-                "{} cut every {cut} bytes",
-                case.name
-            );
-            assert_eq!(rt;
-                connection.broken,
-                case.broken,
-                "{} cut every {cut} bytes",
-                case.name
-            );
-        }
+    for case in cases() {
+        see_case(&rt, rt.alloc(), case)?;
+    }
+    Ok(())
+}
+
+/// Where a connection is: its records, and whether it is inside one.
+fn place(connection: &Connection) -> (usize, bool) {
+    (connection.records, connection.is_inside())
+}
+
+/// Where a connection is behind the front, where it is behind the rest too, and whether it is broken then.
+fn places(
+    alloc: Global,
+    front: &[u8],
+    rest: &[u8],
+) -> Result<((usize, bool), (usize, bool), bool), Fail> {
+    let mut connection = Connection::new(alloc);
+    connection.feed(alloc, front)?;
+    let first = place(&connection);
+    connection.feed(alloc, rest)?;
+    Ok((first, place(&connection), connection.broken))
+}
+
+fn see_front(rt: &impl Abort, alloc: Global, front: &[u8], rest: &[u8]) -> Result<(), Fail> {
+    let len = front.len();
+    let (first, second, broken) = places(alloc, front, rest)?;
+    assert_eq!(rt; first.0, 0, "{len} bytes");
+    assert_eq!(rt; first.1, len > 0, "{len} bytes");
+    assert_eq!(rt; second.0, 1, "{len} bytes");
+    assert!(rt; !second.1, "{len} bytes");
+    assert!(rt; !broken, "{len} bytes");
+    Ok(())
+}
+
+fn see_each_front(rt: &impl Abort, alloc: Global, stream: &[u8]) -> Result<(), Fail> {
+    for len in 0..stream.len() {
+        see_front(rt, alloc, &stream[..len], &stream[len..])?;
     }
     Ok(())
 }
@@ -259,54 +331,76 @@ fn streams_in_every_cut(rt: HostRuntime) -> Result<(), Fail> {
 /// A call that isn't whole is not answered, and its connection is inside a record unless nothing came.
 #[test]
 fn each_front_of_a_call(rt: HostRuntime) -> Result<(), Fail> {
-    let stream = bytes_of(rt.alloc(), &LOOKUP_CALL)?;
-    for len in 0..stream.len() {
-        let mut connection = Connection::new(rt.alloc());
-        connection.feed(rt.alloc(), &stream[..len])?;
-        assert_eq!(rt; connection.records, 0, "{len} bytes");
-        assert_eq!(rt; connection.is_inside(), len > 0, "{len} bytes");
-        connection.feed(rt.alloc(), &stream[len..])?;
-        assert_eq!(rt; connection.records, 1, "{len} bytes");
-        assert!(rt; !connection.is_inside(), "{len} bytes");
-        assert!(rt; !connection.broken, "{len} bytes");
+    let stream = bytes_of(rt.alloc(), lookup_call())?;
+    see_each_front(&rt, rt.alloc(), &stream)
+}
+
+/// The step of a framer, with no contract, so that the prover doesn't compute on a test's bytes.
+fn step(rt: &impl Abort, framer: &mut Framer, piece: &[u8], at: usize) -> Step {
+    assert!(rt; at <= piece.len());
+    framer.feed(piece, at)
+}
+
+/// Sees a record of two fragments, the first of 65,536 bytes and the second with this mark.
+fn see_second_mark(rt: &impl Abort, half: &[u8], mark: u32, broken: bool) {
+    let mut framer = Framer::new();
+    assert_eq!(rt; step(rt, &mut framer, &[0, 1, 0, 0], 0), Step::NeedMore);
+    assert_eq!(rt; step(rt, &mut framer, half, 0), Step::Part(0, 65_536));
+    let second = step(rt, &mut framer, &mark.to_be_bytes(), 0);
+    assert_eq!(rt; second == Step::Broken, broken, "{mark:x}");
+    if !broken {
+        assert_eq!(rt; step(rt, &mut framer, half, 0), Step::Record(0, 65_536));
+        assert!(rt; !framer.is_inside());
     }
-    Ok(())
 }
 
 /// The limit is the record's: its second header takes it above.
 #[test]
 fn a_record_above_the_limit_in_two_fragments(rt: HostRuntime) -> Result<(), Fail> {
     let half = vec![in rt.alloc(); 0u8; 65_536]?;
-    for (mark, broken) in [(0x8001_0000u32, false), (0x8001_0001, true)] {
-        let mut framer = Framer::new();
-        assert_eq!(rt; framer.feed(&[0, 1, 0, 0], 0), Step::NeedMore);
-        assert_eq!(rt; framer.feed(&half, 0), Step::Part(0, 65_536));
-        let step = framer.feed(&mark.to_be_bytes(), 0);
-        assert_eq!(rt; step == Step::Broken, broken, "{mark:x}");
-        if !broken {
-            assert_eq!(rt; framer.feed(&half, 0), Step::Record(0, 65_536));
-            assert!(rt; !framer.is_inside());
-        }
-    }
+    see_second_mark(&rt, &half, 0x8001_0000, false);
+    see_second_mark(&rt, &half, 0x8001_0001, true);
     assert_eq!(rt; RECORD_LIMIT, 131_072);
     Ok(())
+}
+
+/// Pieces that are fed one after another, each from this place on, the step that it gives, and whether the framer is
+/// inside a record then, where that is asked.
+type Fed = (&'static [u8], usize, Step, Option<bool>);
+
+static STEPS: [Fed; 9] = [
+    (&[], 0, Step::NeedMore, Some(false)),
+    (&[0, 0, 0, 0], 0, Step::Part(4, 4), Some(true)),
+    (&[0x80], 0, Step::NeedMore, None),
+    (&[9, 0, 0, 3, 7], 1, Step::Part(4, 5), None),
+    (&[7, 7, 0], 0, Step::Record(0, 2), Some(false)),
+    (&[7, 7, 0], 2, Step::NeedMore, Some(true)),
+    (&[2, 0, 1], 0, Step::Broken, None),
+    (&[0, 0, 0, 0], 0, Step::Broken, None),
+    (&[], 0, Step::Broken, None),
+];
+
+fn steps() -> &'static [Fed] {
+    &STEPS
+}
+
+fn see_step(rt: &impl Abort, framer: &mut Framer, fed: &Fed) {
+    let (piece, at, want, inside) = fed;
+    assert_eq!(rt; step(rt, framer, piece, *at), *want);
+    if let Some(inside) = inside {
+        assert_eq!(rt; framer.is_inside(), *inside);
+    }
+}
+
+fn see_steps(rt: &impl Abort, framer: &mut Framer) {
+    for fed in steps() {
+        see_step(rt, framer, fed);
+    }
 }
 
 #[test]
 fn steps_of_a_framer(rt: HostRuntime) {
     let mut framer = Framer::new();
     assert!(rt; !framer.is_inside());
-    assert_eq!(rt; framer.feed(&[], 0), Step::NeedMore);
-    assert!(rt; !framer.is_inside());
-    assert_eq!(rt; framer.feed(&[0, 0, 0, 0], 0), Step::Part(4, 4));
-    assert!(rt; framer.is_inside());
-    assert_eq!(rt; framer.feed(&[0x80], 0), Step::NeedMore);
-    assert_eq!(rt; framer.feed(&[9, 0, 0, 3, 7], 1), Step::Part(4, 5));
-    assert_eq!(rt; framer.feed(&[7, 7, 0], 0), Step::Record(0, 2));
-    assert!(rt; !framer.is_inside());
-    assert_eq!(rt; framer.feed(&[7, 7, 0], 2), Step::NeedMore);
-    assert!(rt; framer.is_inside());
-    assert_eq!(rt; framer.feed(&[2, 0, 1], 0), Step::Broken);
-    assert_eq!(rt; framer.feed(&[0, 0, 0, 0], 0), Step::Broken);
-    assert_eq!(rt; framer.feed(&[], 0), Step::Broken);
+    see_steps(&rt, &mut framer);
 }

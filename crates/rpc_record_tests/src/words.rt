@@ -6,7 +6,7 @@ use std::alloc::{AllocError, Global};
 pub const NULL_CALL: [u32; 10] = [1, 0, 2, 100_003, 4, 0, 0, 0, 0, 0];
 
 /// A call of COMPOUND by uid 1002 in group 100, with its mark: transaction 2, three operations in 40 bytes.
-pub const LOOKUP_CALL: [u32; 26] = [
+static LOOKUP_CALL: [u32; 26] = [
     0x8000_0064,
     2,
     0,
@@ -34,6 +34,16 @@ pub const LOOKUP_CALL: [u32; 26] = [
     3,
     0x2d,
 ];
+
+/// That call, with its mark.
+pub fn lookup_call() -> &'static [u32] {
+    &LOOKUP_CALL
+}
+
+/// The same call, without its mark.
+pub fn lookup_record() -> &'static [u32] {
+    &LOOKUP_CALL[1..]
+}
 
 /// The bytes of words.
 pub fn bytes_of(alloc: Global, words: &[u32]) -> Result<Vec<u8>, AllocError> {

@@ -1,5 +1,7 @@
 //! What the tests call: functions with no contract, so that the prover doesn't compute on a test's bytes.
 use std::alloc::{AllocError, Global};
+use std::process::Abort;
+use std::test::Fail;
 use xdr_wire::{Full, Reader, Spell, Wire, Writer, XdrFault};
 
 /// What `read` gives of the bytes, and how many are left.
@@ -39,4 +41,18 @@ pub fn written<T: Spell>(
     let mut writer = Writer::new(alloc, room)?;
     let answer = value.write(&mut writer);
     Ok((writer.into_bytes(), answer))
+}
+
+/// Sees that a value is written as these bytes into a buffer of this room.
+pub fn see_written<T: Spell>(
+    rt: &impl Abort,
+    alloc: Global,
+    room: usize,
+    value: T,
+    want: &[u8],
+) -> Result<(), Fail> {
+    let (bytes, answer) = written(alloc, room, value)?;
+    assert_eq!(rt; answer, Ok(()));
+    assert_eq!(rt; bytes.as_slice(), want);
+    Ok(())
 }

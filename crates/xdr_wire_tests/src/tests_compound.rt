@@ -1,8 +1,10 @@
 use crate::{Bitmap, Channel, Claim, Listing, Mark, Stable, given};
+use std::alloc::Global;
+use std::process::Abort;
 use std::test::Fail;
-use xdr_wire::{Array, AtMostOne, Full, Opaque, Reader, Wire, XdrFault};
+use xdr_wire::{Array, AtMostOne, Full, Opaque, Reader, Spell, Wire, XdrFault};
 
-const CHANNEL: Channel = Channel {
+static CHANNEL: Channel = Channel {
     padding: 0,
     request_size: 131072,
     reply_size: 131072,
@@ -12,16 +14,29 @@ const CHANNEL: Channel = Channel {
     rdma: Some(5),
 };
 
-const CHANNEL_BYTES: &[u8] =
+static CHANNEL_BYTES: &[u8] =
     b"\0\0\0\0\0\x02\0\0\0\x02\0\0\0\0\x10\0\0\0\0\x10\0\0\0\x08\0\0\0\x01\0\0\0\x05";
+
+fn sample_channel() -> &'static Channel {
+    &CHANNEL
+}
+
+fn channel_bytes() -> &'static [u8] {
+    CHANNEL_BYTES
+}
 
 /// A struct of seven fields: its bytes by hand.
 #[test]
 fn channel(rt: HostRuntime) -> Result<(), Fail> {
-    let (bytes, answer) = given::written(rt.alloc(), 32, CHANNEL)?;
-    assert_eq!(rt; answer, Ok(()));
-    assert_eq!(rt; bytes.as_slice(), CHANNEL_BYTES);
-    assert_eq!(rt; given::read(CHANNEL_BYTES), (Ok(CHANNEL), 0));
+    given::see_written(&rt, rt.alloc(), 32, *sample_channel(), channel_bytes())?;
+    assert_eq!(rt; given::read(channel_bytes()), (Ok(*sample_channel()), 0));
+    Ok(())
+}
+
+fn see_no_channel(rt: &impl Abort, alloc: Global, room: usize) -> Result<(), Fail> {
+    let (bytes, answer) = given::written(alloc, room, *sample_channel())?;
+    assert_eq!(rt; answer, Err(Full), "room {room}");
+    assert!(rt; bytes.is_empty(), "room {room}");
     Ok(())
 }
 
@@ -29,58 +44,86 @@ fn channel(rt: HostRuntime) -> Result<(), Fail> {
 #[test]
 fn channel_without_room(rt: HostRuntime) -> Result<(), Fail> {
     for room in 0..32usize {
-        let (bytes, answer) = given::written(rt.alloc(), room, CHANNEL)?;
-        assert_eq!(rt; answer, Err(Full), "room {room}");
-        assert!(rt; bytes.is_empty(), "room {room}");
+        see_no_channel(&rt, rt.alloc(), room)?;
     }
     Ok(())
+}
+
+type Fields = (u32, (u64, (i64, (bool, ([u8; 3], (Option<u32>, ()))))));
+
+static FIELDS: Fields = (7, (8, (-9, (true, ([1, 2, 3], (Some(4), ()))))));
+
+static FIELDS_BYTES: &[u8] =
+    b"\0\0\0\x07\0\0\0\0\0\0\0\x08\xff\xff\xff\xff\xff\xff\xff\xf7\0\0\0\x01\x01\x02\x03\0\0\0\0\x01\0\0\0\x04";
+
+fn sample_fields() -> &'static Fields {
+    &FIELDS
+}
+
+fn fields_bytes() -> &'static [u8] {
+    FIELDS_BYTES
 }
 
 /// Fields of every plain type, written and read again.
 #[test]
 fn fields(rt: HostRuntime) -> Result<(), Fail> {
-    let value = (
-        7u32,
-        (8u64, (-9i64, (true, ([1u8, 2, 3], (Some(4u32), ()))))),
-    );
-    let (bytes, answer) = given::written(rt.alloc(), 36, value)?;
-    assert_eq!(rt; answer, Ok(()));
-    assert_eq!(rt;
-        bytes.as_slice(),
-        b"\0\0\0\x07\0\0\0\0\0\0\0\x08\xff\xff\xff\xff\xff\xff\xff\xf7\0\0\0\x01\x01\x02\x03\0\0\0\0\x01\0\0\0\x04".as_slice()
-    );
-    assert_eq!(rt; given::read(&bytes), (Ok(value), 0));
+    given::see_written(&rt, rt.alloc(), 36, *sample_fields(), fields_bytes())?;
+    assert_eq!(rt; given::read(fields_bytes()), (Ok(*sample_fields()), 0));
     Ok(())
+}
+
+type AtMostOneCase = (&'static [u8], Result<AtMostOne<u32>, XdrFault>);
+
+static AT_MOST_ONE: [AtMostOneCase; 3] = [
+    (b"\0\0\0\0", Ok(AtMostOne(None))),
+    (b"\0\0\0\x01\0\0\0\x05", Ok(AtMostOne(Some(5)))),
+    (b"\0\0\0\x02\0\0\0\x05\0\0\0\x06", Err(XdrFault::TooLong)),
+];
+
+fn cases_of_at_most_one() -> &'static [AtMostOneCase] {
+    &AT_MOST_ONE
 }
 
 /// An array of at most one: none, one and two.
 #[test]
 fn at_most_one(rt: HostRuntime) {
-    let cases: [(&[u8], Result<AtMostOne<u32>, XdrFault>); 3] = [
-        (b"\0\0\0\0", Ok(AtMostOne(None))),
-        (b"\0\0\0\x01\0\0\0\x05", Ok(AtMostOne(Some(5)))),
-        (b"\0\0\0\x02\0\0\0\x05\0\0\0\x06", Err(XdrFault::TooLong)),
-    ];
-    for (bytes, want) in cases {
-        assert_eq!(rt; given::read(bytes).0, want, "array<1> {bytes:?}");
+    for (bytes, want) in cases_of_at_most_one() {
+        assert_eq!(rt; given::read(bytes).0, *want, "array<1> {bytes:?}");
     }
+}
+
+type StableCase = (&'static [u8], Result<Stable, XdrFault>);
+
+static STABLE: [StableCase; 4] = [
+    (b"\0\0\0\0", Ok(Stable::Unstable)),
+    (b"\0\0\0\x01", Ok(Stable::Data)),
+    (b"\0\0\0\x02", Ok(Stable::File)),
+    (b"\0\0\0\x03", Err(XdrFault::BadChoice)),
+];
+
+fn cases_of_stable() -> &'static [StableCase] {
+    &STABLE
+}
+
+fn see_stable(
+    rt: &impl Abort,
+    alloc: Global,
+    bytes: &[u8],
+    want: Result<Stable, XdrFault>,
+) -> Result<(), Fail> {
+    assert_eq!(rt; given::read(bytes).0, want, "enum {bytes:?}");
+    if let Ok(stable) = want {
+        let (written, _) = given::written(alloc, 4, stable)?;
+        assert_eq!(rt; written.as_slice(), bytes);
+    }
+    Ok(())
 }
 
 /// An enum: each number, and one of none.
 #[test]
 fn enumeration(rt: HostRuntime) -> Result<(), Fail> {
-    let cases: [(&[u8], Result<Stable, XdrFault>); 4] = [
-        (b"\0\0\0\0", Ok(Stable::Unstable)),
-        (b"\0\0\0\x01", Ok(Stable::Data)),
-        (b"\0\0\0\x02", Ok(Stable::File)),
-        (b"\0\0\0\x03", Err(XdrFault::BadChoice)),
-    ];
-    for (bytes, want) in cases {
-        assert_eq!(rt; given::read(bytes).0, want, "enum {bytes:?}");
-        if let Ok(stable) = want {
-            let (written, _) = given::written(rt.alloc(), 4, stable)?;
-            assert_eq!(rt; written.as_slice(), bytes);
-        }
+    for (bytes, want) in cases_of_stable() {
+        see_stable(&rt, rt.alloc(), bytes, *want)?;
     }
     Ok(())
 }
@@ -99,30 +142,45 @@ fn union(rt: HostRuntime) -> Result<(), Fail> {
     Ok(())
 }
 
+/// Sees what is written of a value into a buffer that has room for it.
+fn see_bytes<T: Spell>(
+    rt: &impl Abort,
+    alloc: Global,
+    room: usize,
+    value: T,
+    want: &[u8],
+) -> Result<(), Fail> {
+    let (bytes, _) = given::written(alloc, room, value)?;
+    assert_eq!(rt; bytes.as_slice(), want);
+    Ok(())
+}
+
 /// A union, written.
 #[test]
 fn union_is_written(rt: HostRuntime) -> Result<(), Fail> {
     if let Some(name) = Opaque::new(b"a.txt") {
-        let (bytes, _) = given::written(rt.alloc(), 16, Claim::ByName(name))?;
-        assert_eq!(rt;
-            bytes.as_slice(),
-            b"\0\0\0\0\0\0\0\x05a.txt\0\0\0".as_slice()
-        );
+        see_bytes(
+            &rt,
+            rt.alloc(),
+            16,
+            Claim::ByName(name),
+            b"\0\0\0\0\0\0\0\x05a.txt\0\0\0",
+        )?;
     }
-    let (bytes, _) = given::written(rt.alloc(), 4, Claim::ByHandle)?;
-    assert_eq!(rt; bytes.as_slice(), b"\0\0\0\x04".as_slice());
-    Ok(())
+    see_bytes(&rt, rt.alloc(), 4, Claim::ByHandle, b"\0\0\0\x04")
 }
 
 /// A field that is ignored, and optional data.
 #[test]
 fn ignored_field(rt: HostRuntime) -> Result<(), Fail> {
     let minus = Mark { time: Some(-1) };
-    let (bytes, _) = given::written(rt.alloc(), 16, minus)?;
-    assert_eq!(rt;
-        bytes.as_slice(),
-        b"\0\0\0\0\0\0\0\x01\xff\xff\xff\xff\xff\xff\xff\xff".as_slice()
-    );
+    see_bytes(
+        &rt,
+        rt.alloc(),
+        16,
+        minus,
+        b"\0\0\0\0\0\0\0\x01\xff\xff\xff\xff\xff\xff\xff\xff",
+    )?;
     assert_eq!(rt;
         given::read(b"\0\0\0\x63\0\0\0\x01\xff\xff\xff\xff\xff\xff\xff\xff"),
         (Ok(minus), 0)
@@ -157,19 +215,22 @@ fn array(rt: HostRuntime) {
     assert_eq!(rt; two_items(b"\0\0\0\x02\0\0\0\x07"), None);
 }
 
+fn array_bytes() -> &'static [u8] {
+    b"\0\0\0\x02\0\0\0\x07\0\0\0\x08"
+}
+
 /// An array that is read is written again.
 #[test]
 fn array_is_written(rt: HostRuntime) -> Result<(), Fail> {
-    let bytes = b"\0\0\0\x02\0\0\0\x07\0\0\0\x08".as_slice();
+    let bytes = array_bytes();
     if let (Ok(items), _) = given::read::<Array<u32, 2>>(bytes) {
-        let (written, _) = given::written(rt.alloc(), 12, items)?;
-        assert_eq!(rt; written.as_slice(), bytes);
+        see_bytes(&rt, rt.alloc(), 12, items, bytes)?;
     }
     Ok(())
 }
 
 /// Two entries by hand, of the cookies 3 and 4 and the names `a` and `bc`, and the end.
-const LISTING: &[u8] =
+static LISTING: &[u8] =
     b"\0\0\0\x01\0\0\0\0\0\0\0\x03\0\0\0\x01a\0\0\0\0\0\0\x01\0\0\0\0\0\0\0\x04\0\0\0\x02bc\0\0\0\0\0\0\0\0\0\x01";
 
 /// The cookies and the lengths of the names, in order.
@@ -185,27 +246,38 @@ fn two_entries(bytes: &[u8]) -> Option<((u64, usize), (u64, usize), bool)> {
     ))
 }
 
+fn listing_bytes() -> &'static [u8] {
+    LISTING
+}
+
+/// Whether the listing is refused where it ends after this many bytes.
+fn is_refused_at(cut: usize) -> bool {
+    two_entries(listing_bytes().get(..cut).unwrap_or(b"")).is_none()
+}
+
 /// A chain of two entries is read, and is refused where it is cut.
 #[test]
 fn chain(rt: HostRuntime) {
-    assert_eq!(rt; two_entries(LISTING), Some(((3, 1), (4, 2), true)));
+    assert_eq!(rt; two_entries(listing_bytes()), Some(((3, 1), (4, 2), true)));
     for cut in 0..48usize {
-        assert!(rt;
-            two_entries(LISTING.get(..cut).unwrap_or(b"")).is_none(),
-            "cut at {cut}"
-        );
+        assert!(rt; is_refused_at(cut), "cut at {cut}");
     }
+}
+
+fn see_listing(rt: &impl Abort, alloc: Global, room: usize) -> Result<(), Fail> {
+    if let (Ok(listing), _) = given::read::<Listing>(listing_bytes()) {
+        let (written, _) = given::written(alloc, room, listing)?;
+        let want: &[u8] = if room == 48 { listing_bytes() } else { b"" };
+        assert_eq!(rt; written.as_slice(), want, "room {room}");
+    }
+    Ok(())
 }
 
 /// A chain that is read is written again, or nothing of it.
 #[test]
 fn chain_is_written(rt: HostRuntime) -> Result<(), Fail> {
     for room in 0..49usize {
-        if let (Ok(listing), _) = given::read::<Listing>(LISTING) {
-            let (written, _) = given::written(rt.alloc(), room, listing)?;
-            let want: &[u8] = if room == 48 { LISTING } else { b"" };
-            assert_eq!(rt; written.as_slice(), want, "room {room}");
-        }
+        see_listing(&rt, rt.alloc(), room)?;
     }
     Ok(())
 }

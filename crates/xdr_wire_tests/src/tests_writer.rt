@@ -4,19 +4,27 @@ use std::test::Fail;
 use xdr_wire::{Full, Opaque, Writer};
 
 /// The file of RFC 4506, section 7, by hand: its name, EXEC with its interpretor, its owner and its data.
-const FILE: &[u8] =
+static FILE: &[u8] =
     b"\0\0\0\x09sillyprog\0\0\0\0\0\0\x02\0\0\0\x04lisp\0\0\0\x04john\0\0\0\x06(quit)\0\0";
 
+fn file_bytes() -> &'static [u8] {
+    FILE
+}
+
 type Text<'a> = Opaque<'a, 255>;
+
+fn put_fields(writer: &mut Writer<Global>) -> bool {
+    writer.put_opaque(b"sillyprog").is_ok()
+        && writer.put_u32(2).is_ok()
+        && writer.put_opaque(b"lisp").is_ok()
+        && writer.put_opaque(b"john").is_ok()
+        && writer.put_opaque(b"(quit)").is_ok()
+}
 
 /// That file's fields as it is written, in a buffer of this room.
 fn put_file(alloc: Global, room: usize) -> Result<(Vec<u8>, bool), AllocError> {
     let mut writer = Writer::new(alloc, room)?;
-    let whole = writer.put_opaque(b"sillyprog").is_ok()
-        && writer.put_u32(2).is_ok()
-        && writer.put_opaque(b"lisp").is_ok()
-        && writer.put_opaque(b"john").is_ok()
-        && writer.put_opaque(b"(quit)").is_ok();
+    let whole = put_fields(&mut writer);
     Ok((writer.into_bytes(), whole))
 }
 
@@ -25,7 +33,7 @@ fn put_file(alloc: Global, room: usize) -> Result<(Vec<u8>, bool), AllocError> {
 fn file_is_written(rt: HostRuntime) -> Result<(), Fail> {
     let (bytes, whole) = put_file(rt.alloc(), 48)?;
     assert!(rt; whole);
-    assert_eq!(rt; bytes.as_slice(), FILE);
+    assert_eq!(rt; bytes.as_slice(), file_bytes());
     let (_, whole) = put_file(rt.alloc(), 47)?;
     assert!(rt; !whole);
     Ok(())
@@ -34,7 +42,7 @@ fn file_is_written(rt: HostRuntime) -> Result<(), Fail> {
 /// The same example, read.
 #[test]
 fn file_is_read(rt: HostRuntime) -> Result<(), Fail> {
-    let (read, left) = given::read::<(Text, (u32, (Text, (Text, Text))))>(FILE);
+    let (read, left) = given::read::<(Text, (u32, (Text, (Text, Text))))>(file_bytes());
     assert_eq!(rt; left, 0);
     let Ok((name, (kind, (interpretor, (owner, data))))) = read else {
         return Ok(assert!(rt; false));
@@ -47,17 +55,32 @@ fn file_is_read(rt: HostRuntime) -> Result<(), Fail> {
     Ok(())
 }
 
-fn put_items(alloc: Global) -> Result<(Vec<u8>, bool), AllocError> {
-    let mut writer = Writer::new(alloc, 52)?;
-    let whole = writer.put_u32(258).is_ok()
+fn put_numbers(writer: &mut Writer<Global>) -> bool {
+    writer.put_u32(258).is_ok()
         && writer.put_u64(4294967296).is_ok()
         && writer.put_i64(-2).is_ok()
         && writer.put_bool(true).is_ok()
         && writer.put_bool(false).is_ok()
-        && writer.put_fixed(b"abcde").is_ok()
+}
+
+fn put_rows(writer: &mut Writer<Global>) -> bool {
+    writer.put_fixed(b"abcde").is_ok()
         && writer.put_words(&[1, 2]).is_ok()
-        && writer.put_opaque(b"a").is_ok();
+        && writer.put_opaque(b"a").is_ok()
+}
+
+fn put_items(alloc: Global) -> Result<(Vec<u8>, bool), AllocError> {
+    let mut writer = Writer::new(alloc, 52)?;
+    let whole = put_numbers(&mut writer) && put_rows(&mut writer);
     Ok((writer.into_bytes(), whole))
+}
+
+/// The bytes of these items by hand.
+static ITEMS: &[u8] =
+    b"\0\0\x01\x02\0\0\0\x01\0\0\0\0\xff\xff\xff\xff\xff\xff\xff\xfe\0\0\0\x01\0\0\0\0abcde\0\0\0\0\0\0\x01\0\0\0\x02\0\0\0\x01a\0\0\0";
+
+fn items_bytes() -> &'static [u8] {
+    ITEMS
 }
 
 /// Each item, where there is just room for it.
@@ -65,10 +88,7 @@ fn put_items(alloc: Global) -> Result<(Vec<u8>, bool), AllocError> {
 fn items(rt: HostRuntime) -> Result<(), Fail> {
     let (bytes, whole) = put_items(rt.alloc())?;
     assert!(rt; whole);
-    assert_eq!(rt;
-        bytes.as_slice(),
-        b"\0\0\x01\x02\0\0\0\x01\0\0\0\0\xff\xff\xff\xff\xff\xff\xff\xfe\0\0\0\x01\0\0\0\0abcde\0\0\0\0\0\0\x01\0\0\0\x02\0\0\0\x01a\0\0\0".as_slice()
-    );
+    assert_eq!(rt; bytes.as_slice(), items_bytes());
     Ok(())
 }
 
