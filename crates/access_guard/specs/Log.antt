@@ -2,7 +2,6 @@
 use Rattle.std.specs.Prelude.{ℕ, ◌+◌, ◌-◌, ◌^◌, min, Bool, if◌then◌else◌, List, [], ◌++◌, length}
 use Rattle.circular_buffer.specs.Buffer.{keep_last}
 use Rattle.access_guard.specs.declared.line.Line.{Line}
-use Rattle.access_guard.specs.declared.trail.TheConstants.{MOST_KEPT}
 
 pub record Log : Type 0 where
   -- the lines that wait for the operation's end, in order
@@ -11,6 +10,10 @@ pub record Log : Type 0 where
   pub trail : List Line
   -- how many there were in all, as far as 64 bits count
   pub total : ℕ
+
+-- how many lines the trail keeps at most
+abbrev pub MOST_KEPT : ℕ
+MOST_KEPT = 4096
 
 -- more lines wait
 abbrev pub held : List Line → Log → Log

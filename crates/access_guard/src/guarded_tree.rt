@@ -271,6 +271,7 @@ impl<A: Allocator + Copy> GuardedTree<A> {
         requires tick { IsTick self.old.world at.tick }
         requires file { kind_of self.old.world file ≡ Some Kind.File }
         ensures refused { MatchOption (write_refusal offset more.now) (IsOkUnless result TreeFault.Memory) (λ fault. result ≡ Err fault) }
+        ensures nothing { more.now ≡ [] → IsOk result }
         ensures ok { OnOk result (self.new ≡ record self.old { world = with_write self.old.world file offset more.now at }) }
         ensures err { OnErr result (self.new ≡ self.old) }
     {

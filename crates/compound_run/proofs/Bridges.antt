@@ -8,7 +8,7 @@ use Rattle.std.proofs.lemmas.List.Sums.{length-filter}
 use Rattle.acl_shape.specs.Inherited.{is_directory}
 use Rattle.node_tree.specs.declared.fault.TreeFault.{TreeFault}
 use Rattle.node_tree.specs.declared.fault.TreeFault.TheVariants.{Exist, Inval, NoSpc, Memory}
-use Rattle.node_tree.specs.declared.limits.TheConstants.{MAX_NAMES, MAX_LINKS}
+use Rattle.node_tree.specs.Limits.{MAX_NAMES, MAX_LINKS}
 use Rattle.node_tree.specs.World.{World, Object, Name, object, child_named, link_count, is_directory_at}
 use Rattle.node_tree.specs.declared.at.At.{At}
 use Rattle.node_tree.specs.Changes.{renamed, is_same_object}

@@ -126,7 +126,7 @@ by_row caller s (Suffices test ∷ questions) demands (inr more) = rw more.0 (by
 more_before : (caller : Identity) (op : ℕ) (lists : Lists) (demands : List (Option Demand)) (first last : List Line) → EndsInRefusal caller op lists demands last → EndsInRefusal caller op lists demands (first ++ last)
 more_before caller op lists demands first last e = record {
   demand = e.demand;
-  asked = e.asked;
+  reached = e.reached;
   object = e.object;
   mask = e.mask;
   cause = e.cause;
@@ -138,10 +138,10 @@ more_before caller op lists demands first last e = record {
 nothing_behind : (caller : Identity) (op : ℕ) (lists : Lists) (demands : List (Option Demand)) (all : List Line) → EndsInRefusal caller op lists demands all → EndsInRefusal caller op lists demands (all ++ [])
 nothing_behind caller op lists demands all e = subst (EndsInRefusal caller op lists demands) (sym (append-nil all)) e
 
-one_demand_more : (caller : Identity) (op : ℕ) (lists : Lists) (d : Demand) (demands : List (Option Demand)) (all : List Line) → EndsInRefusal caller op lists demands all → EndsInRefusal caller op lists (Some d ∷ demands) all
-one_demand_more caller op lists d demands all e = record {
+one_demand_more : (caller : Identity) (op : ℕ) (lists : Lists) (d : Demand) (demands : List (Option Demand)) (all : List Line) → decision lists caller d ≡ decisions.Granted → EndsInRefusal caller op lists demands all → EndsInRefusal caller op lists (Some d ∷ demands) all
+one_demand_more caller op lists d demands all granted e = record {
   demand = e.demand;
-  asked = inr e.asked;
+  reached = inr (granted, e.reached);
   object = e.object;
   mask = e.mask;
   cause = e.cause;
@@ -153,7 +153,7 @@ one_demand_more caller op lists d demands all e = record {
 none_more : (caller : Identity) (op : ℕ) (lists : Lists) (demands : List (Option Demand)) (all : List Line) → EndsInRefusal caller op lists demands all → EndsInRefusal caller op lists (None ∷ demands) all
 none_more caller op lists demands all e = record {
   demand = e.demand;
-  asked = e.asked;
+  reached = e.reached;
   object = e.object;
   mask = e.mask;
   cause = e.cause;
@@ -174,10 +174,10 @@ demands_end caller op lists (Some d ∷ demands) h = of (decision lists caller d
         → is_granted x && all_granted lists caller demands ≡ false
         → EndsInRefusal caller op lists (Some d ∷ demands) ((watching lists caller op (is_granted x) d ++ deny_lines caller op x) ++ cond (is_granted x) (demand_lines lists caller op demands) [])
     of decisions.Granted is goes h =
-        one_demand_more caller op lists d demands _ (more_before caller op lists demands (watching lists caller op true d ++ []) (demand_lines lists caller op demands) (goes h))
+        one_demand_more caller op lists d demands _ is (more_before caller op lists demands (watching lists caller op true d ++ []) (demand_lines lists caller op demands) (goes h))
     of (decisions.Refused object mask cause) is goes h = nothing_behind caller op lists (Some d ∷ demands) _ (record {
       demand = d;
-      asked = inl refl;
+      reached = inl refl;
       object = object;
       mask = mask;
       cause = cause;

@@ -15,7 +15,7 @@ use Rattle.nfs_types.specs.Sent.{Wanted, wanted_of}
 use Rattle.nfs_ops.specs.Forms.{create_type, create_args}
 use Rattle.nfs_ops.specs.Operations as ops
 use Rattle.nfs_ops.specs.Results as results
-use Rattle.node_tree.specs.declared.limits.TheConstants.{MAX_NAMES, MAX_OBJECTS, MAX_TEXT}
+use Rattle.node_tree.specs.Limits.{MAX_NAMES, MAX_OBJECTS, MAX_TEXT}
 use Rattle.node_tree.specs.World.{World, Object, object}
 use Rattle.node_tree.specs.Changes.{with_new}
 use Rattle.node_tree.specs.Refusals.{has_left}

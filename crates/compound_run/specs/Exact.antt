@@ -47,17 +47,17 @@ ArePassedOrSuffice caller s (Valid fault ∷ questions) = (fault ≡ None) × Ar
 ArePassedOrSuffice caller s (Row demands ∷ questions) = (all_granted s.lists caller (demands s) ≡ true) × ArePassedOrSuffice caller s questions
 ArePassedOrSuffice caller s (Suffices test ∷ questions) = (test s ≡ true) ⊎ ((test s ≡ false) × ArePassedOrSuffice caller s questions)
 
--- it is one of the demands of a row
-abbrev pub IsAsked : Demand → List (Option Demand) → Type 0
-IsAsked demand [] = ⊥
-IsAsked demand (None ∷ demands) = IsAsked demand demands
-IsAsked demand (Some d ∷ demands) = (demand ≡ d) ⊎ IsAsked demand demands
+-- it is a demand of a row, and those before it are granted
+abbrev pub IsReached : Lists → Identity → Demand → List (Option Demand) → Type 0
+IsReached lists caller demand [] = ⊥
+IsReached lists caller demand (None ∷ demands) = IsReached lists caller demand demands
+IsReached lists caller demand (Some d ∷ demands) = (demand ≡ d) ⊎ ((decision lists caller d ≡ decisions.Granted) × IsReached lists caller demand demands)
 
--- The last of the lines is the DENY line of a demand of the row, one that the lists refuse: it tells the object, what was asked of it,
+-- The last of the lines is the DENY line of the first demand of the row that the lists refuse: it tells the object, what was asked of it,
 -- and the first entry that denies it, else the lowest bit that none allows.
 pub record EndsInRefusal (caller : Identity) (op : ℕ) (lists : Lists) (demands : List (Option Demand)) (lines : List Line) : Type 0 where
   pub demand : Demand
-  pub asked : IsAsked demand demands
+  pub reached : IsReached lists caller demand demands
   pub object : ℕ
   pub mask : ℕ
   pub cause : Cause

@@ -3,7 +3,7 @@ use Rattle.std.specs.Prelude.{ℕ, nat_lt, List, [], ◌∷◌}
 use Rattle.nfs_types.specs.declared.status.Status.TheVariants as statuses
 use Rattle.nfs_ops.specs.Operations as ops
 use Rattle.nfs_ops.specs.Results as results
-use Rattle.node_tree.specs.declared.limits.TheConstants.{MAX_LINKS}
+use Rattle.node_tree.specs.Limits.{MAX_LINKS}
 use Rattle.node_tree.specs.Changes.{with_link}
 use Rattle.compound_run.specs.Questions.{Holds}
 use Rattle.compound_run.specs.Rows.{first_row}

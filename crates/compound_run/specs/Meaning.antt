@@ -15,7 +15,7 @@ use Rattle.nfs_types.specs.Name.{name_fault}
 use Rattle.nfs_ops.specs.Forms.{change_info}
 use Rattle.nfs_ops.specs.Results.{Outcome, Refused}
 use Rattle.node_tree.specs.declared.at.At.{At}
-use Rattle.node_tree.specs.declared.limits.TheConstants.{MAX_NAMES}
+use Rattle.node_tree.specs.Limits.{MAX_NAMES}
 use Rattle.node_tree.specs.World.{World}
 use Rattle.node_tree.specs.Refusals.{has_left}
 use Rattle.compound_run.specs.declared.files.Files.{Files}

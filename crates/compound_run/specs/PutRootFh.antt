@@ -1,7 +1,7 @@
 -- PUTROOTFH (RFC 8881, section 18.21): the root becomes current.
 use Rattle.std.specs.Prelude.{[], Some}
 use Rattle.nfs_ops.specs.Results as results
-use Rattle.node_tree.specs.declared.limits.TheConstants.{ROOT}
+use Rattle.node_tree.specs.Limits.{ROOT}
 use Rattle.compound_run.specs.Meaning.{Place, Meaning, stays}
 
 abbrev pub put_root_fh : Place → Meaning

@@ -5,7 +5,7 @@ use Rattle.nfs_types.specs.declared.status.Status.TheVariants as statuses
 use Rattle.nfs_ops.specs.Forms.{change_info, rename_args}
 use Rattle.nfs_ops.specs.Operations as ops
 use Rattle.nfs_ops.specs.Results as results
-use Rattle.node_tree.specs.declared.limits.TheConstants.{MAX_NAMES}
+use Rattle.node_tree.specs.Limits.{MAX_NAMES}
 use Rattle.node_tree.specs.Changes.{renamed}
 use Rattle.node_tree.specs.Refusals.{has_left}
 use Rattle.node_tree.specs.Ways.{is_met}

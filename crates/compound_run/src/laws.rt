@@ -28,7 +28,8 @@ pub fn ok_is_exact()
 {}
 
 /// An operation answers ACCESS exactly where a row of demands is its first question that fails (`exact`). Its last line is then the
-/// DENY line of a demand of that row, which names the first denying entry, else the lowest bit that none allows (`told`).
+/// DENY line of the first demand of that row that isn't granted: it names the first denying entry, else the lowest bit that none allows
+/// (`told`).
 /// That nothing changes, a step says of every outcome that isn't OK.
 pub fn access_is_exact()
     ensures exact { (caller : Identity) (w : World) (p : Place) (op : Operation) → (outcome (meaning p op) caller w ≡ Err statuses.Access) ↔ IsRefusedByRow caller (whole w) (meaning p op).questions }

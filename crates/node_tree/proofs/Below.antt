@@ -9,7 +9,7 @@ use Rattle.std.proofs.lemmas.Map.Made.{IsDistinct-from_AllPairs}
 use Rattle.std.proofs.lemmas.Map.Steps.{length-le_from_distinct_below}
 use Rattle.acl_list.specs.declared.entry.Kind.{Kind}
 use Rattle.acl_list.specs.declared.entry.Kind.TheVariants.{Directory}
-use Rattle.node_tree.specs.declared.limits.TheConstants.{ROOT}
+use Rattle.node_tree.specs.Limits.{ROOT}
 use Rattle.node_tree.specs.World.{World, Object, Name, object, kind_of, parent_of}
 use Rattle.node_tree.specs.Ways.{is_met, is_within, LiesWithin, itself, below}
 use Rattle.node_tree.specs.Sound.{IsIn, Climbs, IsRooted, IsSound}

@@ -7,7 +7,7 @@ use Rattle.std.proofs.Math.Logic.{⊎_elim}
 use Rattle.std.proofs.lemmas.Bool.Decides.{Decides-eqb}
 use Rattle.acl_list.specs.declared.entry.Kind.{Kind}
 use Rattle.acl_list.specs.declared.entry.Kind.TheVariants.{Directory}
-use Rattle.node_tree.specs.declared.limits.TheConstants.{ROOT}
+use Rattle.node_tree.specs.Limits.{ROOT}
 use Rattle.node_tree.specs.World.{Name, is_named}
 use Rattle.node_tree.specs.Ways.{is_met}
 use Rattle.node_tree.specs.Sound.{IsIn, Climbs, IsRooted}

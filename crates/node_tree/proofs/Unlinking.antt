@@ -9,7 +9,7 @@ use Rattle.std.specs.Option.{option_map}
 use Rattle.std.proofs.lemmas.Bool.Decides.{Decides-eqb}
 use Rattle.acl_list.specs.declared.entry.Kind.{Kind}
 use Rattle.node_tree.specs.declared.at.At.{At}
-use Rattle.node_tree.specs.declared.limits.TheConstants.{ROOT}
+use Rattle.node_tree.specs.Limits.{ROOT}
 use Rattle.node_tree.specs.World.{World, Object, Name, object, kind_of, is_named, has_name, has_entries, child_named}
 use Rattle.node_tree.specs.Changes.{changed, without, touched, retold, released, other_names, without_name}
 use Rattle.node_tree.specs.Judged.{judged, KeepsJudged}

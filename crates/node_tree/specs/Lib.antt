@@ -1,3 +1,4 @@
+pub mod Limits
 pub mod World
 pub mod Ways
 pub mod Changes

@@ -3,7 +3,7 @@ use Rattle.std.specs.Prelude.{ℕ, ◌+◌, ◌^◌, ◌==◌, Bool, ◌&&◌, �
 use Rattle.std.specs.Option.{option_map_or}
 use Rattle.node_tree.specs.declared.fault.TreeFault.{TreeFault}
 use Rattle.node_tree.specs.declared.fault.TreeFault.TheVariants.{Exist, NoEnt, NotEmpty, Inval, FBig, MLink, NoSpc}
-use Rattle.node_tree.specs.declared.limits.TheConstants.{MAX_BYTES, MAX_NAMES, MAX_OBJECTS, MAX_LINKS}
+use Rattle.node_tree.specs.Limits.{MAX_BYTES, MAX_NAMES, MAX_OBJECTS, MAX_LINKS}
 use Rattle.node_tree.specs.World.{World, Name, child_named, name_count, link_count, has_entries, is_directory_at}
 use Rattle.node_tree.specs.Ways.{is_within}
 
