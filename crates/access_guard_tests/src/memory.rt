@@ -85,6 +85,19 @@ fn a_second_equal_call_walks_no_list(rt: HostRuntime) -> Result<(), Fail> {
     Ok(())
 }
 
+/// The bits of `pub`, whose list has five entries, are looked up once and remembered, and nothing else is.
+#[test]
+fn grants_look_up_their_object_alone(rt: HostRuntime) -> Result<(), Fail> {
+    let alloc = rt.alloc();
+    let mut guarded = guarded(alloc, sample(alloc)?, 2, RandomState::new(&rt)?)?;
+    let caller = Caller::new(1002, 100, &[]);
+    assert_eq!(rt; guarded.grants(3, &caller), 0x12_00e7);
+    assert_eq!(rt; guarded.guard().examined(), 5);
+    let pairs = remembered(alloc, guarded.guard())?;
+    assert_eq!(rt; pairs.as_slice(), [(3, sum(0x12_00e7))].as_slice());
+    Ok(())
+}
+
 /// Asks for READ_DATA on the object.
 fn read(guarded: &mut GuardedTree, object: u64) -> Decision
     requires { guarded.old.log.held ≡ [] }
