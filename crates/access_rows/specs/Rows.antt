@@ -1,20 +1,20 @@
 -- What each operation asks of the lists (RFC 8881, sections 6.2.1.3.1 and 18): a line for each operation, by its number.
 use Rattle.std.specs.Prelude.{ℕ, ◌+◌, ◌%◌, Bool, true, false, ◌==◌, ◌&&◌, ◌||◌, nat_le, if◌then◌else◌, List, [], ◌∷◌, length, Option, Some, None, bit_or}
-use Rattle.std.proofs.Common.{inl, inr}
 use Rattle.std.specs.List.{list_any}
 use Rattle.std.specs.Option.{option_map_or}
 use Rattle.acl_list.specs.declared.entry.Kind.{Kind}
 use Rattle.acl_list.specs.declared.entry.Kind.TheVariants.{File, Directory, Link as LinkKind}
 use Rattle.acl_list.specs.declared.mask.TheConstants.{READ_DATA, LIST_DIRECTORY, WRITE_DATA, ADD_FILE, APPEND_DATA, ADD_SUBDIRECTORY, EXECUTE, READ_ATTRIBUTES, READ_ACL, WRITE_ACL, WRITE_OWNER}
-use Rattle.xdr_wire.specs.Xdr.{Value}
 use Rattle.nfs_types.specs.Sets.{has_number}
-use Rattle.nfs_ops.specs.Forms.{create_type, open_args, open_how, open_claim, write_args}
-use Rattle.nfs_ops.specs.Operations.{Operation, Access, Close, Commit, Create, GetAttr, GetFh, Link, Lookup, LookupP, NVerify, Open, PutFh, PutRootFh, Read, ReadDir, ReadLink, Remove, Rename, RestoreFh, SaveFh, SetAttr, Verify, Write, ExchangeId, CreateSession, DestroySession, Sequence, DestroyClientId, ReclaimComplete, Unsupported, Illegal, Bad}
+use Rattle.nfs_ops.specs.Operations.{Operation, Known}
+use Rattle.nfs_ops.specs.Parts as parts
+use Rattle.nfs_ops.specs.Parts.{Created, How, Claim, created_type, open_access, how_of, claim_of, set_of, set_attributes, write_offset, written_bytes}
+use Rattle.nfs_ops.specs.declared.op_kind.OpKind.TheVariants as kinds
 use Rattle.access_rows.specs.declared.demand.Demand.{Demand}
 use Rattle.access_rows.specs.declared.demand.Demand.TheVariants.{Bits, Removal}
 use Rattle.access_rows.specs.declared.facts.Object.{Object}
-use Rattle.access_rows.specs.declared.facts.Facts.{Facts}
-use Rattle.access_rows.specs.declared.rows.Phases.{Phases}
+use Rattle.access_rows.specs.declared.facts.First.{First}
+use Rattle.access_rows.specs.declared.facts.Second.{Second}
 
 -- ---- demands
 
@@ -29,20 +29,39 @@ removal (Some parent) (Some target) = Some (Removal parent.number target.number)
 removal (Some parent) None = None
 removal None target = None
 
--- the demands of the two phases, in their order
-abbrev pub asks : Option Demand → Option Demand → Option Demand → Option Demand → Option Demand → Phases
-asks a b c d e = record { first = a ∷ b ∷ []; second = c ∷ d ∷ e ∷ [] }
+-- what is asked in a phase, in order; at a place without a demand nothing is
+abbrev pub Demands : Type 0
+Demands = List (Option Demand)
 
-abbrev pub nothing : Phases
-nothing = asks None None None None None
+-- one demand alone, of two
+abbrev pub row : Option Demand → Demands
+row a = a ∷ None ∷ []
 
--- one demand alone
-abbrev pub row : Option Demand → Phases
-row a = asks a None None None None
+-- of three
+abbrev pub one_of_three : Option Demand → Demands
+one_of_three a = a ∷ None ∷ None ∷ []
 
--- one in each phase
-abbrev pub two_rows : Option Demand → Option Demand → Phases
-two_rows a c = asks a None c None None
+-- ---- how many lists are read for them
+
+-- a removal is decided by the lists of the target and of its parent
+abbrev pub lists_of : Demand → ℕ
+lists_of (Bits object mask) = 1
+lists_of (Removal parent target) = 2
+
+abbrev pub lists_in : Demands → ℕ
+lists_in [] = 0
+lists_in (None ∷ others) = lists_in others
+lists_in (Some d ∷ others) = lists_of d + lists_in others
+
+-- the most lists that a first phase is decided by, a second one, and an entry of READDIR
+abbrev pub most_first : ℕ
+most_first = 2
+
+abbrev pub most_second : ℕ
+most_second = 5
+
+abbrev pub most_of_entry : ℕ
+most_of_entry = 2
 
 -- ---- the bits that depend on the arguments
 
@@ -66,7 +85,7 @@ sizing_mask (Some size) None = bit_or WRITE_DATA APPEND_DATA
 sizing_mask None new = bit_or WRITE_DATA APPEND_DATA
 
 -- size as above, mode and acl by WRITE_ACL, owner and owner_group by WRITE_OWNER
-abbrev pub setting_mask : List ℕ → Facts → ℕ
+abbrev pub setting_mask : List ℕ → First → ℕ
 setting_mask set facts =
     bit_or (bit_or (if has_number set 4 then sizing_mask facts.size facts.new_size else 0)
     (if has_number set 12 || has_number set 33 then WRITE_ACL else 0)) (if has_number set 36 || has_number set 37 then WRITE_OWNER else 0)
@@ -87,30 +106,17 @@ adding_mask Directory = ADD_SUBDIRECTORY
 adding_mask LinkKind = ADD_FILE
 
 -- of a new object of this type; other types than a directory and a link aren't made by CREATE
-abbrev pub creating_mask : Value create_type → ℕ
-creating_mask (inl file) = 0
-creating_mask (inr (inl directory)) = bit_or EXECUTE ADD_SUBDIRECTORY
-creating_mask (inr (inr (inl block))) = 0
-creating_mask (inr (inr (inr (inl character)))) = 0
-creating_mask (inr (inr (inr (inr (inl link))))) = bit_or EXECUTE ADD_FILE
-creating_mask (inr (inr (inr (inr (inr (inl socket)))))) = 0
-creating_mask (inr (inr (inr (inr (inr (inr (inl fifo))))))) = 0
-creating_mask (inr (inr (inr (inr (inr (inr (inr (inl attributes)))))))) = 0
-creating_mask (inr (inr (inr (inr (inr (inr (inr (inr (inl named))))))))) = 0
-creating_mask (inr (inr (inr (inr (inr (inr (inr (inr (inr more))))))))) = elim more [ ]
+abbrev pub creating_mask : Created → ℕ
+creating_mask parts.Directory = bit_or EXECUTE ADD_SUBDIRECTORY
+creating_mask (parts.Link text) = bit_or EXECUTE ADD_FILE
+creating_mask _ = 0
 
 -- ---- OPEN (section 18.16)
 
-abbrev pub is_unchecked : Value open_how → Bool
-is_unchecked (inl present) = false
-is_unchecked (inr (inl (inl attributes))) = true
-is_unchecked (inr (inl (inr (inl attributes)))) = false
-is_unchecked (inr (inl (inr (inr more)))) = elim more [ ]
-is_unchecked (inr (inr more)) = elim more [ ]
-
-abbrev pub is_creating : Value open_how → Bool
-is_creating (inl present) = false
-is_creating (inr how) = true
+abbrev pub is_creating : How → Bool
+is_creating parts.NoCreate = false
+is_creating (parts.Unchecked set) = true
+is_creating (parts.Guarded set) = true
 
 -- the low byte: 1 to read, 2 to write, 3 for both
 abbrev pub is_to_read : ℕ → Bool
@@ -120,24 +126,30 @@ abbrev pub is_to_write : ℕ → Bool
 is_to_write access = (access % 256 == 2) || (access % 256 == 3)
 
 -- an unchecked OPEN of size 0 truncates the file that is there
-abbrev pub is_truncating : Value open_how → Facts → Bool
-is_truncating how facts = is_unchecked how && option_map_or (λ size. size == 0) facts.new_size false
+abbrev pub is_truncating : How → Option ℕ → Bool
+is_truncating (parts.Unchecked set) new_size = option_map_or (λ size. size == 0) new_size false
+is_truncating (parts.Guarded set) new_size = false
+is_truncating parts.NoCreate new_size = false
 
 -- reading takes READ_DATA, writing APPEND_DATA, truncation WRITE_DATA
-abbrev pub opening_mask : ℕ → Value open_how → Facts → ℕ
-opening_mask access how facts =
-    bit_or (bit_or (if is_to_read access then READ_DATA else 0) (if is_to_write access then APPEND_DATA else 0)) (if is_truncating how facts then WRITE_DATA else 0)
+abbrev pub opening_mask : ℕ → How → Option ℕ → ℕ
+opening_mask access how new_size =
+    bit_or (bit_or (if is_to_read access then READ_DATA else 0) (if is_to_write access then APPEND_DATA else 0)) (if is_truncating how new_size then WRITE_DATA else 0)
 
 -- a file that is there is opened; one that isn't may be made
-abbrev pub opening : Option Object → ℕ → Value open_how → Facts → Option Demand
+abbrev pub opening : Option Object → ℕ → How → Second → Option Demand
 opening None access how facts = if is_creating how then bits facts.current ADD_FILE else None
-opening (Some file) access how facts = bits (Some file) (opening_mask access how facts)
+opening (Some file) access how facts = bits (Some file) (opening_mask access how facts.new_size)
+
+-- by name the directory is asked first
+abbrev pub open_first : Claim → Option Object → Option Demand
+open_first (parts.ByName name) current = bits current EXECUTE
+open_first parts.ByHandle current = None
 
 -- by name it is the child of the current directory, by filehandle the current object itself
-abbrev pub open_row : ℕ → Value open_how → Value open_claim → Facts → Phases
-open_row access how (inl name) facts = two_rows (bits facts.current EXECUTE) (opening facts.child access how facts)
-open_row access how (inr (inl by_handle)) facts = two_rows None (bits facts.current (opening_mask access how facts))
-open_row access how (inr (inr more)) facts = elim more [ ]
+abbrev pub open_second : Claim → ℕ → How → Second → Option Demand
+open_second (parts.ByName name) access how facts = opening facts.child access how facts
+open_second parts.ByHandle access how facts = bits facts.current (opening_mask access how facts.new_size)
 
 -- ---- RENAME (section 18.26)
 
@@ -148,45 +160,41 @@ is_one (Some a) (Some b) = a.number == b.number
 is_one (Some a) None = false
 is_one None b = false
 
-abbrev pub rename_row : Facts → Phases
-rename_row facts =
-    asks (bits facts.saved EXECUTE) (if is_one facts.saved facts.current then None else bits facts.current EXECUTE)
-    (removal facts.saved facts.child) (bits facts.current (option_map_or (λ child. adding_mask child.kind) facts.child 0)) (removal facts.current facts.replaced)
+abbrev pub rename_first : First → Demands
+rename_first facts = bits facts.saved EXECUTE ∷ (if is_one facts.saved facts.current then None else bits facts.current EXECUTE) ∷ []
+
+abbrev pub rename_second : Second → Demands
+rename_second facts =
+    removal facts.saved facts.child ∷ bits facts.current (option_map_or (λ child. adding_mask child.kind) facts.child 0) ∷ removal facts.current facts.replaced ∷ []
 
 -- ---- the table
 
--- What each operation asks, by its number. A demand of the second phase is asked once the names are known to be there; a phase that
--- isn't reached asks nothing. The entries of READDIR are judged one by one, as they are listed.
-abbrev pub demands : Operation → Facts → Phases
-demands (Access v) facts = nothing
-demands (Close v) facts = nothing
-demands (Commit v) facts = nothing
-demands (Create v) facts = row (bits facts.current (creating_mask v.0))
-demands (GetAttr v) facts = row (bits facts.current (reading_mask v))
-demands GetFh facts = nothing
-demands (Link v) facts = row (bits facts.current (bit_or EXECUTE ADD_FILE))
-demands (Lookup v) facts = row (bits facts.current EXECUTE)
-demands LookupP facts = row (bits facts.current EXECUTE)
-demands (NVerify v) facts = row (bits facts.current (reading_mask v.0))
-demands (Open v) facts = open_row v.1.0 v.1.1.1.1.1.0 v.1.1.1.1.1.1 facts
-demands (PutFh v) facts = nothing
-demands PutRootFh facts = nothing
-demands (Read v) facts = row (bits facts.current READ_DATA)
-demands (ReadDir v) facts = row (bits facts.current LIST_DIRECTORY)
-demands ReadLink facts = row (bits facts.current READ_DATA)
-demands (Remove v) facts = two_rows (bits facts.current EXECUTE) (removal facts.current facts.child)
-demands (Rename v) facts = rename_row facts
-demands RestoreFh facts = nothing
-demands SaveFh facts = nothing
-demands (SetAttr v) facts = row (bits facts.current (setting_mask v.1.0 facts))
-demands (Verify v) facts = row (bits facts.current (reading_mask v.0))
-demands (Write v) facts = row (bits facts.current (writing_mask facts.size v.1.0 (length v.1.1.1)))
-demands (ExchangeId v) facts = nothing
-demands (CreateSession v) facts = nothing
-demands (DestroySession v) facts = nothing
-demands (Sequence v) facts = nothing
-demands (DestroyClientId v) facts = nothing
-demands (ReclaimComplete v) facts = nothing
-demands (Unsupported n) facts = nothing
-demands Illegal facts = nothing
-demands (Bad n) facts = nothing
+-- What each operation asks first: EXECUTE on the directories that names are looked up in, or the whole row of one that looks up no name.
+abbrev pub first_demands : Operation → First → Demands
+first_demands (Known kinds.Create v) facts = row (bits facts.current (creating_mask (created_type v)))
+first_demands (Known kinds.GetAttr v) facts = row (bits facts.current (reading_mask v))
+first_demands (Known kinds.Link v) facts = row (bits facts.current (bit_or EXECUTE ADD_FILE))
+first_demands (Known kinds.Lookup v) facts = row (bits facts.current EXECUTE)
+first_demands (Known kinds.LookupP v) facts = row (bits facts.current EXECUTE)
+first_demands (Known kinds.NVerify v) facts = row (bits facts.current (reading_mask (set_of v)))
+first_demands (Known kinds.Open v) facts = row (open_first (claim_of v) facts.current)
+first_demands (Known kinds.Read v) facts = row (bits facts.current READ_DATA)
+first_demands (Known kinds.ReadDir v) facts = row (bits facts.current LIST_DIRECTORY)
+first_demands (Known kinds.ReadLink v) facts = row (bits facts.current READ_DATA)
+first_demands (Known kinds.Remove v) facts = row (bits facts.current EXECUTE)
+first_demands (Known kinds.Rename v) facts = rename_first facts
+first_demands (Known kinds.SetAttr v) facts = row (bits facts.current (setting_mask (set_of (set_attributes v)) facts))
+first_demands (Known kinds.Verify v) facts = row (bits facts.current (reading_mask (set_of v)))
+first_demands (Known kinds.Write v) facts = row (bits facts.current (writing_mask facts.size (write_offset v) (length (written_bytes v))))
+first_demands _ facts = row None
+
+-- What each asks once the names are known to be there; a phase that isn't reached asks nothing.
+abbrev pub second_demands : Operation → Second → Demands
+second_demands (Known kinds.Open v) facts = one_of_three (open_second (claim_of v) (open_access v) (how_of v) facts)
+second_demands (Known kinds.Remove v) facts = one_of_three (removal facts.current facts.child)
+second_demands (Known kinds.Rename v) facts = rename_second facts
+second_demands _ facts = one_of_three None
+
+-- What READDIR asks of each entry, as it is listed, where these attributes are asked: READ_ATTRIBUTES, and then READ_ACL.
+abbrev pub entry_demands : List ℕ → Option Object → Demands
+entry_demands set entry = bits entry (if has_any set governed then READ_ATTRIBUTES else 0) ∷ bits entry (if has_number set 12 then READ_ACL else 0) ∷ []

@@ -11,9 +11,38 @@ pub struct Object {
     pub kind: Kind,
 }
 
-/// The objects that an operation is about and the sizes of files, each where there is one.
+/// What is known before an operation looks up a name, each where there is one.
 #[derive(Clone, Copy, Debug, PartialEq, Eq)]
-pub struct Facts {
+pub struct First {
+    /// The object of the current filehandle.
+    pub current: Option<Object>,
+    /// The object of the saved filehandle: of RENAME the source's directory.
+    pub saved: Option<Object>,
+    /// Of WRITE and SETATTR the size of the current object, in bytes.
+    pub size: Option<u64>,
+    /// Of SETATTR the size that is to be set, in bytes.
+    pub new_size: Option<u64>,
+}
+
+impl First {
+    ghost use Rattle.std.specs.Prelude.{◌≡◌, None};
+
+    /// These objects, and no size.
+    pub fn of(current: Option<Object>, saved: Option<Object>) -> Self
+        ensures { result ≡ record { current = current; saved = saved; size = None; new_size = None } }
+    {
+        First {
+            current,
+            saved,
+            size: None,
+            new_size: None,
+        }
+    }
+}
+
+/// What is known once an operation has looked up its names, each where there is one.
+#[derive(Clone, Copy, Debug, PartialEq, Eq)]
+pub struct Second {
     /// The object of the current filehandle.
     pub current: Option<Object>,
     /// The object of the saved filehandle: of RENAME the source's directory.
@@ -22,26 +51,6 @@ pub struct Facts {
     pub child: Option<Object>,
     /// Of RENAME, the child of the new name in the current directory.
     pub replaced: Option<Object>,
-    /// The size of the file, in bytes: of WRITE and SETATTR the current object's.
-    pub size: Option<u64>,
-    /// The size that is to be set, in bytes: of SETATTR and OPEN.
+    /// Of OPEN the size that is to be set, in bytes.
     pub new_size: Option<u64>,
-}
-
-impl Facts {
-    ghost use Rattle.std.specs.Prelude.{◌≡◌, None};
-
-    /// No object and no size.
-    pub fn none() -> Self
-        ensures { result ≡ record { current = None; saved = None; child = None; replaced = None; size = None; new_size = None } }
-    {
-        Facts {
-            current: None,
-            saved: None,
-            child: None,
-            replaced: None,
-            size: None,
-            new_size: None,
-        }
-    }
 }

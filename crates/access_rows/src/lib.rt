@@ -7,6 +7,6 @@ mod rights;
 mod rows;
 
 pub use demand::Demand;
-pub use facts::{Facts, Object};
+pub use facts::{First, Object, Second};
 pub use rights::{Rights, rights_of};
-pub use rows::{Phases, demands};
+pub use rows::{entry_demands, first_demands, second_demands};

@@ -1,28 +1,22 @@
 //! The table of what each operation asks.
-ghost use Rattle.std.specs.Prelude.{◌≡◌};
+ghost use Rattle.std.specs.Prelude.{◌≡◌, ◌≤◌, if◌then◌else◌};
+ghost use Rattle.acl_list.specs.declared.mask.TheConstants as mask;
+ghost use Rattle.nfs_types.specs.Sets.{has_number};
 ghost use Rattle.nfs_types.specs.Views.{bitmap_value};
 ghost use Rattle.nfs_ops.specs.OpViews.{op_view};
+ghost use Rattle.nfs_ops.specs.Parts as parts;
+ghost use Rattle.nfs_ops.specs.Parts.{created};
 ghost use Rattle.nfs_ops.specs.Views.{create_type_value, open_how_value, open_claim_value};
 ghost use Rattle.access_rows.specs.Rows as specs;
 
 use crate::demand::Demand;
-use crate::facts::{Facts, Object};
+use crate::facts::{First, Object, Second};
 use acl_list::{Kind, mask};
 use nfs_ops::{CreateType, Op, OpenArgs, OpenClaim, OpenHow};
 use nfs_types::Bitmap;
 
-/// What an operation asks of lists, in two phases: the second is reached once the names that it is about are known to be there.
-/// At most five demands, each where there is something to ask.
-#[derive(Clone, Copy, Debug, PartialEq, Eq)]
-pub struct Phases {
-    /// What is asked first, in order: EXECUTE on the directories that names are looked up in, or the whole row of an
-    /// operation that looks up no name.
-    pub first: [Option<Demand>; 2],
-    /// What is asked then, in order.
-    pub second: [Option<Demand>; 3],
-}
-
-/// What an operation asks of lists (RFC 8881, sections 6.2.1.3.1 and 18), where these are the facts. It takes no memory.
+/// What an operation asks of lists first, in order (RFC 8881, sections 6.2.1.3.1 and 18): EXECUTE on the directories that names are
+/// looked up in, or the whole row of an operation that looks up no name. It takes no memory, and reads at most two lists.
 ///
 /// | Operation | Demands |
 /// |---|---|
@@ -40,32 +34,66 @@ pub struct Phases {
 /// | SETATTR | for a size WRITE_DATA, with APPEND_DATA where the file grows; for mode and acl WRITE_ACL; for owner and group WRITE_OWNER |
 /// | all others, ACCESS among them | nothing |
 ///
-/// Bits of one object in one phase are one demand.
-pub fn demands(op: &Op<'_>, facts: &Facts) -> Phases
-    ensures { result ≡ specs.demands (op_view op.now) facts.now }
+/// What stands behind a "then" is asked by `second_demands`. Bits of one object in one phase are one demand.
+#[tactic(auto, using(crate::proofs::Most::first_few))]
+pub fn first_demands(op: &Op<'_>, facts: &First) -> [Option<Demand>; 2]
+    ensures value { result ≡ specs.first_demands (op_view op.now) facts.now }
+    ensures few { specs.lists_in result ≤ specs.most_first }
 {
     match op {
-        Op::Create(args) => row(bits(facts.current, creating_mask(&args.kind))),
-        Op::GetAttr(args) => row(bits(facts.current, reading_mask(&args.asked))),
-        Op::Link(_) => row(bits(facts.current, mask::EXECUTE | mask::ADD_FILE)),
-        Op::Lookup(_) | Op::LookupP => row(bits(facts.current, mask::EXECUTE)),
-        Op::NVerify(args) => row(bits(facts.current, reading_mask(&args.attributes.set))),
-        Op::Open(args) => open_row(args, facts),
-        Op::Read(_) | Op::ReadLink => row(bits(facts.current, mask::READ_DATA)),
-        Op::ReadDir(_) => row(bits(facts.current, mask::LIST_DIRECTORY)),
-        Op::Remove(_) => two_rows(
-            bits(facts.current, mask::EXECUTE),
-            removal(facts.current, facts.child),
-        ),
-        Op::Rename(_) => rename_row(facts),
-        Op::SetAttr(args) => row(bits(facts.current, setting_mask(&args.attributes.set, facts))),
-        Op::Verify(args) => row(bits(facts.current, reading_mask(&args.attributes.set))),
-        Op::Write(args) => row(bits(
-            facts.current,
-            writing_mask(facts.size, args.offset, args.data.bytes.len() as u64),
-        )),
-        _ => row(None),
+        Op::Create(args) => [bits(facts.current, creating_mask(&args.kind)), None],
+        Op::GetAttr(args) => [bits(facts.current, reading_mask(&args.asked)), None],
+        Op::Link(_) => [bits(facts.current, mask::EXECUTE | mask::ADD_FILE), None],
+        Op::Lookup(_) | Op::LookupP | Op::Remove(_) => [bits(facts.current, mask::EXECUTE), None],
+        Op::NVerify(args) => [
+            bits(facts.current, reading_mask(&args.attributes.set)),
+            None,
+        ],
+        Op::Open(args) => [open_first(&args.claim, facts.current), None],
+        Op::Read(_) | Op::ReadLink => [bits(facts.current, mask::READ_DATA), None],
+        Op::ReadDir(_) => [bits(facts.current, mask::LIST_DIRECTORY), None],
+        Op::Rename(_) => rename_first(facts),
+        Op::SetAttr(args) => [
+            bits(facts.current, setting_mask(&args.attributes.set, facts)),
+            None,
+        ],
+        Op::Verify(args) => [
+            bits(facts.current, reading_mask(&args.attributes.set)),
+            None,
+        ],
+        Op::Write(args) => {
+            let mask = writing_mask(facts.size, args.offset, args.data.bytes.len() as u64);
+            [bits(facts.current, mask), None]
+        }
+        _ => [None, None],
     }
+}
+
+/// What an operation asks of lists once the names that it is about are known to be there, in order: what stands behind a "then" in
+/// the table of `first_demands`. It takes no memory, and reads at most five lists.
+#[tactic(auto, using(crate::proofs::Most::second_few))]
+pub fn second_demands(op: &Op<'_>, facts: &Second) -> [Option<Demand>; 3]
+    ensures value { result ≡ specs.second_demands (op_view op.now) facts.now }
+    ensures few { specs.lists_in result ≤ specs.most_second }
+{
+    match op {
+        Op::Open(args) => [open_second(args, facts), None, None],
+        Op::Remove(_) => [removal(facts.current, facts.child), None, None],
+        Op::Rename(_) => rename_second(facts),
+        _ => [None, None, None],
+    }
+}
+
+/// What READDIR asks of an entry's list as it lists it, where these attributes are asked: READ_ATTRIBUTES, and then READ_ACL, each a
+/// demand of its own (RFC 8881, section 18.23). It takes no memory, and reads the list at most twice.
+#[tactic(auto, using(crate::proofs::Most::entry_few))]
+pub fn entry_demands(asked: &Bitmap, entry: Option<Object>) -> [Option<Demand>; 2]
+    ensures value { result ≡ specs.entry_demands (bitmap_value asked.now) entry }
+    ensures few { specs.lists_in result ≤ specs.most_of_entry }
+{
+    let attributes = attributes_mask(asked);
+    let list = list_mask(asked);
+    [bits(entry, attributes), bits(entry, list)]
 }
 
 // ---- demands
@@ -96,23 +124,6 @@ fn removal(parent: Option<Object>, target: Option<Object>) -> Option<Demand>
     }
 }
 
-/// One demand alone.
-fn row(demand: Option<Demand>) -> Phases
-    ensures { result ≡ specs.row demand }
-{
-    two_rows(demand, None)
-}
-
-/// One demand in each phase.
-fn two_rows(first: Option<Demand>, second: Option<Demand>) -> Phases
-    ensures { result ≡ specs.two_rows first second }
-{
-    Phases {
-        first: [first, None],
-        second: [second, None, None],
-    }
-}
-
 // ---- the bits that depend on the arguments
 
 /// The attributes that are given by READ_ATTRIBUTES (RFC 8881, section 5.6): change, size, mode, numlinks, owner,
@@ -134,17 +145,29 @@ const OWNER: u32 = 36;
 /// The number of the attribute owner_group.
 const OWNER_GROUP: u32 = 37;
 
+/// READ_ATTRIBUTES, where one of these attributes takes it.
+fn attributes_mask(set: &Bitmap) -> u32
+    ensures { result ≡ if specs.has_any (bitmap_value set.now) specs.governed then mask.READ_ATTRIBUTES else 0 }
+{
+    if is_governed(set) {
+        mask::READ_ATTRIBUTES
+    } else {
+        0
+    }
+}
+
+/// READ_ACL, where one of these attributes takes it.
+fn list_mask(set: &Bitmap) -> u32
+    ensures { result ≡ if has_number (bitmap_value set.now) 12 then mask.READ_ACL else 0 }
+{
+    if set.has(ACL) { mask::READ_ACL } else { 0 }
+}
+
 /// What reading these attributes takes.
 fn reading_mask(set: &Bitmap) -> u32
     ensures { result ≡ specs.reading_mask (bitmap_value set.now) }
 {
-    let attributes = if is_governed(set) {
-        mask::READ_ATTRIBUTES
-    } else {
-        0
-    };
-    let list = if set.has(ACL) { mask::READ_ACL } else { 0 };
-    attributes | list
+    attributes_mask(set) | list_mask(set)
 }
 
 /// Whether an attribute that READ_ATTRIBUTES gives is in the set.
@@ -155,7 +178,7 @@ fn is_governed(set: &Bitmap) -> bool
 }
 
 /// What setting these attributes takes.
-fn setting_mask(set: &Bitmap, facts: &Facts) -> u32
+fn setting_mask(set: &Bitmap, facts: &First) -> u32
     ensures { result ≡ specs.setting_mask (bitmap_value set.now) facts.now }
 {
     let size = if set.has(SIZE) {
@@ -216,7 +239,7 @@ fn adding_mask(kind: Kind) -> u32
 
 /// What making an object of this type takes. CREATE makes directories and links, and no other.
 fn creating_mask(kind: &CreateType<'_>) -> u32
-    ensures { result ≡ specs.creating_mask (create_type_value kind.now) }
+    ensures { result ≡ specs.creating_mask (created (create_type_value kind.now)) }
 {
     match kind {
         CreateType::Directory => mask::EXECUTE | mask::ADD_SUBDIRECTORY,
@@ -227,28 +250,35 @@ fn creating_mask(kind: &CreateType<'_>) -> u32
 
 // ---- OPEN (RFC 8881, section 18.16)
 
-/// What OPEN asks.
-fn open_row(args: &OpenArgs<'_>, facts: &Facts) -> Phases
-    ensures { result ≡ specs.open_row args.now.access (open_how_value args.now.how) (open_claim_value args.now.claim) facts.now }
+/// What OPEN asks of the directory, where it looks up a name.
+fn open_first(claim: &OpenClaim<'_>, current: Option<Object>) -> Option<Demand>
+    ensures { result ≡ specs.open_first (parts.claim (open_claim_value claim.now)) current }
+{
+    match claim {
+        OpenClaim::ByName(_) => bits(current, mask::EXECUTE),
+        OpenClaim::ByHandle => None,
+    }
+}
+
+/// What OPEN asks of the file, or of the directory to make it.
+fn open_second(args: &OpenArgs<'_>, facts: &Second) -> Option<Demand>
+    ensures { result ≡ specs.open_second (parts.claim (open_claim_value args.now.claim)) args.now.access (parts.how (open_how_value args.now.how)) facts.now }
 {
     match args.claim {
-        OpenClaim::ByName(_) => two_rows(
-            bits(facts.current, mask::EXECUTE),
-            opening(facts.child, args.access, &args.how, facts),
-        ),
-        OpenClaim::ByHandle => two_rows(
-            None,
-            bits(facts.current, opening_mask(args.access, &args.how, facts)),
-        ),
+        OpenClaim::ByName(_) => opening(facts.child, args.access, &args.how, facts),
+        OpenClaim::ByHandle => {
+            let mask = opening_mask(args.access, &args.how, facts.new_size);
+            bits(facts.current, mask)
+        }
     }
 }
 
 /// What opening the child of a directory asks, or making it.
-fn opening(child: Option<Object>, access: u32, how: &OpenHow<'_>, facts: &Facts) -> Option<Demand>
-    ensures { result ≡ specs.opening child access (open_how_value how.now) facts.now }
+fn opening(child: Option<Object>, access: u32, how: &OpenHow<'_>, facts: &Second) -> Option<Demand>
+    ensures { result ≡ specs.opening child access (parts.how (open_how_value how.now)) facts.now }
 {
     if child.is_some() {
-        bits(child, opening_mask(access, how, facts))
+        bits(child, opening_mask(access, how, facts.new_size))
     } else if is_creating(how) {
         bits(facts.current, mask::ADD_FILE)
     } else {
@@ -257,8 +287,8 @@ fn opening(child: Option<Object>, access: u32, how: &OpenHow<'_>, facts: &Facts)
 }
 
 /// What opening a file takes.
-fn opening_mask(access: u32, how: &OpenHow<'_>, facts: &Facts) -> u32
-    ensures { result ≡ specs.opening_mask access (open_how_value how.now) facts.now }
+fn opening_mask(access: u32, how: &OpenHow<'_>, new_size: Option<u64>) -> u32
+    ensures { result ≡ specs.opening_mask access (parts.how (open_how_value how.now)) new_size }
 {
     let low = access % 256;
     let read = if low == 1 || low == 3 {
@@ -271,7 +301,7 @@ fn opening_mask(access: u32, how: &OpenHow<'_>, facts: &Facts) -> u32
     } else {
         0
     };
-    let truncate = if is_truncating(how, facts) {
+    let truncate = if is_truncating(how, new_size) {
         mask::WRITE_DATA
     } else {
         0
@@ -281,7 +311,7 @@ fn opening_mask(access: u32, how: &OpenHow<'_>, facts: &Facts) -> u32
 
 /// Whether the file may be made.
 fn is_creating(how: &OpenHow<'_>) -> bool
-    ensures { result ≡ specs.is_creating (open_how_value how.now) }
+    ensures { result ≡ specs.is_creating (parts.how (open_how_value how.now)) }
 {
     match how {
         OpenHow::NoCreate => false,
@@ -290,38 +320,42 @@ fn is_creating(how: &OpenHow<'_>) -> bool
 }
 
 /// Whether a file that is there is truncated.
-fn is_truncating(how: &OpenHow<'_>, facts: &Facts) -> bool
-    ensures { result ≡ specs.is_truncating (open_how_value how.now) facts.now }
+fn is_truncating(how: &OpenHow<'_>, new_size: Option<u64>) -> bool
+    ensures { result ≡ specs.is_truncating (parts.how (open_how_value how.now)) new_size }
 {
     match how {
-        OpenHow::Unchecked(_) => facts.new_size == Some(0),
+        OpenHow::Unchecked(_) => new_size == Some(0),
         OpenHow::NoCreate | OpenHow::Guarded(_) => false,
     }
 }
 
 // ---- RENAME (RFC 8881, section 18.26)
 
-/// What RENAME asks.
-fn rename_row(facts: &Facts) -> Phases
-    ensures { result ≡ specs.rename_row facts.now }
+/// What RENAME asks of the two directories.
+fn rename_first(facts: &First) -> [Option<Demand>; 2]
+    ensures { result ≡ specs.rename_first facts.now }
 {
     let target = if is_one(facts.saved, facts.current) {
         None
     } else {
         bits(facts.current, mask::EXECUTE)
     };
+    [bits(facts.saved, mask::EXECUTE), target]
+}
+
+/// What RENAME asks for the names that go and come.
+fn rename_second(facts: &Second) -> [Option<Demand>; 3]
+    ensures { result ≡ specs.rename_second facts.now }
+{
     let added = match facts.child {
         Some(child) => adding_mask(child.kind),
         None => 0,
     };
-    Phases {
-        first: [bits(facts.saved, mask::EXECUTE), target],
-        second: [
-            removal(facts.saved, facts.child),
-            bits(facts.current, added),
-            removal(facts.current, facts.replaced),
-        ],
-    }
+    [
+        removal(facts.saved, facts.child),
+        bits(facts.current, added),
+        removal(facts.current, facts.replaced),
+    ]
 }
 
 /// Whether both are there and are one.

@@ -1,9 +1,11 @@
 //! What operations ask, and what ACCESS tells, worked out by hand from RFC 8881, sections 6.2.1.3.1 and 18.1.
 
-use access_rows::{Demand, Facts, Object, demands, rights_of};
+use access_rows::{
+    Demand, First, Object, Second, entry_demands, first_demands, rights_of, second_demands,
+};
 use acl_list::Kind;
 use nfs_ops::{Op, RenameArgs, StableHow, WriteArgs};
-use nfs_types::StateId;
+use nfs_types::{Bitmap, StateId};
 use std::test::Fail;
 use xdr_wire::Opaque;
 
@@ -60,11 +62,10 @@ fn writing(rt: HostRuntime) -> Result<(), Fail> {
             stable: StableHow::Unstable,
             data,
         });
-        let mut facts = Facts::none();
-        facts.current = Some(FILE);
+        let mut facts = First::of(Some(FILE), None);
         facts.size = Some(*size);
         assert_eq!(rt;
-            asked(demands(&op, &facts).first[0]),
+            asked(first_demands(&op, &facts)[0]),
             (2, 0, *mask),
             "{size} {offset} {count}"
         );
@@ -79,20 +80,54 @@ fn renaming(rt: HostRuntime) -> Result<(), Fail> {
         unreachable!()
     };
     let op = Op::Rename(RenameArgs { old, new });
-    let mut facts = Facts::none();
-    facts.saved = Some(ROOM);
-    facts.current = Some(ATTIC);
-    facts.child = Some(FILE);
-    facts.replaced = Some(FILE);
-    let two = demands(&op, &facts);
-    assert_eq!(rt; two.first.map(asked), [(3, 0, 0x20), (4, 0, 0x20)]);
-    assert_eq!(rt; two.second.map(asked), [(3, 2, 0), (4, 0, 0x2), (4, 2, 0)]);
-    facts.current = Some(ROOM);
-    facts.child = Some(ATTIC);
-    facts.replaced = None;
-    let one = demands(&op, &facts);
-    assert_eq!(rt; one.first.map(asked), [(3, 0, 0x20), (0, 0, 0)]);
-    assert_eq!(rt; one.second.map(asked), [(3, 4, 0), (3, 0, 0x4), (0, 0, 0)]);
+    let both = First::of(Some(ATTIC), Some(ROOM));
+    assert_eq!(rt;
+        first_demands(&op, &both).map(asked),
+        [(3, 0, 0x20), (4, 0, 0x20)]
+    );
+    let onto = Second {
+        current: Some(ATTIC),
+        saved: Some(ROOM),
+        child: Some(FILE),
+        replaced: Some(FILE),
+        new_size: None,
+    };
+    assert_eq!(rt;
+        second_demands(&op, &onto).map(asked),
+        [(3, 2, 0), (4, 0, 0x2), (4, 2, 0)]
+    );
+    let one = First::of(Some(ROOM), Some(ROOM));
+    assert_eq!(rt;
+        first_demands(&op, &one).map(asked),
+        [(3, 0, 0x20), (0, 0, 0)]
+    );
+    let within = Second {
+        current: Some(ROOM),
+        saved: Some(ROOM),
+        child: Some(ATTIC),
+        replaced: None,
+        new_size: None,
+    };
+    assert_eq!(rt;
+        second_demands(&op, &within).map(asked),
+        [(3, 4, 0), (3, 0, 0x4), (0, 0, 0)]
+    );
+    Ok(())
+}
+
+/// An entry of READDIR of which mode and acl are asked takes READ_ATTRIBUTES and then READ_ACL; fileid takes nothing.
+#[test]
+fn listing(rt: HostRuntime) -> Result<(), Fail> {
+    let governed = Bitmap::empty().with(33).with(12);
+    assert_eq!(rt;
+        entry_demands(&governed, Some(FILE)).map(asked),
+        [(2, 0, 0x80), (2, 0, 0x2_0000)]
+    );
+    let open_to_all = Bitmap::empty().with(20);
+    assert_eq!(rt;
+        entry_demands(&open_to_all, Some(FILE)).map(asked),
+        [(0, 0, 0), (0, 0, 0)]
+    );
     Ok(())
 }
 

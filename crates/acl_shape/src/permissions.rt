@@ -1,5 +1,5 @@
 //! The list of an object with the high bits of its mode: as it is made, and as they are set.
-ghost use Rattle.std.specs.Prelude.{◌≡◌, IfOk, IfSome};
+ghost use Rattle.std.specs.Prelude.{◌≡◌, IfOk, IfSome, IsOk, IsSome};
 ghost use Rattle.acl_shape.specs.Bounds.{IsBounded};
 ghost use Rattle.acl_shape.specs.Permissions.{changed_high, changed_list, created_high, created_list, default_list, high_bits};
 ghost use Rattle.acl_shape.specs.Permissions as specs;
@@ -62,7 +62,8 @@ fn list_of_new<A: Allocator + Copy, B: Allocator>(
     kind: Kind,
     given: Given<A>,
 ) -> Result<AclList<A>, AllocError>
-    ensures { IfOk result (λ list. list ≡ created_list parent.now kind given.mode given.list) }
+    ensures value { IfOk result (λ list. list ≡ created_list parent.now kind given.mode given.list) }
+    ensures given { IsSome given.list → IsOk result }
 {
     match (given.mode, given.list) {
         (_, Some(list)) => Ok(list),
@@ -79,8 +80,8 @@ fn list_of_new<A: Allocator + Copy, B: Allocator>(
 /// | a list, or both | the list |
 /// | neither | what it inherits; where that is empty, the list for the mode 0o600, on a directory 0o700 |
 ///
-/// The high bits are those of the mode, and 0 where none is given. `Err`: there is no memory for the list; a list that
-/// was given is dropped.
+/// The high bits are those of the mode, and 0 where none is given. `Err`: there is no memory for the list; where a list is
+/// given, none is needed.
 pub fn created_permissions<A: Allocator + Copy, B: Allocator>(
     alloc: A,
     parent: &AclList<B>,
@@ -90,6 +91,7 @@ pub fn created_permissions<A: Allocator + Copy, B: Allocator>(
     ensures list { IfOk result (λ made. made.list ≡ created_list parent.now kind given.mode given.list) }
     ensures high { IfOk result (λ made. made.high ≡ created_high given.mode) }
     ensures bounded { IsBounded parent.now → IfSome given.list IsBounded → IfOk result (λ made. IsBounded made.list) }
+    ensures given { IsSome given.list → IsOk result }
 {
     let high = given.mode.map_or(0, |mode| mode & HIGH_BITS);
     let list = list_of_new(alloc, parent, kind, given)?;
@@ -103,7 +105,8 @@ fn list_after<A: Allocator, B: Allocator>(
     kind: Kind,
     given: Given<A>,
 ) -> Result<AclList<A>, AllocError>
-    ensures { IfOk result (λ after. after ≡ changed_list list.now kind given.mode given.list) }
+    ensures value { IfOk result (λ after. after ≡ changed_list list.now kind given.mode given.list) }
+    ensures given { IsSome given.list → IsOk result }
 {
     match (given.mode, given.list) {
         (_, Some(new)) => Ok(new),
@@ -122,7 +125,7 @@ fn list_after<A: Allocator, B: Allocator>(
 /// | both | the list given | the mode's |
 /// | neither | as it was | as they were |
 ///
-/// `Err`: there is no memory for the list; a list that was given is dropped.
+/// `Err`: there is no memory for the list; where a list is given, none is needed.
 pub fn changed_permissions<A: Allocator + Copy, B: Allocator>(
     alloc: A,
     list: &AclList<B>,
@@ -133,6 +136,7 @@ pub fn changed_permissions<A: Allocator + Copy, B: Allocator>(
     ensures list { IfOk result (λ now. now.list ≡ changed_list list.now kind given.mode given.list) }
     ensures high { IfOk result (λ now. now.high ≡ changed_high high given.mode) }
     ensures bounded { IsBounded list.now → IfSome given.list IsBounded → IfOk result (λ now. IsBounded now.list) }
+    ensures given { IsSome given.list → IsOk result }
 {
     let high = given.mode.map_or(high, |mode| mode & HIGH_BITS);
     let list = list_after(alloc, list, kind, given)?;

@@ -1,41 +1,87 @@
 -- What a run makes of a server.
-use Rattle.std.proofs.Common.{◌≡◌, ℕ, ◌+◌, ◌≤◌, List, refl, sym, ap, ◌∙◌, subst, length, arith}
-use Rattle.std.specs.Prelude.{[], ◌++◌, Some}
-use Rattle.std.proofs.lemmas.List.{length-append}
-use Rattle.rpc_record.specs.Identity.{Identity}
-use Rattle.who_book.specs.Content.{Content}
-use Rattle.xdr_wire.specs.Xdr.{Value, padded}
+use Rattle.std.proofs.Common.{◌≡◌, ℕ, ◌-◌, List, refl, sym, ap, subst, arith, append-nil, length}
+use Rattle.std.specs.Prelude.{[], ◌++◌, Option, Some, None}
+use Rattle.xdr_wire.specs.Buffer.{Buffer}
+use Rattle.xdr_wire.specs.Xdr.{Value}
 use Rattle.xdr_wire.specs.Reading.{read_at}
-use Rattle.nfs_types.specs.declared.moment.Moment.{Moment}
-use Rattle.access_guard.specs.Guarded.{Guarded}
-use Rattle.compound_run.specs.Runs.{Sender}
-use Rattle.compound_run.specs.Compound.{left_behind, opening, arguments_from, AnswersBare, AnswersFrom, AnswersOpened}
-use Rattle.compound_run.specs.State.{State, Answers, tree_of}
+use Rattle.who_book.specs.Content.{Content}
+use Rattle.nfs_types.specs.declared.status.Status.{Status}
+use Rattle.compound_run.specs.declared.compound.Ended.{Ended}
+use Rattle.compound_run.specs.declared.export.Export.{Export}
+use Rattle.compound_run.specs.Limits.{MAX_OPERATIONS}
+use Rattle.compound_run.specs.Context.{Context, no_handles}
+use Rattle.compound_run.specs.Runs.{Point, Runs, results_bytes}
+use Rattle.compound_run.specs.Compound.{args_form, args_in, head, opening_fault}
+use Rattle.compound_run.specs.State.{State, Call, Answers, AnswersBy, fate, fate_of, fate_unless, bare_context, start, left}
+use Rattle.compound_run.specs.Views.{point_at, realm_of}
+use Rattle.compound_run.specs.Written.{RunGives, Opens, OpensTo, OpensBehind}
 
-abbrev pub state_of : Guarded → Content → State
-state_of t book = record { world = t.world; trail = t.log.trail; total = t.log.total; capacity = t.capacity; book = book }
+-- ---- operations behind a head
 
-tree_is : (s : State) (t : Guarded) (book : Content) → s ≡ state_of t book → t.log.held ≡ [] → tree_of s ≡ t
-tree_is s t book is settled = ap tree_of is ∙ (λ i. record { world = t.world; log = record { held = sym settled i; trail = t.log.trail; total = t.log.total }; capacity = t.capacity })
+none_run : {A : Type 0} (status : Status) (tag : List ℕ) (c : Context) (operations : List ℕ) (e : Export A) (out : Buffer)
+    → OpensBehind (Some status) tag c operations e out (record { status = status; ran = 0 }) e out
+none_run status tag c operations e out =
+    ([], (no_handles, (append-nil (head status tag 0), refl)), record { behind = sym (append-nil out.bytes); less_room = omega arith }, omega arith)
 
-opened : (from : Sender) (arguments : List ℕ) (old new : Guarded) (v : Value opening) (operations : List ℕ) (bytes : List ℕ) → arguments_from (read_at opening arguments) ≡ Some (v, operations)
-    → AnswersOpened from v operations old bytes new → AnswersBare from arguments old (Some bytes) new
-unfolding AnswersBare
-opened from arguments old new v operations bytes is a = subst (λ o. AnswersFrom from o old (Some bytes) new) (sym is) a
+-- no operation is run
+pub refused_behind : {A : Type 0} (fault : Option Status) (status : Status) (tag : List ℕ) (c : Context) (operations : List ℕ) (e : Export A) (out : Buffer) → fault ≡ Some status
+    → OpensBehind fault tag c operations e out (record { status = status; ran = 0 }) e out
+refused_behind fault status tag c operations e out is =
+    subst (λ f. OpensBehind f tag c operations e out (record { status = status; ran = 0 }) e out) (sym is) (none_run status tag c operations e out)
 
-pub answers_so : (s : State) (t t' : Guarded) (book : Content) (caller : Identity) (now : Moment) (arguments : List ℕ) (v : Value opening) (operations : List ℕ) (bytes : List ℕ)
-    → s ≡ state_of t book → t.log.held ≡ [] → t'.log.held ≡ [] → arguments_from (read_at opening arguments) ≡ Some (v, operations)
-    → AnswersOpened (record { caller = caller; now = now; book = book }) v operations t bytes t' → Answers s now caller arguments (Some bytes) (state_of t' book)
-answers_so s t t' book caller now arguments v operations bytes is settled settled' read a = record {
-  answers =
-      subst (λ b. AnswersBare (record { caller = caller; now = now; book = b }) arguments (tree_of s) (Some bytes) (tree_of (state_of t' book))) (sym (ap (λ x. x.book) is))
-      (subst (λ x. AnswersBare (record { caller = caller; now = now; book = book }) arguments x (Some bytes) (tree_of (state_of t' book))) (sym (tree_is s t book is settled))
-      (subst (λ x. AnswersBare (record { caller = caller; now = now; book = book }) arguments t (Some bytes) x) (sym (tree_is (state_of t' book) t' book refl settled'))
-      (opened (record { caller = caller; now = now; book = book }) arguments t t' v operations bytes read a)));
-  book = sym (ap (λ x. x.book) is);
+all_run : {A : Type 0} (tag : List ℕ) (c : Context) (operations : List ℕ) (old new : Export A) (before after : Buffer) (end : Ended) → c.position ≡ 0
+    → RunGives c operations old before end new after → OpensBehind None tag c operations old before end new after
+all_run tag c operations old new before after end first r =
+    let all : c.count - c.position ≡ c.count = omega (arith, first) in
+    let ran : end.ran ≡ length r.results = omega (arith, first, r.ran) in (
+      results_bytes r.results,
+      (r.handles, (r.results, subst (λ n. Runs c n operations (point_at old no_handles) r.results (point_at new r.handles)) all r.runs, λ i. head (r.status i) tag (ran i) ++ results_bytes r.results)),
+      r.written,
+      r.within,
+    )
+
+-- they are run
+pub run_behind : {A : Type 0} (fault : Option Status) (tag : List ℕ) (c : Context) (room : ℕ) (operations : List ℕ) (old new : Export A) (before after : Buffer) (end : Ended) → fault ≡ None → c.position ≡ 0
+    → c.room ≡ room → RunGives c operations old before end new after → OpensBehind fault tag (record c { room = room }) operations old before end new after
+run_behind fault tag c room operations old new before after end none first is r =
+    subst (λ x. OpensBehind fault tag (record c { room = x }) operations old before end new after) is
+    (subst (λ f. OpensBehind f tag c operations old before end new after) (sym none) (all_run tag c operations old new before after end first r))
+
+-- ---- what is kept
+
+abbrev pub state_of : {A : Type 0} → Export A → Content → State
+state_of e book = record { realm = realm_of e; trail = e.tree.log.trail; total = e.tree.log.total; capacity = e.tree.capacity; book = book }
+
+-- where a COMPOUND begins
+begins : {A : Type 0} (e : Export A) (book : Content) → e.tree.log.held ≡ [] → start (state_of e book) ≡ point_at e no_handles
+begins e book settled = λ i. record {
+  realm = realm_of e;
+  log = record { held = sym settled i; trail = e.tree.log.trail; total = e.tree.log.total };
+  capacity = e.tree.capacity;
+  handles = no_handles;
 }
 
--- the head and the results are no more than a reply may have
-pub within : (head results : List ℕ) (tag : List ℕ) (room : ℕ) → length head ≡ 12 + length (padded tag) → length head + room ≡ 1036 → length results ≤ left_behind tag → length (head ++ results) ≤ 65512
-within head results tag room long short bound =
-    rw (length-append head results) (omega (arith, long, short, bound))
+opened : (s : State) (call : Call) (fault : Option Status) (tag : List ℕ) (count : ℕ) (operations bytes : List ℕ) (end : Point)
+    → Opens fault tag (bare_context s call tag count) operations (start s) bytes end → AnswersBy (fate_unless fault s call tag count operations) s (Some bytes) (left s end)
+opened s call None tag count operations bytes end runs = (end, runs.0, runs.1, runs.2, refl)
+opened s call (Some status) tag count operations bytes end stays = (ap Some stays.0, ap (left s) stays.1)
+
+answered : {A : Type 0} (call : Call) (v : Value args_form) (operations bytes : List ℕ) (old new : Export A) (book : Content) → old.tree.log.held ≡ []
+    → args_in (read_at args_form call.arguments) ≡ Some (v, operations)
+    → OpensTo (opening_fault MAX_OPERATIONS v.1.0 v.1.1) v.0 (bare_context (state_of old book) call v.0 v.1.1) operations old bytes new
+    → Answers (state_of old book) call (Some bytes) (state_of new book)
+unfolding fate
+answered call v operations bytes old new book settled read opens =
+    let s = state_of old book in
+    let end = point_at new opens.0 in
+    let fault = opening_fault MAX_OPERATIONS v.1.0 v.1.1 in
+    subst (λ a. AnswersBy (fate_of s call a) s (Some bytes) (left s end)) (sym read)
+    (opened s call fault v.0 v.1.1 operations bytes end
+    (subst (λ p. Opens fault v.0 (bare_context s call v.0 v.1.1) operations p bytes end) (sym (begins old book settled)) opens.1))
+
+pub answers : {A : Type 0} (s : State) (call : Call) (v : Value args_form) (operations bytes : List ℕ) (old new : Export A) (book : Content) → s ≡ state_of old book → old.tree.log.held ≡ []
+    → args_in (read_at args_form call.arguments) ≡ Some (v, operations)
+    → OpensTo (opening_fault MAX_OPERATIONS v.1.0 v.1.1) v.0 (bare_context (state_of old book) call v.0 v.1.1) operations old bytes new
+    → Answers s call (Some bytes) (state_of new book)
+answers s call v operations bytes old new book is settled read opens =
+    subst (λ x. Answers x call (Some bytes) (state_of new book)) (sym is) (answered call v operations bytes old new book settled read opens)

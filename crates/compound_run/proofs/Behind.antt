@@ -1,43 +1,71 @@
 -- What is answered behind questions that pass.
-use Rattle.std.proofs.Common.{◌≡◌, List, ap, sym, ◌∙◌, subst}
-use Rattle.std.specs.Prelude.{◌++◌, Result}
+use Rattle.std.proofs.Common.{◌≡◌, ℕ, true, false, refl, append-nil, List, ap, sym, ◌∙◌, subst}
+use Rattle.std.specs.Prelude.{◌++◌, ◌∷◌, Option, Result, Err}
 use Rattle.std.proofs.lemmas.List.{append_assoc}
+use Rattle.xdr_wire.specs.Buffer.{Buffer}
 use Rattle.nfs_types.specs.declared.status.Status.{Status}
-use Rattle.nfs_ops.specs.Results.{Outcome}
 use Rattle.access_guard.specs.declared.line.Line.{Line}
-use Rattle.access_guard.specs.Guarded.{Guarded}
 use Rattle.access_guard.specs.Log.{held}
-use Rattle.compound_run.specs.declared.files.Files.{Files}
-use Rattle.compound_run.specs.Sight.{whole}
-use Rattle.compound_run.specs.Questions.{Question, failure, trace, told}
+use Rattle.compound_run.specs.declared.export.Export.{Export}
+use Rattle.compound_run.specs.declared.filehandles.FileHandles.{FileHandles}
+use Rattle.nfs_types.specs.declared.status.Status.TheVariants as statuses
+use Rattle.node_tree.specs.Judged.{judged_of}
+use Rattle.access_rows.specs.declared.demand.Demand.{Demand}
+use Rattle.compound_run.specs.Sight.{Sight, whole}
+use Rattle.compound_run.specs.Questions.{Question, Row, failure, trace, told, all_granted, demand_lines}
 use Rattle.compound_run.specs.Meaning.{Meaning}
-use Rattle.compound_run.specs.Runs.{Sender, Point, IsAnswered, IsAnsweredOrDelayed, point_at}
+use Rattle.compound_run.specs.Runs.{waits}
+use Rattle.compound_run.specs.Views.{GivesSo, realm_of}
 
 -- the lines of decisions are held
-abbrev pub holding : List Line → Guarded → Guarded
-holding lines t = record t { log = held lines t.log }
+abbrev pub holding : {A : Type 0} → List Line → Export A → Export A
+holding lines e = record e { tree = record e.tree { log = held lines e.tree.log } }
 
 -- The questions before the rest pass, and their lines are held.
-pub behind : (m : Meaning) (rest : List Question) (from : Sender) (t : Guarded) (files : Files) (lines : List Line) (mid : Guarded) (r : Result Outcome Status) (new : Point)
-    → failure from.caller (whole t.world) m.questions ≡ failure from.caller (whole t.world) rest
-    → trace from.caller m.number (whole t.world) m.questions ≡ lines ++ trace from.caller m.number (whole t.world) rest
-    → mid ≡ holding lines t
-    → IsAnsweredOrDelayed (record m { questions = rest }) from (point_at mid files) r new → IsAnsweredOrDelayed m from (point_at t files) r new
-behind m rest from t files lines mid r new failures traces is a = record {
-  answered = λ told. answered (at.answered told);
-  delayed = λ told. let d = at.delayed told in record { world = d.world; files = d.files; trail = d.trail; total = d.total; capacity = d.capacity };
+pub behind : {A : Type 0} (room : ℕ) (m : Meaning) (rest : List Question) (e : Export A) (handles : FileHandles) (before : Buffer) (lines : List Line) (mid : Export A) (r : Result (Unit {0}) Status) (new : Export A) (handles' : FileHandles) (after : Buffer)
+    → failure m.caller (whole (realm_of e)) m.questions ≡ failure m.caller (whole (realm_of e)) rest
+    → trace m.caller m.number (whole (realm_of e)) m.questions ≡ lines ++ trace m.caller m.number (whole (realm_of e)) rest
+    → mid ≡ holding lines e
+    → GivesSo true room (record m { questions = rest }) waits mid handles before r new handles' after → GivesSo true room m waits e handles before r new handles' after
+behind {A} room m rest e handles before lines mid r new handles' after failures traces is gives = record {
+  answered = record {
+    outcome = λ is. at.answered.outcome is ∙ ap (λ f. told f (m.answer (whole (realm_of e)))) (sym failures);
+    log = λ is. at.answered.log is ∙ ap (λ h. record e.tree.log { held = h }) (append_assoc e.tree.log.held lines (trace m.caller m.number (whole (realm_of e)) rest)) ∙ ap (λ x. held x e.tree.log) (sym traces);
+    trail_stays = at.answered.trail_stays;
+    total_stays = at.answered.total_stays;
+    realm = at.answered.realm;
+    handles = at.answered.handles;
+    realm_stays = at.answered.realm_stays;
+    handles_stay = at.answered.handles_stay;
+    capacity = at.answered.capacity;
+  };
+  written = at.written;
+  within = at.within;
+  unwritten = at.unwritten;
 }
   where
-    at : IsAnsweredOrDelayed (record m { questions = rest }) from (point_at (holding lines t) files) r new
-    at = subst (λ x. IsAnsweredOrDelayed (record m { questions = rest }) from (point_at x files) r new) is a
+    at : GivesSo true room (record m { questions = rest }) waits (holding lines e) handles before r new handles' after
+    at = subst (λ (x : Export A). GivesSo true room (record m { questions = rest }) waits x handles before r new handles' after) is gives
 
-    answered : IsAnswered (record m { questions = rest }) from (point_at (holding lines t) files) r new → IsAnswered m from (point_at t files) r new
-    answered b = record {
-      outcome = b.outcome ∙ ap (λ f. told f (m.answer (whole t.world))) (sym failures);
-      log = b.log ∙ ap (λ h. record t.log { held = h }) (append_assoc t.log.held lines (trace from.caller m.number (whole t.world) rest)) ∙ ap (λ x. held x t.log) (sym traces);
-      world = b.world;
-      files = b.files;
-      world_stays = b.world_stays;
-      files_stay = b.files_stay;
-      capacity = b.capacity;
-    }
+-- A row is the next question, and refuses: its lines are held.
+pub row_refuses : {A : Type 0} (room : ℕ) (m : Meaning) (demands : Sight → List (Option Demand)) (others : List Question) (e : Export A) (handles : FileHandles) (before : Buffer) (new : Export A)
+    → all_granted (judged_of e.tree.world) m.caller (demands (whole (realm_of e))) ≡ false
+    → new ≡ holding (demand_lines (judged_of e.tree.world) m.caller m.number (demands (whole (realm_of e)))) e
+    → GivesSo true room (record m { questions = Row demands ∷ others }) waits e handles before (Err statuses.Access) new handles before
+row_refuses {A} room m demands others e handles before new refused is =
+    subst (λ (x : Export A). GivesSo true room (record m { questions = Row demands ∷ others }) waits e handles before (Err statuses.Access) x handles before) (sym is) (record {
+      answered = record {
+        outcome = λ told. rw refused refl;
+        log = λ told. rw refused (ap (λ l. record e.tree.log { held = e.tree.log.held ++ l }) (sym (append-nil (demand_lines (judged_of e.tree.world) m.caller m.number (demands (whole (realm_of e)))))));
+        trail_stays = λ d. refl;
+        total_stays = λ d. refl;
+        realm = tt;
+        handles = tt;
+        realm_stays = refl;
+        handles_stay = refl;
+        capacity = refl;
+      };
+      written = tt;
+      within = tt;
+      unwritten = refl;
+    })

@@ -1,92 +1,97 @@
 -- What comes of an operation when it ends.
-use Rattle.std.proofs.Common.{◌≡◌, ◌≢◌, ℕ, ◌≤◌, Bool, true, false, not, refl, sym, ap, ◌∙◌, subst}
-use Rattle.std.specs.Prelude.{[], Result, Ok, Err}
-use Rattle.std.proofs.lemmas.Bool.{false≢true}
+use Rattle.std.proofs.Common.{◌≡◌, ◌≢◌, ℕ, Bool, true, false, not, refl, sym, ap, ◌∙◌, subst}
+use Rattle.std.specs.Prelude.{Option, Some, None, Result, Ok, Err}
 use Rattle.nfs_types.specs.declared.status.Status.{Status}
 use Rattle.nfs_types.specs.declared.status.Status.TheVariants as statuses
 use Rattle.nfs_ops.specs.Operations.{Operation}
 use Rattle.nfs_ops.specs.Results.{Outcome}
-use Rattle.access_guard.specs.Log.{settled}
-use Rattle.compound_run.specs.Meaning.{Meaning, LEAST_ROOM}
+use Rattle.xdr_wire.specs.Buffer.{Buffer}
+use Rattle.access_guard.specs.Guarded.{Guarded}
+use Rattle.access_guard.specs.Log.{Log, held, settled}
+use Rattle.compound_run.specs.declared.export.Export.{Export}
+use Rattle.compound_run.specs.declared.filehandles.FileHandles.{FileHandles}
+use Rattle.compound_run.specs.Context.{Context}
+use Rattle.compound_run.specs.Realm.{Realm}
+use Rattle.compound_run.specs.Sight.{whole}
+use Rattle.compound_run.specs.Questions.{told}
+use Rattle.compound_run.specs.Meaning.{Meaning}
 use Rattle.compound_run.specs.Operations.{meaning, may_delay}
-use Rattle.compound_run.specs.Runs.{Point, Sender, Answered, IsAnswered, IsAnsweredOrDelayed, AnswersSo, Steps, place, is_delay, is_delay_status}
-use Rattle.compound_run.proofs.Exempt.{exempt_never}
+use Rattle.compound_run.specs.Runs.{Point, Answered, Steps, Unless, outcome, traced, waits}
+use Rattle.compound_run.specs.Telling.{is_delay, is_delay_status}
+use Rattle.compound_run.specs.Views.{GivesSo, point_at, realm_of, told_as}
+use Rattle.compound_run.proofs.Exactly.{never_delays}
 
--- the lines of an operation that is answered go to the trail
-settle : (m : Meaning) (from : Sender) (old : Point) (r : Result Outcome Status) (new : Point) → IsAnswered m from old r new
-    → Answered m from (settled true) old r (record new { log = settled true new.log })
-settle m from old r new a = record {
+err_same : (a b : Status) → ◌≡◌ {A = Result Outcome Status} (Err a) (Err b) → a ≡ b
+err_same a b e = cc
+
+told_never : (fault : Option Status) (o : Outcome) → fault ≢ Some statuses.Delay → told fault o ≢ Err statuses.Delay
+told_never None o apart e = cc
+told_never (Some status) o apart e = apart (ap Some (err_same status statuses.Delay e))
+
+-- no operation means DELAY
+pub meant_never : (m : Meaning) (r : Realm) → outcome m r ≢ Err statuses.Delay
+meant_never m r = told_never _ (m.answer (whole r)) (never_delays m.caller (whole r) m.questions)
+
+delay_is : (status : Status) → is_delay_status status ≡ true → status ≡ statuses.Delay
+delay_is statuses.Delay is = refl
+delay_is _ is = cc
+
+-- what isn't DELAY
+undelayed : (r : Result Outcome Status) → r ≢ Err statuses.Delay → is_delay r ≡ false
+undelayed (Ok o) told = refl
+undelayed (Err status) told = of (is_delay_status status) refl
+  where
+    of : (b : Bool) → is_delay_status status ≡ b → is_delay_status status ≡ false
+    of false is = is
+    of true is = absurd (told (ap Err (delay_is status is)))
+
+kept : (r : Result Outcome Status) (before after : Log) → r ≢ Err statuses.Delay → before ≡ after → settled (not (is_delay r)) before ≡ settled true after
+kept r before after told is = ap (λ b. settled (not b) before) (undelayed r told) ∙ ap (settled true) is
+
+lines_kept : (may : Bool) (m : Meaning) (old : Point) (r : Result Outcome Status) (new : Point) → Answered may m waits old r new
+    → Unless may r (settled (not (is_delay r)) new.log ≡ settled true (held (traced m old.realm) old.log))
+lines_kept true m old r new a = λ told. kept r new.log (held (traced m old.realm) old.log) told (a.log told)
+lines_kept false m old r new a = kept r new.log (held (traced m old.realm) old.log) (λ e. meant_never m old.realm (sym a.outcome ∙ e)) a.log
+
+-- its lines go to the trail, unless it says that memory was refused
+pub ends : (may : Bool) (m : Meaning) (old : Point) (r : Result Outcome Status) (new : Point) → Answered may m waits old r new
+    → Answered may m (settled true) old r (record new { log = settled (not (is_delay r)) new.log })
+ends may m old r new a = record {
   outcome = a.outcome;
-  log = ap (settled true) a.log;
-  world = a.world;
-  files = a.files;
-  world_stays = a.world_stays;
-  files_stay = a.files_stay;
+  log = lines_kept may m old r new a;
+  trail_stays = λ d. subst (λ x. (settled (not (is_delay x)) new.log).trail ≡ old.log.trail) (sym d) (a.trail_stays d);
+  total_stays = λ d. subst (λ x. (settled (not (is_delay x)) new.log).total ≡ old.log.total) (sym d) (a.total_stays d);
+  realm = a.realm;
+  handles = a.handles;
+  realm_stays = a.realm_stays;
+  handles_stay = a.handles_stay;
   capacity = a.capacity;
 }
 
--- whatever an operation is called to answer
-answered : (b : Bool) (m : Meaning) (from : Sender) (old : Point) (r : Result Outcome Status) (new : Point) → r ≢ Err statuses.Delay
-    → AnswersSo b m from old r new → IsAnswered m from old r new
-answered true m from old r new told a = a.answered told
-answered false m from old r new told a = a
+-- one that may not never says so
+told_so : (may : Bool) (m : Meaning) (log : Log → Log) (old : Point) (r : Result Outcome Status) (new : Point) → may ≡ false → Answered may m log old r new → r ≢ Err statuses.Delay
+told_so true m log old r new is a = cc
+told_so false m log old r new is a = λ e. meant_never m old.realm (sym a.outcome ∙ e)
 
--- an operation that says DELAY leaves all
-delayed : (m : Meaning) (from : Sender) (old new : Point) → old.log.held ≡ [] → IsAnsweredOrDelayed m from old (Err statuses.Delay) new
-    → record new { log = settled false new.log } ≡ old
-delayed m from old new empty a =
-    let d = a.delayed refl in
-    λ i. record { world = d.world i; log = record { held = sym empty i; trail = d.trail i; total = d.total i }; capacity = d.capacity i; files = d.files i }
+pub never_delayed : (c : Context) (op : Operation) (old new : Point) (r : Result Outcome Status) → may_delay c op ≡ false → Steps c op old r new → r ≢ Err statuses.Delay
+never_delayed c op old new r is steps = told_so (may_delay c op) (meaning c old.handles op) (settled true) old r new is steps
 
-may : (from : Sender) (room : ℕ) (op : Operation) (old new : Point) → AnswersSo (may_delay op) (meaning (place from old.files room) op) from old (Err statuses.Delay) new → may_delay op ≡ true
-may from room op old new a = of (may_delay op) refl
-  where
-    of : (b : Bool) → may_delay op ≡ b → may_delay op ≡ true
-    of true is = is
-    of false is = absurd (exempt_never (place from old.files room) op from.caller old.world is (sym (subst (λ b. AnswersSo b (meaning (place from old.files room) op) from old (Err statuses.Delay) new) is a).outcome))
+-- ---- what the code gives
 
-delayed_op : (from : Sender) (room : ℕ) (op : Operation) (old new : Point) → old.log.held ≡ [] → AnswersSo (may_delay op) (meaning (place from old.files room) op) from old (Err statuses.Delay) new
-    → record new { log = settled false new.log } ≡ old
-delayed_op from room op old new empty a =
-    delayed (meaning (place from old.files room) op) from old new empty
-    (subst (λ b. AnswersSo b (meaning (place from old.files room) op) from old (Err statuses.Delay) new) (may from room op old new a) a)
+told_delay : (m : Meaning) (r : Realm) (x : Result (Unit {0}) Status) → is_delay (told_as m r x) ≡ is_delay x
+told_delay m r (Ok done) = refl
+told_delay m r (Err status) = refl
 
--- of a status that isn't DELAY
-other : (from : Sender) (room : ℕ) (op : Operation) (old : Point) (r : Result Outcome Status) (new : Point) → r ≢ Err statuses.Delay
-    → AnswersSo (may_delay op) (meaning (place from old.files room) op) from old r new → Steps from room op old r (record new { log = settled true new.log })
-other from room op old r new told a = record {
-  answered = λ t. settle (meaning (place from old.files room) op) from old r new (answered (may_delay op) (meaning (place from old.files room) op) from old r new told a);
-  may_delay = λ is. absurd (told is);
-  had_room = λ is. absurd (told is);
-  delayed = λ is. absurd (told is);
+pub ends_so : {A : Type 0} (may : Bool) (room : ℕ) (m : Meaning) (e : Export A) (h : FileHandles) (before : Buffer) (r : Result (Unit {0}) Status) (e' : Export A) (h' : FileHandles) (after : Buffer) (tree : Guarded)
+    → tree ≡ record e'.tree { log = settled (not (is_delay r)) e'.tree.log }
+    → GivesSo may room m waits e h before r e' h' after → GivesSo may room m (settled true) e h before r (record e' { tree = tree }) h' after
+ends_so {A} may room m e h before r e' h' after tree is gives = record {
+  answered = subst (λ t. Answered may m (settled true) (point_at e h) (told_as m (realm_of e) r) (point_at (record e' { tree = t }) h')) (sym all)
+      (ends may m (point_at e h) (told_as m (realm_of e) r) (point_at e' h') gives.answered);
+  written = gives.written;
+  within = gives.within;
+  unwritten = gives.unwritten;
 }
-
-is_delayed : (status : Status) → is_delay_status status ≡ true → status ≡ statuses.Delay
-is_delayed statuses.Delay is = refl
-is_delayed _ is = cc
-
--- of DELAY
-delay : (from : Sender) (room : ℕ) (op : Operation) (old new : Point) → old.log.held ≡ []
-    → AnswersSo (may_delay op) (meaning (place from old.files room) op) from old (Err statuses.Delay) new → LEAST_ROOM ≤ room
-    → Steps from room op old (Err statuses.Delay) (record new { log = settled false new.log })
-delay from room op old new empty a roomy = record {
-  answered = λ told. absurd (told refl);
-  may_delay = λ is. may from room op old new a;
-  had_room = λ is. roomy;
-  delayed = λ is. delayed_op from room op old new empty a;
-}
-
-pub ends : (from : Sender) (room : ℕ) (op : Operation) (old : Point) (r : Result Outcome Status) (new : Point) → old.log.held ≡ []
-    → AnswersSo (may_delay op) (meaning (place from old.files room) op) from old r new → (r ≡ Err statuses.Delay → LEAST_ROOM ≤ room)
-    → Steps from room op old r (record new { log = settled (not (is_delay r)) new.log })
-ends from room op old (Ok o) new empty a roomy = other from room op old (Ok o) new (λ e. cc) a
-ends from room op old (Err status) new empty a roomy = of (is_delay_status status) refl
   where
-    of : (b : Bool) → is_delay_status status ≡ b → Steps from room op old (Err status) (record new { log = settled (not (is_delay_status status)) new.log })
-    of true is =
-        let same : Err status ≡ Err statuses.Delay = ap Err (is_delayed status is) in
-        subst (λ r. Steps from room op old r (record new { log = settled (not (is_delay r)) new.log })) (sym same)
-        (delay from room op old new empty (subst (λ r. AnswersSo (may_delay op) (meaning (place from old.files room) op) from old r new) same a) (roomy same))
-    of false is =
-        subst (λ b. Steps from room op old (Err status) (record new { log = settled (not b) new.log })) (sym is)
-        (other from room op old (Err status) new (λ same. false≢true (sym is ∙ ap is_delay same)) a)
+    all : tree ≡ record e'.tree { log = settled (not (is_delay (told_as m (realm_of e) r))) e'.tree.log }
+    all = is ∙ ap (λ b. record e'.tree { log = settled (not b) e'.tree.log }) (sym (told_delay m (realm_of e) r))

@@ -13,8 +13,9 @@ use Rattle.access_guard.specs.declared.line.Line.{Line}
 use Rattle.access_guard.specs.Lists.{Lists}
 use Rattle.access_guard.specs.Decisions.{decision, is_granted}
 use Rattle.access_guard.specs.Lines.{demand_lines as watching, deny_lines}
+use Rattle.compound_run.specs.Faults.{IsFault, MayFault, first_fault}
 use Rattle.compound_run.specs.Sight.{Sight}
-use Rattle.compound_run.specs.Questions.{Question, Holds, Valid, Row, Suffices, failure, trace, all_granted, demand_lines}
+use Rattle.compound_run.specs.Questions.{Question, Holds, Valid, Row, Suffices, failure, trace, all_granted, demand_lines, lines_unless}
 use Rattle.compound_run.specs.Exact.{Passes, Fails, ArePassed, FailsFirst, IsRefusedByRow, ArePassedOrSuffice, EndsInRefusal}
 
 -- ---- rows
@@ -22,12 +23,8 @@ use Rattle.compound_run.specs.Exact.{Passes, Fails, ArePassed, FailsFirst, IsRef
 pub rows_decide : (caller : Identity) (s : Sight) (before behind : List Question) (demands : Sight → List (Option Demand)) → ArePassed caller s before
     → failure caller s (before ++ Row demands ∷ behind) ≡ (if all_granted s.lists caller (demands s) then failure caller s behind else Some statuses.Access)
 rows_decide caller s [] behind demands passed = refl
-rows_decide caller s (Holds test status ∷ before) behind demands passed = rw passed.0 (rows_decide caller s before behind demands passed.1)
-rows_decide caller s (Valid None ∷ before) behind demands passed = rows_decide caller s before behind demands passed.1
-rows_decide caller s (Valid (Some status) ∷ before) behind demands passed = absurd (some_none status passed.0)
-  where
-    some_none : (status : Status) → Some status ≡ None → ⊥
-    some_none status h = cc
+rows_decide caller s (Holds test status is ∷ before) behind demands passed = rw passed.0 (rows_decide caller s before behind demands passed.1)
+rows_decide caller s (Valid fault may ∷ before) behind demands passed = rw passed.0 (rows_decide caller s before behind demands passed.1)
 rows_decide caller s (Row others ∷ before) behind demands passed = rw passed.0 (rows_decide caller s before behind demands passed.1)
 rows_decide caller s (Suffices test ∷ before) behind demands passed = rw passed.0 (rows_decide caller s before behind demands passed.1)
 
@@ -41,6 +38,14 @@ both : (b : Bool) (more : Option Status) (status : Status) → cond b more (Some
 both true more status h = (refl, h)
 both false more status h = absurd (some_apart status h)
 
+-- no fault, nor more
+neither : (fault more : Option Status) → first_fault fault more ≡ None → (fault ≡ None) × (more ≡ None)
+neither None more h = (refl, h)
+neither (Some status) more h = absurd (some_apart status h)
+
+no_fault : (fault more : Option Status) → fault ≡ None → more ≡ None → first_fault fault more ≡ None
+no_fault fault more is none = rw is none
+
 none_of : (b : Bool) (more : Option Status) (status : Status) → b ≡ true → more ≡ None → cond b more (Some status) ≡ None
 none_of b more status is none = rw is none
 
@@ -50,39 +55,38 @@ suffices false more A goes h = inr (refl, goes h)
 
 pub passed : (caller : Identity) (s : Sight) (questions : List Question) → failure caller s questions ≡ None → ArePassedOrSuffice caller s questions
 passed caller s [] h = tt
-passed caller s (Holds test status ∷ questions) h = let x = both (test s) (failure caller s questions) status h in (x.0, passed caller s questions x.1)
-passed caller s (Valid None ∷ questions) h = (refl, passed caller s questions h)
-passed caller s (Valid (Some status) ∷ questions) h = absurd (some_apart status h)
+passed caller s (Holds test status is ∷ questions) h = let x = both (test s) (failure caller s questions) status h in (x.0, passed caller s questions x.1)
+passed caller s (Valid fault may ∷ questions) h = let x = neither fault (failure caller s questions) h in (x.0, passed caller s questions x.1)
 passed caller s (Row demands ∷ questions) h =
     let x = both (all_granted s.lists caller (demands s)) (failure caller s questions) statuses.Access h in (x.0, passed caller s questions x.1)
 passed caller s (Suffices test ∷ questions) h = suffices (test s) (failure caller s questions) (ArePassedOrSuffice caller s questions) (passed caller s questions) h
 
 pub is_ok : (caller : Identity) (s : Sight) (questions : List Question) → ArePassedOrSuffice caller s questions → failure caller s questions ≡ None
 is_ok caller s [] h = refl
-is_ok caller s (Holds test status ∷ questions) h = none_of (test s) (failure caller s questions) status h.0 (is_ok caller s questions h.1)
-is_ok caller s (Valid None ∷ questions) h = is_ok caller s questions h.1
-is_ok caller s (Valid (Some status) ∷ questions) h = absurd (some_apart status h.0)
+is_ok caller s (Holds test status is ∷ questions) h = none_of (test s) (failure caller s questions) status h.0 (is_ok caller s questions h.1)
+is_ok caller s (Valid fault may ∷ questions) h = no_fault fault (failure caller s questions) h.0 (is_ok caller s questions h.1)
 is_ok caller s (Row demands ∷ questions) h = none_of (all_granted s.lists caller (demands s)) (failure caller s questions) statuses.Access h.0 (is_ok caller s questions h.1)
 is_ok caller s (Suffices test ∷ questions) (inl is) = rw is refl
 is_ok caller s (Suffices test ∷ questions) (inr more) = rw more.0 (is_ok caller s questions more.1)
 
 -- ---- what is refused for access
 
--- no question of these fails by ACCESS but a row
-abbrev pub Apart : Status → List Question → Type 0
-Apart status [] = Unit {0}
-Apart status (Holds test other ∷ questions) = (other ≢ status) × Apart status questions
-Apart status (Valid fault ∷ questions) = (fault ≢ Some status) × Apart status questions
-Apart status (Row demands ∷ questions) = Apart status questions
-Apart status (Suffices test ∷ questions) = Apart status questions
+-- no fault is ACCESS
+no_access : (status : Status) → IsFault status → status ≢ statuses.Access
+no_access status is e = subst IsFault e is
+
+some_same : (status other : Status) → Some status ≡ Some other → status ≡ other
+some_same status other h = cc
+
+-- a fault, or what comes behind it
+fault_or : (fault more : Option Status) → MayFault fault → first_fault fault more ≡ Some statuses.Access → (fault ≡ None) × (more ≡ Some statuses.Access)
+fault_or None more may h = (refl, h)
+fault_or (Some status) more may h = absurd (no_access status may (some_same status statuses.Access h))
 
 -- which of two comes
-either : (b : Bool) (more : Option Status) (status : Status) → status ≢ statuses.Access → cond b more (Some status) ≡ Some statuses.Access → (b ≡ true) × (more ≡ Some statuses.Access)
-either true more status apart h = (refl, h)
-either false more status apart h = absurd (apart (some_same h))
-  where
-    some_same : Some status ≡ Some statuses.Access → status ≡ statuses.Access
-    some_same h = cc
+either : (b : Bool) (more : Option Status) (status : Status) → IsFault status → cond b more (Some status) ≡ Some statuses.Access → (b ≡ true) × (more ≡ Some statuses.Access)
+either true more status is h = (refl, h)
+either false more status is h = absurd (no_access status is (some_same status statuses.Access h))
 
 none_apart : None ≢ Some statuses.Access
 none_apart h = cc
@@ -98,26 +102,25 @@ not_enough false more h = (refl, h)
 abbrev behind : (caller : Identity) (s : Sight) (q : Question) (questions : List Question) → Passes caller s q → IsRefusedByRow caller s questions → IsRefusedByRow caller s (q ∷ questions)
 behind caller s q questions passes r = record { demands = r.demands; first = inr (passes, r.first) }
 
-pub refused_by_row : (caller : Identity) (s : Sight) (questions : List Question) → Apart statuses.Access questions → failure caller s questions ≡ Some statuses.Access → IsRefusedByRow caller s questions
-refused_by_row caller s [] apart h = absurd (none_apart h)
-refused_by_row caller s (Holds test status ∷ questions) apart h =
-    let x = either (test s) (failure caller s questions) status apart.0 h in behind caller s (Holds test status) questions x.0 (refused_by_row caller s questions apart.1 x.1)
-refused_by_row caller s (Valid None ∷ questions) apart h = behind caller s (Valid None) questions refl (refused_by_row caller s questions apart.1 h)
-refused_by_row caller s (Valid (Some status) ∷ questions) apart h = absurd (apart.0 h)
-refused_by_row caller s (Row demands ∷ questions) apart h =
+pub refused_by_row : (caller : Identity) (s : Sight) (questions : List Question) → failure caller s questions ≡ Some statuses.Access → IsRefusedByRow caller s questions
+refused_by_row caller s [] h = absurd (none_apart h)
+refused_by_row caller s (Holds test status is ∷ questions) h =
+    let x = either (test s) (failure caller s questions) status is h in behind caller s (Holds test status is) questions x.0 (refused_by_row caller s questions x.1)
+refused_by_row caller s (Valid fault may ∷ questions) h =
+    let x = fault_or fault (failure caller s questions) may h in behind caller s (Valid fault may) questions x.0 (refused_by_row caller s questions x.1)
+refused_by_row caller s (Row demands ∷ questions) h =
     row_or (all_granted s.lists caller (demands s)) (failure caller s questions) (IsRefusedByRow caller s (Row demands ∷ questions))
     (λ refused. record { demands = demands; first = inl (refl, refused) })
-    (λ granted more. behind caller s (Row demands) questions granted (refused_by_row caller s questions apart more)) h
-refused_by_row caller s (Suffices test ∷ questions) apart h =
-    let x = not_enough (test s) (failure caller s questions) h in behind caller s (Suffices test) questions x.0 (refused_by_row caller s questions apart x.1)
+    (λ granted more. behind caller s (Row demands) questions granted (refused_by_row caller s questions more)) h
+refused_by_row caller s (Suffices test ∷ questions) h =
+    let x = not_enough (test s) (failure caller s questions) h in behind caller s (Suffices test) questions x.0 (refused_by_row caller s questions x.1)
 
 pub by_row : (caller : Identity) (s : Sight) (questions : List Question) (demands : Sight → List (Option Demand)) → FailsFirst caller s questions (Row demands) → failure caller s questions ≡ Some statuses.Access
 by_row caller s [] demands first = absurd first
 by_row caller s (q ∷ questions) demands (inl is) =
     subst (λ q. Fails caller s q → failure caller s (q ∷ questions) ≡ Some statuses.Access) (sym is.0) (λ refused. rw refused refl) is.1
-by_row caller s (Holds test status ∷ questions) demands (inr more) = rw more.0 (by_row caller s questions demands more.1)
-by_row caller s (Valid None ∷ questions) demands (inr more) = by_row caller s questions demands more.1
-by_row caller s (Valid (Some status) ∷ questions) demands (inr more) = absurd (some_apart status more.0)
+by_row caller s (Holds test status is ∷ questions) demands (inr more) = rw more.0 (by_row caller s questions demands more.1)
+by_row caller s (Valid fault may ∷ questions) demands (inr more) = rw more.0 (by_row caller s questions demands more.1)
 by_row caller s (Row others ∷ questions) demands (inr more) = rw more.0 (by_row caller s questions demands more.1)
 by_row caller s (Suffices test ∷ questions) demands (inr more) = rw more.0 (by_row caller s questions demands more.1)
 
@@ -194,21 +197,42 @@ pub record EndsSo (caller : Identity) (op : ℕ) (s : Sight) (questions : List Q
 passed_before : (caller : Identity) (op : ℕ) (s : Sight) (q : Question) (questions : List Question) (first last : List Line) → Passes caller s q → EndsSo caller op s questions last → EndsSo caller op s (q ∷ questions) (first ++ last)
 passed_before caller op s q questions first last passes e = record { row = behind caller s q questions passes e.row; ends = more_before caller op s.lists (e.row.demands s) first last e.ends }
 
-pub ends_in_refusal : (caller : Identity) (op : ℕ) (s : Sight) (questions : List Question) → Apart statuses.Access questions → failure caller s questions ≡ Some statuses.Access
+pub ends_in_refusal : (caller : Identity) (op : ℕ) (s : Sight) (questions : List Question) → failure caller s questions ≡ Some statuses.Access
     → EndsSo caller op s questions (trace caller op s questions)
-ends_in_refusal caller op s [] apart h = absurd (none_apart h)
-ends_in_refusal caller op s (Holds test status ∷ questions) apart h =
-    let x = either (test s) (failure caller s questions) status apart.0 h in
-    rw x.0 (passed_before caller op s (Holds test status) questions [] _ x.0 (ends_in_refusal caller op s questions apart.1 x.1))
-ends_in_refusal caller op s (Valid None ∷ questions) apart h = passed_before caller op s (Valid None) questions [] _ refl (ends_in_refusal caller op s questions apart.1 h)
-ends_in_refusal caller op s (Valid (Some status) ∷ questions) apart h = absurd (apart.0 h)
-ends_in_refusal caller op s (Row demands ∷ questions) apart h =
+ends_in_refusal caller op s [] h = absurd (none_apart h)
+ends_in_refusal caller op s (Holds test status is ∷ questions) h =
+    let x = either (test s) (failure caller s questions) status is h in
+    rw x.0 (passed_before caller op s (Holds test status is) questions [] _ x.0 (ends_in_refusal caller op s questions x.1))
+ends_in_refusal caller op s (Valid fault may ∷ questions) h =
+    let x = fault_or fault (failure caller s questions) may h in
+    subst (λ f. EndsSo caller op s (Valid fault may ∷ questions) (lines_unless f (trace caller op s questions))) (sym x.0)
+    (passed_before caller op s (Valid fault may) questions [] _ x.0 (ends_in_refusal caller op s questions x.1))
+ends_in_refusal caller op s (Row demands ∷ questions) h =
     row_or (all_granted s.lists caller (demands s)) (failure caller s questions) (EndsSo caller op s (Row demands ∷ questions) (trace caller op s (Row demands ∷ questions)))
     (λ refused. record {
       row = record { demands = demands; first = inl (refl, refused) };
       ends = rw refused (nothing_behind caller op s.lists (demands s) _ (demands_end caller op s.lists (demands s) refused));
     })
-    (λ granted more. rw granted (passed_before caller op s (Row demands) questions (demand_lines s.lists caller op (demands s)) _ granted (ends_in_refusal caller op s questions apart more))) h
-ends_in_refusal caller op s (Suffices test ∷ questions) apart h =
+    (λ granted more. rw granted (passed_before caller op s (Row demands) questions (demand_lines s.lists caller op (demands s)) _ granted (ends_in_refusal caller op s questions more))) h
+ends_in_refusal caller op s (Suffices test ∷ questions) h =
     let x = not_enough (test s) (failure caller s questions) h in
-    rw x.0 (passed_before caller op s (Suffices test) questions [] _ x.0 (ends_in_refusal caller op s questions apart x.1))
+    rw x.0 (passed_before caller op s (Suffices test) questions [] _ x.0 (ends_in_refusal caller op s questions x.1))
+
+-- ---- DELAY
+
+no_delay : (status : Status) → IsFault status → status ≢ statuses.Delay
+no_delay status is e = subst IsFault e is
+
+pick : (b : Bool) (first second : Option Status) → first ≢ Some statuses.Delay → second ≢ Some statuses.Delay → cond b first second ≢ Some statuses.Delay
+pick true first second f s = f
+pick false first second f s = s
+
+-- no question fails by DELAY
+pub never_delays : (caller : Identity) (s : Sight) (questions : List Question) → failure caller s questions ≢ Some statuses.Delay
+never_delays caller s [] = λ e. cc
+never_delays caller s (Holds test status is ∷ questions) =
+    pick (test s) _ _ (never_delays caller s questions) (λ e. no_delay status is (some_same status statuses.Delay e))
+never_delays caller s (Valid None may ∷ questions) = never_delays caller s questions
+never_delays caller s (Valid (Some status) may ∷ questions) = λ e. no_delay status may (some_same status statuses.Delay e)
+never_delays caller s (Row demands ∷ questions) = pick (all_granted s.lists caller (demands s)) _ _ (never_delays caller s questions) (λ e. cc)
+never_delays caller s (Suffices test ∷ questions) = pick (test s) None _ (λ e. cc) (never_delays caller s questions)

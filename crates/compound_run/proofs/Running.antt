@@ -7,20 +7,56 @@ use Rattle.nfs_types.specs.declared.status.Status.{Status}
 use Rattle.nfs_types.specs.declared.status.Status.TheVariants as statuses
 use Rattle.nfs_ops.specs.Operations.{Operation, next_at, number_of}
 use Rattle.nfs_ops.specs.Results.{Outcome}
-use Rattle.access_guard.specs.Guarded.{Guarded}
-use Rattle.compound_run.specs.declared.files.Files.{Files}
-use Rattle.compound_run.specs.Runs.{Sender, Point, Given, Steps, Runs, IsToldBy, point_at, no_files, room_of, status_of, result_bytes, results_bytes}
-use Rattle.compound_run.specs.Compound.{StepGives, RunGives, last_status}
+use Rattle.compound_run.specs.declared.export.Export.{Export}
+use Rattle.compound_run.specs.declared.filehandles.FileHandles.{FileHandles}
+use Rattle.compound_run.specs.Limits.{REFUSAL_ROOM}
+use Rattle.compound_run.specs.Context.{Context, behind, no_handles}
+use Rattle.compound_run.specs.Runs.{Point, Given, Steps, Runs, status_of, result_bytes, results_bytes}
+use Rattle.compound_run.specs.Compound.{last_status}
+use Rattle.compound_run.specs.Telling.{IsToldBy}
+use Rattle.compound_run.specs.Views.{point_at}
+use Rattle.compound_run.specs.Written.{StepGives, RunGives}
+
+-- the context of the operation of this position
+abbrev pub at : Context → ℕ → ℕ → Context
+at c position room = record c { position = position; room = room }
+
+-- a run that was begun
+pub record Begun (A : Type 0) : Type 0 where
+  pub context : Context
+  pub operations : List ℕ
+  pub export : Export A
+  pub out : Buffer
+
+-- where it has come to
+pub record Stand (A : Type 0) : Type 0 where
+  pub export : Export A
+  pub handles : FileHandles
+  pub out : Buffer
+  pub rest : List ℕ
+  pub position : ℕ
+
+-- how many bytes the next result may take
+abbrev pub room_at : {A : Type 0} → Begun A → Stand A → ℕ
+room_at b s = length b.out.bytes + b.context.room - length s.out.bytes
+
+abbrev pub here_at : {A : Type 0} → Begun A → Stand A → Context
+here_at b s = at b.context s.position (room_at b s)
+
+abbrev pub RunsOn : {A : Type 0} → Begun A → Stand A → List Given → Point → Type 0
+RunsOn b s rest new = Runs (here_at b s) (b.context.count - s.position) s.rest (point_at s.export s.handles) rest new
+
+abbrev pub RunsAll : {A : Type 0} → Begun A → List Given → Point → Type 0
+RunsAll b results new = Runs b.context (b.context.count - b.context.position) b.operations (point_at b.export no_handles) results new
 
 -- what comes of the operations that are left goes on from the results so far, all of which are OK
-pub record Running (from : Sender) (limit count : ℕ) (operations : List ℕ) (old : Guarded) (room : ℕ) (tree : Guarded) (files : Files) (after : Buffer) (bytes : List ℕ) (ran : ℕ) : Type 0 where
+pub record Running {A : Type 0} (b : Begun A) (s : Stand A) : Type 0 where
   pub results : List Given
-  pub goes : (rest : List Given) (new : Point) → Runs from (limit - length after.bytes) (count - ran) bytes (point_at tree files) rest new → Runs from limit count operations (point_at old no_files) (results ++ rest) new
-  pub written : after.bytes ≡ results_bytes results
+  pub goes : (rest : List Given) (new : Point) → RunsOn b s rest new → RunsAll b (results ++ rest) new
+  pub written : Appends b.out s.out (results_bytes results)
   pub status : last_status results ≡ statuses.Ok
-  pub many : length results ≡ ran
-  pub left : length after.bytes + 16 ≤ limit
-  pub whole : length after.bytes + after.room ≡ room
+  pub many : s.position ≡ b.context.position + length results
+  pub fits : length s.out.bytes ≤ length b.out.bytes + b.context.room
 
 last-behind : (results : List Given) (given : Given) → last_status (results ++ given ∷ []) ≡ status_of given
 last-behind [] given = refl
@@ -31,8 +67,8 @@ bytes-behind : (results : List Given) (given : Given) → results_bytes (results
 bytes-behind [] given = append-nil (result_bytes given)
 bytes-behind (a ∷ results) given = ap (λ bytes. result_bytes a ++ bytes) (bytes-behind results given) ∙ sym (append_assoc (result_bytes a) (results_bytes results) (result_bytes given))
 
-one_more : (count ran : ℕ) → ran < count → count - ran ≡ suc (count - (ran + 1))
-one_more count ran below = omega (arith, below)
+one_more : (count position : ℕ) → position < count → count - position ≡ suc (count - (position + 1))
+one_more count position below = omega (arith, below)
 
 longer : (before after : Buffer) (item : List ℕ) → Appends before after item → length after.bytes ≡ length before.bytes + length item
 longer before after item appends = ap length appends.behind ∙ length-append before.bytes item
@@ -40,118 +76,106 @@ longer before after item appends = ap length appends.behind ∙ length-append be
 less : (limit b i a : ℕ) → a ≡ b + i → limit - b - i ≡ limit - a
 less limit b i a is = omega (arith, is)
 
--- the next operation, and what follows it
-goes_behind : (from : Sender) (limit count : ℕ) (operations : List ℕ) (old : Guarded) (room : ℕ) (tree : Guarded) (files : Files) (before : Buffer) (bytes : List ℕ) (ran : ℕ)
-    (r : Running from limit count operations old room tree files before bytes ran) → ran < count
-    → (given : Given) (mid : Point) → given.number ≡ number_of (next_at bytes).0 → Steps from (room_of (limit - length before.bytes)) (next_at bytes).0 (point_at tree files) given.outcome mid
-    → (rest : List Given) (new : Point)
-    → MatchResult given.outcome (λ outcome. Runs from (limit - length before.bytes - length (result_bytes given)) (count - (ran + 1)) (next_at bytes).1 mid rest new) (λ status. (rest ≡ []) × (new ≡ mid))
-    → Runs from limit count operations (point_at old no_files) (r.results ++ given ∷ rest) new
-goes_behind from limit count operations old room tree files before bytes ran r below given mid number steps rest new more =
-    r.goes (given ∷ rest) new (subst (λ n. Runs from (limit - length before.bytes) n bytes (point_at tree files) (given ∷ rest) new) (sym (one_more count ran below)) (mid, number, steps, more))
+-- one item behind the others
+both : (start before after : Buffer) (results : List Given) (given : Given) → Appends start before (results_bytes results) → Appends before after (result_bytes given) → Appends start after (results_bytes (results ++ given ∷ []))
+both start before after results given first second = record {
+  behind = second.behind ∙ ap (λ b. b ++ result_bytes given) first.behind ∙ append_assoc start.bytes (results_bytes results) (result_bytes given) ∙ ap (λ b. start.bytes ++ b) (sym (bytes-behind results given));
+  less_room =
+      let long = ap length (bytes-behind results given) ∙ length-append (results_bytes results) (result_bytes given) in
+      omega (arith, long, first.less_room, second.less_room);
+}
 
-pub starts : (from : Sender) (limit count : ℕ) (operations : List ℕ) (tree : Guarded) (before : Buffer) → before.bytes ≡ [] → 16 ≤ limit → Running from limit count operations tree before.room tree no_files before operations 0
-starts from limit count operations tree before empty left = record {
+pub starts : {A : Type 0} (b : Begun A) → Running b (record { export = b.export; handles = no_handles; out = b.out; rest = b.operations; position = b.context.position })
+starts b = record {
   results = [];
-  goes = λ rest new runs. subst (λ n. Runs from limit n operations (point_at tree no_files) rest new) all (subst (λ l. Runs from l (count - 0) operations (point_at tree no_files) rest new) (ap (λ b. limit - length b) empty ∙ whole) runs);
-  written = empty;
+  goes = λ rest new runs. subst (λ room. Runs (at b.context b.context.position room) (b.context.count - b.context.position) b.operations (point_at b.export no_handles) rest new) all runs;
+  written = record { behind = sym (append-nil b.out.bytes); less_room = omega arith };
   status = refl;
-  many = refl;
-  left = subst (λ b. length b + 16 ≤ limit) (sym empty) left;
-  whole = room;
+  many = omega arith;
+  fits = omega arith;
 }
   where
-    none : length before.bytes ≡ 0
-    none = ap length empty
-
-    room : length before.bytes + before.room ≡ before.room
-    room = omega (arith, none)
-
-    all : count - 0 ≡ count
+    all : length b.out.bytes + b.context.room - length b.out.bytes ≡ b.context.room
     all = omega arith
 
-    whole : limit - 0 ≡ limit
-    whole = omega arith
+-- the next operation, and what follows it
+goes_behind : {A : Type 0} (b : Begun A) (s : Stand A) (r : Running b s) → s.position < b.context.count
+    → (given : Given) (mid : Point) → given.number ≡ number_of (next_at s.rest).0 → Steps (here_at b s) (next_at s.rest).0 (point_at s.export s.handles) given.outcome mid
+    → (rest : List Given) (new : Point)
+    → MatchResult given.outcome (λ outcome. Runs (behind (here_at b s) (length (result_bytes given))) (b.context.count - (s.position + 1)) (next_at s.rest).1 mid rest new) (λ status. (rest ≡ []) × (new ≡ mid))
+    → RunsAll b (r.results ++ given ∷ rest) new
+goes_behind b s r below given mid number steps rest new more =
+    r.goes (given ∷ rest) new (subst (λ n. Runs (here_at b s) n s.rest (point_at s.export s.handles) (given ∷ rest) new) (sym (one_more b.context.count s.position below)) (mid, number, steps, more))
 
-more_ok : (from : Sender) (limit count : ℕ) (operations : List ℕ) (old : Guarded) (room : ℕ) (tree : Guarded) (files : Files) (before : Buffer) (bytes : List ℕ) (ran : ℕ)
-    → Running from limit count operations old room tree files before bytes ran → ran < count
-    → (number : ℕ) (outcome : Result Outcome Status) (tree' : Guarded) (files' : Files) (after : Buffer)
-    → number ≡ number_of (next_at bytes).0 → Steps from (room_of (limit - length before.bytes)) (next_at bytes).0 (point_at tree files) outcome (point_at tree' files')
-    → Appends before after (result_bytes (record { number = number; outcome = outcome })) → length after.bytes + 16 ≤ limit → IsToldBy (Ok tt) outcome
-    → Running from limit count operations old room tree' files' after (next_at bytes).1 (ran + 1)
-more_ok from limit count operations old room tree files before bytes ran r below number (Ok o) tree' files' after is steps appends left tells =
+more_ok : {A : Type 0} (b : Begun A) (s : Stand A) → Running b s → s.position < b.context.count
+    → (number : ℕ) (outcome : Result Outcome Status) (e : Export A) (h : FileHandles) (out : Buffer)
+    → number ≡ number_of (next_at s.rest).0 → Steps (here_at b s) (next_at s.rest).0 (point_at s.export s.handles) outcome (point_at e h)
+    → Appends s.out out (result_bytes (record { number = number; outcome = outcome })) → length out.bytes ≤ length s.out.bytes + room_at b s → IsToldBy (Ok tt) outcome
+    → Running b (record { export = e; handles = h; out = out; rest = (next_at s.rest).1; position = s.position + 1 })
+more_ok b s r below number (Ok o) e h out is steps appends fits tells =
     let given : Given = record { number = number; outcome = Ok o } in
-    let long = longer before after (result_bytes given) appends in
+    let long = longer s.out out (result_bytes given) appends in
     record {
       results = r.results ++ given ∷ [];
-      goes = λ rest new runs. subst (λ results. Runs from limit count operations (point_at old no_files) results new) (sym (append_assoc r.results (given ∷ []) rest))
-          (goes_behind from limit count operations old room tree files before bytes ran r below given (point_at tree' files') is steps rest new
-          (subst (λ l. Runs from l (count - (ran + 1)) (next_at bytes).1 (point_at tree' files') rest new) (sym (less limit (length before.bytes) (length (result_bytes given)) (length after.bytes) long)) runs));
-      written = appends.behind ∙ ap (λ b. b ++ result_bytes given) r.written ∙ sym (bytes-behind r.results given);
+      goes = λ rest new runs. subst (λ results. RunsAll b results new) (sym (append_assoc r.results (given ∷ []) rest))
+          (goes_behind b s r below given (point_at e h) is steps rest new
+          (subst (λ room. Runs (at b.context (s.position + 1) room) (b.context.count - (s.position + 1)) (next_at s.rest).1 (point_at e h) rest new) (sym (less (length b.out.bytes + b.context.room) (length s.out.bytes) (length (result_bytes given)) (length out.bytes) long)) runs));
+      written = both b.out s.out out r.results given r.written appends;
       status = last-behind r.results given;
-      many = length-append r.results (given ∷ []) ∙ ap (λ n. n + 1) r.many;
-      left = left;
-      whole = omega (arith, long, appends.less_room, r.whole);
+      many = let count = length-append r.results (given ∷ []) in omega (arith, count, r.many);
+      fits = omega (arith, fits, r.fits);
     }
-more_ok from limit count operations old room tree files before bytes ran r below number (Err status) tree' files' after is steps appends left tells = absurd tells
+more_ok b s r below number (Err status) e h out is steps appends fits tells = absurd tells
 
-pub goes_on : (from : Sender) (limit count : ℕ) (operations : List ℕ) (old : Guarded) (room : ℕ) (tree : Guarded) (files : Files) (before : Buffer) (bytes : List ℕ) (ran : ℕ)
-    → Running from limit count operations old room tree files before bytes ran → ran < count
-    → (op : Operation) (rest : List ℕ) (tree' : Guarded) (files' : Files) (after : Buffer) → (op, rest) ≡ next_at bytes
-    → StepGives from limit op (point_at tree files) before (Ok tt) (point_at tree' files') after
-    → Running from limit count operations old room tree' files' after rest (ran + 1)
-goes_on from limit count operations old room tree files before bytes ran r below op rest tree' files' after is gives =
-    subst (λ b. Running from limit count operations old room tree' files' after b (ran + 1)) (sym (ap (λ x. x.1) is))
-    (more_ok from limit count operations old room tree files before bytes ran r below gives.given.number gives.given.outcome tree' files' after
-    (gives.number ∙ ap (λ x. number_of x.0) is) (subst (λ o. Steps from (room_of (limit - length before.bytes)) o (point_at tree files) gives.given.outcome (point_at tree' files')) (ap (λ x. x.0) is) gives.steps)
-    gives.written gives.left gives.tells)
+-- what a step gives, at the next operation of the bytes
+abbrev pub StepOf : {A : Type 0} → Begun A → Stand A → ℕ → Operation → Result (Unit {0}) Status → Export A → FileHandles → Buffer → Type 0
+StepOf b s room op answer e h out = StepGives (at b.context s.position room) op (point_at s.export s.handles) s.out answer (point_at e h) out
 
-last_err : (from : Sender) (limit count : ℕ) (operations : List ℕ) (old : Guarded) (buffer : Buffer) (tree : Guarded) (files : Files) (before : Buffer) (bytes : List ℕ) (ran : ℕ)
-    → Running from limit count operations old buffer.room tree files before bytes ran → ran < count
-    → (number : ℕ) (outcome : Result Outcome Status) (status : Status) (tree' : Guarded) (files' : Files) (after : Buffer)
-    → number ≡ number_of (next_at bytes).0 → Steps from (room_of (limit - length before.bytes)) (next_at bytes).0 (point_at tree files) outcome (point_at tree' files')
-    → Appends before after (result_bytes (record { number = number; outcome = outcome })) → length after.bytes ≤ limit → IsToldBy (Err status) outcome
-    → RunGives from limit count operations old buffer (record { status = status; ran = ran + 1 }) tree' after
-last_err from limit count operations old buffer tree files before bytes ran r below number (Ok o) status tree' files' after is steps appends within tells = absurd tells
-last_err from limit count operations old buffer tree files before bytes ran r below number (Err told) status tree' files' after is steps appends within tells =
+pub goes_on : {A : Type 0} (b : Begun A) (s : Stand A) → Running b s → s.position < b.context.count → (room : ℕ) → room ≡ room_at b s
+    → (op : Operation) (rest : List ℕ) (e : Export A) (h : FileHandles) (out : Buffer) → (op, rest) ≡ next_at s.rest → StepOf b s room op (Ok tt) e h out
+    → Running b (record { export = e; handles = h; out = out; rest = rest; position = s.position + 1 })
+goes_on {A} b s r below room is_room op rest e h out is gives =
+    let g = subst (λ x. StepOf b s x op (Ok tt) e h out) is_room gives in
+    subst (λ x. Running b (record { export = e; handles = h; out = out; rest = x; position = s.position + 1 })) (sym (ap (λ x. x.1) is))
+    (more_ok b s r below (number_of op) g.outcome e h out (ap (λ x. number_of x.0) is) (subst (λ o. Steps (here_at b s) o (point_at s.export s.handles) g.outcome (point_at e h)) (ap (λ x. x.0) is) g.steps) g.written g.fits g.tells)
+
+last_err : {A : Type 0} (b : Begun A) (s : Stand A) → Running b s → s.position < b.context.count
+    → (number : ℕ) (outcome : Result Outcome Status) (status : Status) (e : Export A) (h : FileHandles) (out : Buffer)
+    → number ≡ number_of (next_at s.rest).0 → Steps (here_at b s) (next_at s.rest).0 (point_at s.export s.handles) outcome (point_at e h)
+    → Appends s.out out (result_bytes (record { number = number; outcome = outcome })) → length out.bytes ≤ length s.out.bytes + room_at b s + REFUSAL_ROOM → IsToldBy (Err status) outcome
+    → RunGives b.context b.operations b.export b.out (record { status = status; ran = s.position + 1 }) e out
+last_err b s r below number (Ok o) status e h out is steps appends within tells = absurd tells
+last_err b s r below number (Err told) status e h out is steps appends within tells =
     let given : Given = record { number = number; outcome = Err told } in
-    let long = longer before after (result_bytes given) appends in
     record {
-      files = files';
+      handles = h;
       results = r.results ++ given ∷ [];
-      runs = goes_behind from limit count operations old buffer.room tree files before bytes ran r below given (point_at tree' files') is steps [] (point_at tree' files') (refl, refl);
-      written = appends.behind ∙ ap (λ b. b ++ result_bytes given) r.written ∙ sym (bytes-behind r.results given);
+      runs = goes_behind b s r below given (point_at e h) is steps [] (point_at e h) (refl, refl);
+      written = both b.out s.out out r.results given r.written appends;
       status = tells ∙ sym (last-behind r.results given);
-      ran = sym (length-append r.results (given ∷ []) ∙ ap (λ n. n + 1) r.many);
-      bound = within;
-      whole = omega (arith, long, appends.less_room, r.whole);
+      ran = let count = length-append r.results (given ∷ []) in omega (arith, count, r.many);
+      within = omega (arith, within, r.fits);
     }
 
-pub ends_with : (from : Sender) (limit count : ℕ) (operations : List ℕ) (old : Guarded) (buffer : Buffer) (tree : Guarded) (files : Files) (before : Buffer) (bytes : List ℕ) (ran : ℕ)
-    → Running from limit count operations old buffer.room tree files before bytes ran → ran < count
-    → (op : Operation) (rest : List ℕ) (status : Status) (tree' : Guarded) (files' : Files) (after : Buffer) → (op, rest) ≡ next_at bytes
-    → StepGives from limit op (point_at tree files) before (Err status) (point_at tree' files') after
-    → RunGives from limit count operations old buffer (record { status = status; ran = ran + 1 }) tree' after
-ends_with from limit count operations old buffer tree files before bytes ran r below op rest status tree' files' after is gives =
-    last_err from limit count operations old buffer tree files before bytes ran r below gives.given.number gives.given.outcome status tree' files' after
-    (gives.number ∙ ap (λ x. number_of x.0) is) (subst (λ o. Steps from (room_of (limit - length before.bytes)) o (point_at tree files) gives.given.outcome (point_at tree' files')) (ap (λ x. x.0) is) gives.steps)
-    gives.written gives.within gives.tells
+pub ends_with : {A : Type 0} (b : Begun A) (s : Stand A) → Running b s → s.position < b.context.count → (room : ℕ) → room ≡ room_at b s
+    → (op : Operation) (rest : List ℕ) (status : Status) (e : Export A) (h : FileHandles) (out : Buffer) → (op, rest) ≡ next_at s.rest → StepOf b s room op (Err status) e h out
+    → RunGives b.context b.operations b.export b.out (record { status = status; ran = s.position + 1 }) e out
+ends_with b s r below room is_room op rest status e h out is gives =
+    let g = subst (λ x. StepOf b s x op (Err status) e h out) is_room gives in
+    last_err b s r below (number_of op) g.outcome status e h out (ap (λ x. number_of x.0) is) (subst (λ o. Steps (here_at b s) o (point_at s.export s.handles) g.outcome (point_at e h)) (ap (λ x. x.0) is) g.steps) g.written g.within g.tells
 
-pub ends_whole : (from : Sender) (limit count : ℕ) (operations : List ℕ) (old : Guarded) (buffer : Buffer) (tree : Guarded) (files : Files) (after : Buffer) (bytes : List ℕ) (ran : ℕ)
-    → Running from limit count operations old buffer.room tree files after bytes ran → ran ≡ count
-    → RunGives from limit count operations old buffer (record { status = statuses.Ok; ran = count }) tree after
-ends_whole from limit count operations old buffer tree files after bytes ran r all =
-    record {
-      files = files;
-      results = r.results;
-      runs = subst (λ results. Runs from limit count operations (point_at old no_files) results (point_at tree files)) (append-nil r.results)
-          (r.goes [] (point_at tree files) (subst (λ n. Runs from (limit - length after.bytes) n bytes (point_at tree files) [] (point_at tree files)) (sym none) refl));
-      written = r.written;
-      status = sym r.status;
-      ran = sym (r.many ∙ all);
-      bound = omega (arith, r.left);
-      whole = r.whole;
-    }
+pub ends_whole : {A : Type 0} (b : Begun A) (s : Stand A) → Running b s → s.position ≡ b.context.count
+    → RunGives b.context b.operations b.export b.out (record { status = statuses.Ok; ran = b.context.count }) s.export s.out
+ends_whole b s r all = record {
+  handles = s.handles;
+  results = r.results;
+  runs = subst (λ results. RunsAll b results (point_at s.export s.handles)) (append-nil r.results)
+      (r.goes [] (point_at s.export s.handles) (subst (λ n. Runs (here_at b s) n s.rest (point_at s.export s.handles) [] (point_at s.export s.handles)) (sym none) refl));
+  written = r.written;
+  status = sym r.status;
+  ran = omega (arith, all, r.many);
+  within = omega (arith, r.fits);
+}
   where
-    none : count - ran ≡ 0
+    none : b.context.count - s.position ≡ 0
     none = omega (arith, all)

@@ -4,25 +4,30 @@ use Rattle.std.specs.Prelude.{ℕ, [], unwrap_or}
 use Rattle.xdr_wire.specs.Xdr.{Value}
 use Rattle.acl_list.specs.declared.entry.Kind.TheVariants.{File}
 use Rattle.nfs_ops.specs.Forms.{access_result}
-use Rattle.nfs_ops.specs.Results as results
+use Rattle.nfs_ops.specs.declared.op_kind.OpKind.TheVariants as kinds
+use Rattle.nfs_ops.specs.Rows.{row}
+use Rattle.nfs_ops.specs.Results.{Done}
 use Rattle.access_rows.specs.declared.rights.Rights.{Rights}
 use Rattle.access_rows.specs.Rights.{rights_of}
 use Rattle.access_guard.specs.Lists.{granted_at}
+use Rattle.compound_run.specs.declared.filehandles.FileHandles.{FileHandles}
+use Rattle.compound_run.specs.Context.{Context}
 use Rattle.compound_run.specs.Sight.{Sight}
-use Rattle.compound_run.specs.Meaning.{Place, Meaning, stays, with_handle, here}
+use Rattle.compound_run.specs.Meaning.{Meaning, stays, with_handle, here}
 
 abbrev pub told_rights : Rights → Value access_result
 told_rights r = (r.supported, r.granted)
 
 -- the rights of an object
-abbrev pub rights_at : Place → ℕ → Sight → Rights
-rights_at p asked s = rights_of (unwrap_or (s.kinds (here p)) File) asked (granted_at s.lists p.caller (here p))
+abbrev pub rights_at : Context → FileHandles → ℕ → Sight → Rights
+rights_at c h asked s = rights_of (unwrap_or (s.kinds (here h)) File) asked (granted_at s.lists c.caller (here h))
 
-abbrev pub access : Place → ℕ → Meaning
-access p asked = record {
-  number = 3;
-  questions = with_handle p.files.current [];
-  answer = λ s. results.Access (told_rights (rights_at p asked s));
+abbrev pub access : ℕ → Context → FileHandles → Meaning
+access asked c h = record {
+  number = (row kinds.Access).number;
+  caller = c.caller;
+  questions = with_handle h.current [];
+  answer = λ s. Done kinds.Access (told_rights (rights_at c h asked s));
   effect = stays;
-  goes = λ s. p.files;
+  goes = λ s. h;
 }

@@ -1,27 +1,40 @@
 -- LINK (RFC 8881, section 18.9): the saved object gets a name more, in the current directory.
-use Rattle.std.specs.Prelude.{ℕ, nat_lt, List, [], ◌∷◌}
+use Rattle.std.specs.Prelude.{ℕ, List, [], ◌∷◌}
 use Rattle.nfs_types.specs.declared.status.Status.TheVariants as statuses
-use Rattle.nfs_ops.specs.Operations as ops
-use Rattle.nfs_ops.specs.Results as results
-use Rattle.node_tree.specs.Limits.{MAX_LINKS}
+use Rattle.nfs_ops.specs.Operations.{Known}
+use Rattle.nfs_ops.specs.declared.op_kind.OpKind.TheVariants as kinds
+use Rattle.nfs_ops.specs.Rows.{row}
+use Rattle.nfs_ops.specs.Results.{Done}
 use Rattle.node_tree.specs.Changes.{with_link}
-use Rattle.compound_run.specs.Questions.{Holds}
+use Rattle.node_tree.specs.Refusals.{may_link, may_name}
+use Rattle.compound_run.specs.declared.filehandles.FileHandles.{FileHandles}
+use Rattle.compound_run.specs.Context.{Context}
+use Rattle.compound_run.specs.Questions.{Question, Holds}
 use Rattle.compound_run.specs.Rows.{first_row}
-use Rattle.compound_run.specs.Meaning.{Place, Meaning, at, changed, with_handle, here, there, is_directory, is_no_directory, is_name, has_no_child, may_name, has_space}
+use Rattle.compound_run.specs.Meaning.{Meaning, at, in_world, changed, with_handle, here, there, is_directory, is_no_directory, is_name, has_no_child, names_at, has_space}
 
-abbrev pub link : Place → List ℕ → Meaning
-link p name = record {
-  number = 11;
-  questions = with_handle p.files.current (with_handle p.files.saved
-      (is_directory (here p)
-      ∷ is_no_directory (there p)
+-- what is asked last: there is space for the name
+abbrev pub is_nameable : ℕ → Question
+is_nameable directory = has_space (λ s. may_name (names_at s directory) s.next_cookie)
+
+abbrev pub link : List ℕ → Context → FileHandles → Meaning
+link name c h = record {
+  number = (row kinds.Link).number;
+  caller = c.caller;
+  questions = with_handle h.current (with_handle h.saved
+      (is_directory (here h)
+      ∷ is_no_directory (there h)
       ∷ is_name name
-      ∷ first_row p.files (ops.Link name)
-      ∷ has_no_child (here p) name
-      ∷ Holds (λ s. nat_lt (s.links (there p)) MAX_LINKS) statuses.MLink
-      ∷ has_space (λ s. may_name s (here p))
+      ∷ first_row h (Known kinds.Link name)
+      ∷ has_no_child (here h) name
+      ∷ Holds (λ s. may_link (s.links (there h))) statuses.MLink tt
+      ∷ is_nameable (here h)
       ∷ []));
-  answer = λ s. results.Link (changed s (here p));
-  effect = λ now w. with_link w (here p) name (there p) (at now w);
-  goes = λ s. p.files;
+  answer = λ s. Done kinds.Link (changed s (here h));
+  effect = in_world (λ w. with_link w (here h) name (there h) (at c w));
+  goes = λ s. h;
 }
+
+-- the same behind all questions but the last, in a directory
+abbrev pub naming : List ℕ → ℕ → Context → FileHandles → Meaning
+naming name directory c h = record (link name c h) { questions = is_nameable directory ∷ [] }

@@ -1,56 +1,55 @@
--- What an operation means at its place in a COMPOUND: what it asks in order, what it gives, and what then becomes of the world and of
+-- What an operation means at its place in a COMPOUND: what it asks in order, what it gives, and what then becomes of the realm and of
 -- the filehandles; and the questions that several operations ask (RFC 8881, sections 2.10, 16.2 and 18).
-use Rattle.std.specs.Prelude.{ℕ, ◌&&◌, Bool, true, false, not, nat_le, nat_lt, List, [], ◌∷◌, length, is_some, unwrap_or, Option, Some}
+use Rattle.std.specs.Prelude.{ℕ, ◌&&◌, Bool, true, false, not, nat_le, if◌then◌else◌, List, [], ◌∷◌, length, is_some, unwrap_or, Option, Some, None}
 use Rattle.std.proofs.Common.{inl}
 use Rattle.std.specs.Option.{option_map_or}
 use Rattle.rpc_record.specs.Identity.{Identity}
 use Rattle.acl_list.specs.declared.entry.Kind.{Kind}
 use Rattle.acl_list.specs.declared.entry.Kind.TheVariants.{File, Directory, Link}
-use Rattle.who_book.specs.Content.{Content}
 use Rattle.xdr_wire.specs.Xdr.{Value}
-use Rattle.nfs_types.specs.declared.moment.Moment.{Moment}
 use Rattle.nfs_types.specs.declared.status.Status.{Status}
 use Rattle.nfs_types.specs.declared.status.Status.TheVariants as statuses
 use Rattle.nfs_types.specs.Name.{name_fault}
 use Rattle.nfs_ops.specs.Forms.{change_info}
 use Rattle.nfs_ops.specs.Results.{Outcome, Refused}
 use Rattle.node_tree.specs.declared.at.At.{At}
-use Rattle.node_tree.specs.Limits.{MAX_NAMES}
-use Rattle.node_tree.specs.World.{World}
+use Rattle.node_tree.specs.World.{World, is_directory_in}
 use Rattle.node_tree.specs.Refusals.{has_left}
-use Rattle.compound_run.specs.declared.files.Files.{Files}
-use Rattle.compound_run.specs.Sight.{Sight, is_directory_in, child}
+use Rattle.compound_run.specs.declared.context.Calling.{Calling}
+use Rattle.compound_run.specs.declared.filehandles.FileHandles.{FileHandles}
+use Rattle.compound_run.specs.Realm.{Realm}
+use Rattle.compound_run.specs.Context.{Context}
+use Rattle.compound_run.specs.Sight.{Sight, child}
+use Rattle.compound_run.specs.Faults.{IsFault}
+use Rattle.compound_run.specs.ArgumentFaults.{name_may}
 use Rattle.compound_run.specs.Questions.{Question, Holds, Valid}
-
--- where an operation stands
-pub record Place : Type 0 where
-  -- the two filehandles
-  pub files : Files
-  -- how many bytes its result may take
-  pub room : ℕ
-  pub caller : Identity
-  pub book : Content
 
 pub record Meaning : Type 0 where
   -- its number, which stands in its lines
   pub number : ℕ
+  -- whose lists it asks
+  pub caller : Identity
   pub questions : List Question
   -- what it gives where it is OK
   pub answer : Sight → Outcome
-  -- what then becomes of the world, at this moment
-  pub effect : Moment → World → World
+  -- what then becomes of the realm
+  pub effect : Realm → Realm
   -- and of the filehandles
-  pub goes : Sight → Files
+  pub goes : Sight → FileHandles
 
 -- ---- effects
 
--- the world stays
-abbrev pub stays : Moment → World → World
-stays now w = w
+-- the realm stays
+abbrev pub stays : Realm → Realm
+stays r = r
+
+-- the world alone changes
+abbrev pub in_world : (World → World) → Realm → Realm
+in_world f r = record r { world = f r.world }
 
 -- a change that is made now takes the next tick
-abbrev pub at : Moment → World → At
-at now w = record { tick = w.next_tick; moment = now }
+abbrev pub at : Context → World → At
+at c w = record { tick = w.next_tick; moment = c.now }
 
 -- the change of a directory before and after an operation that takes a tick
 abbrev pub changed : Sight → ℕ → Value change_info
@@ -67,18 +66,18 @@ abbrev pub number_in : Option ℕ → ℕ
 number_in handle = unwrap_or handle 0
 
 -- that of the current and of the saved filehandle
-abbrev pub here : Place → ℕ
-here p = number_in p.files.current
+abbrev pub here : FileHandles → ℕ
+here h = number_in h.current
 
-abbrev pub there : Place → ℕ
-there p = number_in p.files.saved
+abbrev pub there : FileHandles → ℕ
+there h = number_in h.saved
 
 -- a filehandle names an object
 abbrev pub is_set : Option ℕ → Question
-is_set handle = Holds (λ s. is_some handle) statuses.NoFileHandle
+is_set handle = Holds (λ s. is_some handle) statuses.NoFileHandle tt
 
 abbrev pub is_live : Option ℕ → Question
-is_live handle = Holds (λ s. is_some (s.kinds (number_in handle))) statuses.Stale
+is_live handle = Holds (λ s. is_some (s.kinds (number_in handle))) statuses.Stale tt
 
 -- behind the questions of a filehandle
 abbrev pub with_handle : Option ℕ → List Question → List Question
@@ -95,54 +94,66 @@ abbrev pub is_link_in : Sight → ℕ → Bool
 is_link_in s number = option_map_or is_link (s.kinds number) false
 
 abbrev pub is_directory : ℕ → Question
-is_directory number = Holds (λ s. is_directory_in s number) statuses.NotDir
+is_directory number = Holds (λ s. is_directory_in s.kinds number) statuses.NotDir tt
 
 abbrev pub is_no_directory : ℕ → Question
-is_no_directory number = Holds (λ s. not (is_directory_in s number)) statuses.IsDir
+is_no_directory number = Holds (λ s. not (is_directory_in s.kinds number)) statuses.IsDir tt
 
 abbrev pub is_no_link : ℕ → Question
-is_no_link number = Holds (λ s. not (is_link_in s number)) statuses.Symlink
+is_no_link number = Holds (λ s. not (is_link_in s number)) statuses.Symlink tt
 
 -- ---- names
 
 abbrev pub is_name : List ℕ → Question
-is_name name = Valid (name_fault name)
+is_name name = Valid (name_fault name) (name_may name)
 
 abbrev pub has_child : ℕ → List ℕ → Question
-has_child directory name = Holds (λ s. is_some (child s directory name)) statuses.NoEnt
+has_child directory name = Holds (λ s. is_some (child s directory name)) statuses.NoEnt tt
 
 abbrev pub has_no_child : ℕ → List ℕ → Question
-has_no_child directory name = Holds (λ s. not (is_some (child s directory name))) statuses.Exist
+has_no_child directory name = Holds (λ s. not (is_some (child s directory name))) statuses.Exist tt
 
 -- ---- space
 
--- the directory has room for a name more, and a cookie is left for it
-abbrev pub may_name : Sight → ℕ → Bool
-may_name s directory = nat_lt (length (s.names directory)) MAX_NAMES && has_left s.next_cookie
+-- how many names stand in a directory
+abbrev pub names_at : Sight → ℕ → ℕ
+names_at s directory = length (s.names directory)
 
 -- a tick is left, and there is space for the change
 abbrev pub has_space : (Sight → Bool) → Question
-has_space test = Holds (λ s. has_left s.next_tick && test s) statuses.NoSpc
+has_space test = Holds (λ s. has_left s.next_tick && test s) statuses.NoSpc tt
 
 abbrev pub has_tick : Question
-has_tick = Holds (λ s. has_left s.next_tick) statuses.NoSpc
+has_tick = Holds (λ s. has_left s.next_tick) statuses.NoSpc tt
 
 -- ---- room
 
--- The least room that an operation runs in: no result of an operation that changes something is longer.
-abbrev pub LEAST_ROOM : ℕ
-LEAST_ROOM = 256
+-- a result for which there is no room is too big for the reply, or for one that is to be kept
+abbrev pub too_big_for : Option Calling → Status
+too_big_for None = statuses.RepTooBig
+too_big_for (Some calling) = if calling.keeps_reply then statuses.RepTooBigToCache else statuses.RepTooBig
 
--- an operation asks first whether there is room for its result
-abbrev pub after_room : Place → Meaning → Meaning
-after_room p m = record m { questions = Holds (λ s. nat_le LEAST_ROOM p.room) statuses.RepTooBig ∷ m.questions }
+pub too_big_may : (calling : Option Calling) → IsFault (too_big_for calling)
+too_big_may None = tt
+too_big_may (Some calling) = of calling.keeps_reply
+  where
+    of : (b : Bool) → IsFault (if b then statuses.RepTooBigToCache else statuses.RepTooBig)
+    of true = tt
+    of false = tt
 
--- an operation that is refused whatever the world is
-abbrev pub refusing : Place → ℕ → Status → Meaning
-refusing p number status = record {
+-- there is room for a result of so many bytes
+abbrev pub has_room : Context → (Sight → ℕ) → Question
+has_room c size = Holds (λ s. nat_le (size s) c.room) (too_big_for c.calling) (too_big_may c.calling)
+
+-- ---- meanings
+
+-- an operation that is refused whatever the realm is
+abbrev pub refusing : Context → FileHandles → ℕ → (status : Status) → IsFault status → Meaning
+refusing c h number status is = record {
   number = number;
-  questions = Valid (Some status) ∷ [];
+  caller = c.caller;
+  questions = Valid (Some status) is ∷ [];
   answer = λ s. Refused number 0;
   effect = stays;
-  goes = λ s. p.files;
+  goes = λ s. h;
 }

@@ -1,86 +1,127 @@
--- What each operation means at its place (RFC 8881, section 18): a line for each operation, in the order of the standard. Those that
+-- What each operation means at its place (RFC 8881, section 18): a line for each that is built, in the order of the standard. Those that
 -- aren't built answer NOTSUPP once they are read, and so do the operations of sessions where there is none.
-use Rattle.std.specs.Prelude.{Bool, true, false}
+use Rattle.std.specs.Prelude.{Bool, true, false, ◌&&◌, nat_lt, is_none, if◌then◌else◌, ◌∷◌, Option, Some, None}
+use Rattle.nfs_types.specs.declared.status.Status.{Status}
 use Rattle.nfs_types.specs.declared.status.Status.TheVariants as statuses
-use Rattle.nfs_ops.specs.Operations.{Operation, Access, Close, Commit, Create, GetAttr, GetFh, Link, Lookup, LookupP, NVerify, Open, PutFh, PutRootFh, Read, ReadDir, ReadLink, Remove, Rename, RestoreFh, SaveFh, SetAttr, Verify, Write, ExchangeId, CreateSession, DestroySession, Sequence, DestroyClientId, ReclaimComplete, Unsupported, Illegal, Bad, illegal}
-use Rattle.compound_run.specs.Meaning.{Place, Meaning, after_room, refusing}
+use Rattle.nfs_ops.specs.Operations.{Operation, Known, Unsupported, Illegal, Bad, illegal}
+use Rattle.nfs_ops.specs.Rows.{row}
+use Rattle.nfs_ops.specs.declared.op_kind.OpKind.TheVariants as kinds
+use Rattle.compound_run.specs.declared.filehandles.FileHandles.{FileHandles}
+use Rattle.compound_run.specs.Limits.{MIN_ROOM}
+use Rattle.compound_run.specs.Context.{Context}
+use Rattle.compound_run.specs.Faults.{MayFault, first_fault, first_may}
+use Rattle.compound_run.specs.Questions.{Valid}
+use Rattle.compound_run.specs.Meaning.{Meaning, refusing, too_big_for, too_big_may}
 use Rattle.compound_run.specs.Access.{access}
 use Rattle.compound_run.specs.Create.{create}
-use Rattle.compound_run.specs.GetFh.{get_fh}
+use Rattle.compound_run.specs.Getfh.{getfh}
 use Rattle.compound_run.specs.Link.{link}
 use Rattle.compound_run.specs.Lookup.{lookup}
-use Rattle.compound_run.specs.LookupP.{lookup_p}
-use Rattle.compound_run.specs.PutFh.{put_fh}
-use Rattle.compound_run.specs.PutRootFh.{put_root_fh}
-use Rattle.compound_run.specs.ReadLink.{read_link}
+use Rattle.compound_run.specs.Lookupp.{lookupp}
+use Rattle.compound_run.specs.Putfh.{putfh}
+use Rattle.compound_run.specs.Putrootfh.{putrootfh}
+use Rattle.compound_run.specs.Readlink.{readlink}
 use Rattle.compound_run.specs.Remove.{remove}
 use Rattle.compound_run.specs.Rename.{rename}
-use Rattle.compound_run.specs.RestoreFh.{restore_fh}
-use Rattle.compound_run.specs.SaveFh.{save_fh}
+use Rattle.compound_run.specs.Restorefh.{restorefh}
+use Rattle.compound_run.specs.Savefh.{savefh}
 
--- whether it is built: it asks for room, and then what it asks
+-- ---- place
+
+-- the operations of sessions
+abbrev pub is_of_sessions : Operation → Bool
+is_of_sessions (Known kinds.ExchangeId v) = true
+is_of_sessions (Known kinds.CreateSession v) = true
+is_of_sessions (Known kinds.DestroySession v) = true
+is_of_sessions (Known kinds.Sequence v) = true
+is_of_sessions (Known kinds.DestroyClientId v) = true
+is_of_sessions (Known kinds.ReclaimComplete v) = true
+is_of_sessions _ = false
+
+-- Where there is no session its operations aren't supported.
+abbrev pub place_fault : Operation → Option Status
+place_fault op = if is_of_sessions op then Some statuses.NotSupp else None
+
+pub place_may : (op : Operation) → MayFault (place_fault op)
+place_may op = of (is_of_sessions op)
+  where
+    of : (b : Bool) → MayFault (if b then Some statuses.NotSupp else None)
+    of true = tt
+    of false = tt
+
+-- ---- room
+
+-- whether it is built: it needs room for its result
 abbrev pub is_run : Operation → Bool
-is_run (Access v) = true
-is_run (Create v) = true
-is_run GetFh = true
-is_run (Link v) = true
-is_run (Lookup v) = true
-is_run LookupP = true
-is_run (PutFh v) = true
-is_run PutRootFh = true
-is_run ReadLink = true
-is_run (Remove v) = true
-is_run (Rename v) = true
-is_run RestoreFh = true
-is_run SaveFh = true
+is_run (Known kinds.Access v) = true
+is_run (Known kinds.Create v) = true
+is_run (Known kinds.GetFh v) = true
+is_run (Known kinds.Link v) = true
+is_run (Known kinds.Lookup v) = true
+is_run (Known kinds.LookupP v) = true
+is_run (Known kinds.PutFh v) = true
+is_run (Known kinds.PutRootFh v) = true
+is_run (Known kinds.ReadLink v) = true
+is_run (Known kinds.Remove v) = true
+is_run (Known kinds.Rename v) = true
+is_run (Known kinds.RestoreFh v) = true
+is_run (Known kinds.SaveFh v) = true
 is_run _ = false
 
--- what is asked behind the room
-abbrev pub body : Place → Operation → Meaning
-body p (Access v) = access p v
-body p (Close v) = refusing p 4 statuses.NotSupp
-body p (Commit v) = refusing p 5 statuses.NotSupp
-body p (Create v) = create p v
-body p (GetAttr v) = refusing p 9 statuses.NotSupp
-body p GetFh = get_fh p
-body p (Link v) = link p v
-body p (Lookup v) = lookup p v
-body p LookupP = lookup_p p
-body p (NVerify v) = refusing p 17 statuses.NotSupp
-body p (Open v) = refusing p 18 statuses.NotSupp
-body p (PutFh v) = put_fh p v
-body p PutRootFh = put_root_fh p
-body p (Read v) = refusing p 25 statuses.NotSupp
-body p (ReadDir v) = refusing p 26 statuses.NotSupp
-body p ReadLink = read_link p
-body p (Remove v) = remove p v
-body p (Rename v) = rename p v
-body p RestoreFh = restore_fh p
-body p SaveFh = save_fh p
-body p (SetAttr v) = refusing p 34 statuses.NotSupp
-body p (Verify v) = refusing p 37 statuses.NotSupp
-body p (Write v) = refusing p 38 statuses.NotSupp
-body p (ExchangeId v) = refusing p 42 statuses.NotSupp
-body p (CreateSession v) = refusing p 43 statuses.NotSupp
-body p (DestroySession v) = refusing p 44 statuses.NotSupp
-body p (Sequence v) = refusing p 53 statuses.NotSupp
-body p (DestroyClientId v) = refusing p 57 statuses.NotSupp
-body p (ReclaimComplete v) = refusing p 58 statuses.NotSupp
-body p (Unsupported n) = refusing p n statuses.NotSupp
-body p Illegal = refusing p illegal statuses.OpIllegal
-body p (Bad n) = refusing p n statuses.BadXdr
+-- What isn't an operation, or isn't built, is refused whatever the room.
+abbrev pub room_fault : Context → Operation → Option Status
+room_fault c op = if is_run op && nat_lt c.room MIN_ROOM then Some (too_big_for c.calling) else None
 
--- What is built asks for room first. What isn't an operation, or isn't built, is refused whatever the room.
-abbrev pub in_room : Bool → Place → Meaning → Meaning
-in_room true p m = after_room p m
-in_room false p m = m
+pub room_may : (c : Context) (op : Operation) → MayFault (room_fault c op)
+room_may c op = of (is_run op && nat_lt c.room MIN_ROOM)
+  where
+    of : (b : Bool) → MayFault (if b then Some (too_big_for c.calling) else None)
+    of true = too_big_may c.calling
+    of false = tt
 
-abbrev pub meaning : Place → Operation → Meaning
-meaning p op = in_room (is_run op) p (body p op)
+-- what is asked before anything of the operation itself: its place, then its room
+abbrev pub entry_fault : Context → Operation → Option Status
+entry_fault c op = first_fault (place_fault op) (room_fault c op)
 
--- Those of them that take memory, which may be refused: CREATE, LINK and RENAME. No other ever answers DELAY.
-abbrev pub may_delay : Operation → Bool
-may_delay (Create v) = true
-may_delay (Link v) = true
-may_delay (Rename v) = true
-may_delay _ = false
+pub entry_may : (c : Context) (op : Operation) → MayFault (entry_fault c op)
+entry_may c op = first_may (place_fault op) (room_fault c op) (place_may op) (room_may c op)
+
+-- ---- the operations
+
+-- what is asked behind place and room
+abbrev pub body : Context → FileHandles → Operation → Meaning
+body c h (Known kinds.Access v) = access v c h
+body c h (Known kinds.Create v) = create v c h
+body c h (Known kinds.GetFh v) = getfh c h
+body c h (Known kinds.Link v) = link v c h
+body c h (Known kinds.Lookup v) = lookup v c h
+body c h (Known kinds.LookupP v) = lookupp c h
+body c h (Known kinds.PutFh v) = putfh v c h
+body c h (Known kinds.PutRootFh v) = putrootfh c h
+body c h (Known kinds.ReadLink v) = readlink c h
+body c h (Known kinds.Remove v) = remove v c h
+body c h (Known kinds.Rename v) = rename v c h
+body c h (Known kinds.RestoreFh v) = restorefh c h
+body c h (Known kinds.SaveFh v) = savefh c h
+body c h (Known k v) = refusing c h (row k).number statuses.NotSupp tt
+body c h (Unsupported n) = refusing c h n statuses.NotSupp tt
+body c h Illegal = refusing c h illegal statuses.OpIllegal tt
+body c h (Bad n) = refusing c h n statuses.BadXdr tt
+
+-- behind a fault, if there is one
+abbrev pub entered : (fault : Option Status) → MayFault fault → Meaning → Meaning
+entered fault may m = record m { questions = Valid fault may ∷ m.questions }
+
+abbrev pub meaning : Context → FileHandles → Operation → Meaning
+meaning c h op = entered (entry_fault c op) (entry_may c op) (body c h op)
+
+-- ---- memory
+
+-- Of those that are built CREATE, LINK and RENAME take memory, which may be refused.
+abbrev pub takes_memory : Operation → Bool
+takes_memory (Known k v) = (row k).delays && is_run (Known k v)
+takes_memory _ = false
+
+-- Once it has its place and its room such an operation may answer DELAY, and no other ever does.
+abbrev pub may_delay : Context → Operation → Bool
+may_delay c op = takes_memory op && is_none (entry_fault c op)

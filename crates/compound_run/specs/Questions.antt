@@ -9,13 +9,14 @@ use Rattle.access_guard.specs.declared.line.Line.{Line}
 use Rattle.access_guard.specs.Lists.{Lists}
 use Rattle.access_guard.specs.Decisions.{decision, is_granted}
 use Rattle.access_guard.specs.Lines.{lines}
+use Rattle.compound_run.specs.Faults.{IsFault, MayFault, first_fault}
 use Rattle.compound_run.specs.Sight.{Sight}
 
 pub data Question : Type 0 where
   -- it holds, or the outcome is this status
-  Holds : (Sight → Bool) → Status → Question
-  -- the arguments are without a fault, or the outcome is the fault
-  Valid : Option Status → Question
+  Holds : (Sight → Bool) → (status : Status) → IsFault status → Question
+  -- the arguments, the place and the room are without a fault, or the outcome is the fault
+  Valid : (fault : Option Status) → MayFault fault → Question
   -- the lists grant these demands, each where there is one, or the outcome is ACCESS
   Row : (Sight → List (Option Demand)) → Question
   -- where it holds nothing more is asked, and the outcome is OK
@@ -29,9 +30,8 @@ all_granted lists caller (Some d ∷ demands) = is_granted (decision lists calle
 -- the status of the first question that fails
 abbrev pub failure : Identity → Sight → List Question → Option Status
 failure caller s [] = None
-failure caller s (Holds test status ∷ questions) = if test s then failure caller s questions else Some status
-failure caller s (Valid None ∷ questions) = failure caller s questions
-failure caller s (Valid (Some status) ∷ questions) = Some status
+failure caller s (Holds test status is ∷ questions) = if test s then failure caller s questions else Some status
+failure caller s (Valid fault may ∷ questions) = first_fault fault (failure caller s questions)
 failure caller s (Row demands ∷ questions) = if all_granted s.lists caller (demands s) then failure caller s questions else Some statuses.Access
 failure caller s (Suffices test ∷ questions) = if test s then None else failure caller s questions
 
@@ -42,12 +42,16 @@ demand_lines lists caller op (None ∷ demands) = demand_lines lists caller op d
 demand_lines lists caller op (Some d ∷ demands) =
     lines lists caller op d ++ (if is_granted (decision lists caller d) then demand_lines lists caller op demands else [])
 
+-- lines where there is no fault
+abbrev pub lines_unless : Option Status → List Line → List Line
+lines_unless None lines = lines
+lines_unless (Some status) lines = []
+
 -- the lines of the questions of the operation of this number
 abbrev pub trace : Identity → ℕ → Sight → List Question → List Line
 trace caller op s [] = []
-trace caller op s (Holds test status ∷ questions) = if test s then trace caller op s questions else []
-trace caller op s (Valid None ∷ questions) = trace caller op s questions
-trace caller op s (Valid (Some status) ∷ questions) = []
+trace caller op s (Holds test status is ∷ questions) = if test s then trace caller op s questions else []
+trace caller op s (Valid fault may ∷ questions) = lines_unless fault (trace caller op s questions)
 trace caller op s (Row demands ∷ questions) =
     demand_lines s.lists caller op (demands s) ++ (if all_granted s.lists caller (demands s) then trace caller op s questions else [])
 trace caller op s (Suffices test ∷ questions) = if test s then [] else trace caller op s questions

@@ -1,27 +1,32 @@
 -- REMOVE (RFC 8881, section 18.25): a name of the current directory goes, and with its last name the object.
-use Rattle.std.specs.Prelude.{ℕ, not, List, [], ◌∷◌}
+use Rattle.std.specs.Prelude.{ℕ, not, List, [], ◌∷◌, None}
 use Rattle.nfs_types.specs.declared.status.Status.TheVariants as statuses
-use Rattle.nfs_ops.specs.Operations as ops
-use Rattle.nfs_ops.specs.Results as results
+use Rattle.nfs_ops.specs.Operations.{Known}
+use Rattle.nfs_ops.specs.declared.op_kind.OpKind.TheVariants as kinds
+use Rattle.nfs_ops.specs.Rows.{row}
+use Rattle.nfs_ops.specs.Results.{Done}
 use Rattle.node_tree.specs.Changes.{unlinked}
+use Rattle.compound_run.specs.declared.filehandles.FileHandles.{FileHandles}
+use Rattle.compound_run.specs.Context.{Context}
 use Rattle.compound_run.specs.Sight.{child}
 use Rattle.compound_run.specs.Questions.{Holds}
 use Rattle.compound_run.specs.Rows.{first_row, second_row}
-use Rattle.compound_run.specs.Meaning.{Place, Meaning, at, changed, with_handle, here, number_in, is_directory, is_name, has_child, has_tick}
+use Rattle.compound_run.specs.Meaning.{Meaning, at, in_world, changed, with_handle, here, number_in, is_directory, is_name, has_child, has_tick}
 
-abbrev pub remove : Place → List ℕ → Meaning
-remove p name = record {
-  number = 28;
-  questions = with_handle p.files.current
-      (is_directory (here p)
+abbrev pub remove : List ℕ → Context → FileHandles → Meaning
+remove name c h = record {
+  number = (row kinds.Remove).number;
+  caller = c.caller;
+  questions = with_handle h.current
+      (is_directory (here h)
       ∷ is_name name
-      ∷ first_row p.files (ops.Remove name)
-      ∷ has_child (here p) name
-      ∷ second_row p.files (ops.Remove name)
-      ∷ Holds (λ s. not (s.has_entries (number_in (child s (here p) name)))) statuses.NotEmpty
+      ∷ first_row h (Known kinds.Remove name)
+      ∷ has_child (here h) name
+      ∷ second_row h (Known kinds.Remove name) (λ s. child s (here h) name) (λ s. None)
+      ∷ Holds (λ s. not (s.has_entries (number_in (child s (here h) name)))) statuses.NotEmpty tt
       ∷ has_tick
       ∷ []);
-  answer = λ s. results.Remove (changed s (here p));
-  effect = λ now w. unlinked w (here p) name (at now w);
-  goes = λ s. p.files;
+  answer = λ s. Done kinds.Remove (changed s (here h));
+  effect = in_world (λ w. unlinked w (here h) name (at c w));
+  goes = λ s. h;
 }

@@ -1,67 +1,76 @@
 -- RENAME (RFC 8881, section 18.26): a child of the saved directory gets a new name in the current one, and what has that name loses it.
-use Rattle.std.specs.Prelude.{ℕ, Bool, true, false, not, ◌&&◌, ◌||◌, ◌==◌, nat_lt, if◌then◌else◌, List, [], ◌∷◌, length, Option, Some, None}
+use Rattle.std.specs.Prelude.{ℕ, Bool, not, if◌then◌else◌, List, [], ◌∷◌, Option}
 use Rattle.xdr_wire.specs.Xdr.{Value}
 use Rattle.nfs_types.specs.declared.status.Status.TheVariants as statuses
 use Rattle.nfs_ops.specs.Forms.{change_info, rename_args}
-use Rattle.nfs_ops.specs.Operations as ops
-use Rattle.nfs_ops.specs.Results as results
-use Rattle.node_tree.specs.Limits.{MAX_NAMES}
+use Rattle.nfs_ops.specs.Operations.{Known}
+use Rattle.nfs_ops.specs.Parts.{old_name, new_name}
+use Rattle.nfs_ops.specs.declared.op_kind.OpKind.TheVariants as kinds
+use Rattle.nfs_ops.specs.Rows.{row}
+use Rattle.nfs_ops.specs.Results.{Done}
+use Rattle.node_tree.specs.World.{is_one}
 use Rattle.node_tree.specs.Changes.{renamed}
-use Rattle.node_tree.specs.Refusals.{has_left}
-use Rattle.node_tree.specs.Ways.{is_met}
-use Rattle.compound_run.specs.Sight.{Sight, child, is_directory_in}
+use Rattle.node_tree.specs.Refusals.{is_below, may_replace, may_move}
+use Rattle.compound_run.specs.declared.filehandles.FileHandles.{FileHandles}
+use Rattle.compound_run.specs.Context.{Context}
+use Rattle.compound_run.specs.Sight.{Sight, child}
 use Rattle.compound_run.specs.Questions.{Question, Holds, Suffices}
 use Rattle.compound_run.specs.Rows.{first_row, second_row}
-use Rattle.compound_run.specs.Meaning.{Place, Meaning, at, changed, unchanged, with_handle, here, there, number_in, is_directory, is_name, has_child, has_space}
+use Rattle.compound_run.specs.Meaning.{Meaning, at, in_world, changed, unchanged, with_handle, here, there, number_in, names_at, is_directory, is_name, has_child, has_space}
+
+-- the child that gets another name, and what has that name
+abbrev pub moved : FileHandles → Value rename_args → Sight → Option ℕ
+moved h v s = child s (there h) (old_name v)
+
+abbrev pub replaced : FileHandles → Value rename_args → Sight → Option ℕ
+replaced h v s = child s (here h) (new_name v)
 
 -- both names are those of one object
-abbrev pub is_one : Option ℕ → Option ℕ → Bool
-is_one (Some child) (Some target) = child == target
-is_one (Some child) None = false
-is_one None target = false
+abbrev pub is_same : FileHandles → Value rename_args → Sight → Bool
+is_same h v s = is_one (moved h v s) (replaced h v s)
 
 -- the directory is the child, or lies below it
-abbrev pub is_below : Sight → ℕ → ℕ → Bool
-is_below s moved directory = is_directory_in s moved && is_met s.parents s.next_number moved directory
+abbrev pub goes_below : Sight → ℕ → ℕ → Bool
+goes_below s child directory = is_below s.kinds s.parents s.next_number child directory
 
--- one that is no directory takes the name of such a one, and a directory that of an empty one; a name that nothing has is free
-abbrev pub may_replace : Sight → ℕ → Option ℕ → Bool
-may_replace s moved None = true
-may_replace s moved (Some target) =
-    if is_directory_in s moved then is_directory_in s target && not (s.has_entries target) else not (is_directory_in s target)
+-- the child can take the name of what has it
+abbrev pub can_replace : Sight → ℕ → Option ℕ → Bool
+can_replace s child target = may_replace s.kinds s.has_entries child target
 
--- There is space for the name: a directory that loses one for it, or in which it replaces another, is never too full. A cookie is left.
-abbrev pub may_move : Sight → ℕ → ℕ → Option ℕ → Bool
-may_move s from to None = ((from == to) || nat_lt (length (s.names to)) MAX_NAMES) && has_left s.next_cookie
-may_move s from to (Some target) = has_left s.next_cookie
-
-abbrev pub is_same : Place → Value rename_args → Sight → Bool
-is_same p v s = is_one (child s (there p) v.0) (child s (here p) v.1)
+-- there is space for the name
+abbrev pub can_move : Sight → ℕ → ℕ → Option ℕ → Bool
+can_move s from to target = may_move (names_at s to) s.next_cookie from to target
 
 -- the changes of both directories, which stay where the names are those of one object
-abbrev pub changes : Place → Value rename_args → Sight → Value change_info × Value change_info
-changes p v s = if is_same p v s then (unchanged s (there p), unchanged s (here p)) else (changed s (there p), changed s (here p))
+abbrev pub changes : FileHandles → Value rename_args → Sight → Value change_info × Value change_info
+changes h v s = if is_same h v s then (unchanged s (there h), unchanged s (here h)) else (changed s (there h), changed s (here h))
 
--- what is asked behind the second row
-abbrev pub moving : ℕ → ℕ → List ℕ → List Question
-moving from to new = has_space (λ s. may_move s from to (child s to new)) ∷ []
+-- what is asked last
+abbrev pub is_movable : ℕ → ℕ → List ℕ → Question
+is_movable from to new = has_space (λ s. can_move s from to (child s to new))
 
-abbrev pub rename : Place → Value rename_args → Meaning
-rename p v = record {
-  number = 29;
-  questions = with_handle p.files.current (with_handle p.files.saved
-      (is_directory (here p)
-      ∷ is_directory (there p)
-      ∷ is_name v.0
-      ∷ is_name v.1
-      ∷ first_row p.files (ops.Rename v)
-      ∷ has_child (there p) v.0
-      ∷ Suffices (is_same p v)
-      ∷ Holds (λ s. not (is_below s (number_in (child s (there p) v.0)) (here p))) statuses.Inval
-      ∷ Holds (λ s. may_replace s (number_in (child s (there p) v.0)) (child s (here p) v.1)) statuses.Exist
-      ∷ second_row p.files (ops.Rename v)
-      ∷ moving (there p) (here p) v.1));
-  answer = λ s. results.Rename (changes p v s);
-  effect = λ now w. renamed w (there p) v.0 (here p) v.1 (at now w);
-  goes = λ s. p.files;
+abbrev pub rename : Value rename_args → Context → FileHandles → Meaning
+rename v c h = record {
+  number = (row kinds.Rename).number;
+  caller = c.caller;
+  questions = with_handle h.current (with_handle h.saved
+      (is_directory (here h)
+      ∷ is_directory (there h)
+      ∷ is_name (old_name v)
+      ∷ is_name (new_name v)
+      ∷ first_row h (Known kinds.Rename v)
+      ∷ has_child (there h) (old_name v)
+      ∷ Suffices (is_same h v)
+      ∷ Holds (λ s. not (goes_below s (number_in (moved h v s)) (here h))) statuses.Inval tt
+      ∷ Holds (λ s. can_replace s (number_in (moved h v s)) (replaced h v s)) statuses.Exist tt
+      ∷ second_row h (Known kinds.Rename v) (moved h v) (replaced h v)
+      ∷ is_movable (there h) (here h) (new_name v)
+      ∷ []));
+  answer = λ s. Done kinds.Rename (changes h v s);
+  effect = in_world (λ w. renamed w (there h) (old_name v) (here h) (new_name v) (at c w));
+  goes = λ s. h;
 }
+
+-- the same behind all questions but the last, between two directories
+abbrev pub moving : Value rename_args → ℕ → ℕ → Context → FileHandles → Meaning
+moving v from to c h = record (rename v c h) { questions = is_movable from to (new_name v) ∷ [] }

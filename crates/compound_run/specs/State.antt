@@ -1,19 +1,25 @@
 -- What a server keeps from one COMPOUND to the next, and what a COMPOUND makes of it.
-use Rattle.std.specs.Prelude.{◌≡◌, ◌≤◌, ℕ, List, [], ◌++◌, length, Option, Some, None}
+use Rattle.std.specs.Prelude.{◌≡◌, ◌≤◌, ℕ, List, [], length, Option, Some, None}
+use Rattle.xdr_wire.specs.Buffer.{Buffer, Appends}
+use Rattle.xdr_wire.specs.Reading.{read_at}
+use Rattle.xdr_wire.specs.Xdr.{Value}
 use Rattle.rpc_record.specs.Identity.{Identity}
 use Rattle.who_book.specs.Content.{Content}
 use Rattle.nfs_types.specs.declared.moment.Moment.{Moment}
+use Rattle.nfs_types.specs.declared.status.Status.{Status}
 use Rattle.node_tree.specs.World.{World}
 use Rattle.access_guard.specs.declared.line.Line.{Line}
-use Rattle.access_guard.specs.Guarded.{Guarded}
-use Rattle.compound_run.specs.declared.server.TheConstants.{RESULTS_LIMIT}
 use Rattle.compound_run.specs.declared.server.RunEnd.{RunEnd}
 use Rattle.compound_run.specs.declared.server.RunEnd.TheVariants.{Replied, Garbage}
-use Rattle.compound_run.specs.Runs.{Sender}
-use Rattle.compound_run.specs.Compound.{AnswersBare}
+use Rattle.compound_run.specs.Limits.{MAX_OPERATIONS, MAX_REPLY, MAX_RESULTS}
+use Rattle.compound_run.specs.Realm.{Realm, unopened}
+use Rattle.compound_run.specs.Context.{Context, no_handles}
+use Rattle.compound_run.specs.Runs.{Point, Given, Runs}
+use Rattle.compound_run.specs.Compound.{args_form, args_in, head, first_room, together, opening_fault}
 
 pub record State : Type 0 where
-  pub world : World
+  -- the world and the open files
+  pub realm : Realm
   -- the last lines, in order, and how many there were in all
   pub trail : List Line
   pub total : ℕ
@@ -24,21 +30,74 @@ pub record State : Type 0 where
 
 -- a server that has run nothing yet
 abbrev pub fresh : World → Content → ℕ → State
-fresh w book capacity = record { world = w; trail = []; total = 0; capacity = capacity; book = book }
+fresh w book capacity = record { realm = unopened w; trail = []; total = 0; capacity = capacity; book = book }
 
--- between COMPOUNDs no line is held
-abbrev pub tree_of : State → Guarded
-tree_of s = record { world = s.world; log = record { held = []; trail = s.trail; total = s.total }; capacity = s.capacity }
+-- where a COMPOUND begins: no line is held, and there is no filehandle
+abbrev pub start : State → Point
+start s = record { realm = s.realm; log = record { held = []; trail = s.trail; total = s.total }; capacity = s.capacity; handles = no_handles }
 
-abbrev pub sender : State → Identity → Moment → Sender
-sender s caller now = record { caller = caller; now = now; book = s.book }
+-- what is kept of where it ends
+abbrev pub left : State → Point → State
+left s p = record s { realm = p.realm; trail = p.log.trail; total = p.log.total; capacity = p.capacity }
 
--- A COMPOUND with these arguments, at this moment, may give these results (none: the arguments are garbage), and leave the server so.
-pub record Answers (old : State) (now : Moment) (caller : Identity) (arguments : List ℕ) (results : Option (List ℕ)) (new : State) : Type 0 where
-  pub answers : AnswersBare (sender old caller now) arguments (tree_of old) results (tree_of new)
-  pub book : new.book ≡ old.book
+-- ---- a call
+
+pub record Call : Type 0 where
+  pub arguments : List ℕ
+  -- how many bytes its record has
+  pub record_len : ℕ
+  pub caller : Identity
+  pub now : Moment
+
+-- the context of its first operation, where there is no session
+abbrev pub bare_context : State → Call → List ℕ → ℕ → Context
+bare_context s call tag count = record {
+  caller = call.caller;
+  now = call.now;
+  book = s.book;
+  calling = None;
+  position = 0;
+  count = count;
+  room = first_room MAX_REPLY tag;
+}
+
+-- what is known of a call before any operation is run
+pub data Fate : Type 0 where
+  -- it is refused, with these results (none: its arguments are garbage)
+  Refused : Option (List ℕ) → Fate
+  -- it was answered before, and has the same results again
+  Repeated : List ℕ → Fate
+  -- its operations are run, under its tag, from this context of the first
+  Run : List ℕ → Context → List ℕ → Fate
+
+abbrev pub fate_unless : Option Status → State → Call → List ℕ → ℕ → List ℕ → Fate
+fate_unless (Some status) s call tag count operations = Refused (Some (head status tag 0))
+fate_unless None s call tag count operations = Run tag (bare_context s call tag count) operations
+
+abbrev pub fate_of : State → Call → Option (Value args_form × List ℕ) → Fate
+fate_of s call None = Refused None
+fate_of s call (Some ((tag, (minor, count)), operations)) = fate_unless (opening_fault MAX_OPERATIONS minor count) s call tag count operations
+
+-- where there is no session nothing is repeated
+unfoldable pub fate : State → Call → Fate
+fate s call = fate_of s call (args_in (read_at args_form call.arguments))
+
+-- a call that is run: its operations in turn, which give these results
+abbrev pub RunsSo : List ℕ → Context → List ℕ → State → Option (List ℕ) → State → Type 0
+RunsSo tag c operations old None new = ⊥
+RunsSo tag c operations old (Some bytes) new =
+    (end : Point) × (results : List Given) × Runs c c.count operations (start old) results end × (bytes ≡ together tag results) × (new ≡ left old end)
+
+-- a call of this fate may have these results (none: it is garbage), and leave the server so
+abbrev pub AnswersBy : Fate → State → Option (List ℕ) → State → Type 0
+AnswersBy (Refused reply) old results new = (results ≡ reply) × (new ≡ old)
+AnswersBy (Repeated reply) old results new = (results ≡ Some reply) × (new ≡ old)
+AnswersBy (Run tag c operations) old results new = RunsSo tag c operations old results new
+
+abbrev pub Answers : State → Call → Option (List ℕ) → State → Type 0
+Answers old call results new = AnswersBy (fate old call) old results new
 
 -- The results stand behind what was there, and are no more than a reply may have; or there are none.
-abbrev pub RunsBare : (Option (List ℕ) → State → Type 0) → RunEnd → List ℕ → List ℕ → State → Type 0
-RunsBare answers Replied before after new = (results : List ℕ) × answers (Some results) new × (after ≡ before ++ results) × (length results ≤ RESULTS_LIMIT)
+abbrev pub RunsBare : (Option (List ℕ) → State → Type 0) → RunEnd → Buffer → Buffer → State → Type 0
+RunsBare answers Replied before after new = (results : List ℕ) × answers (Some results) new × Appends before after results × (length results ≤ MAX_RESULTS)
 RunsBare answers Garbage before after new = answers None new × (after ≡ before)

@@ -1,38 +1,80 @@
 -- What the code holds, as the definitions see it.
-use Rattle.std.specs.Prelude.{◌≡◌, ◌≢◌, ℕ, Bool, true, false, List, Option, Some, Result, Ok, Err}
+use Rattle.std.specs.Prelude.{◌≡◌, ◌≢◌, ◌≤◌, ℕ, ◌+◌, Bool, true, false, List, length, map, Option, Some, Result, Ok, Err, OnOk, OnErr}
+use Rattle.xdr_wire.specs.Buffer.{Buffer, Appends}
 use Rattle.xdr_wire.specs.Xdr.{Value}
 use Rattle.nfs_types.specs.declared.attrs.Attrs.{Attrs}
+use Rattle.nfs_types.specs.declared.status.Status.{Status}
 use Rattle.nfs_types.specs.declared.status.Status.TheVariants as statuses
 use Rattle.nfs_types.specs.Sent.{Wanted, made}
-use Rattle.nfs_types.specs.declared.status.Status.{Status}
-use Rattle.nfs_ops.specs.declared.op_result.OpResult.{OpResult}
-use Rattle.nfs_ops.specs.ResultViews.{result_view}
 use Rattle.nfs_ops.specs.Results.{Outcome}
 use Rattle.node_tree.specs.declared.fault.TreeFault.{TreeFault}
 use Rattle.node_tree.specs.declared.fault.TreeFault.TheVariants.{Inval, Exist}
-use Rattle.compound_run.specs.declared.turn.Turn.{Turn}
-use Rattle.compound_run.specs.Runs.{Sender}
-use Rattle.compound_run.specs.declared.create.Made as code
 use Rattle.compound_run.specs.declared.compound.CompoundArgs.{CompoundArgs}
-use Rattle.compound_run.specs.declared.compound.Sent.{Sent}
-use Rattle.compound_run.specs.Create.{Made}
-use Rattle.compound_run.specs.Compound.{opening}
+use Rattle.compound_run.specs.declared.context.Context as code
+use Rattle.compound_run.specs.declared.create.Draft as drafts
+use Rattle.compound_run.specs.declared.export.Export.{Export}
+use Rattle.compound_run.specs.declared.filehandles.FileHandles.{FileHandles}
+use Rattle.compound_run.specs.declared.opens.Open.{Open}
+use Rattle.access_guard.specs.Log.{Log}
+use Rattle.compound_run.specs.Limits.{MIN_ROOM, REFUSAL_ROOM}
+use Rattle.compound_run.specs.Realm.{Realm, Opened}
+use Rattle.compound_run.specs.Context.{Context}
+use Rattle.compound_run.specs.Sight.{whole}
+use Rattle.compound_run.specs.Meaning.{Meaning}
+use Rattle.compound_run.specs.Runs.{Point, Answered, spelled, waits}
+use Rattle.compound_run.specs.Create.{Draft}
+use Rattle.compound_run.specs.Compound.{args_form}
 
--- what an operation gives, or the status of its refusal
-abbrev pub view : Result OpResult Status → Result Outcome Status
-view (Ok result) = Ok (result_view result)
-view (Err status) = Err status
+-- an open file
+abbrev pub open_view : {A : Type 0} → Open A → Opened
+open_view o = record { number = o.number; client = o.client; owner = o.owner.items; object = o.object; access = o.access; seqid = o.seqid }
 
--- who sends an operation
-abbrev pub sender_of : Turn → Sender
-sender_of turn = record { caller = turn.caller.now; now = turn.now; book = turn.book.now }
+abbrev pub opens_view : {A : Type 0} → List (Open A) → List Opened
+opens_view opens = map open_view opens
 
-abbrev pub sender_from : Sent → Sender
-sender_from sent = record { caller = sent.caller.now; now = sent.now; book = sent.book.now }
+-- what is served
+abbrev pub realm_of : {A : Type 0} → Export A → Realm
+realm_of e = record { world = e.tree.world; opens = opens_view e.opens.items; next_open = e.next_open }
+
+abbrev pub point_at : {A : Type 0} → Export A → FileHandles → Point
+point_at e h = record { realm = realm_of e; log = e.tree.log; capacity = e.tree.capacity; handles = h }
+
+-- what an operation is run with
+abbrev pub context_of : code.Context → Context
+context_of c = record { caller = c.caller.now; now = c.now; book = c.book.now; calling = c.calling; position = c.position; count = c.count; room = c.room }
+
+-- the outcome that is told so: what the operation gives, or the status of its refusal
+abbrev pub told_as : Meaning → Realm → Result (Unit {0}) Status → Result Outcome Status
+told_as m r (Ok done) = Ok (m.answer (whole r))
+told_as m r (Err status) = Err status
+
+-- An operation is answered, and where it is OK its result is written, in its room; else nothing is.
+pub record GivesSo {A : Type 0} (may : Bool) (room : ℕ) (m : Meaning) (ends : Log → Log) (old : Export A) (handles : FileHandles) (before : Buffer) (result : Result (Unit {0}) Status) (new : Export A) (handles' : FileHandles) (after : Buffer) : Type 0 where
+  pub answered : Answered may m ends (point_at old handles) (told_as m (realm_of old) result) (point_at new handles')
+  pub written : OnOk result (Appends before after (spelled (m.answer (whole (realm_of old)))))
+  pub within : OnOk result (length after.bytes ≤ length before.bytes + room)
+  pub unwritten : OnErr result (after ≡ before)
+
+-- the same of one that takes no memory, before its end
+abbrev pub Gives : {A : Type 0} → code.Context → (Context → FileHandles → Meaning) → Export A → FileHandles → Buffer → Result (Unit {0}) Status → Export A → FileHandles → Buffer → Type 0
+Gives c m old handles before result new handles' after = GivesSo false c.room (m (context_of c) handles) waits old handles before result new handles' after
+
+-- one that takes memory may say DELAY
+abbrev pub GivesOrDelays : {A : Type 0} → code.Context → (Context → FileHandles → Meaning) → Export A → FileHandles → Buffer → Result (Unit {0}) Status → Export A → FileHandles → Buffer → Type 0
+GivesOrDelays c m old handles before result new handles' after = GivesSo true c.room (m (context_of c) handles) waits old handles before result new handles' after
+
+-- there is room for the result of an operation that is run, and for a refusal
+abbrev pub HasRoom : code.Context → Buffer → Type 0
+HasRoom c out = (MIN_ROOM ≤ c.room) × (c.room + REFUSAL_ROOM ≤ out.room)
+
+-- what is asked of an operation that is run alone
+abbrev pub IfRun : Bool → Type 0 → Type 0
+IfRun true A = A
+IfRun false A = Unit {0}
 
 -- what CREATE makes
-abbrev pub made_view : code.Made → Made
-made_view m = record { kind = m.kind; text = m.text.now }
+abbrev pub draft_view : drafts.Draft → Draft
+draft_view d = record { kind = d.kind; text = d.text.now }
 
 -- what attributes set
 abbrev pub wanted_view : {A : Type 0} → Attrs A → Wanted
@@ -44,11 +86,11 @@ IsWanted wanted (Ok attrs) = wanted ≡ Ok (wanted_view attrs)
 IsWanted wanted (Err status) = status ≢ statuses.Delay → wanted ≡ Err status
 
 -- a COMPOUND's arguments up to its operations
-abbrev pub opening_of : CompoundArgs → Value opening
-opening_of a = (a.tag.now, (a.minor_version, a.count))
+abbrev pub args_of : CompoundArgs → Value args_form
+args_of a = (a.tag.now, (a.minor_version, a.count))
 
-abbrev pub arguments_of : CompoundArgs → Value opening × List ℕ
-arguments_of a = (opening_of a, a.operations.now)
+abbrev pub arguments_of : CompoundArgs → Value args_form × List ℕ
+arguments_of a = (args_of a, a.operations.now)
 
 -- what the refusal of a rename tells
 abbrev pub is_inval : Option TreeFault → Bool

@@ -1,17 +1,18 @@
-//! The tree that is served, in the words of what an operation sees of it.
+//! What is served, in the words of what an operation sees of it.
 ghost use Rattle.std.specs.Prelude.{◌≡◌, ◌≢◌, ◌<◌, ◌≤◌, ◌^◌, if◌then◌else◌, length, true, false, Ok, Err, Some, None, IfOk, IfSome, IsSome, IsOkUnless, MatchResult, OnOk, OnErr};
 ghost use Rattle.acl_shape.specs.Bounds.{IsBounded};
 ghost use Rattle.nfs_types.specs.Name.{name_fault};
-ghost use Rattle.node_tree.specs.World.{object, kind_of, has_entries, link_count};
+ghost use Rattle.node_tree.specs.World.{object, kind_of, has_entries, link_count, is_one};
 ghost use Rattle.node_tree.specs.Changes.{made, with_new, with_link, unlinked, renamed};
 ghost use Rattle.node_tree.specs.Sound.{IsTick, most_bytes};
-ghost use Rattle.node_tree.specs.Refusals.{has_left};
+ghost use Rattle.node_tree.specs.Refusals.{has_left, may_name};
 ghost use Rattle.compound_run.specs.Sight.{child, whole};
-ghost use Rattle.compound_run.specs.Meaning.{at, may_name};
-ghost use Rattle.compound_run.specs.Create.{may_add};
-ghost use Rattle.compound_run.specs.Rename.{is_one, is_below, may_replace, may_move};
-ghost use Rattle.compound_run.specs.Views.{is_inval, is_exist};
+ghost use Rattle.compound_run.specs.Meaning.{names_at};
+ghost use Rattle.compound_run.specs.Create.{can_add};
+ghost use Rattle.compound_run.specs.Rename.{goes_below, can_replace, can_move};
+ghost use Rattle.compound_run.specs.Views.{realm_of, is_inval, is_exist};
 
+use crate::opens::Open;
 use access_guard::GuardedTree;
 use nfs_types::{Moment, Status, check_name};
 use node_tree::{At, Kind, MAX_LINKS, NewObject, TreeFault};
@@ -20,11 +21,15 @@ use std::alloc::{Allocator, Global};
 /// No counter reaches this one.
 const COUNTS: u64 = 1 << 63;
 
-/// The tree that is served, with the guard of its lists.
+/// What is served: the tree, with the guard of its lists, and the open files.
 #[derive(Drop)]
 pub(crate) struct Export<A: Allocator + Copy = Global> {
     pub alloc: A,
     pub tree: GuardedTree<A>,
+    /// The open files, by rising number.
+    pub opens: Vec<Open<A>, A>,
+    /// The number that the next open gets.
+    pub next_open: u64,
 }
 
 /// What is wrong with a name, if anything is.
@@ -63,11 +68,10 @@ fn tells_taken(fault: Option<TreeFault>) -> bool
     matches!(fault, Some(TreeFault::Exist))
 }
 
-#[tactic(auto, using(crate::proofs::Bridges::bridges))]
 impl<A: Allocator + Copy> Export<A> {
     /// The child of a name in a directory.
     pub fn find(&self, directory: u64, name: &[u8]) -> Option<u64>
-        ensures child { result ≡ child (whole self.now.tree.world) directory name.now }
+        ensures child { result ≡ child (whole (realm_of self.now)) directory name.now }
         ensures live { IfSome result (λ child. IsSome (object self.now.tree.world child)) }
     {
         self.tree.find(directory, name)
@@ -75,7 +79,7 @@ impl<A: Allocator + Copy> Export<A> {
 
     /// When a change is made at this moment, if the counter of ticks has one left.
     pub fn tick(&self, now: Moment) -> Option<At>
-        ensures value { result ≡ (if has_left self.now.tree.world.next_tick then Some (at now self.now.tree.world) else None) }
+        ensures value { result ≡ (if has_left self.now.tree.world.next_tick then Some (record { tick = self.now.tree.world.next_tick; moment = now }) else None) }
         ensures tick { IfSome result (λ at. IsTick self.now.tree.world at.tick) }
     {
         let tick = self.tree.next_tick();
@@ -98,12 +102,12 @@ impl<A: Allocator + Copy> Export<A> {
         requires short { length name.now ≤ 255 }
         requires bounded { IsBounded new.list }
         requires bytes { length new.bytes.items ≤ most_bytes new.kind }
-        requires free { child (whole self.old.tree.world) directory name.now ≡ None }
-        ensures full { may_add (whole self.old.tree.world) directory ≡ false → result ≡ Err Status.NoSpc }
-        ensures space { may_add (whole self.old.tree.world) directory ≡ true → IsOkUnless result Status.Delay }
+        requires free { child (whole (realm_of self.old)) directory name.now ≡ None }
+        ensures full { can_add (whole (realm_of self.old)) directory ≡ false → result ≡ Err Status.NoSpc }
+        ensures space { can_add (whole (realm_of self.old)) directory ≡ true → IsOkUnless result Status.Delay }
         ensures number { IfOk result (λ number. number ≡ self.old.tree.world.next_number) }
-        ensures ok { OnOk result (self.new.tree ≡ record self.old.tree { world = with_new self.old.tree.world directory name.now (made new self.old.tree.world.next_stamp at) at }) }
-        ensures err { OnErr result (self.new.tree ≡ self.old.tree) }
+        ensures ok { OnOk result (self.new ≡ record self.old { tree = record self.old.tree { world = with_new self.old.tree.world directory name.now (made new self.old.tree.world.next_stamp at) at } }) }
+        ensures err { OnErr result (self.new ≡ self.old) }
     {
         self.tree.add(directory, name, new, at).map_err(status_of)
     }
@@ -121,12 +125,12 @@ impl<A: Allocator + Copy> Export<A> {
         requires there { IsSome (object self.old.tree.world number) }
         requires plain { kind_of self.old.tree.world number ≢ Some Kind.Directory }
         requires short { length name.now ≤ 255 }
-        requires free { child (whole self.old.tree.world) directory name.now ≡ None }
+        requires free { child (whole (realm_of self.old)) directory name.now ≡ None }
         requires few { link_count self.old.tree.world.names number < MAX_LINKS }
-        ensures full { may_name (whole self.old.tree.world) directory ≡ false → result ≡ Err Status.NoSpc }
-        ensures space { may_name (whole self.old.tree.world) directory ≡ true → IsOkUnless result Status.Delay }
-        ensures ok { OnOk result (self.new.tree ≡ record self.old.tree { world = with_link self.old.tree.world directory name.now number at }) }
-        ensures err { OnErr result (self.new.tree ≡ self.old.tree) }
+        ensures full { may_name (names_at (whole (realm_of self.old)) directory) self.old.tree.world.next_cookie ≡ false → result ≡ Err Status.NoSpc }
+        ensures space { may_name (names_at (whole (realm_of self.old)) directory) self.old.tree.world.next_cookie ≡ true → IsOkUnless result Status.Delay }
+        ensures ok { OnOk result (self.new ≡ record self.old { tree = record self.old.tree { world = with_link self.old.tree.world directory name.now number at } }) }
+        ensures err { OnErr result (self.new ≡ self.old) }
     {
         self.tree
             .link(directory, name, number, at)
@@ -136,9 +140,9 @@ impl<A: Allocator + Copy> Export<A> {
     /// Takes away the name of a child that holds nothing.
     pub fn unlink(&mut self, directory: u64, name: &[u8], target: u64, at: At)
         requires tick { IsTick self.old.tree.world at.tick }
-        requires child { child (whole self.old.tree.world) directory name.now ≡ Some target }
+        requires child { child (whole (realm_of self.old)) directory name.now ≡ Some target }
         requires empty { has_entries self.old.tree.world.names target ≡ false }
-        ensures { self.new.tree ≡ record self.old.tree { world = unlinked self.old.tree.world directory name.now at } }
+        ensures { self.new ≡ record self.old { tree = record self.old.tree { world = unlinked self.old.tree.world directory name.now at } } }
     {
         if self.tree.unlink(directory, name, at).is_err() {
             unreachable!();
@@ -147,9 +151,9 @@ impl<A: Allocator + Copy> Export<A> {
 
     /// Whether a child that gets another name, which isn't its own, would come to lie below itself.
     pub fn is_below(&self, from: u64, old: &[u8], to: u64, new: &[u8], moved: u64) -> bool
-        requires child { child (whole self.now.tree.world) from old.now ≡ Some moved }
-        requires other { is_one (Some moved) (child (whole self.now.tree.world) to new.now) ≡ false }
-        ensures { result ≡ is_below (whole self.now.tree.world) moved to }
+        requires child { child (whole (realm_of self.now)) from old.now ≡ Some moved }
+        requires other { is_one (Some moved) (child (whole (realm_of self.now)) to new.now) ≡ false }
+        ensures { result ≡ goes_below (whole (realm_of self.now)) moved to }
     {
         let _moved = moved;
         tells_below(self.tree.rename_fault(from, old, to, new))
@@ -157,10 +161,10 @@ impl<A: Allocator + Copy> Export<A> {
 
     /// Whether a child can replace what has another name, if anything has it.
     pub fn may_replace(&self, from: u64, old: &[u8], to: u64, new: &[u8], moved: u64) -> bool
-        requires child { child (whole self.now.tree.world) from old.now ≡ Some moved }
-        requires other { is_one (Some moved) (child (whole self.now.tree.world) to new.now) ≡ false }
-        requires above { is_below (whole self.now.tree.world) moved to ≡ false }
-        ensures { result ≡ may_replace (whole self.now.tree.world) moved (child (whole self.now.tree.world) to new.now) }
+        requires child { child (whole (realm_of self.now)) from old.now ≡ Some moved }
+        requires other { is_one (Some moved) (child (whole (realm_of self.now)) to new.now) ≡ false }
+        requires above { goes_below (whole (realm_of self.now)) moved to ≡ false }
+        ensures { result ≡ can_replace (whole (realm_of self.now)) moved (child (whole (realm_of self.now)) to new.now) }
     {
         let _moved = moved;
         !tells_taken(self.tree.rename_fault(from, old, to, new))
@@ -179,14 +183,14 @@ impl<A: Allocator + Copy> Export<A> {
         requires tick { IsTick self.old.tree.world at.tick }
         requires live { kind_of self.old.tree.world to ≡ Some Kind.Directory }
         requires short { length new.now ≤ 255 }
-        requires child { child (whole self.old.tree.world) from old.now ≡ Some moved }
-        requires other { is_one (Some moved) (child (whole self.old.tree.world) to new.now) ≡ false }
-        requires above { is_below (whole self.old.tree.world) moved to ≡ false }
-        requires may { may_replace (whole self.old.tree.world) moved (child (whole self.old.tree.world) to new.now) ≡ true }
-        ensures full { may_move (whole self.old.tree.world) from to (child (whole self.old.tree.world) to new.now) ≡ false → result ≡ Err Status.NoSpc }
-        ensures space { may_move (whole self.old.tree.world) from to (child (whole self.old.tree.world) to new.now) ≡ true → IsOkUnless result Status.Delay }
-        ensures ok { OnOk result (self.new.tree ≡ record self.old.tree { world = renamed self.old.tree.world from old.now to new.now at }) }
-        ensures err { OnErr result (self.new.tree ≡ self.old.tree) }
+        requires child { child (whole (realm_of self.old)) from old.now ≡ Some moved }
+        requires other { is_one (Some moved) (child (whole (realm_of self.old)) to new.now) ≡ false }
+        requires above { goes_below (whole (realm_of self.old)) moved to ≡ false }
+        requires may { can_replace (whole (realm_of self.old)) moved (child (whole (realm_of self.old)) to new.now) ≡ true }
+        ensures full { can_move (whole (realm_of self.old)) from to (child (whole (realm_of self.old)) to new.now) ≡ false → result ≡ Err Status.NoSpc }
+        ensures space { can_move (whole (realm_of self.old)) from to (child (whole (realm_of self.old)) to new.now) ≡ true → IsOkUnless result Status.Delay }
+        ensures ok { OnOk result (self.new ≡ record self.old { tree = record self.old.tree { world = renamed self.old.tree.world from old.now to new.now at } }) }
+        ensures err { OnErr result (self.new ≡ self.old) }
     {
         self.tree.rename(from, old, to, new, at).map_err(status_of)
     }

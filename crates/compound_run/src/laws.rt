@@ -1,19 +1,22 @@
 //! What follows from the definitions alone.
-ghost use Rattle.std.specs.Prelude.{◌≡◌, ◌≢◌, ◌↔◌, ℕ, if◌then◌else◌, true, false, List, ◌∷◌, ◌++◌, Option, Some, None, Err};
+ghost use Rattle.std.specs.Prelude.{◌≡◌, ◌≢◌, ◌↔◌, ℕ, if◌then◌else◌, true, false, List, ◌∷◌, ◌++◌, Option, Some, None, Result, Err};
 ghost use Rattle.rpc_record.specs.Identity.{Identity};
+ghost use Rattle.nfs_types.specs.declared.status.Status.{Status};
 ghost use Rattle.nfs_types.specs.declared.status.Status.TheVariants as statuses;
-ghost use Rattle.nfs_ops.specs.Operations.{Operation};
-ghost use Rattle.node_tree.specs.World.{World};
+ghost use Rattle.nfs_ops.specs.Operations.{Operation, Known};
+ghost use Rattle.nfs_ops.specs.declared.op_kind.OpKind.TheVariants as kinds;
+ghost use Rattle.nfs_ops.specs.Results.{Outcome};
 ghost use Rattle.node_tree.specs.Judged.{judged_of};
 ghost use Rattle.access_rows.specs.declared.demand.Demand.{Demand};
+ghost use Rattle.compound_run.specs.declared.filehandles.FileHandles.{FileHandles};
+ghost use Rattle.compound_run.specs.Realm.{Realm};
+ghost use Rattle.compound_run.specs.Context.{Context};
 ghost use Rattle.compound_run.specs.Sight.{Sight, whole};
-ghost use Rattle.compound_run.specs.Questions.{Question, Row, failure, trace, all_granted};
-ghost use Rattle.compound_run.specs.Meaning.{Place};
+ghost use Rattle.compound_run.specs.Questions.{Question, Row, failure, all_granted};
+ghost use Rattle.compound_run.specs.Meaning.{Meaning};
 ghost use Rattle.compound_run.specs.Operations.{meaning, may_delay};
-ghost use Rattle.compound_run.specs.Runs.{outcome};
+ghost use Rattle.compound_run.specs.Runs.{Point, Steps, outcome, traced};
 ghost use Rattle.compound_run.specs.Exact.{ArePassed, ArePassedOrSuffice, IsRefusedByRow, EndsInRefusal};
-ghost use Rattle.compound_run.specs.Lookup.{lookup};
-ghost use Rattle.compound_run.specs.Remove.{remove};
 ghost use Rattle.compound_run.specs.Disclosure.{DisclosesNothing};
 
 /// What stands behind a row of demands is an outcome only where the lists grant each of them; else the outcome is ACCESS.
@@ -32,22 +35,22 @@ pub fn ok_is_exact()
 /// (`told`).
 /// That nothing changes, a step says of every outcome that isn't OK.
 pub fn access_is_exact()
-    ensures exact { (caller : Identity) (w : World) (p : Place) (op : Operation) → (outcome (meaning p op) caller w ≡ Err statuses.Access) ↔ IsRefusedByRow caller (whole w) (meaning p op).questions }
-    ensures told { (caller : Identity) (w : World) (p : Place) (op : Operation) → outcome (meaning p op) caller w ≡ Err statuses.Access →
-        (row : IsRefusedByRow caller (whole w) (meaning p op).questions) × EndsInRefusal caller (meaning p op).number (judged_of w) (row.demands (whole w)) (trace caller (meaning p op).number (whole w) (meaning p op).questions) }
+    ensures exact { (m : Meaning) (r : Realm) → (outcome m r ≡ Err statuses.Access) ↔ IsRefusedByRow m.caller (whole r) m.questions }
+    ensures told { (m : Meaning) (r : Realm) → outcome m r ≡ Err statuses.Access →
+        (row : IsRefusedByRow m.caller (whole r) m.questions) × EndsInRefusal m.caller m.number (judged_of r.world) (row.demands (whole r)) (traced m r) }
 {}
 
-/// An operation that takes no memory never answers DELAY: all but CREATE, LINK and RENAME.
+/// An operation that takes no memory never answers DELAY: all but CREATE, LINK and RENAME. Nor does one that lacks its place or room.
 pub fn others_never_delay()
-    ensures { (caller : Identity) (w : World) (p : Place) (op : Operation) → may_delay op ≡ false → outcome (meaning p op) caller w ≢ Err statuses.Delay }
+    ensures { (c : Context) (op : Operation) (old new : Point) (result : Result Outcome Status) → may_delay c op ≡ false → Steps c op old result new → result ≢ Err statuses.Delay }
 {}
 
-/// In two worlds that look alike to a caller, LOOKUP tells that caller the same, with the same lines.
+/// In two realms that look alike to a caller, LOOKUP tells that caller the same, with the same lines.
 pub fn lookup_discloses_nothing()
-    ensures { (p : Place) (name : List ℕ) → DisclosesNothing (lookup p name) }
+    ensures { (c : Context) (h : FileHandles) (name : List ℕ) → DisclosesNothing (meaning c h (Known kinds.Lookup name)) }
 {}
 
 /// The same of REMOVE.
 pub fn remove_discloses_nothing()
-    ensures { (p : Place) (name : List ℕ) → DisclosesNothing (remove p name) }
+    ensures { (c : Context) (h : FileHandles) (name : List ℕ) → DisclosesNothing (meaning c h (Known kinds.Remove name)) }
 {}

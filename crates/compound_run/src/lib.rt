@@ -6,11 +6,13 @@
 mod access;
 mod asking;
 mod compound;
+mod context;
 mod create;
 mod export;
-mod files;
+mod filehandles;
 mod getfh;
 mod laws;
+mod limits;
 mod link;
 mod lookup;
 mod lookupp;
@@ -21,14 +23,15 @@ mod readlink;
 mod remove;
 mod rename;
 mod restorefh;
+mod results;
 mod run;
 mod savefh;
 mod server;
-mod turn;
 
 pub use laws::{
     access_is_exact, lookup_discloses_nothing, ok_is_exact, others_never_delay,
     remove_discloses_nothing, rows_decide,
 };
+pub use limits::{MAX_REPLY, MAX_RESULTS};
 pub use opens::Open;
-pub use server::{Args, REPLY_LIMIT, RESULTS_LIMIT, RunEnd, Server};
+pub use server::{Args, RunEnd, Server};

@@ -1,22 +1,30 @@
 //! PUTROOTFH (RFC 8881, section 18.21).
-ghost use Rattle.compound_run.specs.PutRootFh.{put_root_fh};
-ghost use Rattle.compound_run.specs.Runs.{IsAnswered, place, point_at};
-ghost use Rattle.compound_run.specs.Views.{view, sender_of};
+ghost use Rattle.compound_run.specs.Putrootfh.{putrootfh};
+ghost use Rattle.compound_run.specs.Views.{Gives, HasRoom};
 
+use crate::context::Context;
 use crate::export::Export;
-use crate::files::Files;
-use crate::turn::Turn;
+use crate::filehandles::FileHandles;
+use crate::results::put_result;
 use nfs_ops::OpResult;
 use nfs_types::Status;
 use std::alloc::Allocator;
+use xdr_wire::Writer;
 
 impl<A: Allocator + Copy> Export<A> {
     /// The root becomes current.
-    pub fn put_root_fh<'s>(&self, turn: Turn<'_>, files: &mut Files) -> Result<OpResult<'s>, Status>
-        ensures { IsAnswered (put_root_fh (place (sender_of turn.entry) files.old turn.entry.room)) (sender_of turn.entry) (point_at self.now.tree files.old) (view result) (point_at self.now.tree files.new) }
+    pub fn putrootfh(
+        &self,
+        context: Context<'_>,
+        handles: &mut FileHandles,
+        out: &mut Writer<A>,
+    ) -> Result<(), Status>
+        requires room { HasRoom context out.old }
+        ensures { Gives context.entry putrootfh self.now handles.old out.old result self.now handles.new out.new }
     {
-        let _turn = turn;
-        files.current = Some(self.tree.root());
-        Ok(OpResult::PutRootFh)
+        let _context = context;
+        handles.current = Some(self.tree.root());
+        put_result(OpResult::PutRootFh, out);
+        Ok(())
     }
 }

@@ -1,24 +1,26 @@
 //! READLINK (RFC 8881, section 18.24).
-ghost use Rattle.std.specs.Prelude.{◌≡◌, ◌+◌, ◌<◌, ◌≤◌, [], length, Some};
+ghost use Rattle.std.specs.Prelude.{◌≡◌, ◌+◌, ◌≤◌, ◌++◌, [], length, Some};
+ghost use Rattle.std.specs.Int.{w32, to_be_bytes};
+ghost use Rattle.xdr_wire.specs.Buffer.{Appends};
 ghost use Rattle.node_tree.specs.World.{kind_of, bytes_of};
 ghost use Rattle.nfs_ops.specs.Forms.{readlink_size};
-ghost use Rattle.nfs_ops.specs.Operations as ops;
-ghost use Rattle.compound_run.specs.Sight.{whole};
-ghost use Rattle.compound_run.specs.Rows.{asked, most_granted};
-ghost use Rattle.compound_run.specs.ReadLink.{read_link};
-ghost use Rattle.compound_run.specs.Runs.{IsAnswered, place, point_at};
-ghost use Rattle.compound_run.specs.Views.{view, sender_of};
+ghost use Rattle.nfs_ops.specs.OpViews.{op_view};
+ghost use Rattle.nfs_ops.specs.Operations.{Known};
+ghost use Rattle.nfs_ops.specs.Results.{Done};
+ghost use Rattle.nfs_ops.specs.declared.op_kind.OpKind.TheVariants as kinds;
+ghost use Rattle.compound_run.specs.Readlink.{readlink};
+ghost use Rattle.compound_run.specs.Runs.{spelled};
+ghost use Rattle.compound_run.specs.Views.{Gives, HasRoom};
 
+use crate::context::Context;
 use crate::export::Export;
-use crate::files::Files;
-use crate::turn::Turn;
-use access_guard::MOST_HELD;
-use access_rows::Phases;
-use nfs_ops::{OpResult, ReadLinkResult};
+use crate::filehandles::FileHandles;
+use access_guard::GuardedTree;
+use nfs_ops::{OP_READLINK, Op, sizes_of_carried_bytes_are_exact};
 use nfs_types::Status;
-use node_tree::{Kind, MAX_TEXT};
+use node_tree::Kind;
 use std::alloc::Allocator;
-use xdr_wire::Opaque;
+use xdr_wire::{Source, Spell, Writer};
 
 /// The bytes of a result with a text of so many.
 fn text_size(length: u64) -> u64
@@ -26,6 +28,44 @@ fn text_size(length: u64) -> u64
     ensures { result ≡ readlink_size length }
 {
     12 + length + (4 - length % 4) % 4
+}
+
+/// The text of a link, which is copied from the tree.
+#[derive(Drop)]
+struct Text<'t, A: Allocator + Copy> {
+    tree: &'t GuardedTree<A>,
+    link: u64,
+}
+
+impl<A: Allocator + Copy> Source for Text<'_, A> {
+    ghost use Rattle.node_tree.specs.World.{bytes_at};
+
+    ghost gives = { λ s n. bytes_at s.tree.now.world s.link 0 n };
+
+    fn copy(self, space: &mut [u8]) -> usize {
+        self.tree.read(self.link, 0, space)
+    }
+}
+
+/// Writes number and status OK, for which there is room.
+fn put_head<A: Allocator>(out: &mut Writer<A>)
+    requires { 8 ≤ out.old.room }
+    ensures { Appends out.old out.new (to_be_bytes w32 27 ++ to_be_bytes w32 0) }
+{
+    (OP_READLINK, 0u32).write(out).unwrap();
+}
+
+/// Writes the text of a link, which has so many bytes and for which there is room, straight from the tree.
+fn put_text<A: Allocator + Copy>(tree: &GuardedTree<A>, link: u64, len: usize, out: &mut Writer<A>)
+    requires all { length (bytes_of tree.now.world link) ≡ len }
+    requires short { len ≤ 1024 }
+    requires room { readlink_size len ≤ out.old.room }
+    ensures written { Appends out.old out.new (spelled (Done kinds.ReadLink (bytes_of tree.now.world link))) }
+    ensures within { length out.new.bytes ≤ length out.old.bytes + readlink_size len }
+{
+    sizes_of_carried_bytes_are_exact();
+    put_head(out);
+    out.put_opaque_by(len, Text { tree, link });
 }
 
 impl<A: Allocator + Copy> Export<A> {
@@ -42,46 +82,32 @@ impl<A: Allocator + Copy> Export<A> {
         }
     }
 
-    /// The text of a link, which is copied into the lent bytes.
-    #[tactic(auto, using(crate::proofs::Texts::text_is_all))]
-    fn text<'s>(&self, link: u64, text: &'s mut [u8]) -> Opaque<'s, 1024>
-        requires short { length (bytes_of self.now.tree.world link) ≤ 1024 }
-        requires text { length text.old ≡ MAX_TEXT }
-        ensures { result.bytes.now ≡ bytes_of self.now.tree.world link }
-    {
-        let count = self.tree.read(link, 0, text);
-        Opaque {
-            bytes: &text[..count],
-        }
-    }
-
-    /// The text of the current link, which is copied into the lent bytes.
-    pub fn read_link<'s>(
+    /// The text of the current link.
+    pub fn readlink(
         &mut self,
-        turn: Turn<'_>,
-        files: Files,
-        rows: &Phases,
-        text: &'s mut [u8],
-    ) -> Result<OpResult<'s>, Status>
-        requires rows { rows.now ≡ asked files ops.ReadLink (whole self.old.tree.world) }
-        requires few { most_granted rows.now.first + most_granted rows.now.second < MOST_HELD }
+        context: Context<'_>,
+        handles: FileHandles,
+        op: &Op<'_>,
+        out: &mut Writer<A>,
+    ) -> Result<(), Status>
+        requires op { op_view op.now ≡ Known kinds.ReadLink tt }
         requires settled { self.old.tree.log.held ≡ [] }
-        requires text { length text.old ≡ MAX_TEXT }
-        ensures { IsAnswered (read_link (place (sender_of turn.entry) files turn.entry.room)) (sender_of turn.entry) (point_at self.old.tree files) (view result) (point_at self.new.tree files) }
+        requires room { HasRoom context out.old }
+        ensures { Gives context.entry readlink self.old handles out.old result self.new handles out.new }
     {
-        let number = files.current.ok_or(Status::NoFileHandle)?;
+        let number = handles.current.ok_or(Status::NoFileHandle)?;
         match self.tree.object(number).ok_or(Status::Stale)?.kind() {
             Kind::Link => {}
             Kind::File | Kind::Directory => return Err(Status::WrongType),
         }
-        if !self.grants(&rows.first, turn.caller, 27) {
+        if !self.grants_first(op, handles, context.caller) {
             return Err(Status::Access);
         }
-        if text_size(self.text_length(number)) > turn.room as u64 {
-            return Err(Status::RepTooBig);
+        let length = self.text_length(number);
+        if text_size(length) > context.room as u64 {
+            return Err(context.too_big());
         }
-        Ok(OpResult::ReadLink(ReadLinkResult {
-            text: self.text(number, text),
-        }))
+        put_text(&self.tree, number, length as usize, out);
+        Ok(())
     }
 }

@@ -1,80 +1,82 @@
 //! RENAME (RFC 8881, section 18.26).
 ghost use Rattle.std.specs.Prelude.{◌≡◌, ◌+◌, ◌<◌, ◌≤◌, [], length, true, false, Some};
-ghost use Rattle.nfs_ops.specs.Operations as ops;
+ghost use Rattle.nfs_ops.specs.OpViews.{op_view};
+ghost use Rattle.nfs_ops.specs.Operations.{Known};
+ghost use Rattle.nfs_ops.specs.declared.op_kind.OpKind.TheVariants as kinds;
 ghost use Rattle.nfs_ops.specs.Views.{rename_args_value};
 ghost use Rattle.compound_run.specs.Sight.{whole, child, directory_change};
-ghost use Rattle.node_tree.specs.World.{kind_of};
-ghost use Rattle.compound_run.specs.Rows.{asked, most_granted};
-ghost use Rattle.compound_run.specs.Rename.{rename, is_below, may_replace, moving};
-ghost use Rattle.compound_run.specs.Rename as specs;
-ghost use Rattle.compound_run.specs.Runs.{IsAnsweredOrDelayed, place, point_at};
-ghost use Rattle.compound_run.specs.Views.{view, sender_of};
+ghost use Rattle.node_tree.specs.World.{kind_of, is_one};
+ghost use Rattle.compound_run.specs.Rename.{rename, goes_below, can_replace, moving};
+ghost use Rattle.compound_run.specs.Views.{GivesOrDelays, HasRoom, realm_of};
 
+use crate::context::Context;
 use crate::export::{Export, check};
-use crate::files::Files;
-use crate::turn::Turn;
-use access_guard::MOST_HELD;
-use access_rows::Phases;
-use nfs_ops::{ChangeInfo, OpResult, RenameArgs, RenameResult};
+use crate::filehandles::FileHandles;
+use crate::results::put_result;
+use nfs_ops::{ChangeInfo, Op, OpResult, RenameArgs, RenameResult};
 use nfs_types::Status;
 use node_tree::Kind;
 use std::alloc::Allocator;
+use xdr_wire::Writer;
 
 impl<A: Allocator + Copy> Export<A> {
     /// A child of the saved directory gets a new name in the current one, which it may have, and what has that name loses it.
-    fn move_child<'s>(
+    fn move_child(
         &mut self,
-        turn: Turn<'_>,
-        files: Files,
+        context: Context<'_>,
+        handles: FileHandles,
         source: (u64, u64),
         target: (u64, u64),
         moved: u64,
         args: &RenameArgs<'_>,
-    ) -> Result<OpResult<'s>, Status>
-        requires from { files.saved ≡ Some source.0 }
-        requires to { files.current ≡ Some target.0 }
+        out: &mut Writer<A>,
+    ) -> Result<(), Status>
+        requires from { handles.saved ≡ Some source.0 }
+        requires to { handles.current ≡ Some target.0 }
         requires live { kind_of self.old.tree.world target.0 ≡ Some Kind.Directory }
         requires from_change { directory_change self.old.tree.world source.0 ≡ source.1 }
         requires to_change { directory_change self.old.tree.world target.0 ≡ target.1 }
         requires short { length args.now.new.bytes.now ≤ 255 }
-        requires child { child (whole self.old.tree.world) source.0 args.now.old.bytes.now ≡ Some moved }
-        requires other { specs.is_one (Some moved) (child (whole self.old.tree.world) target.0 args.now.new.bytes.now) ≡ false }
-        requires above { is_below (whole self.old.tree.world) moved target.0 ≡ false }
-        requires may { may_replace (whole self.old.tree.world) moved (child (whole self.old.tree.world) target.0 args.now.new.bytes.now) ≡ true }
-        ensures { IsAnsweredOrDelayed (record (rename (place (sender_of turn.entry) files turn.entry.room) (rename_args_value args.now)) { questions = moving source.0 target.0 args.now.new.bytes.now }) (sender_of turn.entry) (point_at self.old.tree files) (view result) (point_at self.new.tree files) }
+        requires child { child (whole (realm_of self.old)) source.0 args.now.old.bytes.now ≡ Some moved }
+        requires other { is_one (Some moved) (child (whole (realm_of self.old)) target.0 args.now.new.bytes.now) ≡ false }
+        requires above { goes_below (whole (realm_of self.old)) moved target.0 ≡ false }
+        requires may { can_replace (whole (realm_of self.old)) moved (child (whole (realm_of self.old)) target.0 args.now.new.bytes.now) ≡ true }
+        requires room { HasRoom context out.old }
+        ensures { GivesOrDelays context.entry (moving (rename_args_value args.now) source.0 target.0) self.old handles out.old result self.new handles out.new }
     {
         let ((from, from_before), (to, to_before)) = (source, target);
-        let at = self.tick(turn.now).ok_or(Status::NoSpc)?;
+        let at = self.tick(context.now).ok_or(Status::NoSpc)?;
         self.rename_child(from, args.old.bytes, to, args.new.bytes, moved, at)?;
-        Ok(OpResult::Rename(RenameResult {
-            source: ChangeInfo {
-                before: from_before,
-                after: at.tick,
-            },
-            target: ChangeInfo {
-                before: to_before,
-                after: at.tick,
-            },
-        }))
+        let source = ChangeInfo {
+            before: from_before,
+            after: at.tick,
+        };
+        let target = ChangeInfo {
+            before: to_before,
+            after: at.tick,
+        };
+        put_result(OpResult::Rename(RenameResult { source, target }), out);
+        Ok(())
     }
 
     /// A child of the saved directory gets a new name in the current one, and what has that name loses it.
-    pub fn rename<'s>(
+    pub fn rename(
         &mut self,
-        turn: Turn<'_>,
-        files: Files,
-        rows: &Phases,
+        context: Context<'_>,
+        handles: FileHandles,
+        op: &Op<'_>,
         args: &RenameArgs<'_>,
-    ) -> Result<OpResult<'s>, Status>
-        requires rows { rows.now ≡ asked files (ops.Rename (rename_args_value args.now)) (whole self.old.tree.world) }
-        requires few { most_granted rows.now.first + most_granted rows.now.second < MOST_HELD }
+        out: &mut Writer<A>,
+    ) -> Result<(), Status>
+        requires op { op_view op.now ≡ Known kinds.Rename (rename_args_value args.now) }
         requires settled { self.old.tree.log.held ≡ [] }
-        ensures { IsAnsweredOrDelayed (rename (place (sender_of turn.entry) files turn.entry.room) (rename_args_value args.now)) (sender_of turn.entry) (point_at self.old.tree files) (view result) (point_at self.new.tree files) }
+        requires room { HasRoom context out.old }
+        ensures { GivesOrDelays context.entry (rename (rename_args_value args.now)) self.old handles out.old result self.new handles out.new }
     {
-        let to = files.current.ok_or(Status::NoFileHandle)?;
+        let to = handles.current.ok_or(Status::NoFileHandle)?;
         let node = self.tree.object(to).ok_or(Status::Stale)?;
         let (to_directory, to_before) = (node.is_directory(), node.change());
-        let from = files.saved.ok_or(Status::NoFileHandle)?;
+        let from = handles.saved.ok_or(Status::NoFileHandle)?;
         let node = self.tree.object(from).ok_or(Status::Stale)?;
         let (from_directory, from_before) = (node.is_directory(), node.change());
         if !to_directory {
@@ -86,21 +88,22 @@ impl<A: Allocator + Copy> Export<A> {
         let (old, new) = (args.old.bytes, args.new.bytes);
         check(old)?;
         check(new)?;
-        if !self.grants(&rows.first, turn.caller, 29) {
+        if !self.grants_first(op, handles, context.caller) {
             return Err(Status::Access);
         }
         let child = self.find(from, old).ok_or(Status::NoEnt)?;
-        if is_one(child, self.find(to, new)) {
-            return Ok(OpResult::Rename(RenameResult {
-                source: ChangeInfo {
-                    before: from_before,
-                    after: from_before,
-                },
-                target: ChangeInfo {
-                    before: to_before,
-                    after: to_before,
-                },
-            }));
+        let target = self.find(to, new);
+        if is_one(child, target) {
+            let source = ChangeInfo {
+                before: from_before,
+                after: from_before,
+            };
+            let target = ChangeInfo {
+                before: to_before,
+                after: to_before,
+            };
+            put_result(OpResult::Rename(RenameResult { source, target }), out);
+            return Ok(());
         }
         if self.is_below(from, old, to, new, child) {
             return Err(Status::Inval);
@@ -108,23 +111,24 @@ impl<A: Allocator + Copy> Export<A> {
         if !self.may_replace(from, old, to, new, child) {
             return Err(Status::Exist);
         }
-        if !self.grants(&rows.second, turn.caller, 29) {
+        if !self.grants_second(op, handles, context.caller, Some(child), target) {
             return Err(Status::Access);
         }
         self.move_child(
-            turn,
-            files,
+            context,
+            handles,
             (from, from_before),
             (to, to_before),
             child,
             args,
+            out,
         )
     }
 }
 
 /// Whether what has the new name is the child itself.
 fn is_one(child: u64, target: Option<u64>) -> bool
-    ensures { result ≡ specs.is_one (Some child) target }
+    ensures { result ≡ is_one (Some child) target }
 {
     match target {
         Some(target) => child == target,

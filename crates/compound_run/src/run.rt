@@ -1,21 +1,39 @@
 //! One operation at its place (RFC 8881, section 16.2.3).
-ghost use Rattle.std.specs.Prelude.{◌≡◌, ◌≤◌, [], length, Err};
+ghost use Rattle.std.specs.Prelude.{◌≡◌, ◌+◌, ◌≤◌, [], true};
 ghost use Rattle.nfs_ops.specs.OpViews.{op_view};
-ghost use Rattle.compound_run.specs.Operations.{body, meaning, may_delay};
+ghost use Rattle.compound_run.specs.Operations.{body, is_run, meaning, may_delay, takes_memory};
 ghost use Rattle.compound_run.specs.Operations as specs;
-ghost use Rattle.compound_run.specs.Runs.{AnswersSo, Steps, place, is_delay, point_at};
-ghost use Rattle.compound_run.specs.Views.{view, sender_of};
+ghost use Rattle.access_guard.specs.Log.{settled};
+ghost use Rattle.compound_run.specs.Limits as limits;
+ghost use Rattle.compound_run.specs.Runs.{waits};
+ghost use Rattle.compound_run.specs.Telling.{is_delay};
+ghost use Rattle.compound_run.specs.Views.{context_of, point_at, GivesSo, HasRoom, IfRun};
+ghost use Rattle.compound_run.specs.Written.{StepGives};
 
+use crate::context::Context;
 use crate::export::Export;
-use crate::files::Files;
-use crate::turn::Turn;
-use nfs_ops::{Op, OpResult};
+use crate::filehandles::FileHandles;
+use crate::limits::MIN_ROOM;
+use crate::results::put_refusal;
+use nfs_ops::Op;
 use nfs_types::Status;
-use node_tree::MAX_TEXT;
 use std::alloc::Allocator;
+use xdr_wire::Writer;
 
-/// The least room that an operation runs in, in bytes: no result of an operation that changes something is longer.
-const LEAST_ROOM: usize = 256;
+/// Where there is no session its operations aren't supported.
+fn place_fault(op: &Op<'_>) -> Option<Status>
+    ensures { result ≡ specs.place_fault (op_view op.now) }
+{
+    match op {
+        Op::ExchangeId(_)
+        | Op::CreateSession(_)
+        | Op::DestroySession(_)
+        | Op::Sequence(_)
+        | Op::DestroyClientId(_)
+        | Op::ReclaimComplete(_) => Some(Status::NotSupp),
+        _ => None,
+    }
+}
 
 /// Whether an operation is built: it needs room for its result.
 fn is_run(op: &Op<'_>) -> bool
@@ -39,82 +57,114 @@ fn is_run(op: &Op<'_>) -> bool
     )
 }
 
+/// What is wrong with an operation's place or its room, if anything is.
+fn entry_fault(context: Context<'_>, op: &Op<'_>) -> Option<Status>
+    ensures { result ≡ specs.entry_fault (context_of context.entry) (op_view op.now) }
+{
+    if let Some(fault) = place_fault(op) {
+        return Some(fault);
+    }
+    if is_run(op) && context.room < MIN_ROOM {
+        return Some(context.too_big());
+    }
+    None
+}
+
 /// Whether an operation says that it found no memory.
-fn is_delayed(answer: &Result<OpResult<'_>, Status>) -> bool
-    ensures { result ≡ is_delay (view answer.now) }
+fn is_delayed(answer: &Result<(), Status>) -> bool
+    ensures { result ≡ is_delay answer.now }
 {
     matches!(answer, Err(Status::Delay))
 }
 
 impl<A: Allocator + Copy> Export<A> {
-    /// What an operation asks behind the room, and what it gives.
-    fn body<'s>(
+    /// What an operation asks behind its place and its room, and what it gives.
+    fn body(
         &mut self,
-        turn: Turn<'_>,
-        files: &mut Files,
+        context: Context<'_>,
+        handles: &mut FileHandles,
         op: &Op<'_>,
-        text: &'s mut [u8],
-    ) -> Result<OpResult<'s>, Status>
+        out: &mut Writer<A>,
+    ) -> Result<(), Status>
         requires settled { self.old.tree.log.held ≡ [] }
-        requires text { length text.old ≡ MAX_TEXT }
-        ensures { AnswersSo (may_delay (op_view op.now)) (body (place (sender_of turn.entry) files.old turn.entry.room) (op_view op.now)) (sender_of turn.entry) (point_at self.old.tree files.old) (view result) (point_at self.new.tree files.new) }
+        requires room { IfRun (is_run (op_view op.now)) (HasRoom context out.old) }
+        ensures { GivesSo (takes_memory (op_view op.now)) context.entry.room (body (context_of context.entry) handles.old (op_view op.now)) waits self.old handles.old out.old result self.new handles.new out.new }
     {
-        let rows = self.rows(*files, op);
         match op {
-            Op::Access(args) => self.access(turn, *files, args.asked),
-            Op::Create(args) => self.create(turn, files, &rows, args),
-            Op::GetFh => self.get_fh(turn, *files),
-            Op::Link(args) => self.link(turn, *files, &rows, args.name.bytes),
-            Op::Lookup(args) => self.lookup(turn, files, &rows, args.name.bytes),
-            Op::LookupP => self.lookup_p(turn, files, &rows),
-            Op::PutFh(args) => self.put_fh(turn, files, &args.handle),
-            Op::PutRootFh => self.put_root_fh(turn, files),
-            Op::ReadLink => self.read_link(turn, *files, &rows, text),
-            Op::Remove(args) => self.remove(turn, *files, &rows, args.name.bytes),
-            Op::Rename(args) => self.rename(turn, *files, &rows, args),
-            Op::RestoreFh => self.restore_fh(turn, files),
-            Op::SaveFh => self.save_fh(turn, files),
+            Op::Access(args) => self.access(context, *handles, args.asked, out),
+            Op::Create(args) => self.create(context, handles, op, args, out),
+            Op::GetFh => self.getfh(context, *handles, out),
+            Op::Link(args) => self.link(context, *handles, op, args.name.bytes, out),
+            Op::Lookup(args) => self.lookup(context, handles, op, args.name.bytes, out),
+            Op::LookupP => self.lookupp(context, handles, op, out),
+            Op::PutFh(args) => self.putfh(context, handles, &args.handle, out),
+            Op::PutRootFh => self.putrootfh(context, handles, out),
+            Op::ReadLink => self.readlink(context, *handles, op, out),
+            Op::Remove(args) => self.remove(context, *handles, op, args.name.bytes, out),
+            Op::Rename(args) => self.rename(context, *handles, op, args, out),
+            Op::RestoreFh => self.restorefh(context, handles, out),
+            Op::SaveFh => self.savefh(context, handles, out),
             Op::Illegal => Err(Status::OpIllegal),
             Op::Bad(_) => Err(Status::BadXdr),
             _ => Err(Status::NotSupp),
         }
     }
 
-    /// The same, where there is room for its result.
-    fn answer<'s>(
+    /// The same, where it has its place and room for its result.
+    fn answer(
         &mut self,
-        turn: Turn<'_>,
-        files: &mut Files,
+        context: Context<'_>,
+        handles: &mut FileHandles,
         op: &Op<'_>,
-        text: &'s mut [u8],
-    ) -> Result<OpResult<'s>, Status>
+        out: &mut Writer<A>,
+    ) -> Result<(), Status>
         requires settled { self.old.tree.log.held ≡ [] }
-        requires text { length text.old ≡ MAX_TEXT }
-        ensures answers { AnswersSo (may_delay (op_view op.now)) (meaning (place (sender_of turn.entry) files.old turn.entry.room) (op_view op.now)) (sender_of turn.entry) (point_at self.old.tree files.old) (view result) (point_at self.new.tree files.new) }
-        ensures room { view result ≡ Err Status.Delay → LEAST_ROOM ≤ turn.entry.room }
+        requires room { context.room + limits.REFUSAL_ROOM ≤ out.old.room }
+        ensures { GivesSo (may_delay (context_of context.entry) (op_view op.now)) context.entry.room (meaning (context_of context.entry) handles.old (op_view op.now)) waits self.old handles.old out.old result self.new handles.new out.new }
     {
-        if is_run(op) && turn.room < LEAST_ROOM {
-            return Err(Status::RepTooBig);
+        if let Some(fault) = entry_fault(context, op) {
+            return Err(fault);
         }
-        self.body(turn, files, op, text)
+        self.body(context, handles, op, out)
     }
 
-    /// Runs an operation, and ends it: its lines go to the trail, unless it found no memory. The text of a link is copied into the
-    /// lent bytes.
-    pub fn run<'s>(
+    /// Runs an operation, and ends it: its lines go to the trail, unless it found no memory.
+    fn run(
         &mut self,
-        turn: Turn<'_>,
-        files: &mut Files,
+        context: Context<'_>,
+        handles: &mut FileHandles,
         op: &Op<'_>,
-        text: &'s mut [u8],
-    ) -> Result<OpResult<'s>, Status>
+        out: &mut Writer<A>,
+    ) -> Result<(), Status>
         requires settled { self.old.tree.log.held ≡ [] }
-        requires text { length text.old ≡ MAX_TEXT }
-        ensures steps { Steps (sender_of turn.entry) turn.entry.room (op_view op.now) (point_at self.old.tree files.old) (view result) (point_at self.new.tree files.new) }
+        requires room { context.room + limits.REFUSAL_ROOM ≤ out.old.room }
+        ensures gives { GivesSo (may_delay (context_of context.entry) (op_view op.now)) context.entry.room (meaning (context_of context.entry) handles.old (op_view op.now)) (settled true) self.old handles.old out.old result self.new handles.new out.new }
         ensures settled { self.new.tree.log.held ≡ [] }
     {
-        let result = self.answer(turn, files, op, text);
+        let result = self.answer(context, handles, op, out);
         self.tree.settle(!is_delayed(&result));
         result
+    }
+
+    /// Runs an operation, and writes its result. `Err`: it isn't OK.
+    pub fn run_one(
+        &mut self,
+        context: Context<'_>,
+        handles: &mut FileHandles,
+        op: &Op<'_>,
+        out: &mut Writer<A>,
+    ) -> Result<(), Status>
+        requires settled { self.old.tree.log.held ≡ [] }
+        requires room { context.room + limits.REFUSAL_ROOM ≤ out.old.room }
+        ensures gives { StepGives (context_of context.entry) (op_view op.now) (point_at self.old handles.old) out.old result (point_at self.new handles.new) out.new }
+        ensures settled { self.new.tree.log.held ≡ [] }
+    {
+        match self.run(context, handles, op, out) {
+            Ok(()) => Ok(()),
+            Err(status) => {
+                put_refusal(op.number(), status, out);
+                Err(status)
+            }
+        }
     }
 }

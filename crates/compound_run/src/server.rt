@@ -1,11 +1,15 @@
 //! The server: a tree of objects, its guard, and a book of names.
-ghost use Rattle.std.specs.Prelude.{◌≡◌, ◌+◌, ◌≤◌, [], IfOk, vec_len, vec_capacity};
+ghost use Rattle.std.specs.Prelude.{◌≡◌, ◌≤◌, [], IfOk};
 ghost use Rattle.std.specs.NonZero.{non_zero_usize_get};
 ghost use Rattle.access_guard.specs.Memory.{Agrees};
+ghost use Rattle.compound_run.specs.Limits as limits;
 ghost use Rattle.compound_run.specs.State.{fresh, Answers, RunsBare};
+ghost use Rattle.compound_run.specs.Views.{opens_view};
 
-use crate::compound::{CompoundArgs, HEAD_LIMIT, Sent, put_head};
+use crate::compound::CompoundArgs;
+use crate::context::Context;
 use crate::export::Export;
+use crate::limits::{MAX_RESULTS, REFUSAL_ROOM};
 use crate::opens::Open;
 use access_guard::{Guard, GuardedTree};
 use nfs_types::Moment;
@@ -17,12 +21,6 @@ use std::marker::Model;
 use std::num::NonZeroUsize;
 use who_book::Book;
 use xdr_wire::Writer;
-
-/// The most bytes of a reply where there is no session, its record's mark not counted.
-pub const REPLY_LIMIT: usize = 65_536;
-
-/// The most bytes of a COMPOUND's results in such a reply, behind the header of the reply.
-pub const RESULTS_LIMIT: usize = REPLY_LIMIT - 24;
 
 /// The arguments of a COMPOUND.
 #[derive(Clone, Copy, Debug)]
@@ -47,21 +45,18 @@ pub enum RunEnd {
 pub struct Server<A: Allocator + Copy = Global> {
     export: Export<A>,
     book: Book,
-    head: Writer<A>,
-    results: Writer<A>,
 }
 
 impl<A: Allocator + Copy> Model for Server<A> {
     ghost use Rattle.std.specs.Prelude.{◌≡◌, ◌+◌, [], length};
     ghost use Rattle.compound_run.specs.State.{State};
-    ghost use Rattle.compound_run.specs.Compound.{REPLY_LIMIT};
-    ghost use Rattle.compound_run.specs.declared.compound.TheConstants.{HEAD_LIMIT};
+    ghost use Rattle.compound_run.specs.Views.{realm_of};
 
     ghost Value = { State };
 
-    ghost view = { λ s. record { world = s.export.tree.world; trail = s.export.tree.log.trail; total = s.export.tree.log.total; capacity = s.export.tree.capacity; book = s.book } };
+    ghost view = { λ s. record { realm = realm_of s.export; trail = s.export.tree.log.trail; total = s.export.tree.log.total; capacity = s.export.tree.capacity; book = s.book } };
 
-    ghost invariant = { λ s. (s.export.tree.log.held ≡ []) × (length s.head.bytes + s.head.room ≡ HEAD_LIMIT) × (length s.results.bytes + s.results.room ≡ REPLY_LIMIT) };
+    ghost invariant = { λ s. s.export.tree.log.held ≡ [] };
 }
 
 impl<A: Allocator + Copy> Server<A> {
@@ -80,50 +75,49 @@ impl<A: Allocator + Copy> Server<A> {
             export: Export {
                 alloc,
                 tree: GuardedTree::new(alloc, tree, capacity, hasher)?,
+                opens: Vec::new(alloc),
+                next_open: 1,
             },
             book,
-            head: Writer::new(alloc, HEAD_LIMIT)?,
-            results: Writer::new(alloc, REPLY_LIMIT)?,
         })
     }
 
     /// Runs a COMPOUND without a session at a moment (RFC 8881, section 16.2): its operations in turn, up to and with the first that
-    /// isn't OK. Its results are put behind what `out` holds, at most [`RESULTS_LIMIT`] bytes, for which there has to be room.
+    /// isn't OK. Its results are put behind what `out` holds, at most [`MAX_RESULTS`] bytes, for which there has to be room.
     ///
     /// Another minor version than 1 answers MINOR_VERS_MISMATCH, and more than 16 operations TOO_MANY_OPS, with no results. The
     /// operations of sessions, and those that aren't built, answer NOTSUPP. CREATE, LINK and RENAME answer DELAY where memory is
     /// refused, and then nothing changes; no other takes memory that it needs.
-    #[tactic(auto, unfolding(crate::specs::Compound::AnswersBare))]
+    #[tactic(auto, unfolding(crate::specs::State::fate))]
     pub fn run_bare(
         &mut self,
         args: Args<'_>,
         caller: &Caller,
         now: Moment,
-        out: &mut Vec<u8, A>,
+        out: &mut Writer<A>,
     ) -> RunEnd
-        requires room { vec_len out.old + RESULTS_LIMIT ≤ vec_capacity out.old }
-        ensures answers { RunsBare (Answers self.old now caller.now args.entry.bytes.now) result out.old.items out.new.items self.new }
+        requires room { limits.MAX_RESULTS ≤ out.old.room }
+        ensures answers { RunsBare (Answers self.old (record { arguments = args.entry.bytes.now; record_len = args.entry.record_len; caller = caller.now; now = now })) result out.old out.new self.new }
     {
         let Some(compound) = CompoundArgs::read(args.bytes) else {
             return RunEnd::Garbage;
         };
-        let sent = Sent {
+        let context = Context {
             caller,
             now,
             book: &self.book,
+            calling: None,
+            position: 0,
+            count: compound.count,
+            room: MAX_RESULTS - REFUSAL_ROOM,
         };
-        self.head.truncate(0);
-        self.results.truncate(0);
-        let ended = compound.run(&mut self.export, sent, &mut self.results);
-        put_head(&mut self.head, compound.tag, ended);
-        out.extend_from_slice(self.head.bytes()).unwrap();
-        out.extend_from_slice(self.results.bytes()).unwrap();
+        compound.run(&mut self.export, context, out);
         RunEnd::Replied
     }
 
     /// The tree.
     pub fn tree(&self) -> &Tree<A>
-        ensures { result.now ≡ self.now.world }
+        ensures { result.now ≡ self.now.realm.world }
     {
         self.export.tree.tree()
     }
@@ -132,16 +126,15 @@ impl<A: Allocator + Copy> Server<A> {
     pub fn guard(&self) -> &Guard<A>
         ensures log { result.now.log ≡ record { held = []; trail = self.now.trail; total = self.now.total } }
         ensures capacity { result.now.memory.capacity ≡ self.now.capacity }
-        ensures agrees { Agrees result.now.memory.remembered self.now.world }
+        ensures agrees { Agrees result.now.memory.remembered self.now.realm.world }
     {
         self.export.tree.guard()
     }
 
     /// The files that are open, by their numbers. Nothing opens a file yet.
-    pub fn opens(&self) -> &[Open]
-        ensures { result.now ≡ [] }
+    pub fn opens(&self) -> &[Open<A>]
+        ensures { opens_view result.now ≡ self.now.realm.opens }
     {
-        let _export = &self.export;
-        &[]
+        &self.export.opens
     }
 }

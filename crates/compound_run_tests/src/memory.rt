@@ -5,7 +5,7 @@ use crate::servers::{BOB, server_of};
 use crate::spelling::call_of;
 use crate::trees::root;
 use acl_list::{Entry, EntryKind, Who};
-use compound_run::{Args, RESULTS_LIMIT, RunEnd, Server};
+use compound_run::{Args, MAX_RESULTS, RunEnd, Server};
 use linked_list_allocator::LocalHeap;
 use node_tree::EPOCH;
 use rpc_record::Caller;
@@ -14,6 +14,7 @@ use std::hash::RandomState;
 use std::process::Abort;
 use std::test::Fail;
 use who_book::Book;
+use xdr_wire::Writer;
 
 /// Calls, and whether their last operation may want memory. With ample memory each is OK.
 static CALLS: [(&str, bool); 12] = [
@@ -48,7 +49,7 @@ struct Seen {
 #[derive(Drop)]
 struct Site<'a> {
     server: Server<&'a LocalHeap>,
-    out: Vec<u8, &'a LocalHeap>,
+    out: Writer<&'a LocalHeap>,
 }
 
 /// What is looked at before and after a call.
@@ -80,7 +81,7 @@ fn build<'a>(alloc: Global, heap: &'a LocalHeap, hasher: RandomState) -> Option<
         entry(EntryKind::Audit, 0x30, 0x47),
         entry(EntryKind::Allow, 0, 0x1f_07ff),
     ];
-    let out = Vec::with_capacity(heap, RESULTS_LIMIT).ok()?;
+    let out = Writer::new(heap, MAX_RESULTS).ok()?;
     let tree = root(heap, &list).ok()?;
     let server = server_of(heap, Book::default(alloc), tree, hasher).ok()?;
     Some(Site { server, out })
@@ -95,11 +96,11 @@ fn status(alloc: Global, site: &mut Site<'_>, call: &str) -> Result<[u8; 4], Fai
         record_len: bytes.len(),
     };
     site.out.truncate(0);
-    if site.out.capacity() < RESULTS_LIMIT || !site.out.is_empty() {
+    if site.out.room() < MAX_RESULTS {
         return Err(Fail::new("no room"));
     }
     let end = site.server.run_bare(args, &caller, EPOCH, &mut site.out);
-    match (end, site.out.as_slice()) {
+    match (end, site.out.bytes()) {
         (RunEnd::Replied, [a, b, c, d, ..]) => Ok([*a, *b, *c, *d]),
         _ => Err(Fail::new("no results")),
     }

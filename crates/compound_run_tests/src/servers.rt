@@ -2,7 +2,7 @@
 
 use crate::pictures::trail_text;
 use crate::spelling::{answer_of, call_of};
-use compound_run::{Args, RESULTS_LIMIT, RunEnd, Server};
+use compound_run::{Args, MAX_RESULTS, RunEnd, Server};
 use node_tree::{Moment, Tree};
 use rpc_record::Caller as Identity;
 use std::alloc::{AllocError, Allocator, Global};
@@ -11,6 +11,7 @@ use std::num::NonZeroUsize;
 use std::process::Abort;
 use std::test::Fail;
 use who_book::Book;
+use xdr_wire::Writer;
 
 /// Who calls: the uid, the gid, and a group more.
 pub type Caller = (u32, u32, u32);
@@ -79,9 +80,9 @@ pub fn run(
         bytes,
         record_len: bytes.len(),
     };
-    let mut out = Vec::with_capacity(alloc, RESULTS_LIMIT)?;
+    let mut out = Writer::new(alloc, MAX_RESULTS)?;
     match server.run_bare(args, &caller, now, &mut out) {
-        RunEnd::Replied => Ok(Some(out)),
+        RunEnd::Replied => Ok(Some(out.into_bytes())),
         RunEnd::Garbage => Ok(None),
     }
 }

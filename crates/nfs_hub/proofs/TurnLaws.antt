@@ -1,23 +1,24 @@
 -- Serving a connection, one turn after another.
-use Rattle.std.proofs.Common.{◌≡◌, ◌≢◌, ◌↔◌, ℕ, ◌+◌, Bool, true, false, List, [], ◌∷◌, ◌++◌, length, take, drop, Option, Some, None, option_map, Ok, Err, refl, sym, ap, subst, ◌∙◌, inl, inr, append_assoc}
-use Rattle.std.specs.Prelude.{IsTrue, IfSome}
+use Rattle.std.proofs.Common.{◌≡◌, ◌≢◌, ◌↔◌, ℕ, ◌+◌, Bool, true, false, List, [], ◌∷◌, ◌++◌, length, take, drop, Option, Some, None, option_map, Ok, Err, refl, sym, ap, subst, ◌∙◌, inl, inr, append_assoc, arith}
+use Rattle.std.specs.Prelude.{◌≤◌, Result, IsTrue, IfSome, IsSome}
 use Rattle.std.specs.Ordering.{nat_cmp}
 use Rattle.std.specs.BTreeMap.{get}
 use Rattle.std.specs.Io.KnownBytes.{Appends, Consumes, Keeps, IsAtEnd}
-use Rattle.std.proofs.lemmas.List.{append-nil}
+use Rattle.std.proofs.lemmas.List.{append-nil, length-append, length-take-le, take-append-drop}
 use Rattle.std.proofs.Math.Seq.{take-add}
 use Rattle.nfs_types.specs.declared.moment.Moment.{Moment}
 use Rattle.nfs_hub.specs.declared.connection.Connection.{Connection}
 use Rattle.nfs_hub.specs.declared.hub.Hub.{Hub}
 use Rattle.nfs_hub.specs.declared.serving.ServeEnd.{ServeEnd}
 use Rattle.nfs_hub.specs.declared.serving.ServeEnd.TheVariants as end
-use Rattle.nfs_hub.specs.Machine.{Connected, State, Event, Connect, Piece, Take, Close, Step}
+use Rattle.nfs_hub.specs.Machine.{Connected, State, Event, Connect, Piece, Take, Close, CameToBreak, Step}
 use Rattle.nfs_hub.specs.declared.fault.HubFault.{HubFault}
 use Rattle.nfs_hub.specs.declared.fault.HubFault.TheVariants as fault
-use Rattle.nfs_hub.specs.Hub.{IsHub, Goes, LeadsTo, ConnectGives, SameConnection, broken_at, next_number}
-use Rattle.nfs_hub.specs.Served.{Read_at, IsPending, Turn, Turns, Passes, PassGives, TurnsRun, TurnsEnd, EndsSo, Serves, refused_end, bytes_of}
+use Rattle.nfs_hub.specs.Answer.{Served}
+use Rattle.nfs_hub.specs.Hub.{IsHub, Goes, LeadsTo, ConnectGives, BreaksSo, SameConnection, broken_at, pending_at, next_number}
+use Rattle.nfs_hub.specs.Served.{Read_at, IsPending, Turn, Turns, Passes, PassGives, TurnsRun, TurnsEnd, IsLeft, EndsFor, BreaksIn, Writes, Serves, AreShort, MAX_PIECE, broken_end, refused_end, bytes_of}
 
-appends_trans : (a b c : Option (List ℕ)) (bs cs : List ℕ) → Appends a b bs → Appends b c cs → Appends a c (bs ++ cs)
+pub appends_trans : (a b c : Option (List ℕ)) (bs cs : List ℕ) → Appends a b bs → Appends b c cs → Appends a c (bs ++ cs)
 appends_trans None b c bs cs p q = tt
 appends_trans (Some x) None c bs cs p q = absurd p
 appends_trans (Some x) (Some y) None bs cs p q = absurd q
@@ -27,7 +28,7 @@ appends_none : (a : Option (List ℕ)) → Appends a a []
 appends_none None = tt
 appends_none (Some x) = sym (append-nil x)
 
-consumes_trans : (a b c : Option (List ℕ)) (bs cs : List ℕ) → Consumes a b bs → Consumes b c cs → Consumes a c (bs ++ cs)
+pub consumes_trans : (a b c : Option (List ℕ)) (bs cs : List ℕ) → Consumes a b bs → Consumes b c cs → Consumes a c (bs ++ cs)
 consumes_trans None b c bs cs p q = tt
 consumes_trans (Some x) None c bs cs p q = absurd p
 consumes_trans (Some x) (Some y) None bs cs p q = absurd q
@@ -37,7 +38,7 @@ consumes_none : (a : Option (List ℕ)) → Consumes a a []
 consumes_none None = tt
 consumes_none (Some x) = refl
 
-consumes_kept : (a b c : Option (List ℕ)) (bs : List ℕ) → Consumes a b bs → Keeps b c → Consumes a c bs
+pub consumes_kept : (a b c : Option (List ℕ)) (bs : List ℕ) → Consumes a b bs → Keeps b c → Consumes a c bs
 consumes_kept None b c bs p q = tt
 consumes_kept (Some x) None c bs p q = absurd p
 consumes_kept (Some x) (Some y) None bs p q = absurd q
@@ -47,19 +48,78 @@ consumes_kept (Some x) (Some y) (Some z) bs p q = p ∙ ap (λ (l : List ℕ). b
 pub written_more : (a b c : Option (List ℕ)) (done n : ℕ) (bytes : List ℕ) → Appends a b (take done bytes) → Appends b c (take n (drop done bytes)) → Appends a c (take (done + n) bytes)
 written_more a b c done n bytes p q = rw (take-add done n bytes) (appends_trans a b c (take done bytes) (take n (drop done bytes)) p q)
 
--- a piece that goes through the hub, whose pending bytes are taken and written
-pub passes : {A : Type 0} (id : ℕ) (piece : List ℕ) (now : Moment) (old fed new : Hub A) (out : List ℕ) (held held' : Option (List ℕ)) → Goes (Piece id piece now) old fed
-    → ((s : State) → IsHub fed s → IsPending (s.connection id) out × ((t : State) × Step (Take id (length out)) s t × IsHub new t)) → Appends held held' out → Passes id (piece, now) old new held held'
-passes id piece now old fed new out held held' goes takes wrote = record {
-  out = out;
-  wrote = wrote;
-  goes = λ s is.
-      let a = goes s is in
-      let b = takes a.0 a.2 in
-      (b.1.0, record { fed = a.0; comes = a.1; pending = b.0; taken = b.1.1 }, b.1.2);
-}
+-- the writer failed behind these bytes
+pub keeps_front : (a b c : Option (List ℕ)) (bs : List ℕ) → Appends a b bs → Appends b c [] → Keeps b c
+keeps_front a None c bs p q = tt
+keeps_front a (Some y) None bs p q = absurd q
+keeps_front a (Some y) (Some z) bs p q = q ∙ append-nil y
 
-turns_push : (id : ℕ) (pieces : List Read_at) (old : State) (written : List ℕ) (mid : State) (piece : Read_at) (out : List ℕ) (new : State) → Turns id pieces old written mid → Turn id piece mid out new
+pub front_written : (a b c : Option (List ℕ)) (done : ℕ) (bytes : List ℕ) → Appends a b (take done bytes) → Keeps b c → Writes end.Write a c bytes
+front_written a b c done bytes p q = (take done bytes, drop done bytes, sym (take-append-drop done bytes), keeps a b c (take done bytes) p q)
+  where
+    keeps : (a b c : Option (List ℕ)) (bs : List ℕ) → Appends a b bs → Keeps b c → Appends a c bs
+    keeps None b c bs p q = tt
+    keeps (Some x) None c bs p q = absurd p
+    keeps (Some x) (Some y) None bs p q = absurd q
+    keeps (Some x) (Some y) (Some z) bs p q = q ∙ p
+
+-- a piece that goes through the hub, whose pending bytes are taken
+pub passes : {A : Type 0} (id : ℕ) (piece : List ℕ) (now : Moment) (old fed new : Hub A) (out : List ℕ) → Goes (Piece id piece now) old fed
+    → ((s : State) → IsHub fed s → IsPending (s.connection id) out × ((t : State) × Step (Take id (length out)) s t × IsHub new t)) → Passes id (piece, now) old new out
+passes id piece now old fed new out goes takes s is =
+    let a = goes s is in
+    let b = takes a.0 a.2 in
+    (b.1.0, record { fed = a.0; comes = a.1; pending = b.0; taken = b.1.1 }, b.1.2)
+
+-- what is pending behind a break is what is taken
+pub breaks_in : {A : Type 0} (id : ℕ) (piece : List ℕ) (now : Moment) (old fed new : Hub A) (out : List ℕ) → BreaksSo id piece now old fed
+    → IfSome (pending_at fed id) (λ pending. out ≡ pending) → IsSome (pending_at fed id) → new.bare.server ≡ fed.bare.server
+    → (s : State) → IsHub old s → BreaksIn (piece, now) s id new.bare.server out
+breaks_in id piece now old fed new out breaks given some served s is = of (s.connection id) (breaks s is)
+  where
+    take_it : (c : Connected) (o : Option (List ℕ)) → IsSome o → IfSome o (λ pending. out ≡ pending)
+        → IfSome o (λ pending. CameToBreak now s.served c.pending (c.rest ++ piece) fed.bare.server pending) → CameToBreak now s.served c.pending (c.rest ++ piece) new.bare.server out
+    take_it c None some given came = absurd (none_is some)
+      where
+        none_is : IsSome {T = List ℕ} None → ⊥
+        none_is e = cc
+    take_it c (Some pending) some given came = rw (served, given) came
+
+    of : (o : Option Connected) → IfSome o (λ c. IfSome (pending_at fed id) (λ pending. CameToBreak now s.served c.pending (c.rest ++ piece) fed.bare.server pending))
+        → IfSome o (λ c. CameToBreak now s.served c.pending (c.rest ++ piece) new.bare.server out)
+    of None came = tt
+    of (Some c) came = take_it c (pending_at fed id) some given came
+
+-- a front of a buffer is as short as the buffer
+pub short_take : (n : ℕ) (buf : List ℕ) → n ≤ length buf → length buf ≤ MAX_PIECE → length (take n buf) ≤ MAX_PIECE
+short_take n buf within short = let e = length-take-le n buf within in omega (arith, e, within, short)
+
+pub pending_there : {A : Type 0} (hub : Hub A) (id : ℕ) (b : Bool) → broken_at hub id ≡ Some b → IsSome (pending_at hub id)
+pending_there {A = A} hub id b e = of (get nat_cmp hub.connections id) e
+  where
+    none_is : (b : Bool) → (let o : Option Bool = None in o) ≡ Some b → ⊥
+    none_is b e = cc
+
+    of : (o : Option (Connection A)) → option_map (λ (c : Connection A). c.broken) o ≡ Some b → IsSome (option_map (λ (c : Connection A). c.pending.bytes) o)
+    of None e = absurd (none_is b e)
+    of (Some c) e = refl
+
+pub told_so : {X : Type 0} (r : Result X HubFault) (f g : HubFault) → r ≡ Err f → f ≡ g → r ≡ Err g
+told_so r f g is same = rw same at is
+
+-- a piece that broke the connection
+pub pass_broken : {A : Type 0} (why : HubFault) (id : ℕ) (piece : Read_at) (old new : Hub A) (held held' : Option (List ℕ)) (out : List ℕ) → Passes id piece old new out → Appends held held' out
+    → broken_at new id ≡ Some true → (why ≡ fault.Broken → (s : State) → IsHub old s → BreaksIn piece s id new.bare.server out) → PassGives (Some (broken_end why)) id piece old new held held'
+pass_broken fault.Broken id piece old new held held' out p wrote broken breaks = (out, p, wrote, broken, breaks refl)
+pass_broken fault.Memory id piece old new held held' out p wrote broken breaks = (out, p, wrote, broken)
+pass_broken fault.NoSuch id piece old new held held' out p wrote broken breaks = (out, p, wrote, broken)
+pass_broken fault.TooMany id piece old new held held' out p wrote broken breaks = (out, p, wrote, broken)
+pass_broken fault.Exhausted id piece old new held held' out p wrote broken breaks = (out, p, wrote, broken)
+
+pub some_of : (o : Option Bool) (b : Bool) → o ≡ Some b → IsSome o
+some_of o b e = rw e refl
+
+pub turns_push : (id : ℕ) (pieces : List Read_at) (old : State) (written : List ℕ) (mid : State) (piece : Read_at) (out : List ℕ) (new : State) → Turns id pieces old written mid → Turn id piece mid out new
     → Turns id (pieces ++ piece ∷ []) old (written ++ out) new
 turns_push id [] old written mid piece out new r h =
     subst (λ (w : List ℕ). Turns id (piece ∷ []) old (w ++ out) new) (sym r.0)
@@ -67,32 +127,59 @@ turns_push id [] old written mid piece out new r h =
 turns_push id (p ∷ pieces) old written mid piece out new r h =
     (r.0, r.1, r.2 ++ out, r.3, turns_push id pieces r.0 r.2 mid piece out new r.4 h, ap (λ (w : List ℕ). w ++ out) r.5 ∙ append_assoc r.1 r.2 out)
 
-bytes_push : (pieces : List Read_at) (piece : Read_at) → bytes_of (pieces ++ piece ∷ []) ≡ bytes_of pieces ++ piece.0
+pub bytes_push : (pieces : List Read_at) (piece : Read_at) → bytes_of (pieces ++ piece ∷ []) ≡ bytes_of pieces ++ piece.0
 bytes_push [] piece = append-nil piece.0
 bytes_push (p ∷ pieces) piece = ap (λ (bs : List ℕ). p.0 ++ bs) (bytes_push pieces piece) ∙ sym (append_assoc p.0 (bytes_of pieces) piece.0)
 
-pub run_none : {A : Type 0} (id : ℕ) (hub : Hub A) (left held : Option (List ℕ)) (s : State) → IsHub hub s → TurnsRun id s hub left left held held
-run_none id hub left held s is = record { pieces = []; written = []; state = s; turns = (refl, refl); is = is; read = consumes_none left; wrote = appends_none held }
+pub short_push : (pieces : List Read_at) (piece : Read_at) → AreShort pieces → length piece.0 ≤ MAX_PIECE → AreShort (pieces ++ piece ∷ [])
+short_push [] piece all h = (h, tt)
+short_push (p ∷ pieces) piece all h = (all.0, short_push pieces piece all.1 h)
 
-module _ {A : Type 0} {id : ℕ} {s : State} {hub : Hub A} {left left' held held' : Option (List ℕ)} (run : TurnsRun id s hub left left' held held') where
-  pub run_more : (piece : Read_at) (new : Hub A) (left'' held'' : Option (List ℕ)) → Consumes left' left'' piece.0 → Passes id piece hub new held' held'' → TurnsRun id s new left left'' held held''
-  run_more piece new left'' held'' read p =
-      let a = p.goes run.state run.is in
+pub length_push : (pieces : List Read_at) (piece : Read_at) → length (pieces ++ piece ∷ []) ≡ length pieces + 1
+length_push pieces piece = length-append pieces (piece ∷ [])
+
+-- turns so far, of which there were exactly so many, and what they wrote
+pub record Going {A : Type 0} (id count most : ℕ) (old : State) (hub : Hub A) (left left' held held' : Option (List ℕ)) : Type 0 where
+  pub run : TurnsRun id most old hub left left'
+  pub wrote : Appends held held' run.written
+  pub turned : length run.pieces ≡ count
+
+pub going_none : {A : Type 0} (id most : ℕ) (hub : Hub A) (left held : Option (List ℕ)) (s : State) → IsHub hub s → Going id 0 most s hub left left held held
+going_none id most hub left held s is = record {
+  run = record { pieces = []; written = []; state = s; turns = (refl, refl); is = is; read = consumes_none left; few = omega (arith); short = tt };
+  wrote = appends_none held;
+  turned = refl;
+}
+
+module _ {A : Type 0} {id most : ℕ} {s : State} {hub : Hub A} {left left' : Option (List ℕ)} (run : TurnsRun id most s hub left left') where
+  abbrev pub run_more : (piece : Read_at) (new : Hub A) (left'' : Option (List ℕ)) → length run.pieces + 1 ≤ most → length piece.0 ≤ MAX_PIECE → Consumes left' left'' piece.0 → (out : List ℕ) → Passes id piece hub new out → TurnsRun id most s new left left''
+  run_more piece new left'' more short read out p =
+      let a = p run.state run.is in
       record {
         pieces = run.pieces ++ piece ∷ [];
-        written = run.written ++ p.out;
+        written = run.written ++ out;
         state = a.0;
-        turns = turns_push id run.pieces s run.written run.state piece p.out a.0 run.turns a.1;
+        turns = turns_push id run.pieces s run.written run.state piece out a.0 run.turns a.1;
         is = a.2;
         read = rw (bytes_push run.pieces piece) (consumes_trans left left' left'' (bytes_of run.pieces) piece.0 run.read read);
-        wrote = appends_trans held held' held'' run.written p.out run.wrote p.wrote;
+        few = rw (length_push run.pieces piece) more;
+        short = short_push run.pieces piece run.short short;
       }
 
   -- a read that gave nothing
-  pub run_kept : (left'' : Option (List ℕ)) → Keeps left' left'' → TurnsRun id s hub left left'' held held'
-  run_kept left'' keeps = record { pieces = run.pieces; written = run.written; state = run.state; turns = run.turns; is = run.is; read = consumes_kept left left' left'' (bytes_of run.pieces) run.read keeps; wrote = run.wrote }
+  abbrev pub run_kept : (left'' : Option (List ℕ)) → Keeps left' left'' → TurnsRun id most s hub left left''
+  run_kept left'' keeps = record {
+    pieces = run.pieces;
+    written = run.written;
+    state = run.state;
+    turns = run.turns;
+    is = run.is;
+    read = consumes_kept left left' left'' (bytes_of run.pieces) run.read keeps;
+    few = run.few;
+    short = run.short;
+  }
 
-  pub run_end : (left'' : Option (List ℕ)) → Consumes left' left'' [] → TurnsRun id s hub left left'' held held'
+  abbrev pub run_end : (left'' : Option (List ℕ)) → Consumes left' left'' [] → TurnsRun id most s hub left left''
   run_end left'' read = record {
     pieces = run.pieces;
     written = run.written;
@@ -100,8 +187,18 @@ module _ {A : Type 0} {id : ℕ} {s : State} {hub : Hub A} {left left' held held
     turns = run.turns;
     is = run.is;
     read = subst (λ (bs : List ℕ). Consumes left left'' bs) (append-nil (bytes_of run.pieces)) (consumes_trans left left' left'' (bytes_of run.pieces) [] run.read read);
-    wrote = run.wrote;
+    few = run.few;
+    short = run.short;
   }
+
+-- one turn more
+abbrev pub going_more : {A : Type 0} {id count most : ℕ} {s : State} {hub : Hub A} {left left' held held' : Option (List ℕ)} (going : Going id count most s hub left left' held held') (piece : Read_at) (new : Hub A) (left'' held'' : Option (List ℕ))
+    → count + 1 ≤ most → length piece.0 ≤ MAX_PIECE → Consumes left' left'' piece.0 → (out : List ℕ) → Passes id piece hub new out → Appends held' held'' out → Going id (count + 1) most s new left left'' held held''
+going_more {held = held} {held' = held'} going piece new left'' held'' more short read out p wrote = record {
+  run = run_more going.run piece new left'' (rw going.turned more) short read out p;
+  wrote = appends_trans held held' held'' going.run.written out going.wrote wrote;
+  turned = length_push going.run.pieces piece ∙ ap (λ (n : ℕ). n + 1) going.turned;
+}
 
 abbrev some : Bool → Option Bool
 some b = Some b
@@ -136,60 +233,92 @@ empty_unless b (x ∷ rest) told false_is = let true_is : b ≡ true = told.1 (�
     both : (b : Bool) → b ≡ true → b ≡ false → ⊥
     both b true_is false_is = cc
 
-module _ {A : Type 0} (hub : Hub A) (id : ℕ) (s : State) (is : IsHub hub s) (left : Option (List ℕ)) where
-  pub ends_read : broken_at hub id ≡ Some false → EndsSo end.Read (s.connection id) left
-  ends_read h = let t = open_state hub id false h s is in subst (λ (o : Option Connected). EndsSo end.Read o left) (sym t.1) t.2
+module _ {A : Type 0} (hub : Hub A) (id : ℕ) (s : State) (is : IsHub hub s) where
+  pub left_read : broken_at hub id ≡ Some false → IsLeft end.Read (s.connection id)
+  left_read h = let t = open_state hub id false h s is in subst (λ (o : Option Connected). IsLeft end.Read o) (sym t.1) t.2
 
-  pub ends_turns : broken_at hub id ≡ Some false → EndsSo end.Turns (s.connection id) left
-  ends_turns h = let t = open_state hub id false h s is in subst (λ (o : Option Connected). EndsSo end.Turns o left) (sym t.1) t.2
+  pub left_turns : broken_at hub id ≡ Some false → IsLeft end.Turns (s.connection id)
+  left_turns h = let t = open_state hub id false h s is in subst (λ (o : Option Connected). IsLeft end.Turns o) (sym t.1) t.2
 
-  pub ends_broken : broken_at hub id ≡ Some true → EndsSo end.Broken (s.connection id) left
-  ends_broken h = let t = open_state hub id true h s is in subst (λ (o : Option Connected). EndsSo end.Broken o left) (sym t.1) t.2
+  pub left_broken : broken_at hub id ≡ Some true → IsLeft end.Broken (s.connection id)
+  left_broken h = let t = open_state hub id true h s is in subst (λ (o : Option Connected). IsLeft end.Broken o) (sym t.1) t.2
 
-  pub ends_memory : broken_at hub id ≡ Some true → EndsSo end.Memory (s.connection id) left
-  ends_memory h = let t = open_state hub id true h s is in subst (λ (o : Option Connected). EndsSo end.Memory o left) (sym t.1) t.2
+  pub left_memory : broken_at hub id ≡ Some true → IsLeft end.Memory (s.connection id)
+  left_memory h = let t = open_state hub id true h s is in subst (λ (o : Option Connected). IsLeft end.Memory o) (sym t.1) t.2
 
-  pub ends_inside : (b : Bool) → broken_at hub id ≡ Some false → IfSome (s.connection id) (λ t. IsTrue b ↔ (t.rest ≢ [])) → b ≡ true → IsAtEnd left → EndsSo end.Inside (s.connection id) left
-  ends_inside b h tells true_is at_end =
+  pub left_write : IsSome (broken_at hub id) → IsLeft end.Write (s.connection id)
+  left_write h = of (broken_at hub id) refl h
+    where
+      of : (o : Option Bool) → broken_at hub id ≡ o → IsSome o → IsLeft end.Write (s.connection id)
+      of None e h = absurd (none_is h)
+        where
+          none_is : IsSome {T = Bool} None → ⊥
+          none_is e = cc
+      of (Some b) e h = let t = open_state hub id b e s is in subst (λ (o : Option Connected). IsLeft end.Write o) (sym t.1) tt
+
+  pub left_inside : (b : Bool) → broken_at hub id ≡ Some false → IfSome (s.connection id) (λ t. IsTrue b ↔ (t.rest ≢ [])) → b ≡ true → IsLeft end.Inside (s.connection id)
+  left_inside b h tells true_is =
       let t = open_state hub id false h s is in
       let told : IsTrue b ↔ (t.0.rest ≢ []) = subst (λ (o : Option Connected). IfSome o (λ c. IsTrue b ↔ (c.rest ≢ []))) t.1 tells in
-      subst (λ (o : Option Connected). EndsSo end.Inside o left) (sym t.1) (t.2, told.0 true_is, at_end)
+      subst (λ (o : Option Connected). IsLeft end.Inside o) (sym t.1) (t.2, told.0 true_is)
 
-  pub ends_ended : (b : Bool) → broken_at hub id ≡ Some false → IfSome (s.connection id) (λ t. IsTrue b ↔ (t.rest ≢ [])) → b ≡ false → IsAtEnd left → EndsSo end.Ended (s.connection id) left
-  ends_ended b h tells false_is at_end =
+  pub left_ended : (b : Bool) → broken_at hub id ≡ Some false → IfSome (s.connection id) (λ t. IsTrue b ↔ (t.rest ≢ [])) → b ≡ false → IsLeft end.Ended (s.connection id)
+  left_ended b h tells false_is =
       let t = open_state hub id false h s is in
       let told : IsTrue b ↔ (t.0.rest ≢ []) = subst (λ (o : Option Connected). IfSome o (λ c. IsTrue b ↔ (c.rest ≢ []))) t.1 tells in
-      subst (λ (o : Option Connected). EndsSo end.Ended o left) (sym t.1) (t.2, empty_unless b t.0.rest told false_is, at_end)
+      subst (λ (o : Option Connected). IsLeft end.Ended o) (sym t.1) (t.2, empty_unless b t.0.rest told false_is)
 
 -- a turn that ends it
-pub pass_ends : {A : Type 0} (why : ServeEnd) (id : ℕ) (piece : Read_at) (hub new : Hub A) (s : State) (left left' left'' held held' held'' : Option (List ℕ)) → why ≢ end.Write
-    → PassGives (Some why) id piece hub new held' held'' → Consumes left' left'' piece.0 → TurnsRun id s hub left left' held held' → TurnsEnd id why s new left left'' held held''
-pass_ends end.Broken id piece hub new s left left' left'' held held' held'' ne p read run = let more = run_more run piece new left'' held'' read p.0 in (more, ends_broken new id more.state more.is left'' p.1)
-pass_ends end.Memory id piece hub new s left left' left'' held held' held'' ne p read run = let more = run_more run piece new left'' held'' read p.0 in (more, ends_memory new id more.state more.is left'' p.1)
-pass_ends end.Write id piece hub new s left left' left'' held held' held'' ne p read run = absurd (ne refl)
-pass_ends end.Ended id piece hub new s left left' left'' held held' held'' ne p read run = absurd p
-pass_ends end.Inside id piece hub new s left left' left'' held held' held'' ne p read run = absurd p
-pass_ends end.TooMany id piece hub new s left left' left'' held held' held'' ne p read run = absurd p
-pass_ends end.Read id piece hub new s left left' left'' held held' held'' ne p read run = absurd p
-pass_ends end.Turns id piece hub new s left left' left'' held held' held'' ne p read run = absurd p
+pub pass_ends : {A : Type 0} (why : ServeEnd) (id count most : ℕ) (piece : Read_at) (hub new : Hub A) (s : State) (left left' left'' held held' held'' : Option (List ℕ))
+    → PassGives (Some why) id piece hub new held' held'' → count + 1 ≤ most → length piece.0 ≤ MAX_PIECE → Consumes left' left'' piece.0 → Going id count most s hub left left' held held' → TurnsEnd id most why s new left left'' held held''
+pass_ends end.Broken id count most piece hub new s left left' left'' held held' held'' p more short read going =
+    let now = going_more going piece new left'' held'' more short read p.0 p.1 p.2 in
+    let run = going.run in (
+      now.run,
+      now.wrote,
+      left_broken new id now.run.state now.run.is p.3,
+      record {
+        earlier = run.pieces;
+        last = piece;
+        in_turn = refl;
+        before = run.state;
+        out = p.0;
+        others = run.written;
+        turns = run.turns;
+        taken = refl;
+        breaks = subst (λ (served : Served). BreaksIn piece run.state id served p.0) (sym now.run.is.served) (p.4 run.state run.is);
+      },
+    )
+pass_ends end.Memory id count most piece hub new s left left' left'' held held' held'' p more short read going =
+    let now = going_more going piece new left'' held'' more short read p.0 p.1 p.2 in
+    (now.run, now.wrote, left_memory new id now.run.state now.run.is p.3, tt)
+pass_ends end.Write id count most piece hub new s left left' left'' held held' held'' p more short read going =
+    let run = run_more going.run piece new left'' (rw going.turned more) short read p.0 p.1 in
+    let w = p.2 in
+    (run, (going.run.written ++ w.0, w.1, ap (λ (l : List ℕ). going.run.written ++ l) w.2 ∙ sym (append_assoc going.run.written w.0 w.1), appends_trans held held' held'' going.run.written w.0 going.wrote w.3), left_write new id run.state run.is p.3, tt)
+pass_ends end.Ended id count most piece hub new s left left' left'' held held' held'' p more short read going = absurd p
+pass_ends end.Inside id count most piece hub new s left left' left'' held held' held'' p more short read going = absurd p
+pass_ends end.TooMany id count most piece hub new s left left' left'' held held' held'' p more short read going = absurd p
+pass_ends end.Read id count most piece hub new s left left' left'' held held' held'' p more short read going = absurd p
+pass_ends end.Turns id count most piece hub new s left left' left'' held held' held'' p more short read going = absurd p
 
 -- ---- the whole
 
 -- a connection that was refused
-pub serves_refused : {A : Type 0} (why : HubFault) (events : List Event) (old new : Hub A) (left held : Option (List ℕ)) → ConnectGives 1 (Err why) old new → LeadsTo (Connect ∷ events) new
-    → Serves (refused_end why) events old new left left held held
-serves_refused fault.TooMany events old new left held h leads = inl (record { same = h.1; leads = leads; read = consumes_none left; wrote = appends_none held; ends = inl h.0 })
-serves_refused fault.Exhausted events old new left held h leads = inl (record { same = h.2; leads = leads; read = consumes_none left; wrote = appends_none held; ends = inr h.1 })
-serves_refused fault.Memory events old new left held h leads = inl (record { same = h.2; leads = leads; read = consumes_none left; wrote = appends_none held; ends = (h.0, h.1) })
-serves_refused fault.NoSuch events old new left held h leads = absurd h
-serves_refused fault.Broken events old new left held h leads = absurd h
+pub serves_refused : {A : Type 0} (why : HubFault) (most : ℕ) (events : List Event) (old new : Hub A) (left held : Option (List ℕ)) → ConnectGives (Err why) old new → LeadsTo (Connect ∷ events) new
+    → Serves (refused_end why) most events old new left left held held
+serves_refused fault.TooMany most events old new left held h leads = inl (record { same = h.1; leads = leads; read = consumes_none left; wrote = appends_none held; ends = inl h.0 })
+serves_refused fault.Exhausted most events old new left held h leads = inl (record { same = h.2; leads = leads; read = consumes_none left; wrote = appends_none held; ends = inr h.1 })
+serves_refused fault.Memory most events old new left held h leads = inl (record { same = h.2; leads = leads; read = consumes_none left; wrote = appends_none held; ends = (h.0, h.1) })
+serves_refused fault.NoSuch most events old new left held h leads = absurd h
+serves_refused fault.Broken most events old new left held h leads = absurd h
 
 -- a connection that was opened, served and closed
-pub serves_opened : {A : Type 0} (why : ServeEnd) (events : List Event) (id : ℕ) (old opened turned new : Hub A) (left left' held held' : Option (List ℕ)) → why ≢ end.Write → ConnectGives 1 (Ok id) old opened
-    → LeadsTo (Connect ∷ events) opened → (why ≢ end.Write → (s : State) → IsHub opened s → TurnsEnd id why s turned left left' held held') → Goes (Close id) turned new
-    → Serves why events old new left left' held held'
-serves_opened why events id old opened turned new left left' held held' ne gives leads turns closes =
+pub serves_opened : {A : Type 0} (why : ServeEnd) (most : ℕ) (events : List Event) (id : ℕ) (old opened turned new : Hub A) (left left' held held' : Option (List ℕ)) → ConnectGives (Ok id) old opened
+    → LeadsTo (Connect ∷ events) opened → ((s : State) → IsHub opened s → TurnsEnd id most why s turned left left' held held') → Goes (Close id) turned new
+    → Serves why most events old new left left' held held'
+serves_opened why most events id old opened turned new left left' held held' gives leads turns closes =
     let same : id ≡ next_number old = gives.2 in
-    let t = subst (λ (n : ℕ). TurnsEnd n why leads.state turned left left' held held') same (turns ne leads.state leads.is) in
+    let t = subst (λ (n : ℕ). TurnsEnd n most why leads.state turned left left' held held') same (turns leads.state leads.is) in
     let c = subst (λ (n : ℕ). Goes (Close n) turned new) same closes t.0.state t.0.is in
-    inr (record { start = leads.state; leads = leads.leads; turned = turned; run = t.0; ends = t.1; last = c.0; closes = c.1; is = c.2 })
+    inr (record { start = leads.state; leads = leads.leads; turned = turned; run = t.0; wrote = t.1; rests = t.2; ends = t.3; last = c.0; closes = c.1; is = c.2 })

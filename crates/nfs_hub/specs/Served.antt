@@ -1,13 +1,14 @@
 -- What serving one connection reads and writes.
-use Rattle.std.specs.Prelude.{◌≡◌, ◌≢◌, ◌≤◌, ◌<◌, ◌^◌, ◌⊎◌, ℕ, true, false, List, [], ◌∷◌, ◌++◌, length, Option, Some, None}
+use Rattle.std.specs.Prelude.{◌≡◌, ◌≢◌, ◌≤◌, ◌<◌, ◌^◌, ◌⊎◌, ℕ, true, false, List, [], ◌∷◌, ◌++◌, length, Option, Some, None, IfSome, IsSome}
 use Rattle.std.specs.List.{flat_map}
 use Rattle.std.specs.Io.KnownBytes.{Appends, Consumes, IsAtEnd}
 use Rattle.nfs_types.specs.declared.moment.Moment.{Moment}
 use Rattle.nfs_hub.specs.declared.hub.Hub.{Hub}
 use Rattle.nfs_hub.specs.declared.serving.ServeEnd.{ServeEnd}
 use Rattle.nfs_hub.specs.declared.serving.ServeEnd.TheVariants.{Ended, Inside, Broken, Memory, TooMany, Read, Write, Turns as TurnsUsedUp}
-use Rattle.nfs_hub.specs.Machine.{Connected, State, Event, Connect, Piece, Take, Close, Step, Leads}
-use Rattle.nfs_hub.specs.Hub.{IsHub, LeadsTo, IsUnchanged, broken_at, open_count, next_number}
+use Rattle.nfs_hub.specs.Answer.{Served}
+use Rattle.nfs_hub.specs.Machine.{Connected, State, Event, Connect, Piece, Take, Close, CameToBreak, Step, Leads}
+use Rattle.nfs_hub.specs.Hub.{IsHub, LeadsTo, IsUnchanged, MAX_CONNECTIONS, broken_at, open_count, next_number}
 use Rattle.nfs_hub.specs.declared.fault.HubFault.{HubFault}
 use Rattle.nfs_hub.specs.declared.fault.HubFault.TheVariants as fault
 
@@ -15,6 +16,10 @@ use Rattle.nfs_hub.specs.declared.fault.HubFault.TheVariants as fault
 abbrev pub IsPending : Option Connected → List ℕ → Type 0
 IsPending None out = out ≡ []
 IsPending (Some c) out = out ≡ c.pending
+
+-- the most bytes of a piece that is read
+abbrev pub MAX_PIECE : ℕ
+MAX_PIECE = 4096
 
 -- a piece that is read at a moment
 abbrev pub Read_at : Type 0
@@ -27,18 +32,29 @@ pub record Turn (id : ℕ) (piece : Read_at) (old : State) (out : List ℕ) (new
   pub pending : IsPending (fed.connection id) out
   pub taken : Step (Take id (length out)) fed new
 
--- a turn that leads the hub on, and what it takes is written
-pub record Passes {A : Type 0} (id : ℕ) (piece : Read_at) (old new : Hub A) (held held' : Option (List ℕ)) : Type 0 where
-  pub out : List ℕ
-  pub wrote : Appends held held' out
-  pub goes : (s : State) → IsHub old s → (t : State) × Turn id piece s out t × IsHub new t
+-- what the writer gets of what is taken: all of it, or a front of it where it failed
+abbrev pub Writes : ServeEnd → Option (List ℕ) → Option (List ℕ) → List ℕ → Type 0
+Writes Write held held' out = (front : List ℕ) × (rest : List ℕ) × (out ≡ front ++ rest) × Appends held held' front
+Writes end held held' out = Appends held held' out
 
--- how a turn ends: the connection can go on, or it is broken, or nothing is said of what was written
+-- a turn leads the hub on, and this is taken
+abbrev pub Passes : {A : Type 0} → ℕ → Read_at → Hub A → Hub A → List ℕ → Type 0
+Passes id piece old new out = (s : State) → IsHub old s → (t : State) × Turn id piece s out t × IsHub new t
+
+-- the stream of a connection that was whole breaks in this piece, or a record of it does, behind which this is pending
+abbrev pub BreaksIn : Read_at → State → ℕ → Served → List ℕ → Type 0
+BreaksIn piece old id served out = IfSome (old.connection id) (λ c. CameToBreak piece.1 old.served c.pending (c.rest ++ piece.0) served out)
+
+-- how a turn ends: the connection can go on, or it is broken, or the writer failed
 abbrev pub PassGives : {A : Type 0} → Option ServeEnd → ℕ → Read_at → Hub A → Hub A → Option (List ℕ) → Option (List ℕ) → Type 0
-PassGives None id piece old new held held' = Passes id piece old new held held' × (broken_at new id ≡ Some false)
-PassGives (Some Broken) id piece old new held held' = Passes id piece old new held held' × (broken_at new id ≡ Some true)
-PassGives (Some Memory) id piece old new held held' = Passes id piece old new held held' × (broken_at new id ≡ Some true)
-PassGives (Some Write) id piece old new held held' = Unit {0}
+PassGives None id piece old new held held' = (out : List ℕ) × Passes id piece old new out × Appends held held' out × (broken_at new id ≡ Some false)
+PassGives (Some Broken) id piece old new held held' =
+    (out : List ℕ) × Passes id piece old new out × Appends held held' out × (broken_at new id ≡ Some true)
+    × ((s : State) → IsHub old s → BreaksIn piece s id new.bare.server out)
+PassGives (Some Memory) id piece old new held held' =
+    (out : List ℕ) × Passes id piece old new out × Appends held held' out × (broken_at new id ≡ Some true)
+PassGives (Some Write) id piece old new held held' =
+    (out : List ℕ) × Passes id piece old new out × Writes Write held held' out × IsSome (broken_at new id)
 PassGives (Some Ended) id piece old new held held' = ⊥
 PassGives (Some Inside) id piece old new held held' = ⊥
 PassGives (Some TooMany) id piece old new held held' = ⊥
@@ -54,38 +70,75 @@ Turns id (piece ∷ pieces) old written new =
 abbrev pub bytes_of : List Read_at → List ℕ
 bytes_of pieces = flat_map (λ p. p.0) pieces
 
--- why it ended: the input is at its end, behind a whole record or inside one; or the connection is broken; or the reader
--- failed or the turns are used up, with the connection whole
-abbrev pub EndsSo : ServeEnd → Option Connected → Option (List ℕ) → Type 0
-EndsSo Ended (Some c) left = (c.broken ≡ false) × (c.rest ≡ []) × IsAtEnd left
-EndsSo Inside (Some c) left = (c.broken ≡ false) × (c.rest ≢ []) × IsAtEnd left
-EndsSo Broken (Some c) left = c.broken ≡ true
-EndsSo Memory (Some c) left = c.broken ≡ true
-EndsSo Read (Some c) left = c.broken ≡ false
-EndsSo TurnsUsedUp (Some c) left = c.broken ≡ false
-EndsSo TooMany (Some c) left = ⊥
-EndsSo Write (Some c) left = Unit {0}
-EndsSo end None left = ⊥
+-- each piece has at most 4,096 bytes
+abbrev pub AreShort : List Read_at → Type 0
+AreShort [] = Unit {0}
+AreShort (piece ∷ pieces) = (length piece.0 ≤ MAX_PIECE) × AreShort pieces
 
--- the turns of a connection that is open, from one state of the hub to another: what the pieces were read from, and what
--- they take is written
-pub record TurnsRun {A : Type 0} (id : ℕ) (old : State) (hub : Hub A) (left left' held held' : Option (List ℕ)) : Type 0 where
+-- how serving a connection ends that a piece broke
+abbrev pub broken_end : HubFault → ServeEnd
+broken_end fault.Broken = Broken
+broken_end fault.Memory = Memory
+broken_end fault.NoSuch = Memory
+broken_end fault.TooMany = Memory
+broken_end fault.Exhausted = Memory
+
+-- Turns of a connection that is open, from one state of the hub to another, at most so many: the pieces are what was read, each of
+-- at most 4,096 bytes, and this was taken.
+pub record TurnsRun {A : Type 0} (id most : ℕ) (old : State) (hub : Hub A) (left left' : Option (List ℕ)) : Type 0 where
   pub pieces : List Read_at
   pub written : List ℕ
   pub state : State
   pub turns : Turns id pieces old written state
   pub is : IsHub hub state
   pub read : Consumes left left' (bytes_of pieces)
-  pub wrote : Appends held held' written
+  pub few : length pieces ≤ most
+  pub short : AreShort pieces
 
--- the same, and why it ended
-abbrev pub TurnsEnd : {A : Type 0} → ℕ → ServeEnd → State → Hub A → Option (List ℕ) → Option (List ℕ) → Option (List ℕ) → Option (List ℕ) → Type 0
-TurnsEnd id end old hub left left' held held' = (run : TurnsRun id old hub left left' held held') × EndsSo end (run.state.connection id) left'
+-- in the last of the turns the stream or a record of it breaks
+pub record BrokeLast (id : ℕ) (old : State) (pieces : List Read_at) (written : List ℕ) (new : State) : Type 0 where
+  pub earlier : List Read_at
+  pub last : Read_at
+  pub in_turn : pieces ≡ earlier ++ last ∷ []
+  pub before : State
+  pub out : List ℕ
+  pub others : List ℕ
+  pub turns : Turns id earlier old others before
+  pub taken : written ≡ others ++ out
+  pub breaks : BreaksIn last before id new.served out
+
+-- The connection when its turns end: whole, behind a whole record or inside one; or broken.
+abbrev pub IsLeft : ServeEnd → Option Connected → Type 0
+IsLeft Ended (Some c) = (c.broken ≡ false) × (c.rest ≡ [])
+IsLeft Inside (Some c) = (c.broken ≡ false) × (c.rest ≢ [])
+IsLeft Broken (Some c) = c.broken ≡ true
+IsLeft Memory (Some c) = c.broken ≡ true
+IsLeft Read (Some c) = c.broken ≡ false
+IsLeft TurnsUsedUp (Some c) = c.broken ≡ false
+IsLeft TooMany (Some c) = ⊥
+IsLeft Write (Some c) = Unit {0}
+IsLeft end None = ⊥
+
+-- Why turns end: the input is at its end; the stream or a record broke the connection; all turns are used up; or memory, the
+-- reader or the writer failed.
+abbrev pub EndsFor : ServeEnd → ℕ → ℕ → Option (List ℕ) → State → List Read_at → List ℕ → State → Type 0
+EndsFor Ended id most left old pieces written new = IsAtEnd left
+EndsFor Inside id most left old pieces written new = IsAtEnd left
+EndsFor Broken id most left old pieces written new = BrokeLast id old pieces written new
+EndsFor TurnsUsedUp id most left old pieces written new = length pieces ≡ most
+EndsFor TooMany id most left old pieces written new = ⊥
+EndsFor end id most left old pieces written new = Unit {0}
+
+-- so many turns at most, what they write, and why they ended
+abbrev pub TurnsEnd : {A : Type 0} → ℕ → ℕ → ServeEnd → State → Hub A → Option (List ℕ) → Option (List ℕ) → Option (List ℕ) → Option (List ℕ) → Type 0
+TurnsEnd id most end old hub left left' held held' =
+    (run : TurnsRun id most old hub left left') × Writes end held held' run.written × IsLeft end (run.state.connection id)
+    × EndsFor end id most left' old run.pieces run.written run.state
 
 -- a connection is refused: as many are open as may be or no number is left; or memory is
 abbrev pub RefusedSo : {A : Type 0} → ServeEnd → Hub A → Type 0
-RefusedSo TooMany old = (1 ≤ open_count old) ⊎ (2 ^ 63 ≤ next_number old)
-RefusedSo Memory old = (open_count old < 1) × (next_number old < 2 ^ 63)
+RefusedSo TooMany old = (MAX_CONNECTIONS ≤ open_count old) ⊎ (2 ^ 63 ≤ next_number old)
+RefusedSo Memory old = (open_count old < MAX_CONNECTIONS) × (next_number old < 2 ^ 63)
 RefusedSo Ended old = ⊥
 RefusedSo Inside old = ⊥
 RefusedSo Broken old = ⊥
@@ -111,15 +164,18 @@ pub record IsRefused {A : Type 0} (end : ServeEnd) (events : List Event) (old ne
 
 -- Behind events that lead to the hub a connection is opened with the next number; its turns read and write what is said; and
 -- it is closed, which leads to the hub.
-pub record IsServed {A : Type 0} (end : ServeEnd) (events : List Event) (old new : Hub A) (left left' held held' : Option (List ℕ)) : Type 0 where
+pub record IsServed {A : Type 0} (end : ServeEnd) (most : ℕ) (events : List Event) (old new : Hub A) (left left' held held' : Option (List ℕ)) : Type 0 where
   pub start : State
   pub leads : Leads (Connect ∷ events) start
   pub turned : Hub A
-  pub run : TurnsRun (next_number old) start turned left left' held held'
-  pub ends : EndsSo end (run.state.connection (next_number old)) left'
+  pub run : TurnsRun (next_number old) most start turned left left'
+  pub wrote : Writes end held held' run.written
+  pub rests : IsLeft end (run.state.connection (next_number old))
+  pub ends : EndsFor end (next_number old) most left' start run.pieces run.written run.state
   pub last : State
   pub closes : Step (Close (next_number old)) run.state last
   pub is : IsHub new last
 
-abbrev pub Serves : {A : Type 0} → ServeEnd → List Event → Hub A → Hub A → Option (List ℕ) → Option (List ℕ) → Option (List ℕ) → Option (List ℕ) → Type 0
-Serves end events old new left left' held held' = IsRefused end events old new left left' held held' ⊎ IsServed end events old new left left' held held'
+abbrev pub Serves : {A : Type 0} → ServeEnd → ℕ → List Event → Hub A → Hub A → Option (List ℕ) → Option (List ℕ) → Option (List ℕ) → Option (List ℕ) → Type 0
+Serves end most events old new left left' held held' =
+    IsRefused end events old new left left' held held' ⊎ IsServed end most events old new left left' held held'

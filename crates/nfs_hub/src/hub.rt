@@ -13,7 +13,7 @@ use std::hash::RandomState;
 use std::marker::Model;
 
 /// The most connections that are open at once, broken ones among them.
-pub const CONNECTIONS: usize = 1;
+pub const MAX_CONNECTIONS: usize = 1;
 
 /// No number of a connection reaches this one.
 const NUMBERS: u64 = 1 << 63;
@@ -46,7 +46,7 @@ pub struct Hub<A: Allocator + Copy = Global> {
 impl<A: Allocator + Copy> Hub<A> {
     ghost use Rattle.nfs_hub.specs.Machine.{State, Step};
     ghost use Rattle.nfs_hub.specs.Served.{IsPending};
-    ghost use Rattle.nfs_hub.specs.Hub.{IsHub, LeadsTo, Goes, ConnectGives, TakeGives, BreaksSo, broken_at};
+    ghost use Rattle.nfs_hub.specs.Hub.{IsHub, LeadsTo, Goes, ConnectGives, TakeGives, BreaksSo, broken_at, pending_at};
 
     /// A hub over the sample tree, without sessions: a root with the file `notes` and the directory `pub`. The book of names takes
     /// only `Global`; this one has no names, and takes no memory. What the server remembers of lists is found by `hasher`. `Err`: there
@@ -74,9 +74,9 @@ impl<A: Allocator + Copy> Hub<A> {
     pub fn connect(&mut self) -> Result<ConnId, HubFault>
         ensures leads { (events : List Event) → LeadsTo events self.old → LeadsTo (Connect ∷ events) self.new }
         ensures goes { Goes Connect self.old self.new }
-        ensures gives { ConnectGives CONNECTIONS result self.old self.new }
+        ensures gives { ConnectGives result self.old self.new }
     {
-        if self.connections.len() >= CONNECTIONS {
+        if self.connections.len() >= MAX_CONNECTIONS {
             return Err(HubFault::TooMany);
         }
         if self.next >= NUMBERS {
@@ -107,6 +107,8 @@ impl<A: Allocator + Copy> Hub<A> {
     pub(crate) fn take_all(&mut self, conn: ConnId) -> Vec<u8, A>
         ensures goes { (s : State) → IsHub self.old s → IsPending (s.connection conn) result.items × ((t : State) × Step (Take conn (length result.items)) s t × IsHub self.new t) }
         ensures broken { broken_at self.new conn ≡ broken_at self.old conn }
+        ensures given { IfSome (pending_at self.old conn) (λ pending. result.items ≡ pending) }
+        ensures served { self.new.bare.server ≡ self.old.bare.server }
     {
         match self.connections.get_mut(&conn.number) {
             Some(connection) => connection.take_all(self.alloc),

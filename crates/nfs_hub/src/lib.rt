@@ -8,5 +8,5 @@ mod server;
 mod serving;
 
 pub use fault::HubFault;
-pub use hub::{CONNECTIONS, ConnId, Hub};
+pub use hub::{ConnId, Hub, MAX_CONNECTIONS};
 pub use serving::{Clock, ServeEnd, serve};

@@ -1,10 +1,10 @@
 //! Serving one connection over a reader and a writer.
 ghost use Rattle.std.specs.Prelude.{◌≡◌, ◌≢◌, ◌⊎◌, List, [], true, false, Some, None};
-ghost use Rattle.std.specs.Bool.{OnTrue};
+ghost use Rattle.std.specs.Bool.{OnTrue, OnFalse};
 ghost use Rattle.std.specs.Io.KnownBytes.{Appends};
 ghost use Rattle.nfs_hub.specs.Machine.{State, Event};
 ghost use Rattle.nfs_hub.specs.Hub.{IsHub, LeadsTo, broken_at};
-ghost use Rattle.nfs_hub.specs.Served.{PassGives, TurnsEnd, Serves, refused_end};
+ghost use Rattle.nfs_hub.specs.Served.{PassGives, TurnsEnd, Serves, Writes, broken_end, refused_end};
 ghost use Rattle.nfs_hub.specs.declared.serving.ServeEnd.TheVariants as end;
 
 use crate::fault::HubFault;
@@ -45,16 +45,32 @@ pub enum ServeEnd {
 
 /// Writes all of the bytes; or says that the writer failed or took nothing.
 fn write_out<W: Write>(writer: &mut W, bytes: &[u8]) -> bool
-    ensures { OnTrue result (Appends (W.contents writer.old) (W.contents writer.new) bytes.now) }
+    ensures all { OnTrue result (Appends (W.contents writer.old) (W.contents writer.new) bytes.now) }
+    ensures front { OnFalse result (Writes end.Write (W.contents writer.old) (W.contents writer.new) bytes.now) }
 {
     let mut done = 0;
     while done < bytes.len() {
-        match writer.write(&bytes[done..]) {
-            Ok(0) | Err(_) => return false,
-            Ok(n) => done += n,
+        let Ok(n) = writer.write(&bytes[done..]) else {
+            return false;
+        };
+        if n == 0 {
+            return false;
         }
+        done += n;
     }
     true
+}
+
+/// How serving a connection ends that a piece broke.
+fn broken_by(fault: HubFault) -> ServeEnd
+    ensures { result ≡ broken_end fault }
+{
+    match fault {
+        HubFault::Broken => ServeEnd::Broken,
+        HubFault::Memory | HubFault::NoSuch | HubFault::TooMany | HubFault::Exhausted => {
+            ServeEnd::Memory
+        }
+    }
 }
 
 /// Feeds a piece, and writes what is pending then. `None` where the connection can go on.
@@ -75,8 +91,7 @@ fn pass<A: Allocator + Copy, W: Write>(
     }
     match fed {
         Ok(()) => None,
-        Err(HubFault::Memory) => Some(ServeEnd::Memory),
-        Err(_) => Some(ServeEnd::Broken),
+        Err(fault) => Some(broken_by(fault)),
     }
 }
 
@@ -90,9 +105,9 @@ fn turn_by_turn<A: Allocator + Copy, R: Read, W: Write, C: Clock>(
     turns: u64,
 ) -> ServeEnd
     requires open { broken_at hub.old conn ≡ Some false }
-    ensures { result ≢ end.Write → (s : State) → IsHub hub.old s → TurnsEnd conn result s hub.new (R.remaining reader.old) (R.remaining reader.new) (W.contents writer.old) (W.contents writer.new) }
+    ensures { (s : State) → IsHub hub.old s → TurnsEnd conn turns result s hub.new (R.remaining reader.old) (R.remaining reader.new) (W.contents writer.old) (W.contents writer.new) }
 {
-    for _ in 0..turns {
+    for turn in 0..turns {
         let mut buf = [0u8; PIECE];
         let Ok(n) = reader.read(&mut buf) else {
             return ServeEnd::Read;
@@ -123,9 +138,9 @@ fn refused(fault: HubFault) -> ServeEnd
     }
 }
 
-/// Opens a connection, and for so many turns reads at most 4,096 bytes, feeds them at the clock's moment, and writes what
+/// Opens a connection, and for at most so many turns reads at most 4,096 bytes, feeds them at the clock's moment, and writes what
 /// is pending then, also where the piece broke the connection; at the end it closes the connection. Says how it ended;
-/// nothing was read where the connection was refused.
+/// nothing was read where the connection was refused. Where the writer failed, it took a front of what was to be written.
 pub fn serve<A: Allocator + Copy, R: Read, W: Write, C: Clock>(
     hub: &mut Hub<A>,
     reader: &mut R,
@@ -133,7 +148,7 @@ pub fn serve<A: Allocator + Copy, R: Read, W: Write, C: Clock>(
     clock: &C,
     turns: u64,
 ) -> ServeEnd
-    ensures { result ≢ end.Write → (events : List Event) → LeadsTo events hub.old → Serves result events hub.old hub.new (R.remaining reader.old) (R.remaining reader.new) (W.contents writer.old) (W.contents writer.new) }
+    ensures { (events : List Event) → LeadsTo events hub.old → Serves result turns events hub.old hub.new (R.remaining reader.old) (R.remaining reader.new) (W.contents writer.old) (W.contents writer.new) }
 {
     let conn = match hub.connect() {
         Ok(conn) => conn,

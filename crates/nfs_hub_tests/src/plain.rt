@@ -57,3 +57,19 @@ pub fn serve_all<A: Allocator + Copy, R: Read, W: Write>(
 ) -> ServeEnd {
     serve(hub, reader, writer, &Epoch, turns)
 }
+
+pub fn serve_by<A: Allocator + Copy, R: Read, W: Write, C: Clock>(
+    hub: &mut Hub<A>,
+    reader: &mut R,
+    writer: &mut W,
+    clock: &C,
+    turns: u64,
+) -> ServeEnd {
+    serve(hub, reader, writer, clock, turns)
+}
+
+/// The second of an object's last change of its data or names, if it is there.
+pub fn changed_at<A: Allocator + Copy>(hub: &Hub<A>, number: u64) -> Option<i64> {
+    let node = hub.server().tree().object(number)?;
+    Some(node.time_modify().seconds)
+}

@@ -1,9 +1,11 @@
 //! Serving over readers and writers in memory, some of which fail.
 
-use crate::plain::{bare, connect, serve_all};
-use crate::words::{ACCESS_NOTES, ACCESS_NOTES_REPLY, NULL, bytes_of};
-use nfs_hub::ServeEnd;
+use crate::plain::{bare, changed_at, connect, serve_all, serve_by};
+use crate::words::{ACCESS_NOTES, ACCESS_NOTES_REPLY, CREATE_D, CREATE_E, NULL, bytes_of};
+use nfs_hub::{Clock, HubFault, ServeEnd};
+use nfs_types::Moment;
 use std::alloc::Global;
+use std::cell::Cell;
 use std::hash::RandomState;
 use std::io;
 use std::io::{ErrorKind, Read, Write};
@@ -23,6 +25,23 @@ impl Read for Failing<'_> {
         }
         self.reads_left -= 1;
         let n = self.bytes.len().min(buf.len()).min(5);
+        let (front, rest) = self.bytes.split_at(n);
+        buf[..n].copy_from_slice(front);
+        self.bytes = rest;
+        Ok(n)
+    }
+}
+
+/// Gives its bytes in pieces of this length.
+#[derive(Drop)]
+struct Pieces<'a> {
+    bytes: &'a [u8],
+    len: usize,
+}
+
+impl Read for Pieces<'_> {
+    fn read(&mut self, buf: &mut [u8]) -> io::Result<usize> {
+        let n = self.bytes.len().min(buf.len()).min(self.len);
         let (front, rest) = self.bytes.split_at(n);
         buf[..n].copy_from_slice(front);
         self.bytes = rest;
@@ -221,4 +240,67 @@ fn other_ends(rt: HostRuntime) -> Result<(), Fail> {
         "{told:?}"
     );
     Ok(())
+}
+
+/// Tells a second more each time.
+#[derive(Drop)]
+struct Rising {
+    seconds: Cell<i64>,
+}
+
+impl Clock for Rising {
+    fn now(&self) -> Moment {
+        let seconds = self.seconds.get();
+        self.seconds.set(seconds.saturating_add(1));
+        Moment {
+            seconds,
+            nanoseconds: 0,
+        }
+    }
+}
+
+/// When the objects 4 and 5 were changed, which two calls make that come in pieces of their own, by a clock that rises.
+fn made_at(
+    alloc: Global,
+    hasher: RandomState,
+    stream: &[u8],
+    len: usize,
+) -> Result<(Option<i64>, Option<i64>), Fail> {
+    let mut reader = Pieces { bytes: stream, len };
+    let clock = Rising {
+        seconds: Cell::new(70),
+    };
+    let mut hub = bare(alloc, alloc, hasher)?;
+    let mut written = Vec::new(alloc);
+    serve_by(&mut hub, &mut reader, &mut written, &clock, 10);
+    Ok((changed_at(&hub, 4), changed_at(&hub, 5)))
+}
+
+/// The moment of a call is the clock's, as its piece comes.
+#[test]
+fn each_piece_has_its_moment(rt: HostRuntime) -> Result<(), Fail> {
+    let hasher = RandomState::new(&rt)?;
+    let mut stream = bytes_of(rt.alloc(), CREATE_D)?;
+    let len = stream.len();
+    stream.extend_from_slice(&bytes_of(rt.alloc(), CREATE_E)?)?;
+    let told = made_at(rt.alloc(), hasher, &stream, len)?;
+    assert!(rt; told == (Some(70), Some(71)), "{told:?}");
+    Ok(())
+}
+
+#[test]
+fn faults_and_ends_are_numbered(rt: HostRuntime) {
+    assert_eq!(rt; HubFault::TooMany as u8, 1);
+    assert_eq!(rt; HubFault::NoSuch as u8, 2);
+    assert_eq!(rt; HubFault::Broken as u8, 3);
+    assert_eq!(rt; HubFault::Memory as u8, 4);
+    assert_eq!(rt; HubFault::Exhausted as u8, 5);
+    assert_eq!(rt; ServeEnd::Ended as u8, 1);
+    assert_eq!(rt; ServeEnd::Inside as u8, 2);
+    assert_eq!(rt; ServeEnd::Broken as u8, 3);
+    assert_eq!(rt; ServeEnd::Memory as u8, 4);
+    assert_eq!(rt; ServeEnd::TooMany as u8, 5);
+    assert_eq!(rt; ServeEnd::Read as u8, 6);
+    assert_eq!(rt; ServeEnd::Write as u8, 7);
+    assert_eq!(rt; ServeEnd::Turns as u8, 8);
 }

@@ -1,3 +1,4 @@
+mod Numbers
 pub mod Bounds
 pub mod Founds
 pub mod Nexts

@@ -4,18 +4,20 @@ use Rattle.std.proofs.lemmas.Bool.{ne_eqb, cases_eq}
 use Rattle.std.specs.Prelude.{◌==◌, nat_lt}
 use Rattle.xdr_wire.specs.Xdr.{Xdr, Value, uint, pair}
 use Rattle.xdr_wire.specs.Reading.{◌>>=◌, Read as ReadOf, read_at}
-use Rattle.xdr_wire.specs.Wire.{Normal, normalized, in_normal_form, both}
+use Rattle.xdr_wire.specs.Wire.{normalized, in_normal_form, both}
 use Rattle.xdr_wire.proofs.Spelling.{begins_from_read}
 use Rattle.xdr_wire.proofs.Normal.{normal_ok, both_is}
 use Rattle.xdr_wire.proofs.Steps.{bind_ok, ok_is}
-use Rattle.nfs_types.specs.Forms.{bitmap, trimmed, trimmed_set}
-use Rattle.nfs_ops.specs.Items.{Item, plain, Stands}
-use Rattle.nfs_ops.proofs.Founds.{pair_from, either, same_front}
-use Rattle.nfs_ops.proofs.ResultNexts.{item, result_is}
-use Rattle.nfs_ops.specs.Forms.{access_result, close_result, commit_result, create_result, getattr_result, getfh_result, link_result, open_result, read_result, readdir_result, readlink_result, remove_result, rename_result, setattr_result, write_result, exchange_id_result, create_session_result, sequence_result, create_result_normal, open_result_normal, readdir_result_normal}
-use Rattle.nfs_ops.specs.Results.{Outcome, Access, Close, Commit, Create, GetAttr, GetFh, Link, Lookup, LookupP, NVerify, Open, PutFh, PutRootFh, Read, ReadDir, ReadLink, Remove, Rename, RestoreFh, SaveFh, SetAttr, Verify, Write, ExchangeId, CreateSession, DestroySession, Sequence, DestroyClientId, ReclaimComplete, Refused, SetAttrRefused, outcome_item}
-use Rattle.nfs_ops.specs.ResultReading.{given, file_refusal, state_refusal, session_refusal, refusal_at, refused_from, refused_at, behind_status, result_at, done_at, done_to_open_at, done_to_savefh_at, done_to_reclaim_complete_at}
+use Rattle.nfs_types.specs.Forms.{bitmap, trimmed}
+use Rattle.nfs_ops.specs.Items.{Item, Spelled, done, plain, Stands}
+use Rattle.nfs_ops.specs.Rows.{row, kind_at}
+use Rattle.nfs_ops.specs.Results.{Outcome, Done, Refused, SetAttrRefused, outcome_item}
+use Rattle.nfs_ops.specs.ResultReading.{file_refusal, state_refusal, session_refusal, refusal_at, refused_from, refused_at, behind_status, result_at, done_at, done_of, done_from}
 use Rattle.nfs_ops.specs.Readable.{IsResult}
+use Rattle.nfs_ops.specs.declared.op_kind.OpKind.{OpKind}
+use Rattle.nfs_ops.proofs.Numbers.{number_is}
+use Rattle.nfs_ops.proofs.Founds.{pair_from, same_front}
+use Rattle.nfs_ops.proofs.ResultNexts.{result_is}
 
 -- it has the number of a status, and stands at the front
 abbrev pub Found : Outcome → List ℕ → List ℕ → Type 0
@@ -25,21 +27,6 @@ Found o bytes rest = IsResult o × Stands (outcome_item o) bytes rest
 abbrev alone : Outcome → List ℕ → ReadOf Outcome
 alone op q = Ok (op, q)
 
-done_found : (k : ℕ) (t : Xdr) (normal : Normal (Value t)) (op : Value t → Outcome) (bytes r q rest : List ℕ) (o : Outcome)
-    → ((v : Value t) → outcome_item (op v) ≡ item k t normal v) → ((v : Value t) → IsResult (op v))
-    → read_at uint bytes ≡ Ok (k, r) → read_at uint r ≡ Ok (0, q)
-    → given op (in_normal_form normal (read_at t q)) ≡ Ok (o, rest) → Found o bytes rest
-done_found k t normal op bytes r q rest o is good number_is status_is e =
-    let a = bind_ok (in_normal_form normal (read_at t q)) _ (o, rest) e in
-    let same : (op a.0.0, a.0.1) ≡ (o, rest) = ok_is (op a.0.0, a.0.1) (o, rest) a.2 in
-    let b = normal_ok normal (read_at t q) a.0.0 a.0.1 a.1 in
-    let value_read : read_at (pair uint t) r ≡ Ok ((0, b.0), a.0.1) = pair_from t r q a.0.1 0 b.0 status_is b.1 in
-    let all_read : read_at (pair uint (pair uint t)) bytes ≡ Ok ((k, (0, b.0)), a.0.1) = pair_from (pair uint t) bytes r a.0.1 k (0, b.0) number_is value_read in
-    let inner : normalized (both None normal) (0, b.0) ≡ (0, a.0.0) = both_is None normal (0, b.0) ∙ ap (λ (w : Value t). (0, w)) b.2 in
-    let outer : normalized (both None (both None normal)) (k, (0, b.0)) ≡ (k, (0, a.0.0)) = both_is None (both None normal) (k, (0, b.0)) ∙ ap (λ (w : ℕ × Value t). (k, w)) inner in
-    let stands : Stands (item k t normal a.0.0) bytes a.0.1 = ((k, (0, b.0)), begins_from_read (pair uint (pair uint t)) (k, (0, b.0)) bytes a.0.1 all_read, outer) in
-    subst (λ (y : Outcome × List ℕ). Found y.0 bytes y.1) same (good a.0.0, subst (λ (i : Item). Stands i bytes a.0.1) (sym (is a.0.0)) stands)
-
 plain_found : (k s : ℕ) (op : Outcome) (bytes r q rest : List ℕ) (o : Outcome) → outcome_item op ≡ plain k s → IsResult op
     → read_at uint bytes ≡ Ok (k, r) → read_at uint r ≡ Ok (s, q) → alone op q ≡ Ok (o, rest) → Found o bytes rest
 plain_found k s op bytes r q rest o is good number_is status_is e =
@@ -47,65 +34,30 @@ plain_found k s op bytes r q rest o is good number_is status_is e =
     let stands : Stands (plain k s) bytes q = ((k, s), begins_from_read (pair uint uint) (k, s) bytes q all_read, refl) in
     subst (λ (y : Outcome × List ℕ). Found y.0 bytes y.1) (ok_is (op, q) (o, rest) e) (good, subst (λ (i : Item). Stands i bytes q) (sym is) stands)
 
-to_open_found : (n : ℕ) (bytes r q rest : List ℕ) (o : Outcome) → read_at uint bytes ≡ Ok (n, r) → read_at uint r ≡ Ok (0, q) → done_to_open_at n q ≡ Ok (o, rest) → Found o bytes rest
-unfolding done_to_open_at
-to_open_found n bytes r q rest o number_is status_is e =
-    let P : Type 0 = Found o bytes rest in
-    let is : (k : ℕ) → n ≡ k → read_at uint bytes ≡ Ok (k, r) = λ k eq. number_is ∙ ap (λ (m : ℕ). Ok (m, r)) eq in
-    either P n 3 _ _ (Ok (o, rest)) e (λ eq h. done_found 3 access_result None Access bytes r q rest o (λ v. refl) (λ v. tt) (is 3 eq) status_is h) (λ e3.
-    either P n 4 _ _ (Ok (o, rest)) e3 (λ eq h. done_found 4 close_result None Close bytes r q rest o (λ v. refl) (λ v. tt) (is 4 eq) status_is h) (λ e4.
-    either P n 5 _ _ (Ok (o, rest)) e4 (λ eq h. done_found 5 commit_result None Commit bytes r q rest o (λ v. refl) (λ v. tt) (is 5 eq) status_is h) (λ e5.
-    either P n 6 _ _ (Ok (o, rest)) e5 (λ eq h. done_found 6 create_result (Some create_result_normal) Create bytes r q rest o (λ v. refl) (λ v. tt) (is 6 eq) status_is h) (λ e6.
-    either P n 9 _ _ (Ok (o, rest)) e6 (λ eq h. done_found 9 getattr_result (Some trimmed_set) GetAttr bytes r q rest o (λ v. refl) (λ v. tt) (is 9 eq) status_is h) (λ e9.
-    either P n 10 _ _ (Ok (o, rest)) e9 (λ eq h. done_found 10 getfh_result None GetFh bytes r q rest o (λ v. refl) (λ v. tt) (is 10 eq) status_is h) (λ e10.
-    either P n 11 _ _ (Ok (o, rest)) e10 (λ eq h. done_found 11 link_result None Link bytes r q rest o (λ v. refl) (λ v. tt) (is 11 eq) status_is h) (λ e11.
-    either P n 15 _ _ (Ok (o, rest)) e11 (λ eq h. plain_found 15 0 Lookup bytes r q rest o refl tt (is 15 eq) status_is h) (λ e15.
-    either P n 16 _ _ (Ok (o, rest)) e15 (λ eq h. plain_found 16 0 LookupP bytes r q rest o refl tt (is 16 eq) status_is h) (λ e16.
-    either P n 17 _ _ (Ok (o, rest)) e16 (λ eq h. plain_found 17 0 NVerify bytes r q rest o refl tt (is 17 eq) status_is h) (λ e17.
-    either P n 18 _ _ (Ok (o, rest)) e17 (λ eq h. done_found 18 open_result (Some open_result_normal) Open bytes r q rest o (λ v. refl) (λ v. tt) (is 18 eq) status_is h) (λ e18.
-    absurd cc)))))))))))
+done_found : (k : OpKind) (bytes r q rest : List ℕ) (o : Outcome) → read_at uint bytes ≡ Ok ((row k).number, r) → read_at uint r ≡ Ok (0, q) → done_of k q ≡ Ok (o, rest) → Found o bytes rest
+unfolding done_of
+done_found k bytes r q rest o number_read status_is e =
+    let n : ℕ = (row k).number in
+    let g : Spelled = (row k).gives in
+    let a = bind_ok (in_normal_form g.normal (read_at g.form q)) _ (o, rest) e in
+    let same : (Done k a.0.0, a.0.1) ≡ (o, rest) = ok_is (Done k a.0.0, a.0.1) (o, rest) a.2 in
+    let b = normal_ok g.normal (read_at g.form q) a.0.0 a.0.1 a.1 in
+    let value_read : read_at (pair uint g.form) r ≡ Ok ((0, b.0), a.0.1) = pair_from g.form r q a.0.1 0 b.0 status_is b.1 in
+    let all_read : read_at (pair uint (pair uint g.form)) bytes ≡ Ok ((n, (0, b.0)), a.0.1) = pair_from (pair uint g.form) bytes r a.0.1 n (0, b.0) number_read value_read in
+    let inner : normalized (both None g.normal) (0, b.0) ≡ (0, a.0.0) = both_is None g.normal (0, b.0) ∙ ap (λ (w : Value g.form). (0, w)) b.2 in
+    let outer : normalized (both None (both None g.normal)) (n, (0, b.0)) ≡ (n, (0, a.0.0)) = both_is None (both None g.normal) (n, (0, b.0)) ∙ ap (λ (w : ℕ × Value g.form). (n, w)) inner in
+    let stands : Stands (done n g a.0.0) bytes a.0.1 = ((n, (0, b.0)), begins_from_read (pair uint (pair uint g.form)) (n, (0, b.0)) bytes a.0.1 all_read, outer) in
+    subst (λ (y : Outcome × List ℕ). Found y.0 bytes y.1) same (tt, stands)
 
-to_savefh_found : (n : ℕ) (bytes r q rest : List ℕ) (o : Outcome) → read_at uint bytes ≡ Ok (n, r) → read_at uint r ≡ Ok (0, q) → done_to_savefh_at n q ≡ Ok (o, rest) → Found o bytes rest
-unfolding done_to_savefh_at
-to_savefh_found n bytes r q rest o number_is status_is e =
-    let P : Type 0 = Found o bytes rest in
-    let is : (k : ℕ) → n ≡ k → read_at uint bytes ≡ Ok (k, r) = λ k eq. number_is ∙ ap (λ (m : ℕ). Ok (m, r)) eq in
-    either P n 22 _ _ (Ok (o, rest)) e (λ eq h. plain_found 22 0 PutFh bytes r q rest o refl tt (is 22 eq) status_is h) (λ e22.
-    either P n 24 _ _ (Ok (o, rest)) e22 (λ eq h. plain_found 24 0 PutRootFh bytes r q rest o refl tt (is 24 eq) status_is h) (λ e24.
-    either P n 25 _ _ (Ok (o, rest)) e24 (λ eq h. done_found 25 read_result None Read bytes r q rest o (λ v. refl) (λ v. tt) (is 25 eq) status_is h) (λ e25.
-    either P n 26 _ _ (Ok (o, rest)) e25 (λ eq h. done_found 26 readdir_result (Some readdir_result_normal) ReadDir bytes r q rest o (λ v. refl) (λ v. tt) (is 26 eq) status_is h) (λ e26.
-    either P n 27 _ _ (Ok (o, rest)) e26 (λ eq h. done_found 27 readlink_result None ReadLink bytes r q rest o (λ v. refl) (λ v. tt) (is 27 eq) status_is h) (λ e27.
-    either P n 28 _ _ (Ok (o, rest)) e27 (λ eq h. done_found 28 remove_result None Remove bytes r q rest o (λ v. refl) (λ v. tt) (is 28 eq) status_is h) (λ e28.
-    either P n 29 _ _ (Ok (o, rest)) e28 (λ eq h. done_found 29 rename_result None Rename bytes r q rest o (λ v. refl) (λ v. tt) (is 29 eq) status_is h) (λ e29.
-    either P n 31 _ _ (Ok (o, rest)) e29 (λ eq h. plain_found 31 0 RestoreFh bytes r q rest o refl tt (is 31 eq) status_is h) (λ e31.
-    either P n 32 _ _ (Ok (o, rest)) e31 (λ eq h. plain_found 32 0 SaveFh bytes r q rest o refl tt (is 32 eq) status_is h) (λ e32.
-    absurd cc)))))))))
-
-to_reclaim_complete_found : (n : ℕ) (bytes r q rest : List ℕ) (o : Outcome) → read_at uint bytes ≡ Ok (n, r) → read_at uint r ≡ Ok (0, q) → done_to_reclaim_complete_at n q ≡ Ok (o, rest) → Found o bytes rest
-unfolding done_to_reclaim_complete_at
-to_reclaim_complete_found n bytes r q rest o number_is status_is e =
-    let P : Type 0 = Found o bytes rest in
-    let is : (k : ℕ) → n ≡ k → read_at uint bytes ≡ Ok (k, r) = λ k eq. number_is ∙ ap (λ (m : ℕ). Ok (m, r)) eq in
-    either P n 34 _ _ (Ok (o, rest)) e (λ eq h. done_found 34 setattr_result (Some trimmed) SetAttr bytes r q rest o (λ v. refl) (λ v. tt) (is 34 eq) status_is h) (λ e34.
-    either P n 37 _ _ (Ok (o, rest)) e34 (λ eq h. plain_found 37 0 Verify bytes r q rest o refl tt (is 37 eq) status_is h) (λ e37.
-    either P n 38 _ _ (Ok (o, rest)) e37 (λ eq h. done_found 38 write_result None Write bytes r q rest o (λ v. refl) (λ v. tt) (is 38 eq) status_is h) (λ e38.
-    either P n 42 _ _ (Ok (o, rest)) e38 (λ eq h. done_found 42 exchange_id_result None ExchangeId bytes r q rest o (λ v. refl) (λ v. tt) (is 42 eq) status_is h) (λ e42.
-    either P n 43 _ _ (Ok (o, rest)) e42 (λ eq h. done_found 43 create_session_result None CreateSession bytes r q rest o (λ v. refl) (λ v. tt) (is 43 eq) status_is h) (λ e43.
-    either P n 44 _ _ (Ok (o, rest)) e43 (λ eq h. plain_found 44 0 DestroySession bytes r q rest o refl tt (is 44 eq) status_is h) (λ e44.
-    either P n 53 _ _ (Ok (o, rest)) e44 (λ eq h. done_found 53 sequence_result None Sequence bytes r q rest o (λ v. refl) (λ v. tt) (is 53 eq) status_is h) (λ e53.
-    either P n 57 _ _ (Ok (o, rest)) e53 (λ eq h. plain_found 57 0 DestroyClientId bytes r q rest o refl tt (is 57 eq) status_is h) (λ e57.
-    either P n 58 _ _ (Ok (o, rest)) e57 (λ eq h. plain_found 58 0 ReclaimComplete bytes r q rest o refl tt (is 58 eq) status_is h) (λ e58.
-    absurd cc)))))))))
-
-by_group : (n : ℕ) (bytes r q rest : List ℕ) (o : Outcome) → read_at uint bytes ≡ Ok (n, r) → read_at uint r ≡ Ok (0, q) → (b d : Bool)
-    → cond b (done_to_open_at n q) (cond d (done_to_savefh_at n q) (done_to_reclaim_complete_at n q)) ≡ Ok (o, rest) → Found o bytes rest
-by_group n bytes r q rest o number_is status_is true d e = to_open_found n bytes r q rest o number_is status_is e
-by_group n bytes r q rest o number_is status_is false true e = to_savefh_found n bytes r q rest o number_is status_is e
-by_group n bytes r q rest o number_is status_is false false e = to_reclaim_complete_found n bytes r q rest o number_is status_is e
+kind_found : (n : ℕ) (bytes r q rest : List ℕ) (o : Outcome) (found : Option OpKind) → kind_at n ≡ found → read_at uint bytes ≡ Ok (n, r) → read_at uint r ≡ Ok (0, q)
+    → done_from q found ≡ Ok (o, rest) → Found o bytes rest
+kind_found n bytes r q rest o (Some k) at number_read status_is e =
+    done_found k bytes r q rest o (number_read ∙ ap (λ (m : ℕ). Ok (m, r)) (number_is n k at)) status_is e
+kind_found n bytes r q rest o None at number_read status_is e = absurd cc
 
 all_done_found : (n : ℕ) (bytes r q rest : List ℕ) (o : Outcome) → read_at uint bytes ≡ Ok (n, r) → read_at uint r ≡ Ok (0, q) → done_at n q ≡ Ok (o, rest) → Found o bytes rest
 unfolding done_at
-all_done_found n bytes r q rest o number_is status_is e = by_group n bytes r q rest o number_is status_is (nat_lt n 22) (nat_lt n 34) e
+all_done_found n bytes r q rest o number_read status_is e = kind_found n bytes r q rest o (kind_at n) refl number_read status_is e
 
 -- ---- a status that isn't OK is the one that was read
 

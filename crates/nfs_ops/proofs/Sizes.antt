@@ -13,8 +13,10 @@ use Rattle.nfs_types.specs.Views.{handle_value}
 use Rattle.nfs_types.specs.declared.handle.Handle.{Handle}
 use Rattle.nfs_types.specs.declared.handle.Handle.TheVariants.{Sent, Object}
 use Rattle.nfs_ops.specs.Forms.{with_padding, always, zeros, bytes, change_info, channel, entry, size_of_entry, close_result, create_result, getattr_result, getfh_result, open_result, read_result, readdir_result, readlink_result, rename_result, setattr_result, write_result, exchange_id_result, create_session_result, sequence_result}
-use Rattle.nfs_ops.specs.Items.{item_spelling}
-use Rattle.nfs_ops.specs.Results.{Outcome, Close, Create, GetAttr, GetFh, Open, Read, ReadDir, ReadLink, Rename, SetAttr, Write, ExchangeId, CreateSession, Sequence, outcome_item, most}
+use Rattle.nfs_ops.specs.Items.{done, item_spelling}
+use Rattle.nfs_ops.specs.Rows.{row}
+use Rattle.nfs_ops.specs.declared.op_kind.OpKind.{OpKind}
+use Rattle.nfs_ops.specs.declared.op_kind.OpKind.TheVariants.{Close, Create, GetAttr, GetFh, Open, Read, ReadDir, ReadLink, Rename, SetAttr, Write, ExchangeId, CreateSession, Sequence}
 
 -- what is at most n bytes long is written where there is room for n
 pub fits : {E : Type 0} (old new : Buffer) (item : List ℕ) (r : Result (Unit {0}) E) (n : ℕ) → Puts old new item r → length item ≤ n → n ≤ old.room → IsTrue (is_ok r)
@@ -22,8 +24,8 @@ fits old new item (Ok x) n puts short room = refl
 fits old new item (Err e) n puts short room = absurd (omega (arith, puts.0, short, room))
 
 -- the bytes that a result takes
-abbrev size : Outcome → ℕ
-size o = length (item_spelling (outcome_item o))
+abbrev size : (k : OpKind) → Value (row k).gives.form → ℕ
+size k v = length (item_spelling (done (row k).number (row k).gives v))
 
 -- ---- the parts of results
 
@@ -96,69 +98,69 @@ at_most (Some n) = omega arith
 
 -- ---- results
 
-pub close_short : (v : Value close_result) → length v.1 ≡ 12 → size (Close v) ≤ 24
+pub close_short : (v : Value close_result) → length v.1 ≡ 12 → size Close v ≤ 24
 close_short v whole = omega (arith, stateid_is v whole)
 
-pub create_short : (v : Value create_result) → length v.1 ≤ 8 → size (Create v) ≤ 64
+pub create_short : (v : Value create_result) → length v.1 ≤ 8 → size Create v ≤ 64
 create_short v few = omega (arith, two change_info bitmap v, change_info_is v.0, bitmap_is v.1, few)
 
-pub getattr_is : (v : Value getattr_result) → size (GetAttr v) ≡ most (GetAttr v)
+pub getattr_is : (v : Value getattr_result) → size GetAttr v ≡ (row GetAttr).most v
 getattr_is v = omega (arith, attributes_is v)
 
-pub getattr_short : (v : Value getattr_result) → size (GetAttr v) ≤ most (GetAttr v)
+pub getattr_short : (v : Value getattr_result) → size GetAttr v ≤ (row GetAttr).most v
 getattr_short v = omega (arith, getattr_is v)
 
-pub getfh_short : (v : Value getfh_result) → length v ≤ 128 → size (GetFh v) ≤ 140
+pub getfh_short : (v : Value getfh_result) → length v ≤ 128 → size GetFh v ≤ 140
 getfh_short v short = omega (arith, opaque_is 128 v, rounded (length v) 32 short)
 
 -- what stands behind the change of an OPEN
 abbrev behind_change : Xdr
 behind_change = fields (always 0 ∷ bitmap ∷ always 0 ∷ [])
 
-pub open_short : (v : Value open_result) → length v.0.1 ≡ 12 → length v.1.1.1.0 ≤ 8 → size (Open v) ≤ 88
+pub open_short : (v : Value open_result) → length v.0.1 ≡ 12 → length v.1.1.1.0 ≤ 8 → size Open v ≤ 88
 open_short v whole few = omega (arith, two stateid (pair change_info behind_change) v, two change_info behind_change v.1, two (always 0) (pair bitmap (always 0)) v.1.1, two bitmap (always 0) v.1.1.1, stateid_is v.0 whole, change_info_is v.1.0, always_is 0 v.1.1.0, bitmap_is v.1.1.1.0, always_is 0 v.1.1.1.1, few)
 
-pub read_is : (v : Value read_result) → size (Read v) ≡ most (Read v)
+pub read_is : (v : Value read_result) → size Read v ≡ (row Read).most v
 read_is v = omega (arith, opaque_is 32768 v.1)
 
-pub read_short : (v : Value read_result) → size (Read v) ≤ most (Read v)
+pub read_short : (v : Value read_result) → size Read v ≤ (row Read).most v
 read_short v = omega (arith, read_is v)
 
-pub readdir_is : (v : Value readdir_result) → size (ReadDir v) ≡ most (ReadDir v)
+pub readdir_is : (v : Value readdir_result) → size ReadDir v ≡ (row ReadDir).most v
 readdir_is v = omega (arith, two zeros (pair (chain entry) boolean) v, zeros_is v.0, two (chain entry) boolean v.1, length-append (flat_map (link (spelling entry)) v.1.0) (to_be_bytes w32 0), entries_are v.1.0)
 
-pub readdir_short : (v : Value readdir_result) → size (ReadDir v) ≤ most (ReadDir v)
+pub readdir_short : (v : Value readdir_result) → size ReadDir v ≤ (row ReadDir).most v
 readdir_short v = omega (arith, readdir_is v)
 
-pub readlink_is : (v : Value readlink_result) → size (ReadLink v) ≡ most (ReadLink v)
+pub readlink_is : (v : Value readlink_result) → size ReadLink v ≡ (row ReadLink).most v
 readlink_is v = omega (arith, opaque_is 1024 v)
 
-pub readlink_short : (v : Value readlink_result) → size (ReadLink v) ≤ most (ReadLink v)
+pub readlink_short : (v : Value readlink_result) → size ReadLink v ≤ (row ReadLink).most v
 readlink_short v = omega (arith, readlink_is v)
 
-pub rename_short : (v : Value rename_result) → size (Rename v) ≤ 48
+pub rename_short : (v : Value rename_result) → size Rename v ≤ 48
 rename_short v = omega (arith, two change_info change_info v, change_info_is v.0, change_info_is v.1)
 
-pub setattr_short : (v : Value setattr_result) → length v ≤ 8 → size (SetAttr v) ≤ 44
+pub setattr_short : (v : Value setattr_result) → length v ≤ 8 → size SetAttr v ≤ 44
 setattr_short v few = omega (arith, bitmap_is v, few)
 
-pub write_short : (v : Value write_result) → size (Write v) ≤ 24
+pub write_short : (v : Value write_result) → size Write v ≤ 24
 write_short v = omega (arith, two (always 2) zeros v.1, always_is 2 v.1.0, zeros_is v.1.1)
 
 -- what stands at the end of an EXCHANGE_ID
 abbrev server_and_scope : Xdr
 server_and_scope = fields (opaque 11 ∷ opaque 11 ∷ always 0 ∷ [])
 
-pub exchange_id_short : (v : Value exchange_id_result) → length v.1.1.1.1.1.0 ≤ 11 → length v.1.1.1.1.1.1.0 ≤ 11 → size (ExchangeId v) ≤ 72
+pub exchange_id_short : (v : Value exchange_id_result) → length v.1.1.1.1.1.0 ≤ 11 → length v.1.1.1.1.1.1.0 ≤ 11 → size ExchangeId v ≤ 72
 exchange_id_short v server scope =
     let names = v.1.1.1.1.1 in
     let server_fits : with_padding (length names.0) ≤ 4 * 3 = rounded (length names.0) 3 (omega (arith, server)) in
     let scope_fits : with_padding (length names.1.0) ≤ 4 * 3 = rounded (length names.1.0) 3 (omega (arith, scope)) in
     omega (arith, two (always 0) (pair zeros server_and_scope) v.1.1.1, two zeros server_and_scope v.1.1.1.1, two (opaque 11) (pair (opaque 11) (always 0)) names, two (opaque 11) (always 0) names.1, always_is 0 v.1.1.1.0, zeros_is v.1.1.1.1.0, opaque_is 11 names.0, opaque_is 11 names.1.0, always_is 0 names.1.1, server_fits, scope_fits)
 
-pub create_session_short : (v : Value create_session_result) → length v.0 ≡ 16 → length v.1.1.1.0.1.1.1.1.1.1 ≤ 1 → length v.1.1.1.1.1.1.1.1.1.1 ≤ 1 → size (CreateSession v) ≤ 96
+pub create_session_short : (v : Value create_session_result) → length v.0 ≡ 16 → length v.1.1.1.0.1.1.1.1.1.1 ≤ 1 → length v.1.1.1.1.1.1.1.1.1.1 ≤ 1 → size CreateSession v ≤ 96
 create_session_short v whole fore back =
     omega (arith, two (fixed 16) (fields (uint ∷ uint ∷ channel ∷ channel ∷ [])) v, padded_is v.0, whole, two channel channel v.1.1.1, channel_short v.1.1.1.0 fore, channel_short v.1.1.1.1 back)
 
-pub sequence_short : (v : Value sequence_result) → length v.0 ≡ 16 → size (Sequence v) ≤ 44
+pub sequence_short : (v : Value sequence_result) → length v.0 ≡ 16 → size Sequence v ≤ 44
 sequence_short v whole = omega (arith, two (fixed 16) (fields (uint ∷ uint ∷ uint ∷ uint ∷ always 0 ∷ [])) v, padded_is v.0, whole, always_is 0 v.1.1.1.1.1)

@@ -1,30 +1,39 @@
 -- What stands on the wire: a form, and a value of it that is in normal form.
 use Rattle.std.specs.Prelude.{◌≡◌, ℕ, List, [], ◌∷◌, Some, None}
-use Rattle.xdr_wire.specs.Xdr.{Xdr, Value, uint, pair, fields, HasSpelling, spelling, Begins}
-use Rattle.xdr_wire.specs.Wire.{Normal, normalized}
+use Rattle.xdr_wire.specs.Xdr.{Xdr, Value, void, uint, pair, fields, HasSpelling, spelling, Begins}
+use Rattle.xdr_wire.specs.Wire.{Normal, normalized, both}
 
 pub record Item : Type 0 where
   pub form : Xdr
   pub normal : Normal (Value form)
   pub value : Value form
 
--- a number, and what stands behind it
-abbrev pub numbered : ℕ → (t : Xdr) → Value t → Item
-numbered n t v = record { form = pair uint t; normal = None; value = (n, v) }
+-- what is spelled, and the normal form of its values
+pub record Spelled : Type 0 where
+  pub form : Xdr
+  pub normal : Normal (Value form)
 
--- the same, where f gives the normal form of what stands behind it
-abbrev pub numbered_as : ℕ → (t : Xdr) → (Value t → Value t) → Value t → Item
-numbered_as n t f v = record { form = pair uint t; normal = Some (λ x. (x.0, f x.1)); value = (n, v) }
+-- of which each value is its own
+abbrev pub alone : Xdr → Spelled
+alone t = record { form = t; normal = None }
+
+-- of which f gives the normal form
+abbrev pub normally : (t : Xdr) → (Value t → Value t) → Spelled
+normally t f = record { form = t; normal = Some f }
+
+abbrev pub nothing : Spelled
+nothing = alone void
+
+-- a number, and what stands behind it
+abbrev pub numbered : ℕ → (s : Spelled) → Value s.form → Item
+numbered n s v = record { form = pair uint s.form; normal = both None s.normal; value = (n, v) }
 
 abbrev pub number : ℕ → Item
 number n = record { form = uint; normal = None; value = n }
 
 -- a number, the status OK, and what stands behind them
-abbrev pub done : ℕ → (t : Xdr) → Value t → Item
-done n t v = record { form = fields (uint ∷ uint ∷ t ∷ []); normal = None; value = (n, (0, v)) }
-
-abbrev pub done_as : ℕ → (t : Xdr) → (Value t → Value t) → Value t → Item
-done_as n t f v = record { form = fields (uint ∷ uint ∷ t ∷ []); normal = Some (λ x. (x.0, (x.1.0, f x.1.1))); value = (n, (0, v)) }
+abbrev pub done : ℕ → (s : Spelled) → Value s.form → Item
+done n s v = record { form = fields (uint ∷ uint ∷ s.form ∷ []); normal = both None (both None s.normal); value = (n, (0, v)) }
 
 -- a number and a status
 abbrev pub plain : ℕ → ℕ → Item

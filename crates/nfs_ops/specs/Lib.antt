@@ -3,6 +3,8 @@ pub mod Items
 pub mod ItemViews
 pub mod UnsupportedViews
 pub mod Views
+pub mod Rows
+pub mod Parts
 pub mod Operations
 pub mod Names
 pub mod OpViews
@@ -10,3 +12,4 @@ pub mod ResultReading
 pub mod Results
 pub mod ResultViews
 pub mod Readable
+pub mod Given

@@ -1,36 +1,8 @@
 -- The names of the operations.
-use Rattle.std.specs.Prelude.{ℕ, if◌then◌else◌, List, ◌==◌, codes, Option, Some, None}
+use Rattle.std.specs.Prelude.{ℕ, List, Option}
+use Rattle.std.specs.Option.{option_map}
+use Rattle.nfs_ops.specs.Rows.{row, kind_at}
 
 -- the name of an operation that this server has (RFC 8881, section 18)
-unfoldable pub operation_name : ℕ → Option (List ℕ)
-operation_name op =
-    if op == 3 then Some (codes "ACCESS")
-    else if op == 4 then Some (codes "CLOSE")
-    else if op == 5 then Some (codes "COMMIT")
-    else if op == 6 then Some (codes "CREATE")
-    else if op == 9 then Some (codes "GETATTR")
-    else if op == 10 then Some (codes "GETFH")
-    else if op == 11 then Some (codes "LINK")
-    else if op == 15 then Some (codes "LOOKUP")
-    else if op == 16 then Some (codes "LOOKUPP")
-    else if op == 17 then Some (codes "NVERIFY")
-    else if op == 18 then Some (codes "OPEN")
-    else if op == 22 then Some (codes "PUTFH")
-    else if op == 24 then Some (codes "PUTROOTFH")
-    else if op == 25 then Some (codes "READ")
-    else if op == 26 then Some (codes "READDIR")
-    else if op == 27 then Some (codes "READLINK")
-    else if op == 28 then Some (codes "REMOVE")
-    else if op == 29 then Some (codes "RENAME")
-    else if op == 31 then Some (codes "RESTOREFH")
-    else if op == 32 then Some (codes "SAVEFH")
-    else if op == 34 then Some (codes "SETATTR")
-    else if op == 37 then Some (codes "VERIFY")
-    else if op == 38 then Some (codes "WRITE")
-    else if op == 42 then Some (codes "EXCHANGE_ID")
-    else if op == 43 then Some (codes "CREATE_SESSION")
-    else if op == 44 then Some (codes "DESTROY_SESSION")
-    else if op == 53 then Some (codes "SEQUENCE")
-    else if op == 57 then Some (codes "DESTROY_CLIENTID")
-    else if op == 58 then Some (codes "RECLAIM_COMPLETE")
-    else None
+abbrev pub operation_name : ℕ → Option (List ℕ)
+operation_name op = option_map (λ k. (row k).name) (kind_at op)

@@ -1,10 +1,12 @@
 -- The results that are read again.
 use Rattle.std.specs.Prelude.{◌≡◌, ◌≢◌, Some}
+use Rattle.nfs_ops.specs.Rows.{row}
+use Rattle.nfs_ops.specs.declared.op_kind.OpKind.TheVariants.{SetAttr}
 use Rattle.nfs_ops.specs.Results.{Outcome, Refused, SetAttrRefused}
 use Rattle.nfs_ops.specs.ResultReading.{refusal_at}
 
 -- A refusal has the number of a status that isn't OK, and SETATTR's is told apart.
 abbrev pub IsResult : Outcome → Type 0
-IsResult (Refused n status) = (refusal_at status ≡ Some status) × (n ≢ 34) × (status ≢ 0)
+IsResult (Refused n status) = (refusal_at status ≡ Some status) × (n ≢ (row SetAttr).number) × (status ≢ 0)
 IsResult (SetAttrRefused status) = (refusal_at status ≡ Some status) × (status ≢ 0)
 IsResult _ = Unit {0}

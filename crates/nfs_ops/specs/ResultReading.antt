@@ -4,9 +4,11 @@ use Rattle.xdr_wire.specs.declared.fault.XdrFault.TheVariants.{BadChoice}
 use Rattle.xdr_wire.specs.Xdr.{uint}
 use Rattle.xdr_wire.specs.Reading.{◌>>=◌, Read as ReadOf, read_at}
 use Rattle.xdr_wire.specs.Wire.{in_normal_form}
-use Rattle.nfs_types.specs.Forms.{bitmap, trimmed, trimmed_set}
-use Rattle.nfs_ops.specs.Forms.{access_result, close_result, commit_result, create_result, getattr_result, getfh_result, link_result, open_result, read_result, readdir_result, readlink_result, remove_result, rename_result, setattr_result, write_result, exchange_id_result, create_session_result, sequence_result, create_result_normal, open_result_normal, readdir_result_normal}
-use Rattle.nfs_ops.specs.Results.{Outcome, Access, Close, Commit, Create, GetAttr, GetFh, Link, Lookup, LookupP, NVerify, Open, PutFh, PutRootFh, Read, ReadDir, ReadLink, Remove, Rename, RestoreFh, SaveFh, SetAttr, Verify, Write, ExchangeId, CreateSession, DestroySession, Sequence, DestroyClientId, ReclaimComplete, Refused, SetAttrRefused}
+use Rattle.nfs_types.specs.Forms.{bitmap, trimmed}
+use Rattle.nfs_ops.specs.Rows.{row, kind_at}
+use Rattle.nfs_ops.specs.Results.{Outcome, Done, Refused, SetAttrRefused}
+use Rattle.nfs_ops.specs.declared.op_kind.OpKind.{OpKind}
+use Rattle.nfs_ops.specs.declared.op_kind.OpKind.TheVariants.{SetAttr}
 
 -- the statuses below 100 that aren't OK
 abbrev pub file_refusal : ℕ → Option ℕ
@@ -78,62 +80,22 @@ session_refusal s =
 unfoldable pub refusal_at : ℕ → Option ℕ
 refusal_at s = if nat_lt s 100 then file_refusal s else if nat_lt s 10034 then state_refusal s else session_refusal s
 
-abbrev pub given : {V : Type 0} → (V → Outcome) → ReadOf V → ReadOf Outcome
-given outcome read = read >>= λ x. Ok (outcome x.0, x.1)
+-- behind OK: what this operation gives
+unfoldable pub done_of : OpKind → List ℕ → ReadOf Outcome
+done_of k bytes = in_normal_form (row k).gives.normal (read_at (row k).gives.form bytes) >>= λ x. Ok (Done k x.0, x.1)
 
--- behind the number of an operation up to OPEN and OK: its result
-unfoldable pub done_to_open_at : ℕ → List ℕ → ReadOf Outcome
-done_to_open_at n bytes =
-    if n == 3 then given Access (read_at access_result bytes)
-    else if n == 4 then given Close (read_at close_result bytes)
-    else if n == 5 then given Commit (read_at commit_result bytes)
-    else if n == 6 then given Create (in_normal_form (Some create_result_normal) (read_at create_result bytes))
-    else if n == 9 then given GetAttr (in_normal_form (Some trimmed_set) (read_at getattr_result bytes))
-    else if n == 10 then given GetFh (read_at getfh_result bytes)
-    else if n == 11 then given Link (read_at link_result bytes)
-    else if n == 15 then Ok (Lookup, bytes)
-    else if n == 16 then Ok (LookupP, bytes)
-    else if n == 17 then Ok (NVerify, bytes)
-    else if n == 18 then given Open (in_normal_form (Some open_result_normal) (read_at open_result bytes))
-    else Err BadChoice
+abbrev pub done_from : List ℕ → Option OpKind → ReadOf Outcome
+done_from bytes (Some k) = done_of k bytes
+done_from bytes None = Err BadChoice
 
--- behind the number of an operation from PUTFH to SAVEFH and OK: its result
-unfoldable pub done_to_savefh_at : ℕ → List ℕ → ReadOf Outcome
-done_to_savefh_at n bytes =
-    if n == 22 then Ok (PutFh, bytes)
-    else if n == 24 then Ok (PutRootFh, bytes)
-    else if n == 25 then given Read (read_at read_result bytes)
-    else if n == 26 then given ReadDir (in_normal_form (Some readdir_result_normal) (read_at readdir_result bytes))
-    else if n == 27 then given ReadLink (read_at readlink_result bytes)
-    else if n == 28 then given Remove (read_at remove_result bytes)
-    else if n == 29 then given Rename (read_at rename_result bytes)
-    else if n == 31 then Ok (RestoreFh, bytes)
-    else if n == 32 then Ok (SaveFh, bytes)
-    else Err BadChoice
-
--- behind the number of an operation from SETATTR on and OK: its result
-unfoldable pub done_to_reclaim_complete_at : ℕ → List ℕ → ReadOf Outcome
-done_to_reclaim_complete_at n bytes =
-    if n == 34 then given SetAttr (in_normal_form (Some trimmed) (read_at setattr_result bytes))
-    else if n == 37 then Ok (Verify, bytes)
-    else if n == 38 then given Write (read_at write_result bytes)
-    else if n == 42 then given ExchangeId (read_at exchange_id_result bytes)
-    else if n == 43 then given CreateSession (read_at create_session_result bytes)
-    else if n == 44 then Ok (DestroySession, bytes)
-    else if n == 53 then given Sequence (read_at sequence_result bytes)
-    else if n == 57 then Ok (DestroyClientId, bytes)
-    else if n == 58 then Ok (ReclaimComplete, bytes)
-    else Err BadChoice
-
+-- behind a number and OK
 unfoldable pub done_at : ℕ → List ℕ → ReadOf Outcome
-done_at n bytes =
-    if nat_lt n 22 then done_to_open_at n bytes
-    else if nat_lt n 34 then done_to_savefh_at n bytes
-    else done_to_reclaim_complete_at n bytes
+done_at n bytes = done_from bytes (kind_at n)
 
 -- Behind another status than OK: nothing, or the bitmap of SETATTR, which says nothing then.
 abbrev pub refused_from : ℕ → List ℕ → Option ℕ → ReadOf Outcome
-refused_from n bytes (Some status) = if n == 34 then (in_normal_form (Some trimmed) (read_at bitmap bytes) >>= λ x. Ok (SetAttrRefused status, x.1)) else Ok (Refused n status, bytes)
+refused_from n bytes (Some status) =
+    if n == (row SetAttr).number then (in_normal_form (Some trimmed) (read_at bitmap bytes) >>= λ x. Ok (SetAttrRefused status, x.1)) else Ok (Refused n status, bytes)
 refused_from n bytes None = Err BadChoice
 
 unfoldable pub refused_at : ℕ → ℕ → List ℕ → ReadOf Outcome

@@ -1,4 +1,12 @@
-use nfs_types::{Attributes, Bitmap};
+ghost use Rattle.std.specs.Prelude.{OnOk};
+ghost use Rattle.xdr_wire.specs.Buffer.{Puts};
+ghost use Rattle.nfs_types.specs.Given.{given_set, given_values};
+ghost use Rattle.nfs_types.specs.Views.{bitmap_value};
+ghost use Rattle.nfs_ops.specs.Given.{getattr_outcome};
+ghost use Rattle.nfs_ops.specs.Items.{ItemHasSpelling, ItemIsNormal, item_spelling};
+ghost use Rattle.nfs_ops.specs.Results.{outcome_item};
+
+use nfs_types::{Attributes, Bitmap, GivenAttributes};
 use std::alloc::Allocator;
 use xdr_wire::{Full, Reader, Spell, Wire, Writer, XdrFault};
 
@@ -65,4 +73,17 @@ impl<'a> Wire<'a> for GetAttrResult<'a> {
         let attributes = Wire::read(reader)?;
         Ok(GetAttrResult { attributes })
     }
+}
+
+/// Writes the result of a GETATTR that is OK, each value once, straight to where the reply is taken from. `Full` exactly where the
+/// room is less than that takes; then nothing is written.
+pub fn write_getattr<A: Allocator>(
+    given: GivenAttributes<'_>,
+    writer: &mut Writer<A>,
+) -> Result<(), Full>
+    ensures has_spelling { OnOk result (ItemHasSpelling (outcome_item (getattr_outcome (given_set (bitmap_value given.entry.asked), given_values given.entry.book.now given.entry.facts.now (bitmap_value given.entry.asked))))) }
+    ensures in_normal_form { OnOk result (ItemIsNormal (outcome_item (getattr_outcome (given_set (bitmap_value given.entry.asked), given_values given.entry.book.now given.entry.facts.now (bitmap_value given.entry.asked))))) }
+    ensures puts { Puts writer.old writer.new (item_spelling (outcome_item (getattr_outcome (given_set (bitmap_value given.entry.asked), given_values given.entry.book.now given.entry.facts.now (bitmap_value given.entry.asked))))) result }
+{
+    (OP_GETATTR, (0u32, given)).write(writer)
 }

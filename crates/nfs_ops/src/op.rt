@@ -1,6 +1,6 @@
 ghost use Rattle.std.specs.Prelude.{◌≡◌};
 ghost use Rattle.xdr_wire.specs.Reading.{Gives};
-ghost use Rattle.nfs_ops.specs.Operations.{number_of, next_at, arguments_at, open_at, exchange_id_at};
+ghost use Rattle.nfs_ops.specs.Operations.{number_of};
 
 use crate::access::AccessArgs;
 use crate::close::CloseArgs;

@@ -1,7 +1,16 @@
+ghost use Rattle.std.specs.Prelude.{◌≤◌, ◌++◌, length};
+ghost use Rattle.std.specs.Int.{w32, to_be_bytes};
+ghost use Rattle.xdr_wire.specs.Xdr.{number_of_bool};
+ghost use Rattle.xdr_wire.specs.Buffer.{Appends};
+ghost use Rattle.nfs_ops.specs.Forms.{read_size};
+ghost use Rattle.nfs_ops.specs.Given.{read_outcome};
+ghost use Rattle.nfs_ops.specs.Items.{ItemHasSpelling, ItemIsNormal, item_spelling};
+ghost use Rattle.nfs_ops.specs.Results.{outcome_item};
+
 use crate::bytes::Bytes;
 use nfs_types::StateId;
 use std::alloc::Allocator;
-use xdr_wire::{Full, Opaque, Reader, Spell, Wire, Writer, XdrFault};
+use xdr_wire::{Full, Opaque, Reader, Source, Spell, Wire, Writer, XdrFault};
 
 /// The number of READ.
 pub const OP_READ: u32 = 25;
@@ -77,4 +86,31 @@ impl<'a> Wire<'a> for ReadResult<'a> {
         let (eof, data) = Wire::read(reader)?;
         Ok(ReadResult { eof, data })
     }
+}
+
+/// Writes number, status OK and eof, for which there is room.
+fn put_head<A: Allocator>(eof: bool, writer: &mut Writer<A>)
+    requires { 12 ≤ writer.old.room }
+    ensures { Appends writer.old writer.new (to_be_bytes w32 OP_READ ++ to_be_bytes w32 0 ++ to_be_bytes w32 (number_of_bool eof)) }
+{
+    (OP_READ, (0u32, eof)).write(writer).unwrap();
+}
+
+/// Writes the result of a READ that is OK: whether the file ends behind the bytes, and the bytes, at most so many, which are copied
+/// from the source straight to where the reply is taken from.
+pub fn write_read<S: Source, A: Allocator>(
+    eof: bool,
+    most: usize,
+    source: S,
+    writer: &mut Writer<A>,
+)
+    requires most { most ≤ 32768 }
+    requires few { length (S.gives source most) ≤ most }
+    requires room { read_size most ≤ writer.old.room }
+    ensures has_spelling { ItemHasSpelling (outcome_item (read_outcome eof (S.gives source most))) }
+    ensures in_normal_form { ItemIsNormal (outcome_item (read_outcome eof (S.gives source most))) }
+    ensures written { Appends writer.old writer.new (item_spelling (outcome_item (read_outcome eof (S.gives source most)))) }
+{
+    put_head(eof, writer);
+    writer.put_opaque_by(most, source);
 }

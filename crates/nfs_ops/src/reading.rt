@@ -1,8 +1,9 @@
 ghost use Rattle.std.specs.Prelude.{◌≡◌};
 ghost use Rattle.xdr_wire.specs.Reading.{Gives};
-ghost use Rattle.nfs_ops.specs.Operations.{next_at, arguments_at, to_open_at, to_savefh_at, to_reclaim_complete_at, open_at, exchange_id_at};
+ghost use Rattle.nfs_ops.specs.Operations.{next_at, arguments_at, arguments_of};
 ghost use Rattle.nfs_ops.specs.Operations as specs;
 ghost use Rattle.nfs_ops.specs.OpViews.{op_view, after};
+ghost use Rattle.nfs_ops.specs.declared.op_kind.OpKind.TheVariants as kinds;
 
 use crate::op::{OP_ILLEGAL, Op};
 use crate::unsupported::{is_exchange_id_unsupported, is_open_unsupported};
@@ -16,8 +17,9 @@ use crate::{
 use xdr_wire::{Reader, Wire, XdrFault};
 
 /// Reads the arguments of an OPEN.
+#[tactic(auto, unfolding(crate::specs::Operations::arguments_of))]
 fn read_open<'a>(reader: &mut Reader<'a>) -> Result<Op<'a>, XdrFault>
-    ensures { Gives op_view reader.old reader.new result (open_at reader.old) }
+    ensures { Gives op_view reader.old reader.new result (arguments_of kinds.Open reader.old) }
 {
     match Wire::read(reader) {
         Ok(arguments) => Ok(Op::Open(arguments)),
@@ -27,8 +29,9 @@ fn read_open<'a>(reader: &mut Reader<'a>) -> Result<Op<'a>, XdrFault>
 }
 
 /// Reads the arguments of an EXCHANGE_ID.
+#[tactic(auto, unfolding(crate::specs::Operations::arguments_of))]
 fn read_exchange_id<'a>(reader: &mut Reader<'a>) -> Result<Op<'a>, XdrFault>
-    ensures { Gives op_view reader.old reader.new result (exchange_id_at reader.old) }
+    ensures { Gives op_view reader.old reader.new result (arguments_of kinds.ExchangeId reader.old) }
 {
     match Wire::read(reader) {
         Ok(arguments) => Ok(Op::ExchangeId(arguments)),
@@ -47,10 +50,10 @@ fn no_operation<'a>(number: u32) -> Op<'a>
     }
 }
 
-/// Reads the arguments of an operation up to OPEN.
-#[tactic(auto, unfolding(crate::specs::Operations::to_open_at))]
-fn read_to_open<'a>(number: u32, reader: &mut Reader<'a>) -> Result<Op<'a>, XdrFault>
-    ensures { Gives op_view reader.old reader.new result (to_open_at number reader.old) }
+/// Reads the arguments of the operation of this number.
+#[tactic(auto, unfolding(crate::specs::Operations::arguments_at, crate::specs::Operations::arguments_of, crate::specs::Rows::kind_at))]
+fn read_arguments<'a>(number: u32, reader: &mut Reader<'a>) -> Result<Op<'a>, XdrFault>
+    ensures { Gives op_view reader.old reader.new result (arguments_at number reader.old) }
 {
     match number {
         OP_ACCESS => Ok(Op::Access(Wire::read(reader)?)),
@@ -64,16 +67,6 @@ fn read_to_open<'a>(number: u32, reader: &mut Reader<'a>) -> Result<Op<'a>, XdrF
         OP_LOOKUPP => Ok(Op::LookupP),
         OP_NVERIFY => Ok(Op::NVerify(Wire::read(reader)?)),
         OP_OPEN => read_open(reader),
-        _ => Ok(no_operation(number)),
-    }
-}
-
-/// Reads the arguments of an operation from PUTFH to SAVEFH.
-#[tactic(auto, unfolding(crate::specs::Operations::to_savefh_at))]
-fn read_to_savefh<'a>(number: u32, reader: &mut Reader<'a>) -> Result<Op<'a>, XdrFault>
-    ensures { Gives op_view reader.old reader.new result (to_savefh_at number reader.old) }
-{
-    match number {
         OP_PUTFH => Ok(Op::PutFh(Wire::read(reader)?)),
         OP_PUTROOTFH => Ok(Op::PutRootFh),
         OP_READ => Ok(Op::Read(Wire::read(reader)?)),
@@ -83,16 +76,6 @@ fn read_to_savefh<'a>(number: u32, reader: &mut Reader<'a>) -> Result<Op<'a>, Xd
         OP_RENAME => Ok(Op::Rename(Wire::read(reader)?)),
         OP_RESTOREFH => Ok(Op::RestoreFh),
         OP_SAVEFH => Ok(Op::SaveFh),
-        _ => Ok(no_operation(number)),
-    }
-}
-
-/// Reads the arguments of an operation from SETATTR on.
-#[tactic(auto, unfolding(crate::specs::Operations::to_reclaim_complete_at))]
-fn read_to_reclaim_complete<'a>(number: u32, reader: &mut Reader<'a>) -> Result<Op<'a>, XdrFault>
-    ensures { Gives op_view reader.old reader.new result (to_reclaim_complete_at number reader.old) }
-{
-    match number {
         OP_SETATTR => Ok(Op::SetAttr(Wire::read(reader)?)),
         OP_VERIFY => Ok(Op::Verify(Wire::read(reader)?)),
         OP_WRITE => Ok(Op::Write(Wire::read(reader)?)),
@@ -103,18 +86,6 @@ fn read_to_reclaim_complete<'a>(number: u32, reader: &mut Reader<'a>) -> Result<
         OP_DESTROY_CLIENTID => Ok(Op::DestroyClientId(Wire::read(reader)?)),
         OP_RECLAIM_COMPLETE => Ok(Op::ReclaimComplete(Wire::read(reader)?)),
         _ => Ok(no_operation(number)),
-    }
-}
-
-/// Reads the arguments of the operation of this number.
-#[tactic(auto, unfolding(crate::specs::Operations::arguments_at))]
-fn read_arguments<'a>(number: u32, reader: &mut Reader<'a>) -> Result<Op<'a>, XdrFault>
-    ensures { Gives op_view reader.old reader.new result (arguments_at number reader.old) }
-{
-    match number {
-        0..OP_PUTFH => read_to_open(number, reader),
-        OP_PUTFH..OP_SETATTR => read_to_savefh(number, reader),
-        _ => read_to_reclaim_complete(number, reader),
     }
 }
 

@@ -1,9 +1,9 @@
 ghost use Rattle.std.specs.Prelude.{◌≡◌, option_map, Some};
 ghost use Rattle.xdr_wire.specs.Reading.{Gives};
-ghost use Rattle.nfs_ops.specs.ResultReading.{result_at, done_at, done_to_open_at, done_to_savefh_at, done_to_reclaim_complete_at, refused_from, refused_at, refusal_at, behind_status};
-ghost use Rattle.nfs_ops.specs.Results.{refusal};
+ghost use Rattle.nfs_types.specs.Status.{number_of};
+ghost use Rattle.nfs_ops.specs.ResultReading.{result_at, done_at, refused_from, refused_at, refusal_at, behind_status};
 ghost use Rattle.nfs_ops.specs.ResultReading as specs;
-ghost use Rattle.nfs_ops.specs.ResultViews.{result_view};
+ghost use Rattle.nfs_ops.specs.ResultViews.{read_view};
 
 use crate::always::Zeros;
 use crate::op_result::OpResult;
@@ -19,7 +19,7 @@ use xdr_wire::{Reader, Wire, XdrFault};
 
 /// The status of this number below 100 that isn't OK, where there is one.
 fn file_refusal(number: u32) -> Option<Status>
-    ensures { option_map refusal result ≡ specs.file_refusal number }
+    ensures { option_map number_of result ≡ specs.file_refusal number }
 {
     match number {
         1 => Some(Status::Perm),
@@ -41,7 +41,7 @@ fn file_refusal(number: u32) -> Option<Status>
 
 /// The status of this number up to 10033 that isn't OK, where there is one.
 fn state_refusal(number: u32) -> Option<Status>
-    ensures { option_map refusal result ≡ specs.state_refusal number }
+    ensures { option_map number_of result ≡ specs.state_refusal number }
 {
     match number {
         10001 => Some(Status::BadHandle),
@@ -67,7 +67,7 @@ fn state_refusal(number: u32) -> Option<Status>
 
 /// The status of this number from 10034 on that isn't OK, where there is one.
 fn session_refusal(number: u32) -> Option<Status>
-    ensures { option_map refusal result ≡ specs.session_refusal number }
+    ensures { option_map number_of result ≡ specs.session_refusal number }
 {
     match number {
         10036 => Some(Status::BadXdr),
@@ -98,7 +98,7 @@ fn session_refusal(number: u32) -> Option<Status>
 /// The status of this number (section 15.1), where there is one and it isn't OK.
 #[tactic(auto, unfolding(crate::specs::ResultReading::refusal_at))]
 fn refusal_of(number: u32) -> Option<Status>
-    ensures { option_map refusal result ≡ refusal_at number }
+    ensures { option_map number_of result ≡ refusal_at number }
 {
     match number {
         0..100 => file_refusal(number),
@@ -107,10 +107,10 @@ fn refusal_of(number: u32) -> Option<Status>
     }
 }
 
-/// Reads what stands behind OK of an operation up to OPEN.
-#[tactic(auto, unfolding(crate::specs::ResultReading::done_to_open_at))]
-fn read_done_to_open<'a>(number: u32, reader: &mut Reader<'a>) -> Result<OpResult<'a>, XdrFault>
-    ensures { Gives result_view reader.old reader.new result (done_to_open_at number reader.old) }
+/// Reads what the operation of this number gives.
+#[tactic(auto, unfolding(crate::specs::ResultReading::done_at, crate::specs::ResultReading::done_of, crate::specs::Rows::kind_at))]
+fn read_done<'a>(number: u32, reader: &mut Reader<'a>) -> Result<OpResult<'a>, XdrFault>
+    ensures { Gives read_view reader.old reader.new result (done_at number reader.old) }
 {
     match number {
         OP_ACCESS => Ok(OpResult::Access(Wire::read(reader)?)),
@@ -127,16 +127,6 @@ fn read_done_to_open<'a>(number: u32, reader: &mut Reader<'a>) -> Result<OpResul
         OP_LOOKUPP => Ok(OpResult::LookupP),
         OP_NVERIFY => Ok(OpResult::NVerify),
         OP_OPEN => Ok(OpResult::Open(Wire::read(reader)?)),
-        _ => Err(XdrFault::BadChoice),
-    }
-}
-
-/// Reads what stands behind OK of an operation from PUTFH to SAVEFH.
-#[tactic(auto, unfolding(crate::specs::ResultReading::done_to_savefh_at))]
-fn read_done_to_savefh<'a>(number: u32, reader: &mut Reader<'a>) -> Result<OpResult<'a>, XdrFault>
-    ensures { Gives result_view reader.old reader.new result (done_to_savefh_at number reader.old) }
-{
-    match number {
         OP_PUTFH => Ok(OpResult::PutFh),
         OP_PUTROOTFH => Ok(OpResult::PutRootFh),
         OP_READ => Ok(OpResult::Read(Wire::read(reader)?)),
@@ -146,19 +136,6 @@ fn read_done_to_savefh<'a>(number: u32, reader: &mut Reader<'a>) -> Result<OpRes
         OP_RENAME => Ok(OpResult::Rename(Wire::read(reader)?)),
         OP_RESTOREFH => Ok(OpResult::RestoreFh),
         OP_SAVEFH => Ok(OpResult::SaveFh),
-        _ => Err(XdrFault::BadChoice),
-    }
-}
-
-/// Reads what stands behind OK of an operation from SETATTR on.
-#[tactic(auto, unfolding(crate::specs::ResultReading::done_to_reclaim_complete_at))]
-fn read_done_to_reclaim_complete<'a>(
-    number: u32,
-    reader: &mut Reader<'a>,
-) -> Result<OpResult<'a>, XdrFault>
-    ensures { Gives result_view reader.old reader.new result (done_to_reclaim_complete_at number reader.old) }
-{
-    match number {
         OP_SETATTR => Ok(OpResult::SetAttr(Wire::read(reader)?)),
         OP_VERIFY => Ok(OpResult::Verify),
         OP_WRITE => Ok(OpResult::Write(Wire::read(reader)?)),
@@ -172,25 +149,13 @@ fn read_done_to_reclaim_complete<'a>(
     }
 }
 
-/// Reads what stands behind OK.
-#[tactic(auto, unfolding(crate::specs::ResultReading::done_at))]
-fn read_done<'a>(number: u32, reader: &mut Reader<'a>) -> Result<OpResult<'a>, XdrFault>
-    ensures { Gives result_view reader.old reader.new result (done_at number reader.old) }
-{
-    match number {
-        0..OP_PUTFH => read_done_to_open(number, reader),
-        OP_PUTFH..OP_SETATTR => read_done_to_savefh(number, reader),
-        _ => read_done_to_reclaim_complete(number, reader),
-    }
-}
-
 /// Reads what stands behind a refusal: the bitmap of SETATTR, which says nothing then, else nothing.
 fn read_behind_refusal<'a>(
     number: u32,
     status: Status,
     reader: &mut Reader<'a>,
 ) -> Result<OpResult<'a>, XdrFault>
-    ensures { Gives result_view reader.old reader.new result (refused_from number reader.old (Some (refusal status))) }
+    ensures { Gives read_view reader.old reader.new result (refused_from number reader.old (Some (number_of status))) }
 {
     match number {
         OP_SETATTR => {
@@ -208,7 +173,7 @@ fn read_refused<'a>(
     status: u32,
     reader: &mut Reader<'a>,
 ) -> Result<OpResult<'a>, XdrFault>
-    ensures { Gives result_view reader.old reader.new result (refused_at number status reader.old) }
+    ensures { Gives read_view reader.old reader.new result (refused_at number status reader.old) }
 {
     match refusal_of(status) {
         Some(status) => read_behind_refusal(number, status, reader),
@@ -223,7 +188,7 @@ fn read_behind_status<'a>(
     status: u32,
     reader: &mut Reader<'a>,
 ) -> Result<OpResult<'a>, XdrFault>
-    ensures { Gives result_view reader.old reader.new result (behind_status number status reader.old) }
+    ensures { Gives read_view reader.old reader.new result (behind_status number status reader.old) }
 {
     match status {
         0 => read_done(number, reader),
@@ -235,7 +200,7 @@ fn read_behind_status<'a>(
 /// the number of one that isn't. A fault leaves the reader where the result begins.
 #[tactic(auto, unfolding(crate::specs::ResultReading::result_at))]
 pub fn read_result<'a>(reader: &mut Reader<'a>) -> Result<OpResult<'a>, XdrFault>
-    ensures { Gives result_view reader.old reader.new result (result_at reader.old) }
+    ensures { Gives read_view reader.old reader.new result (result_at reader.old) }
 {
     let mut ahead = reader.fork();
     let number = ahead.u32()?;

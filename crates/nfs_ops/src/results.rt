@@ -35,8 +35,8 @@ fn is_whole<const N: usize>(bytes: &[u8; N])
     let _bytes = *bytes;
 }
 
-/// Writes a refusal. That of SETATTR has an empty bitmap behind its status.
-fn write_refusal<A: Allocator>(
+/// Writes a refusal of this number. That of SETATTR has an empty bitmap behind its status.
+fn write_refused<A: Allocator>(
     number: u32,
     refusal: u32,
     writer: &mut Writer<A>,
@@ -47,10 +47,26 @@ fn write_refusal<A: Allocator>(
     ensures puts { Puts writer.old writer.new (item_spelling (outcome_item (refused number refusal))) result }
 {
     if number == OP_SETATTR {
-        (OP_SETATTR, (refusal, Bitmap::empty())).write(writer)
+        let set = Bitmap::empty();
+        (OP_SETATTR, (refusal, set)).write(writer)
     } else {
         (number, refusal).write(writer)
     }
+}
+
+/// Writes that the operation of this number has this status, and not OK: where it is OK, SERVERFAULT stands there. `Full` exactly
+/// where the room is less than that takes, at most 12 bytes; then nothing is written.
+pub fn write_refusal<A: Allocator>(
+    number: u32,
+    status: Status,
+    writer: &mut Writer<A>,
+) -> Result<(), Full>
+    ensures has_spelling { OnOk result (ItemHasSpelling (outcome_item (refused number (specs.refusal status)))) }
+    ensures in_normal_form { OnOk result (ItemIsNormal (outcome_item (refused number (specs.refusal status)))) }
+    ensures fits { most (refused number (specs.refusal status)) ≤ writer.old.room → IsTrue (is_ok result) }
+    ensures puts { Puts writer.old writer.new (item_spelling (outcome_item (refused number (specs.refusal status)))) result }
+{
+    write_refused(number, refusal(status), writer)
 }
 
 /// Writes a result: its number, its status and, where that is OK, what the operation gives. `Full` exactly where the room is
@@ -73,37 +89,37 @@ pub fn write_result<A: Allocator>(outcome: OpResult, writer: &mut Writer<A>) -> 
         OpResult::GetAttr(r) => (OP_GETATTR, (0u32, r)).write(writer),
         OpResult::GetFh(r) => (OP_GETFH, (0u32, r)).write(writer),
         OpResult::Link(r) => (OP_LINK, (0u32, r)).write(writer),
-        OpResult::Lookup => (OP_LOOKUP, 0u32).write(writer),
-        OpResult::LookupP => (OP_LOOKUPP, 0u32).write(writer),
-        OpResult::NVerify => (OP_NVERIFY, 0u32).write(writer),
+        OpResult::Lookup => (OP_LOOKUP, (0u32, ())).write(writer),
+        OpResult::LookupP => (OP_LOOKUPP, (0u32, ())).write(writer),
+        OpResult::NVerify => (OP_NVERIFY, (0u32, ())).write(writer),
         OpResult::Open(r) => {
             is_whole(&r.stateid.other);
             (OP_OPEN, (0u32, r)).write(writer)
         }
-        OpResult::PutFh => (OP_PUTFH, 0u32).write(writer),
-        OpResult::PutRootFh => (OP_PUTROOTFH, 0u32).write(writer),
+        OpResult::PutFh => (OP_PUTFH, (0u32, ())).write(writer),
+        OpResult::PutRootFh => (OP_PUTROOTFH, (0u32, ())).write(writer),
         OpResult::Read(r) => (OP_READ, (0u32, r)).write(writer),
         OpResult::ReadDir(r) => (OP_READDIR, (0u32, r)).write(writer),
         OpResult::ReadLink(r) => (OP_READLINK, (0u32, r)).write(writer),
         OpResult::Remove(r) => (OP_REMOVE, (0u32, r)).write(writer),
         OpResult::Rename(r) => (OP_RENAME, (0u32, r)).write(writer),
-        OpResult::RestoreFh => (OP_RESTOREFH, 0u32).write(writer),
-        OpResult::SaveFh => (OP_SAVEFH, 0u32).write(writer),
+        OpResult::RestoreFh => (OP_RESTOREFH, (0u32, ())).write(writer),
+        OpResult::SaveFh => (OP_SAVEFH, (0u32, ())).write(writer),
         OpResult::SetAttr(r) => (OP_SETATTR, (0u32, r)).write(writer),
-        OpResult::Verify => (OP_VERIFY, 0u32).write(writer),
+        OpResult::Verify => (OP_VERIFY, (0u32, ())).write(writer),
         OpResult::Write(r) => (OP_WRITE, (0u32, r)).write(writer),
         OpResult::ExchangeId(r) => (OP_EXCHANGE_ID, (0u32, r)).write(writer),
         OpResult::CreateSession(r) => {
             is_whole(&r.session);
             (OP_CREATE_SESSION, (0u32, r)).write(writer)
         }
-        OpResult::DestroySession => (OP_DESTROY_SESSION, 0u32).write(writer),
+        OpResult::DestroySession => (OP_DESTROY_SESSION, (0u32, ())).write(writer),
         OpResult::Sequence(r) => {
             is_whole(&r.session);
             (OP_SEQUENCE, (0u32, r)).write(writer)
         }
-        OpResult::DestroyClientId => (OP_DESTROY_CLIENTID, 0u32).write(writer),
-        OpResult::ReclaimComplete => (OP_RECLAIM_COMPLETE, 0u32).write(writer),
-        OpResult::Refused(number, status) => write_refusal(number, refusal(status), writer),
+        OpResult::DestroyClientId => (OP_DESTROY_CLIENTID, (0u32, ())).write(writer),
+        OpResult::ReclaimComplete => (OP_RECLAIM_COMPLETE, (0u32, ())).write(writer),
+        OpResult::Refused(number, status) => write_refusal(number, status, writer),
     }
 }

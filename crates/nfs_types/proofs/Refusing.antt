@@ -1,6 +1,6 @@
 -- The refusal of a list.
 use Rattle.std.proofs.Common.{◌≡◌, Bool, true, false, cond, List, [], ◌∷◌, Option, Some, None, Result, Err, refl}
-use Rattle.std.specs.Prelude.{slice_get, ◌||◌, nat_lt, is_none, ◌==◌, not, length}
+use Rattle.std.specs.Prelude.{slice_get, ◌||◌, nat_lt, is_none, is_some, ◌==◌, not, length}
 use Rattle.std.specs.List.{filter_map, cons_option}
 use Rattle.acl_list.specs.Kinds.{kind_of}
 use Rattle.acl_list.specs.declared.entry.Entry.{Entry}
@@ -37,7 +37,7 @@ not_memory raws e = first (nat_lt 59 (length raws)) raws e
 -- a fault that is answered is the first one, or there is no memory for a list without one
 answers : (found : Option AdmitFault) (list : List Entry) (e : AdmitFault) → (found ≡ Some faults.Memory → ⊥)
     → ((f : AdmitFault) → found ≡ Some f → e ≡ f) → (found ≡ None → e ≡ faults.Memory)
-    → Answers {X = Option (List Entry)} (λ l. l) (unless found list) (Err (attrs_fault e))
+    → Answers {X = Option (List Entry)} (λ l. l) is_some (unless found list) (Err (attrs_fault e))
 answers None list e never refused taken = rw (taken refl) refl
 answers (Some faults.NoSpc) list e never refused taken = rw (refused faults.NoSpc refl) refl
 answers (Some faults.AttrNotSupp) list e never refused taken = rw (refused faults.AttrNotSupp refl) refl
@@ -50,5 +50,5 @@ err_inj d f e = cc
 
 pub list_refused : (raws : List Raw) (list : List Entry) (e : AdmitFault)
     → ((f : AdmitFault) → first_fault raws ≡ Some f → (let r : Result (List Entry) AdmitFault = Err e in r) ≡ Err f) → (first_fault raws ≡ None → e ≡ faults.Memory)
-    → Answers {X = Option (List Entry)} (λ l. l) (unless (first_fault raws) list) (Err (attrs_fault e))
+    → Answers {X = Option (List Entry)} (λ l. l) is_some (unless (first_fault raws) list) (Err (attrs_fault e))
 list_refused raws list e refused taken = answers (first_fault raws) list e (not_memory raws) (λ f is. err_inj e f (refused f is)) taken

@@ -1,5 +1,5 @@
 -- How an answer stands to what is wanted, or to the status of a refusal.
-use Rattle.std.specs.Prelude.{◌≡◌, true, is_ok, Result, Ok, Err}
+use Rattle.std.specs.Prelude.{◌≡◌, Bool, true, IsOkAnd, Result, Ok, Err}
 use Rattle.acl_shape.specs.declared.request.AdmitFault.{AdmitFault}
 use Rattle.acl_shape.specs.declared.request.AdmitFault.TheVariants as faults
 use Rattle.nfs_types.specs.Sent.{status_of}
@@ -14,8 +14,8 @@ attrs_fault faults.Inval = Refused (status_of faults.Inval)
 attrs_fault faults.BadOwner = Refused (status_of faults.BadOwner)
 attrs_fault faults.Memory = Memory
 
--- The answer is what is wanted, or the status of the refusal. There may be no memory only for what isn't refused.
-abbrev pub Answers : {X V : Type 0} → (X → V) → Result V Status → Result X AttrsFault → Type 0
-Answers view wanted (Ok x) = wanted ≡ Ok (view x)
-Answers view wanted (Err (Refused status)) = wanted ≡ Err status
-Answers view wanted (Err Memory) = is_ok wanted ≡ true
+-- The answer is what is wanted, or the status of the refusal. There may be no memory only for what isn't refused and has a list.
+abbrev pub Answers : {X V : Type 0} → (X → V) → (V → Bool) → Result V Status → Result X AttrsFault → Type 0
+Answers view has_list wanted (Ok x) = wanted ≡ Ok (view x)
+Answers view has_list wanted (Err (Refused status)) = wanted ≡ Err status
+Answers view has_list wanted (Err Memory) = IsOkAnd wanted (λ v. has_list v ≡ true)

@@ -1,5 +1,5 @@
 //! What CREATE, OPEN and SETATTR set.
-ghost use Rattle.std.specs.Prelude.{◌≡◌, ◌++◌, ◌≤◌, ℕ, length, map, take, Some, None, Ok, Err, MatchResult, IfOk, IfSome, option_map};
+ghost use Rattle.std.specs.Prelude.{◌≡◌, ◌++◌, ◌≤◌, ℕ, length, map, take, Some, None, Ok, Err, MatchResult, IfOk, IfSome, is_some, option_map};
 ghost use Rattle.acl_shape.specs.Admitted.{admitted, first_fault};
 ghost use Rattle.acl_shape.specs.Bounds.{IsBounded};
 ghost use Rattle.acl_shape.specs.declared.request.AdmitFault.{AdmitFault};
@@ -140,7 +140,7 @@ fn list_of<'a, A: Allocator>(
     kind: Kind,
     entries: Option<Array<'a, Ace<'a>, 0xffff_ffff>>,
 ) -> Result<Option<AclList<A>>, AttrsFault>
-    ensures list { Answers (λ list. list) (taken_list book.now kind (option_map (λ a. array_values ace None a.count a.bytes.now) entries.entry)) result }
+    ensures list { Answers (λ list. list) is_some (taken_list book.now kind (option_map (λ a. array_values ace None a.count a.bytes.now) entries.entry)) result }
     ensures bounded { IfOk result (λ list. IfSome list IsBounded) }
 {
     let Some(entries) = entries else {
@@ -207,7 +207,7 @@ fn attrs_of<'a, A: Allocator>(
     kind: Kind,
     sent: Sent<'a>,
 ) -> Result<Attrs<A>, AttrsFault>
-    ensures attrs { Answers (λ new. made new.size new.list new.mode new.owner new.group) (taken book.now kind (sent_value sent.entry)) result }
+    ensures attrs { Answers (λ new. made new.size new.list new.mode new.owner new.group) (λ wanted. is_some wanted.list) (taken book.now kind (sent_value sent.entry)) result }
     ensures bounded { IfOk result (λ new. IfSome new.list IsBounded) }
 {
     let Sent {
@@ -242,14 +242,14 @@ fn attrs_of<'a, A: Allocator>(
 /// They are refused for the first of these over the whole set: an attribute that isn't supported, `AttrNotSupp`; one that
 /// can't be set, `Inval`; bytes that don't spell exactly the values, `BadXdr`; then by rising number: a list as
 /// [`acl_shape::admit`] refuses it; a mode above 0o7777, `Inval`; an owner or a group that the book doesn't know,
-/// `BadOwner`. `Memory` comes only to what isn't refused.
+/// `BadOwner`. `Memory` comes only to what isn't refused, and only where a list was sent: nothing else takes memory.
 pub fn read_attrs<A: Allocator>(
     alloc: A,
     book: &Book,
     kind: Kind,
     sent: &Attributes<'_>,
 ) -> Result<Attrs<A>, AttrsFault>
-    ensures attrs { Answers (λ new. made new.size new.list new.mode new.owner new.group) (wanted_of book.now kind (bitmap_value sent.now.set) sent.now.values.bytes.now) result }
+    ensures attrs { Answers (λ new. made new.size new.list new.mode new.owner new.group) (λ wanted. is_some wanted.list) (wanted_of book.now kind (bitmap_value sent.now.set) sent.now.values.bytes.now) result }
     ensures bounded { IfOk result (λ new. IfSome new.list IsBounded) }
 {
     if !sent.set.is_within(&Bitmap::supported()) {

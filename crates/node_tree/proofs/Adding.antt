@@ -8,15 +8,16 @@ use Rattle.std.specs.Option.{option_map}
 use Rattle.std.proofs.lemmas.Bool.Decides.{Decides-eqb, Decides-ltb}
 use Rattle.acl_list.specs.declared.entry.Kind.TheVariants.{Directory}
 use Rattle.node_tree.specs.declared.at.At.{At}
+use Rattle.node_tree.specs.Limits.{MAX_NAME, MAX_NAMES, MAX_OBJECTS, MAX_LINKS}
 use Rattle.node_tree.specs.World.{World, Object, object, kind_of, child_named, name_count, link_count}
 use Rattle.node_tree.specs.Changes.{changed, touched, retold, with_new, with_link}
-use Rattle.node_tree.specs.Refusals.{has_left, has_room, add_refusal, link_refusal}
+use Rattle.node_tree.specs.Refusals.{has_left, has_room, has_object_room, may_link, may_name, may_add, add_refusal, link_refusal}
 use Rattle.node_tree.specs.declared.fault.TreeFault.TheVariants.{Exist, MLink, NoSpc}
 use Rattle.node_tree.specs.Judged.{Judged, judged, judged_of, KeepsJudged}
 use Rattle.node_tree.specs.Sound.{stamp_of, IsRooted, IsStamped, IsFit, IsSound, IsTick}
 use Rattle.node_tree.proofs.Objects.{is_at-same, is_at-apart, by_number, lookup-inserted, option_map-changed}
 use Rattle.node_tree.proofs.Rising.{Rises-push, number-below}
-use Rattle.node_tree.proofs.Names.{count_by-none, IsLimited-push}
+use Rattle.node_tree.proofs.Names.{child_sought, count_by-none, IsLimited-push}
 use Rattle.node_tree.proofs.Holding.{IsHeld-later, IsHeld-touched, IsHeld-retold, IsHeld-inserted}
 use Rattle.node_tree.proofs.Stamps.{Joins, IsStamped-joined}
 use Rattle.node_tree.proofs.Rooted.{IsRooted-joined, IsRooted-linked}
@@ -44,8 +45,8 @@ fresh_number w sound k h = there (object w k) refl h
     there (Some o) is h same = let b : k < w.next_number = number-below 1 w.next_number w.objects k o sound.numbered is in omega arith
 
 pub IsSound-with_new : (w : World) → IsSound w → (directory : ℕ) (name : List ℕ) (o : Object) (at : At) → IsTick w at.tick
-    → kind_of w directory ≡ Some Directory → child_named w directory name ≡ None → length name ≤ 255 → IsFit (at.tick + 1) o → o.stamp ≡ w.next_stamp
-    → name_count w.names directory < 4096 → length w.objects < 16384 → w.next_number < 2 ^ 63 → w.next_stamp < 2 ^ 63 → w.next_cookie < 2 ^ 63
+    → kind_of w directory ≡ Some Directory → child_named w directory name ≡ None → length name ≤ MAX_NAME → IsFit (at.tick + 1) o → o.stamp ≡ w.next_stamp
+    → name_count w.names directory < MAX_NAMES → length w.objects < MAX_OBJECTS → w.next_number < 2 ^ 63 → w.next_stamp < 2 ^ 63 → w.next_cookie < 2 ^ 63
     → IsSound (with_new w directory name o at)
 IsSound-with_new w sound directory name o at tick live none short fit stamped room few number stamp cookie =
     let due : at.tick < at.tick + 1 = omega arith in
@@ -53,14 +54,14 @@ IsSound-with_new w sound directory name o at tick live none short fit stamped ro
     (IsHeld-inserted w.objects w.next_number (at.tick + 1) o fit few (IsHeld-later w.objects w.next_number w.next_tick (at.tick + 1) tick.fresh (held_in w sound))) in
     let no_links : link_count w.names w.next_number ≡ 0 = count_by-none (λ n. n.child == w.next_number) w.names (λ n stands is. fresh_number w sound n.child (sound.rooted.ends n stands).1 (sym ((Decides-eqb n.child w.next_number).0 is))) in
     record {
-      rooted = IsRooted-joined (kind_of w) _ w.names w.next_number w.next_cookie directory name o.kind sound.rooted (joins_new (λ o. o.kind) w.objects w.next_number directory o at (λ o. refl)) (fresh_number w sound) live none;
+      rooted = IsRooted-joined (kind_of w) _ w.names w.next_number w.next_cookie directory name o.kind sound.rooted (joins_new (λ o. o.kind) w.objects w.next_number directory o at (λ o. refl)) (fresh_number w sound) live (child_sought w.names directory name ∙ none);
       stamped = IsStamped-joined (stamp_of w) _ w.next_number w.next_stamp sound.stamped
           (subst (λ s. Joins (stamp_of w) (stamp_of (with_new w directory name o at)) w.next_number s) stamped (joins_new (λ o. o.stamp) w.objects w.next_number directory o at (λ o. refl)));
       numbered = held.numbered;
       listed = Rises-push (λ n. n.cookie) 3 w.next_cookie w.names _ refl sound.listed;
       few = held.few;
       fit = held.fit;
-      limited = IsLimited-push w.names _ sound.limited room (let goal : link_count w.names w.next_number < 1000 = omega arith in goal) short;
+      limited = IsLimited-push w.names _ sound.limited room (let goal : link_count w.names w.next_number < MAX_LINKS = omega arith in goal) short;
       counted = record {
         numbers = (let goal : w.next_number + 1 ≤ 2 ^ 63 = omega (arith, number) in goal);
         ticks = (let goal : at.tick + 1 ≤ 2 ^ 63 = omega (arith, tick.left) in goal);
@@ -88,8 +89,8 @@ read_linked read directory number at es touching retelling k =
     option_map-changed read directory (touched at) (changed number (retold at) es) touching k ∙ option_map-changed read number (retold at) es retelling k
 
 pub IsSound-with_link : (w : World) → IsSound w → (directory : ℕ) (name : List ℕ) (number : ℕ) (at : At) → IsTick w at.tick
-    → kind_of w directory ≡ Some Directory → IsSome (object w number) → kind_of w number ≢ Some Directory → child_named w directory name ≡ None → length name ≤ 255
-    → name_count w.names directory < 4096 → link_count w.names number < 1000 → w.next_cookie < 2 ^ 63
+    → kind_of w directory ≡ Some Directory → IsSome (object w number) → kind_of w number ≢ Some Directory → child_named w directory name ≡ None → length name ≤ MAX_NAME
+    → name_count w.names directory < MAX_NAMES → link_count w.names number < MAX_LINKS → w.next_cookie < 2 ^ 63
     → IsSound (with_link w directory name number at)
 IsSound-with_link w sound directory name number at tick live there plain none short room links cookie =
     let due : at.tick < at.tick + 1 = omega arith in
@@ -98,7 +99,7 @@ IsSound-with_link w sound directory name number at tick live there plain none sh
     let held = IsHeld-touched directory at _ w.next_number (at.tick + 1) due (IsHeld-retold number at w.objects w.next_number (at.tick + 1) due
     (IsHeld-later w.objects w.next_number w.next_tick (at.tick + 1) tick.fresh (held_in w sound))) in
     record {
-      rooted = subst (λ k. IsRooted k (with_link w directory name number at).names) (sym kinds) (IsRooted-linked (kind_of w) w.names number w.next_cookie directory name sound.rooted live (alive (object w number) there) plain none);
+      rooted = subst (λ k. IsRooted k (with_link w directory name number at).names) (sym kinds) (IsRooted-linked (kind_of w) w.names number w.next_cookie directory name sound.rooted live (alive (object w number) there) plain (child_sought w.names directory name ∙ none));
       stamped = subst (λ s. IsStamped s w.next_stamp) (sym stamps) sound.stamped;
       numbered = held.numbered;
       listed = Rises-push (λ n. n.cookie) 3 w.next_cookie w.names _ refl sound.listed;
@@ -125,14 +126,6 @@ KeepsJudged-with_link w directory name number at = record {
 
 -- ---- what no refusal says
 
-pub record MayAdd (w : World) (directory : ℕ) (name : List ℕ) : Type 0 where
-  pub none : child_named w directory name ≡ None
-  pub room : name_count w.names directory < 4096
-  pub few : length w.objects < 16384
-  pub number : w.next_number < 2 ^ 63
-  pub stamp : w.next_stamp < 2 ^ 63
-  pub cookie : w.next_cookie < 2 ^ 63
-
 absent : {X : Type 0} (o : Option X) → is_some o ≡ false → o ≡ None
 absent None h = refl
 absent (Some x) h = cc
@@ -144,49 +137,57 @@ both false b h = cc
 below : (a b : ℕ) → nat_lt a b ≡ true → a < b
 below a b is = (Decides-ltb a b).0 is
 
-pub may_add : (w : World) (directory : ℕ) (name : List ℕ) → None ≡ add_refusal w directory name → MayAdd w directory name
-may_add w directory name none =
-    let a1 = has_room w.names directory in
-    let a2 = nat_lt (length w.objects) 16384 in
-    let a3 = has_left w.next_number in
-    let a4 = has_left w.next_stamp in
-    let a5 = has_left w.next_cookie in
-    elim (is_some (child_named w directory name)) as (λ b. is_some (child_named w directory name) ≡ b → None ≡ cond b (Some Exist) (cond (a1 && a2 && a3 && a4 && a5) None (Some NoSpc)) → MayAdd w directory name) [
+-- the last question was answered
+passed : (may : Bool) → None ≡ cond may None (Some NoSpc) → may ≡ true
+passed true h = refl
+passed false h = cc
+
+pub record MayAdd (w : World) (directory : ℕ) (name : List ℕ) : Type 0 where
+  pub none : child_named w directory name ≡ None
+  pub room : name_count w.names directory < MAX_NAMES
+  pub few : length w.objects < MAX_OBJECTS
+  pub number : w.next_number < 2 ^ 63
+  pub stamp : w.next_stamp < 2 ^ 63
+  pub cookie : w.next_cookie < 2 ^ 63
+
+pub unrefused_add : (w : World) (directory : ℕ) (name : List ℕ) → None ≡ add_refusal w directory name → MayAdd w directory name
+unrefused_add w directory name none =
+    let may = may_add (name_count w.names directory) (length w.objects) w.next_number w.next_stamp w.next_cookie in
+    elim (is_some (child_named w directory name)) as (λ b. is_some (child_named w directory name) ≡ b → None ≡ cond b (Some Exist) (cond may None (Some NoSpc)) → MayAdd w directory name) [
       | true ↦ λ _ h. cc
-      | false ↦ λ gone. elim (a1 && a2 && a3 && a4 && a5) as (λ b. (a1 && a2 && a3 && a4 && a5) ≡ b → None ≡ cond b None (Some NoSpc) → MayAdd w directory name) [
-        | false ↦ λ _ h. cc
-        | true ↦ λ all _.
-            let b5 = both (a1 && a2 && a3 && a4) a5 all in
-            let b4 = both (a1 && a2 && a3) a4 b5.0 in
-            let b3 = both (a1 && a2) a3 b4.0 in
-            let b2 = both a1 a2 b3.0 in
-            record {
-              none = absent (child_named w directory name) gone;
-              room = below (name_count w.names directory) 4096 b2.0;
-              few = below (length w.objects) 16384 b2.1;
-              number = below w.next_number (2 ^ 63) b3.1;
-              stamp = below w.next_stamp (2 ^ 63) b4.1;
-              cookie = below w.next_cookie (2 ^ 63) b5.1;
-            }
-      ] refl
+      | false ↦ λ gone h.
+          let a1 = has_room (name_count w.names directory) in
+          let a2 = has_object_room (length w.objects) in
+          let a3 = has_left w.next_number in
+          let a4 = has_left w.next_stamp in
+          let b5 = both (a1 && a2 && a3 && a4) (has_left w.next_cookie) (passed may h) in
+          let b4 = both (a1 && a2 && a3) a4 b5.0 in
+          let b3 = both (a1 && a2) a3 b4.0 in
+          let b2 = both a1 a2 b3.0 in
+          record {
+            none = absent (child_named w directory name) gone;
+            room = below (name_count w.names directory) MAX_NAMES b2.0;
+            few = below (length w.objects) MAX_OBJECTS b2.1;
+            number = below w.next_number (2 ^ 63) b3.1;
+            stamp = below w.next_stamp (2 ^ 63) b4.1;
+            cookie = below w.next_cookie (2 ^ 63) b5.1;
+          }
     ] refl none
 
 pub record MayLink (w : World) (directory : ℕ) (name : List ℕ) (number : ℕ) : Type 0 where
   pub none : child_named w directory name ≡ None
-  pub links : link_count w.names number < 1000
-  pub room : name_count w.names directory < 4096
+  pub links : link_count w.names number < MAX_LINKS
+  pub room : name_count w.names directory < MAX_NAMES
   pub cookie : w.next_cookie < 2 ^ 63
 
-pub may_link : (w : World) (directory : ℕ) (name : List ℕ) (number : ℕ) → None ≡ link_refusal w directory name number → MayLink w directory name number
-may_link w directory name number none =
-    elim (is_some (child_named w directory name)) as (λ b. is_some (child_named w directory name) ≡ b → None ≡ cond b (Some Exist) (cond (not (nat_lt (link_count w.names number) 1000)) (Some MLink) (cond (has_room w.names directory && has_left w.next_cookie) None (Some NoSpc))) → MayLink w directory name number) [
+pub unrefused_link : (w : World) (directory : ℕ) (name : List ℕ) (number : ℕ) → None ≡ link_refusal w directory name number → MayLink w directory name number
+unrefused_link w directory name number none =
+    let may = may_name (name_count w.names directory) w.next_cookie in
+    elim (is_some (child_named w directory name)) as (λ b. is_some (child_named w directory name) ≡ b → None ≡ cond b (Some Exist) (cond (not (may_link (link_count w.names number))) (Some MLink) (cond may None (Some NoSpc))) → MayLink w directory name number) [
       | true ↦ λ _ h. cc
-      | false ↦ λ gone. elim (nat_lt (link_count w.names number) 1000) as (λ b. nat_lt (link_count w.names number) 1000 ≡ b → None ≡ cond (not b) (Some MLink) (cond (has_room w.names directory && has_left w.next_cookie) None (Some NoSpc)) → MayLink w directory name number) [
+      | false ↦ λ gone. elim (may_link (link_count w.names number)) as (λ b. may_link (link_count w.names number) ≡ b → None ≡ cond (not b) (Some MLink) (cond may None (Some NoSpc)) → MayLink w directory name number) [
         | false ↦ λ _ h. cc
-        | true ↦ λ links. elim (has_room w.names directory && has_left w.next_cookie) as (λ b. (has_room w.names directory && has_left w.next_cookie) ≡ b → None ≡ cond b None (Some NoSpc) → MayLink w directory name number) [
-          | false ↦ λ _ h. cc
-          | true ↦ λ all _. let b = both (has_room w.names directory) (has_left w.next_cookie) all in
-              record { none = absent (child_named w directory name) gone; links = below (link_count w.names number) 1000 links; room = below (name_count w.names directory) 4096 b.0; cookie = below w.next_cookie (2 ^ 63) b.1 }
-        ] refl
+        | true ↦ λ links h. let b = both (has_room (name_count w.names directory)) (has_left w.next_cookie) (passed may h) in
+            record { none = absent (child_named w directory name) gone; links = below (link_count w.names number) MAX_LINKS links; room = below (name_count w.names directory) MAX_NAMES b.0; cookie = below w.next_cookie (2 ^ 63) b.1 }
       ] refl
     ] refl none

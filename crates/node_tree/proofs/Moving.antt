@@ -11,17 +11,18 @@ use Rattle.acl_list.specs.declared.entry.Kind.{Kind}
 use Rattle.acl_list.specs.declared.entry.Kind.TheVariants.{Directory}
 use Rattle.acl_shape.specs.Inherited.{is_directory}
 use Rattle.node_tree.specs.declared.at.At.{At}
-use Rattle.node_tree.specs.Limits.{ROOT}
-use Rattle.node_tree.specs.World.{World, Object, Name, object, kind_of, is_named, has_name, has_entries, child_named, is_directory_at, parent_of, name_count, link_count}
+use Rattle.node_tree.specs.Limits.{ROOT, MAX_NAME, MAX_NAMES, MAX_LINKS}
+use Rattle.node_tree.specs.World.{World, Object, Name, object, kind_of, is_named, has_name, has_entries, child_named, is_one, is_directory_at, parent_of, name_count, link_count}
 use Rattle.node_tree.specs.Ways.{is_within}
 use Rattle.node_tree.specs.Changes.{changed, touched, retold, released, other_names, with_move}
-use Rattle.node_tree.specs.Refusals.{goes_below_itself, may_replace, has_left, has_room, place_refusal, replace_refusal, move_refusal}
+use Rattle.node_tree.specs.Refusals.{is_below, may_replace, may_move, has_left, has_room, move_refusal}
+use Rattle.node_tree.specs.declared.fault.TreeFault.{TreeFault}
 use Rattle.node_tree.specs.declared.fault.TreeFault.TheVariants.{Inval, Exist, NoSpc}
 use Rattle.node_tree.specs.Judged.{judged, judged_of, KeepsJudged}
 use Rattle.node_tree.specs.Sound.{stamp_of, IsIn, IsRooted, IsSound, IsTick}
 use Rattle.node_tree.proofs.Objects.{option_map-changed}
 use Rattle.node_tree.proofs.Rising.{Rises-filter, Rises-push}
-use Rattle.node_tree.proofs.Names.{in_filter, from_filter, any_passes, none_passes, not_found, Found, named_directory, named_at, flipped, count_by-filter, count_by-filter_out, IsLimited-filter, IsLimited-push}
+use Rattle.node_tree.proofs.Names.{child_sought, in_filter, from_filter, any_passes, none_passes, not_found, Found, named_directory, named_at, flipped, flipped_back, count_by-filter, count_by-filter_out, name_count-filter, name_count-filter_out, IsLimited-filter, IsLimited-push}
 use Rattle.node_tree.proofs.Holding.{IsHeld, IsHeld-later, IsHeld-touched, IsHeld-retold, IsHeld-released}
 use Rattle.node_tree.proofs.Stamps.{IsStamped-fewer}
 use Rattle.node_tree.proofs.Rooted.{Moves, IsRooted-moved}
@@ -172,7 +173,7 @@ IsHeld-left names (Some target) at es n t due held = IsHeld-released names targe
 pub directory_at : (w : World) (k : ℕ) → kind_of w k ≡ Some Directory → is_directory_at w k ≡ true
 directory_at w k is = there (object w k) is
   where
-    there : (o : Option Object) → option_map (λ (o : Object). o.kind) o ≡ Some Directory → option_map_or (λ (o : Object). is_directory o.kind) o false ≡ true
+    there : (o : Option Object) → option_map (λ (o : Object). o.kind) o ≡ Some Directory → option_map_or is_directory (option_map (λ (o : Object). o.kind) o) false ≡ true
     there None is = cc
     there (Some o) is = let kind : o.kind ≡ Directory = cc in ap is_directory kind
 
@@ -185,13 +186,13 @@ parents_of w k is = ap (λ b. cond b (option_map (λ (n : Name). n.directory) (f
 pub data Room (w : World) (from to : ℕ) (target : Option ℕ) : Type 0 where
   same : from ≡ to → Room w from to target
   replaced : IsSome target → Room w from to target
-  wide : name_count w.names to < 4096 → Room w from to target
+  wide : name_count w.names to < MAX_NAMES → Room w from to target
 
 pub IsSound-with_move : (w : World) → IsSound w → (from : ℕ) (old : List ℕ) (to : ℕ) (new : List ℕ) (child : ℕ) (target : Option ℕ) (at : At) → IsTick w at.tick
     → kind_of w to ≡ Some Directory → child_named w from old ≡ Some child → child_named w to new ≡ target
     → IfSome target (λ t. child ≢ t) → IfSome target (λ t. (n : Name) → IsIn n w.names → n.directory ≡ t → ⊥)
     → (kind_of w child ≡ Some Directory → is_within w child to ≡ false)
-    → length new ≤ 255 → Room w from to target → w.next_cookie < 2 ^ 63
+    → length new ≤ MAX_NAME → Room w from to target → w.next_cookie < 2 ^ 63
     → IsSound (with_move w from old to new child target at)
 IsSound-with_move w sound from old to new child target at tick live leads taken apart empty clear short room cookie =
     let due : at.tick < at.tick + 1 = omega arith in
@@ -200,12 +201,12 @@ IsSound-with_move w sound from old to new child target at tick live leads taken 
     let kinds : kind_of (with_move w from old to new child target at) ≡ alive = fun_ext (read_moved (λ o. o.kind) from to child names target at w.objects (λ o. refl) (λ o. refl)) in
     let held = IsHeld-touched to at _ w.next_number (at.tick + 1) due (IsHeld-touched from at _ w.next_number (at.tick + 1) due (IsHeld-retold child at _ w.next_number (at.tick + 1) due
     (IsHeld-left names target at w.objects w.next_number (at.tick + 1) due (IsHeld-later w.objects w.next_number w.next_tick (at.tick + 1) tick.fresh (held_in w sound))))) in
-    let moves_so = moves (kind_of w) w.names sound.rooted from old to new child leads live target taken apart empty in
-    let goes_first = goes (kind_of w) w.names sound.rooted from old child leads in
+    let moves_so = moves (kind_of w) w.names sound.rooted from old to new child old_leads live target (child_sought w.names to new ∙ taken) apart empty in
+    let goes_first = goes (kind_of w) w.names sound.rooted from old child old_leads in
     let first_out : not (is_named from old goes_first.name) ≡ false = ap not goes_first.passes in
     let fewer_links : link_count (other_names from old w.names) child < link_count w.names child = count_by-filter_out (λ n. n.child == child) (λ n. not (is_named from old n)) w.names goes_first.name goes_first.stands ((Decides-eqb goes_first.name.child child).1 goes_first.leads) first_out in
     let links : link_count names child ≤ link_count (other_names from old w.names) child = count_by-filter (λ n. n.child == child) (λ n. not (is_named to new n)) (other_names from old w.names) in
-    let most : link_count w.names child ≤ 1000 = sound.limited.links child in
+    let most : link_count w.names child ≤ MAX_LINKS = sound.limited.links child in
     record {
       rooted = subst (λ k. IsRooted k (with_move w from old to new child target at).names) (sym kinds)
           (IsRooted-moved (kind_of w) alive w.names names child to w.next_cookie new (parent_of w) w.next_number sound.rooted moves_so (parents_of w)
@@ -215,7 +216,7 @@ IsSound-with_move w sound from old to new child target at tick live leads taken 
       listed = Rises-push (λ n. n.cookie) 3 w.next_cookie names _ refl (Rises-filter (λ n. n.cookie) _ 3 w.next_cookie _ (Rises-filter (λ n. n.cookie) _ 3 w.next_cookie w.names sound.listed));
       few = held.few;
       fit = held.fit;
-      limited = IsLimited-push names _ (IsLimited-filter _ _ (IsLimited-filter _ w.names sound.limited)) (space room) (let goal : link_count names child < 1000 = omega arith in goal) short;
+      limited = IsLimited-push names _ (IsLimited-filter _ _ (IsLimited-filter _ w.names sound.limited)) (space room) (let goal : link_count names child < MAX_LINKS = omega arith in goal) short;
       counted = record {
         numbers = sound.counted.numbers;
         ticks = (let goal : at.tick + 1 ≤ 2 ^ 63 = omega (arith, tick.left) in goal);
@@ -224,38 +225,38 @@ IsSound-with_move w sound from old to new child target at tick live leads taken 
       };
     }
   where
-    first : List Name
-    first = other_names from old w.names
+    old_leads : option_map (λ (n : Name). n.child) (find (is_named from old) w.names) ≡ Some child
+    old_leads = child_sought w.names from old ∙ leads
 
     names_le : name_count (other_names to new (other_names from old w.names)) to ≤ name_count (other_names from old w.names) to
-    names_le = count_by-filter (λ n. n.directory == to) (λ n. not (is_named to new n)) (other_names from old w.names)
+    names_le = name_count-filter (λ n. not (is_named to new n)) (other_names from old w.names) to
 
     first_le : name_count (other_names from old w.names) to ≤ name_count w.names to
-    first_le = count_by-filter (λ n. n.directory == to) (λ n. not (is_named from old n)) w.names
+    first_le = name_count-filter (λ n. not (is_named from old n)) w.names to
 
-    all_le : name_count w.names to ≤ 4096
+    all_le : name_count w.names to ≤ MAX_NAMES
     all_le = sound.limited.directories to
 
-    space : Room w from to target → name_count (other_names to new (other_names from old w.names)) to < 4096
+    space : Room w from to target → name_count (other_names to new (other_names from old w.names)) to < MAX_NAMES
     space (same at) =
-        let it = goes (kind_of w) w.names sound.rooted from old child leads in
+        let it = goes (kind_of w) w.names sound.rooted from old child old_leads in
         let out : not (is_named from old it.name) ≡ false = ap not it.passes in
-        let less : name_count (other_names from old w.names) to < name_count w.names to = count_by-filter_out (λ n. n.directory == to) (λ n. not (is_named from old n)) w.names it.name it.stands ((Decides-eqb it.name.directory to).1 (named_directory from old it.name it.passes ∙ at)) out in
+        let less : name_count (other_names from old w.names) to < name_count w.names to = name_count-filter_out (λ n. not (is_named from old n)) w.names to it.name it.stands (named_directory from old it.name it.passes ∙ at) out in
         omega (arith, names_le, first_le, all_le, less)
     space (wide below) = omega (arith, names_le, first_le, below)
     space (replaced there) = by_target target taken apart there
       where
-        by_target : (target : Option ℕ) → child_named w to new ≡ target → IfSome target (λ t. child ≢ t) → IsSome target → name_count (other_names to new (other_names from old w.names)) to < 4096
+        by_target : (target : Option ℕ) → child_named w to new ≡ target → IfSome target (λ t. child ≢ t) → IsSome target → name_count (other_names to new (other_names from old w.names)) to < MAX_NAMES
         by_target None taken apart there = let no : is_some {T = ℕ} None ≡ true = there in cc
         by_target (Some t) taken apart there =
-            let it = goes (kind_of w) w.names sound.rooted to new t taken in
+            let it = goes (kind_of w) w.names sound.rooted to new t (child_sought w.names to new ∙ taken) in
             let out : not (is_named to new it.name) ≡ false = ap not it.passes in
             let stays : IsIn it.name (other_names from old w.names) = in_filter (λ n. not (is_named from old n)) it.name w.names it.stands
             (elim (not (is_named from old it.name)) as (λ b. not (is_named from old it.name) ≡ b → b ≡ true) [
               | true ↦ λ _. refl
-              | false ↦ λ gone. absurd (apart (sym (its_child (kind_of w) w.names sound.rooted from old child leads it.name it.stands gone) ∙ it.leads))
+              | false ↦ λ gone. absurd (apart (sym (its_child (kind_of w) w.names sound.rooted from old child old_leads it.name it.stands gone) ∙ it.leads))
             ] refl) in
-            let less : name_count (other_names to new (other_names from old w.names)) to < name_count (other_names from old w.names) to = count_by-filter_out (λ n. n.directory == to) (λ n. not (is_named to new n)) (other_names from old w.names) it.name stays ((Decides-eqb it.name.directory to).1 (named_directory to new it.name it.passes)) out in
+            let less : name_count (other_names to new (other_names from old w.names)) to < name_count (other_names from old w.names) to = name_count-filter_out (λ n. not (is_named to new n)) (other_names from old w.names) to it.name stays (named_directory to new it.name it.passes) out in
             omega (arith, first_le, all_le, less)
 
 pub KeepsJudged-with_move : (w : World) (from : ℕ) (old : List ℕ) (to : ℕ) (new : List ℕ) (child : ℕ) (target : Option ℕ) (at : At) → KeepsJudged w (with_move w from old to new child target at)
@@ -272,63 +273,61 @@ pub record MayMove (w : World) (from to child : ℕ) (target : Option ℕ) : Typ
   pub room : Room w from to target
   pub cookie : w.next_cookie < 2 ^ 63
 
-cleared : (w : World) (child to : ℕ) → goes_below_itself w child to ≡ false → kind_of w child ≡ Some Directory → is_within w child to ≡ false
+cleared : (w : World) (child to : ℕ) → is_below (kind_of w) (parent_of w) w.next_number child to ≡ false → kind_of w child ≡ Some Directory → is_within w child to ≡ false
 cleared w child to not_below is = ap (λ b. b && is_within w child to) (sym (directory_at w child is)) ∙ not_below
 
 left_below : (next : ℕ) → has_left next ≡ true → next < 2 ^ 63
 left_below next is = (Decides-ltb next (2 ^ 63)).0 is
 
-roomy : (w : World) (from to : ℕ) → ((from == to) || has_room w.names to) ≡ true → Room w from to None
-roomy w from to is = elim (from == to) as (λ b. (from == to) ≡ b → (b || has_room w.names to) ≡ true → Room w from to None) [
+last : (a b : Bool) → (a && b) ≡ true → b ≡ true
+last true b h = h
+last false b h = cc
+
+roomy : (w : World) (from to : ℕ) → ((from == to) || has_room (name_count w.names to)) ≡ true → Room w from to None
+roomy w from to is = elim (from == to) as (λ b. (from == to) ≡ b → (b || has_room (name_count w.names to)) ≡ true → Room w from to None) [
   | true ↦ λ at _. same ((Decides-eqb from to).0 at)
-  | false ↦ λ _ h. wide ((Decides-ltb (name_count w.names to) 4096).0 h)
+  | false ↦ λ _ h. wide ((Decides-ltb (name_count w.names to) MAX_NAMES).0 h)
 ] refl is
 
-emptied : (w : World) → IsSound w → (child target : ℕ) → may_replace w child target ≡ true → (n : Name) → IsIn n w.names → n.directory ≡ target → ⊥
-emptied w sound child target may n stands at =
+moves_in : (w : World) (from to : ℕ) (target : Option ℕ) → may_move (name_count w.names to) w.next_cookie from to target ≡ true → Room w from to target × (w.next_cookie < 2 ^ 63)
+moves_in w from to None may = (
+  roomy w from to (front ((from == to) || has_room (name_count w.names to)) (has_left w.next_cookie) may),
+  left_below w.next_cookie (last ((from == to) || has_room (name_count w.names to)) (has_left w.next_cookie) may),
+)
+  where
+    front : (a b : Bool) → (a && b) ≡ true → a ≡ true
+    front true b h = refl
+    front false b h = cc
+moves_in w from to (Some target) may = (replaced refl, left_below w.next_cookie may)
+
+emptied : (w : World) → IsSound w → (child : ℕ) (target : Option ℕ) → may_replace (kind_of w) (has_entries w.names) child target ≡ true → IfSome target (λ t. (n : Name) → IsIn n w.names → n.directory ≡ t → ⊥)
+emptied w sound child None may = tt
+emptied w sound child (Some target) may = λ n stands at.
     let is_directory : is_directory_at w target ≡ true = directory_at w target (subst (λ k. kind_of w k ≡ Some Directory) at (sound.rooted.ends n stands).0) in
     elim (is_directory_at w child) as (λ b. cond b (is_directory_at w target && not (has_entries w.names target)) (not (is_directory_at w target)) ≡ true → ⊥) [
-      | true ↦ λ h. none_passes (λ n. n.directory == target) w.names (last (is_directory_at w target) (has_entries w.names target) h) n stands ((Decides-eqb n.directory target).1 at)
+      | true ↦ λ h. none_passes (λ n. n.directory == target) w.names (flipped_back (has_entries w.names target) (last (is_directory_at w target) (not (has_entries w.names target)) h)) n stands ((Decides-eqb n.directory target).1 at)
       | false ↦ λ h. let f : not (is_directory_at w target) ≡ false = ap not is_directory in cc
     ] may
-  where
-    last : (a b : Bool) → (a && not b) ≡ true → b ≡ false
-    last true true h = cc
-    last true false h = refl
-    last false b h = cc
 
-may_place : (w : World) (from to child : ℕ) → place_refusal w from to child ≡ None → MayMove w from to child None
-may_place w from to child none =
-    elim (goes_below_itself w child to) as (λ b. goes_below_itself w child to ≡ b → cond b (Some Inval) (cond (((from == to) || has_room w.names to) && has_left w.next_cookie) None (Some NoSpc)) ≡ None → MayMove w from to child None) [
+-- what is left to ask of a move that goes nowhere below itself
+abbrev behind_it : Bool → Bool → Option TreeFault
+behind_it may space = cond (not may) (Some Exist) (cond space None (Some NoSpc))
+
+pub unrefused_move : (w : World) → IsSound w → (from to child : ℕ) (target : Option ℕ) → is_one (Some child) target ≡ false → move_refusal w from to child target ≡ None → MayMove w from to child target
+unrefused_move w sound from to child target apart none =
+    let may = may_replace (kind_of w) (has_entries w.names) child target in
+    let space = may_move (name_count w.names to) w.next_cookie from to target in
+    elim (is_below (kind_of w) (parent_of w) w.next_number child to) as (λ b. is_below (kind_of w) (parent_of w) w.next_number child to ≡ b → cond b (Some Inval) (behind_it may space) ≡ None → MayMove w from to child target) [
       | true ↦ λ _ h. cc
-      | false ↦ λ below. elim ((from == to) || has_room w.names to) as (λ b. ((from == to) || has_room w.names to) ≡ b → cond (b && has_left w.next_cookie) None (Some NoSpc) ≡ None → MayMove w from to child None) [
-        | true ↦ λ room. elim (has_left w.next_cookie) as (λ b. has_left w.next_cookie ≡ b → cond b None (Some NoSpc) ≡ None → MayMove w from to child None) [
-          | true ↦ λ cookie _. record { clear = cleared w child to below; empty = tt; room = roomy w from to room; cookie = left_below w.next_cookie cookie }
-          | false ↦ λ _ h. cc
-        ] refl
+      | false ↦ λ below. elim may as (λ b. may ≡ b → behind_it b space ≡ None → MayMove w from to child target) [
         | false ↦ λ _ h. cc
-      ] refl
-    ] refl none
-
-may_take : (w : World) → IsSound w → (from to child target : ℕ) → child ≢ target → replace_refusal w to child target ≡ None → MayMove w from to child (Some target)
-may_take w sound from to child target apart none =
-    elim (child == target) as (λ b. (child == target) ≡ b → cond b None (cond (goes_below_itself w child to) (Some Inval) (cond (not (may_replace w child target)) (Some Exist) (cond (has_left w.next_cookie) None (Some NoSpc)))) ≡ None → MayMove w from to child (Some target)) [
-      | true ↦ λ at _. absurd (apart ((Decides-eqb child target).0 at))
-      | false ↦ λ _. elim (goes_below_itself w child to) as (λ b. goes_below_itself w child to ≡ b → cond b (Some Inval) (cond (not (may_replace w child target)) (Some Exist) (cond (has_left w.next_cookie) None (Some NoSpc))) ≡ None → MayMove w from to child (Some target)) [
-        | true ↦ λ _ h. cc
-        | false ↦ λ below. elim (may_replace w child target) as (λ b. may_replace w child target ≡ b → cond (not b) (Some Exist) (cond (has_left w.next_cookie) None (Some NoSpc)) ≡ None → MayMove w from to child (Some target)) [
+        | true ↦ λ replaces. elim space as (λ b. space ≡ b → behind_it true b ≡ None → MayMove w from to child target) [
           | false ↦ λ _ h. cc
-          | true ↦ λ may. elim (has_left w.next_cookie) as (λ b. has_left w.next_cookie ≡ b → cond b None (Some NoSpc) ≡ None → MayMove w from to child (Some target)) [
-            | true ↦ λ cookie _. record { clear = cleared w child to below; empty = emptied w sound child target may; room = replaced refl; cookie = left_below w.next_cookie cookie }
-            | false ↦ λ _ h. cc
-          ] refl
+          | true ↦ λ moves _. let m = moves_in w from to target moves in
+              record { clear = cleared w child to below; empty = emptied w sound child target replaces; room = m.0; cookie = m.1 }
         ] refl
       ] refl
-    ] refl none
-
-pub may_move : (w : World) → IsSound w → (from to child : ℕ) (target : Option ℕ) → IfSome target (λ t. child ≢ t) → move_refusal w from to child target ≡ None → MayMove w from to child target
-may_move w sound from to child None apart none = may_place w from to child none
-may_move w sound from to child (Some target) apart none = may_take w sound from to child target apart none
+    ] refl (ap (λ b. cond b None (cond (is_below (kind_of w) (parent_of w) w.next_number child to) (Some Inval) (behind_it may space))) (sym apart) ∙ none)
 
 pub not_same : (target : Option ℕ) (child : ℕ) → false ≡ option_eq nat_eq target (Some child) → target ≡ Some child → ⊥
 not_same target child differs equal =
@@ -338,15 +337,21 @@ pub target_apart : (child : ℕ) (target : Option ℕ) → (target ≡ Some chil
 target_apart child None apart = tt
 target_apart child (Some t) apart = λ same. apart (ap Some (sym same))
 
+not_one : (child : ℕ) (target : Option ℕ) → (target ≡ Some child → ⊥) → is_one (Some child) target ≡ false
+not_one child None apart = refl
+not_one child (Some t) apart = elim (child == t) as (λ b. (child == t) ≡ b → b ≡ false) [
+  | true ↦ λ at. absurd (apart (ap Some (sym ((Decides-eqb child t).0 at))))
+  | false ↦ λ _. refl
+] refl
+
 -- a move that isn't refused keeps the tree sound
-pub IsSound-may_move : (w : World) → IsSound w → (from : ℕ) (old : List ℕ) (to : ℕ) (new : List ℕ) (child : ℕ) (target : Option ℕ) (at : At) → IsTick w at.tick
-    → kind_of w to ≡ Some Directory → length new ≤ 255 → child_named w from old ≡ Some child → child_named w to new ≡ target → (target ≡ Some child → ⊥)
+pub IsSound-unrefused_move : (w : World) → IsSound w → (from : ℕ) (old : List ℕ) (to : ℕ) (new : List ℕ) (child : ℕ) (target : Option ℕ) (at : At) → IsTick w at.tick
+    → kind_of w to ≡ Some Directory → length new ≤ MAX_NAME → child_named w from old ≡ Some child → child_named w to new ≡ target → (target ≡ Some child → ⊥)
     → None ≡ move_refusal w from to child target → IsSound (with_move w from old to new child target at)
-IsSound-may_move w sound from old to new child target at tick live short leads taken apart none =
-    let apart_so = target_apart child target apart in
-    let may = may_move w sound from to child target apart_so (sym none) in
-    IsSound-with_move w sound from old to new child target at tick live leads taken apart_so may.empty may.clear short may.room may.cookie
+IsSound-unrefused_move w sound from old to new child target at tick live short leads taken apart none =
+    let may = unrefused_move w sound from to child target (not_one child target apart) (sym none) in
+    IsSound-with_move w sound from old to new child target at tick live leads taken (target_apart child target apart) may.empty may.clear short may.room may.cookie
 
 -- what the move takes
 pub has_cookie : (w : World) → IsSound w → (from to child : ℕ) (target : Option ℕ) → (target ≡ Some child → ⊥) → None ≡ move_refusal w from to child target → w.next_cookie < 2 ^ 63
-has_cookie w sound from to child target apart none = (may_move w sound from to child target (target_apart child target apart) (sym none)).cookie
+has_cookie w sound from to child target apart none = (unrefused_move w sound from to child target (not_one child target apart) (sym none)).cookie

@@ -1,13 +1,14 @@
 -- Names: which are there after a filter or a push, and how many.
 use Rattle.std.proofs.Common.{◌≡◌, ℕ, ◌+◌, ◌<◌, ◌≤◌, Bool, true, false, not, ◌&&◌, ◌||◌, cond, List, [], ◌∷◌, ◌++◌, length, refl, ap, sym, ◌∙◌, subst, arith, Some, None, inl, inr, add_comm}
-use Rattle.std.specs.Prelude.{◌⊎◌, find, ◌==◌, count_by}
+use Rattle.std.specs.Prelude.{◌⊎◌, find, ◌==◌, count_by, nat_eq}
 use Rattle.std.specs.List.{filter, list_any}
 use Rattle.std.specs.Option.{option_map}
-use Rattle.std.specs.Cmp.Lexicographic.{bytes_decides}
+use Rattle.std.specs.Cmp.Lexicographic.{pointwise, bytes_decides}
 use Rattle.std.proofs.Math.Logic.{⊎_elim}
 use Rattle.std.proofs.lemmas.Bool.Decides.{Decides-eqb}
-use Rattle.std.proofs.lemmas.List.Sums.{sum_by-cons}
-use Rattle.node_tree.specs.World.{Name, is_named, name_count, link_count}
+use Rattle.std.proofs.lemmas.List.Sums.{sum_by-cons, length-filter}
+use Rattle.node_tree.specs.Limits.{MAX_NAME, MAX_NAMES, MAX_LINKS}
+use Rattle.node_tree.specs.World.{Name, is_named, names_in, child_in, name_count, link_count}
 use Rattle.node_tree.specs.Sound.{IsIn, IsLimited}
 
 -- ---- a filter
@@ -108,6 +109,18 @@ named_name directory name n h = (bytes_decides n.name name).0 (both (n.directory
 pub named_at : (directory : ℕ) (name : List ℕ) (n : Name) → n.directory ≡ directory → n.name ≡ name → is_named directory name n ≡ true
 named_at directory name n d s = rw ((Decides-eqb n.directory directory).1 d) ((bytes_decides n.name name).1 s)
 
+find-filter : {X : Type 0} (p q : X → Bool) (xs : List X) → find (λ x. p x && q x) xs ≡ find q (filter p xs)
+find-filter p q [] = refl
+find-filter p q (x ∷ xs) =
+    elim (p x) as (λ b. cond (b && q x) (Some x) (find (λ x. p x && q x) xs) ≡ find q (cond b (x ∷ filter p xs) (filter p xs))) [
+      | true ↦ ap (λ o. cond (q x) (Some x) o) (find-filter p q xs)
+      | false ↦ find-filter p q xs
+    ]
+
+-- the child of a name, sought among all names
+pub child_sought : (names : List Name) (directory : ℕ) (name : List ℕ) → option_map (λ (n : Name). n.child) (find (is_named directory name) names) ≡ child_in (names_in names directory) name
+child_sought names directory name = ap (option_map (λ (n : Name). n.child)) (find-filter (λ (n : Name). n.directory == directory) (λ (n : Name). pointwise nat_eq n.name name) names)
+
 pub flipped : (b : Bool) → not b ≡ false → b ≡ true
 flipped true h = refl
 flipped false h = cc
@@ -167,12 +180,23 @@ count_by-none q (m ∷ names) none =
       | false ↦ λ is. let goal : 0 + count_by q names ≡ 0 = omega arith in goal
     ] refl
 
+-- the names of a directory, counted
+pub names_counted : (names : List Name) (directory : ℕ) → name_count names directory ≡ count_by (λ n. n.directory == directory) names
+names_counted names directory = length-filter (λ n. n.directory == directory) names
+
+pub name_count-filter : (p : Name → Bool) (names : List Name) (directory : ℕ) → name_count (filter p names) directory ≤ name_count names directory
+name_count-filter p names directory = omega (arith, names_counted (filter p names) directory, names_counted names directory, count_by-filter (λ n. n.directory == directory) p names)
+
+pub name_count-filter_out : (p : Name → Bool) (names : List Name) (directory : ℕ) (n : Name) → IsIn n names → n.directory ≡ directory → p n ≡ false → name_count (filter p names) directory < name_count names directory
+name_count-filter_out p names directory n stands here out =
+    omega (arith, names_counted (filter p names) directory, names_counted names directory, count_by-filter_out (λ n. n.directory == directory) p names n stands ((Decides-eqb n.directory directory).1 here) out)
+
 -- ---- the limits
 
 pub IsLimited-filter : (p : Name → Bool) (names : List Name) → IsLimited names → IsLimited (filter p names)
 IsLimited-filter p names limited = record {
-  directories = λ k. let a : name_count (filter p names) k ≤ name_count names k = count_by-filter (λ n. n.directory == k) p names in let b : name_count names k ≤ 4096 = limited.directories k in let c : name_count (filter p names) k ≤ 4096 = omega arith in c;
-  links = λ k. let a : link_count (filter p names) k ≤ link_count names k = count_by-filter (λ n. n.child == k) p names in let b : link_count names k ≤ 1000 = limited.links k in let c : link_count (filter p names) k ≤ 1000 = omega arith in c;
+  directories = λ k. let a : name_count (filter p names) k ≤ name_count names k = name_count-filter p names k in let b : name_count names k ≤ MAX_NAMES = limited.directories k in let c : name_count (filter p names) k ≤ MAX_NAMES = omega arith in c;
+  links = λ k. let a : link_count (filter p names) k ≤ link_count names k = count_by-filter (λ n. n.child == k) p names in let b : link_count names k ≤ MAX_LINKS = limited.links k in let c : link_count (filter p names) k ≤ MAX_LINKS = omega arith in c;
   short = λ n stands. limited.short n (from_filter p n names stands).stood;
 }
 
@@ -184,9 +208,17 @@ one_more q names n k most before room =
       | false ↦ λ is e. omega arith
     ] refl more
 
-pub IsLimited-push : (names : List Name) (n : Name) → IsLimited names → name_count names n.directory < 4096 → link_count names n.child < 1000 → length n.name ≤ 255 → IsLimited (names ++ n ∷ [])
+-- a name more in a directory that has room
+name_more : (names : List Name) (n : Name) (k : ℕ) → name_count names k ≤ MAX_NAMES → name_count names n.directory < MAX_NAMES → name_count (names ++ n ∷ []) k ≤ MAX_NAMES
+name_more names n k before room =
+    let counted : count_by (λ n. n.directory == k) names ≤ MAX_NAMES = omega (arith, names_counted names k, before) in
+    let below : count_by (λ m. m.directory == n.directory) names < MAX_NAMES = omega (arith, names_counted names n.directory, room) in
+    let more : count_by (λ n. n.directory == k) (names ++ n ∷ []) ≤ MAX_NAMES = one_more (λ k n. n.directory == k) names n k MAX_NAMES counted (λ is. subst (λ k. count_by (λ n. n.directory == k) names < MAX_NAMES) ((Decides-eqb n.directory k).0 is) below) in
+    omega (arith, names_counted (names ++ n ∷ []) k, more)
+
+pub IsLimited-push : (names : List Name) (n : Name) → IsLimited names → name_count names n.directory < MAX_NAMES → link_count names n.child < MAX_LINKS → length n.name ≤ MAX_NAME → IsLimited (names ++ n ∷ [])
 IsLimited-push names n limited room links short = record {
-  directories = λ k. one_more (λ k n. n.directory == k) names n k 4096 (limited.directories k) (λ is. subst (λ k. name_count names k < 4096) ((Decides-eqb n.directory k).0 is) room);
-  links = λ k. one_more (λ k n. n.child == k) names n k 1000 (limited.links k) (λ is. subst (λ k. link_count names k < 1000) ((Decides-eqb n.child k).0 is) links);
-  short = λ m stands. ⊎_elim (λ old. limited.short m old) (λ same. subst (λ (m : Name). length m.name ≤ 255) (sym same) short) (from_push m n names stands);
+  directories = λ k. name_more names n k (limited.directories k) room;
+  links = λ k. one_more (λ k n. n.child == k) names n k MAX_LINKS (limited.links k) (λ is. subst (λ k. link_count names k < MAX_LINKS) ((Decides-eqb n.child k).0 is) links);
+  short = λ m stands. ⊎_elim (λ old. limited.short m old) (λ same. subst (λ (m : Name). length m.name ≤ MAX_NAME) (sym same) short) (from_push m n names stands);
 }

@@ -16,7 +16,7 @@ use Rattle.node_tree.specs.Judged.{judged, KeepsJudged}
 use Rattle.node_tree.specs.Sound.{stamp_of, IsIn, IsRooted, IsSound, IsTick}
 use Rattle.node_tree.proofs.Objects.{is_same, is_at-same, lookup-without, option_map-changed}
 use Rattle.node_tree.proofs.Rising.{Rises-filter}
-use Rattle.node_tree.proofs.Names.{in_filter, from_filter, any_passes, none_passes, Found, found, named_directory, named_name, flipped, IsLimited-filter}
+use Rattle.node_tree.proofs.Names.{child_sought, in_filter, from_filter, any_passes, none_passes, Found, found, named_directory, named_name, flipped, IsLimited-filter}
 use Rattle.node_tree.proofs.Holding.{IsHeld-later, IsHeld-touched, IsHeld-released}
 use Rattle.node_tree.proofs.Stamps.{IsStamped-fewer}
 use Rattle.node_tree.proofs.Rooted.{Prunes, IsRooted-pruned}
@@ -151,7 +151,7 @@ IsSound-without_name w sound directory name child at tick leads empty =
     let held = IsHeld-touched directory at _ w.next_number (at.tick + 1) due (IsHeld-released names child at w.objects w.next_number (at.tick + 1) due
     (IsHeld-later w.objects w.next_number w.next_tick (at.tick + 1) tick.fresh (held_in w sound))) in
     record {
-      rooted = subst (λ k. IsRooted k names) (sym kinds) (rooted_without (kind_of w) w.names sound.rooted directory name child leads empty);
+      rooted = subst (λ k. IsRooted k names) (sym kinds) (rooted_without (kind_of w) w.names sound.rooted directory name child (child_sought w.names directory name ∙ leads) empty);
       stamped = IsStamped-fewer (stamp_of w) _ w.next_stamp (λ k s is. after_some stays (stamp_of w) child k s (sym (read_without (λ o. o.stamp) directory names child at w.objects (λ o. refl) (λ o. refl) k) ∙ is)) sound.stamped;
       numbered = held.numbered;
       listed = Rises-filter (λ n. n.cookie) _ 3 w.next_cookie w.names sound.listed;
@@ -171,7 +171,7 @@ KeepsJudged-without_name w directory name child at = record {
 pub live_child : (w : World) → IsSound w → (directory : ℕ) (name : List ℕ) (child : Option ℕ) → child ≡ child_named w directory name → IfSome child (λ child. IsSome (object w child))
 live_child w sound directory name None is = tt
 live_child w sound directory name (Some child) is =
-    let n = found (λ n. n.child) (is_named directory name) w.names child (sym is) in
+    let n = found (λ n. n.child) (is_named directory name) w.names child (child_sought w.names directory name ∙ sym is) in
     there (object w child) (subst (λ k. IsSome (kind_of w k)) n.leads (sound.rooted.ends n.name n.stands).1)
   where
     there : (o : Option Object) → IsSome (option_map (λ (o : Object). o.kind) o) → IsSome o

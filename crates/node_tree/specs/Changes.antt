@@ -1,6 +1,6 @@
 -- What each change makes of the world (RFC 8881, sections 5.8, 18.4, 18.9, 18.25, 18.26, 18.30 and 18.32). A change takes a tick,
 -- and each object that it changes gets it; the changes of one operation share it.
-use Rattle.std.specs.Prelude.{ℕ, pos, ◌+◌, ◌-◌, ◌==◌, Bool, false, not, ◌&&◌, nat_le, nat_lt, if◌then◌else◌, max, List, [], ◌∷◌, ◌++◌, length, map, filter, take, replicate, slice_index, Option}
+use Rattle.std.specs.Prelude.{ℕ, pos, ◌+◌, ◌-◌, Bool, not, ◌&&◌, nat_le, nat_lt, if◌then◌else◌, max, List, [], ◌∷◌, ◌++◌, length, map, filter, take, replicate, slice_index, Option}
 use Rattle.std.proofs.Common.{lit<}
 use Rattle.std.specs.List.{range_with_len}
 use Rattle.std.specs.Option.{option_map_or}
@@ -8,11 +8,12 @@ use Rattle.std.specs.Map.{lookup, set_value}
 use Rattle.std.specs.BTreeMap.{is_at, insert_entry}
 use Rattle.std.specs.Ordering.{nat_cmp}
 use Rattle.acl_list.specs.declared.entry.Entry.{Entry}
+use Rattle.acl_list.specs.declared.entry.Kind.{Kind}
 use Rattle.acl_list.specs.declared.entry.Kind.TheVariants.{Directory}
 use Rattle.nfs_types.specs.declared.moment.Moment.{Moment}
 use Rattle.node_tree.specs.declared.at.At.{At}
 use Rattle.node_tree.specs.declared.node.NewObject.{NewObject}
-use Rattle.node_tree.specs.World.{World, Object, Name, child_named, is_named, has_name}
+use Rattle.node_tree.specs.World.{World, Object, Name, child_named, is_one, is_named, has_name}
 
 -- ---- objects
 
@@ -32,20 +33,23 @@ touched at o = record o { change = at.tick; time_modify = at.moment; time_metada
 abbrev pub retold : At → Object → Object
 retold at o = record o { change = at.tick; time_metadata = at.moment }
 
--- an object as it is made
-abbrev pub made : {A : Type 0} → NewObject A → ℕ → At → Object
-made new stamp at = record {
-  kind = new.kind;
-  bytes = new.bytes.items;
-  owner = new.owner;
-  group = new.group;
-  list = new.list;
-  high = new.high;
+-- an object as it is made, of its kind, bytes, owner, group, list and the high bits of its mode
+abbrev pub new_object : Kind → List ℕ → ℕ → ℕ → List Entry → ℕ → ℕ → At → Object
+new_object kind bytes owner group list high stamp at = record {
+  kind = kind;
+  bytes = bytes;
+  owner = owner;
+  group = group;
+  list = list;
+  high = high;
   change = at.tick;
   time_modify = at.moment;
   time_metadata = at.moment;
   stamp = stamp;
 }
+
+abbrev pub made : {A : Type 0} → NewObject A → ℕ → At → Object
+made new stamp at = new_object new.kind new.bytes.items new.owner new.group new.list new.high stamp at
 
 -- ---- a new tree
 
@@ -53,20 +57,13 @@ made new stamp at = record {
 abbrev pub epoch : Moment
 epoch = record { seconds = pos 0; nanoseconds = 0; is_fraction = lit< tt }
 
+-- what was there from the start was made at the epoch
+abbrev pub from_start : ℕ → At
+from_start tick = record { tick = tick; moment = epoch }
+
 -- a root as it is made
 abbrev pub root_of : ℕ → ℕ → List Entry → ℕ → Object
-root_of owner group list high = record {
-  kind = Directory;
-  bytes = [];
-  owner = owner;
-  group = group;
-  list = list;
-  high = high;
-  change = 1;
-  time_modify = epoch;
-  time_metadata = epoch;
-  stamp = 1;
-}
+root_of owner group list high = new_object Directory [] owner group list high 1 (from_start 1)
 
 -- a root and nothing else
 abbrev pub alone : Object → World
@@ -130,14 +127,10 @@ with_move w from old to new child target at =
       next_cookie = w.next_cookie + 1;
     }
 
--- whether the two names are those of one object
-abbrev pub is_same_object : World → ℕ → List ℕ → ℕ → List ℕ → Bool
-is_same_object w from old to new = option_map_or (λ child. option_map_or (λ target. child == target) (child_named w to new) false) (child_named w from old) false
-
 -- two names of one object stay as they are
 abbrev pub renamed : World → ℕ → List ℕ → ℕ → List ℕ → At → World
 renamed w from old to new at =
-    if is_same_object w from old to new then w
+    if is_one (child_named w from old) (child_named w to new) then w
     else option_map_or (λ child. with_move w from old to new child (child_named w to new) at) (child_named w from old) w
 
 -- ---- bytes

@@ -13,6 +13,10 @@ MAX_BYTES = 1048576
 abbrev pub MAX_TEXT : ℕ
 MAX_TEXT = 1024
 
+-- bytes of a name
+abbrev pub MAX_NAME : ℕ
+MAX_NAME = 255
+
 -- names in a directory
 abbrev pub MAX_NAMES : ℕ
 MAX_NAMES = 4096

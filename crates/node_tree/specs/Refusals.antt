@@ -1,33 +1,75 @@
--- Why a change is refused, or that it isn't: the first reason in the order of the standard's operations (RFC 8881, section 18).
-use Rattle.std.specs.Prelude.{ℕ, ◌+◌, ◌^◌, ◌==◌, Bool, ◌&&◌, ◌||◌, not, nat_lt, if◌then◌else◌, List, length, Option, Some, None, is_some}
+-- Why a change is refused, or that it isn't: the first reason in the order of the standard's operations (RFC 8881, section 18). Each
+-- question is put to the parts that it looks at, so that it means the same of a world and of what is seen of one.
+use Rattle.std.specs.Prelude.{ℕ, ◌+◌, ◌^◌, ◌==◌, Bool, true, ◌&&◌, ◌||◌, not, nat_lt, if◌then◌else◌, List, length, Option, Some, None, is_some}
 use Rattle.std.specs.Option.{option_map_or}
+use Rattle.acl_list.specs.declared.entry.Kind.{Kind}
 use Rattle.node_tree.specs.declared.fault.TreeFault.{TreeFault}
 use Rattle.node_tree.specs.declared.fault.TreeFault.TheVariants.{Exist, NoEnt, NotEmpty, Inval, FBig, MLink, NoSpc}
 use Rattle.node_tree.specs.Limits.{MAX_BYTES, MAX_NAMES, MAX_OBJECTS, MAX_LINKS}
-use Rattle.node_tree.specs.World.{World, Name, child_named, name_count, link_count, has_entries, is_directory_at}
-use Rattle.node_tree.specs.Ways.{is_within}
+use Rattle.node_tree.specs.World.{World, child_named, is_one, kind_of, name_count, link_count, has_entries, parent_of, is_directory_in}
+use Rattle.node_tree.specs.Ways.{is_met}
+
+-- ---- space
 
 -- whether a counter has a value left
 abbrev pub has_left : ℕ → Bool
 has_left next = nat_lt next (2 ^ 63)
 
--- whether a directory has room for a name more
-abbrev pub has_room : List Name → ℕ → Bool
-has_room names directory = nat_lt (name_count names directory) MAX_NAMES
+-- whether a directory with so many names has room for a name more
+abbrev pub has_room : ℕ → Bool
+has_room names = nat_lt names MAX_NAMES
+
+-- whether beside so many objects there is room for an object more
+abbrev pub has_object_room : ℕ → Bool
+has_object_room objects = nat_lt objects MAX_OBJECTS
+
+-- whether an object with so many names may have a name more
+abbrev pub may_link : ℕ → Bool
+may_link links = nat_lt links MAX_LINKS
+
+-- whether a directory with so many names may have a name more
+abbrev pub may_name : (names next_cookie : ℕ) → Bool
+may_name names next_cookie = has_room names && has_left next_cookie
+
+-- whether a directory with so many names may have a new object under a name more, beside so many objects
+abbrev pub may_add : (names objects next_number next_stamp next_cookie : ℕ) → Bool
+may_add names objects next_number next_stamp next_cookie =
+    has_room names && has_object_room objects && has_left next_number && has_left next_stamp && has_left next_cookie
+
+-- ---- moves
+
+-- whether a child is a directory that another directory is, or lies below
+abbrev pub is_below : (ℕ → Option Kind) → (ℕ → Option ℕ) → (next_number child directory : ℕ) → Bool
+is_below kinds parents next_number child directory = is_directory_in kinds child && is_met parents next_number child directory
+
+-- Whether a child may take a name that a target has, or none. A directory takes the name of an empty directory alone, and whatever
+-- isn't a directory takes no directory's.
+abbrev pub may_replace : (ℕ → Option Kind) → (ℕ → Bool) → ℕ → Option ℕ → Bool
+may_replace kinds has_entries child None = true
+may_replace kinds has_entries child (Some target) =
+    if is_directory_in kinds child then is_directory_in kinds target && not (has_entries target) else not (is_directory_in kinds target)
+
+-- Whether there is space for a child's new name, which a target has or none, in a directory with so many names. A directory that loses
+-- a name for it is never too full.
+abbrev pub may_move : (names next_cookie from to : ℕ) → Option ℕ → Bool
+may_move names next_cookie from to None = ((from == to) || has_room names) && has_left next_cookie
+may_move names next_cookie from to (Some target) = has_left next_cookie
+
+-- ---- refusals
 
 -- CREATE, OPEN
 abbrev pub add_refusal : World → ℕ → List ℕ → Option TreeFault
 add_refusal w directory name =
     if is_some (child_named w directory name) then Some Exist
-    else if has_room w.names directory && nat_lt (length w.objects) MAX_OBJECTS && has_left w.next_number && has_left w.next_stamp && has_left w.next_cookie then None
+    else if may_add (name_count w.names directory) (length w.objects) w.next_number w.next_stamp w.next_cookie then None
     else Some NoSpc
 
 -- LINK
 abbrev pub link_refusal : World → ℕ → List ℕ → ℕ → Option TreeFault
 link_refusal w directory name number =
     if is_some (child_named w directory name) then Some Exist
-    else if not (nat_lt (link_count w.names number) MAX_LINKS) then Some MLink
-    else if has_room w.names directory && has_left w.next_cookie then None
+    else if not (may_link (link_count w.names number)) then Some MLink
+    else if may_name (name_count w.names directory) w.next_cookie then None
     else Some NoSpc
 
 -- REMOVE
@@ -35,35 +77,14 @@ abbrev pub unlink_refusal : World → ℕ → List ℕ → Option TreeFault
 unlink_refusal w directory name =
     option_map_or (λ child. if has_entries w.names child then Some NotEmpty else None) (child_named w directory name) (Some NoEnt)
 
--- whether a child may take the name of a target: one that is no directory that of another, or a directory that of an empty one
-abbrev pub may_replace : World → ℕ → ℕ → Bool
-may_replace w child target =
-    if is_directory_at w child then is_directory_at w target && not (has_entries w.names target) else not (is_directory_at w target)
-
--- whether a directory would come to lie below itself, or in itself
-abbrev pub goes_below_itself : World → ℕ → ℕ → Bool
-goes_below_itself w child to = is_directory_at w child && is_within w child to
-
--- a child comes under a name that nothing has: a directory that gives one name for another is never too full
-abbrev pub place_refusal : World → ℕ → ℕ → ℕ → Option TreeFault
-place_refusal w from to child =
-    if goes_below_itself w child to then Some Inval
-    else if ((from == to) || has_room w.names to) && has_left w.next_cookie then None
-    else Some NoSpc
-
--- a child comes under the name of a target
-abbrev pub replace_refusal : World → ℕ → ℕ → ℕ → Option TreeFault
-replace_refusal w to child target =
-    if child == target then None
-    else if goes_below_itself w child to then Some Inval
-    else if not (may_replace w child target) then Some Exist
-    else if has_left w.next_cookie then None
-    else Some NoSpc
-
 -- a child comes under another name, which a target has or none
 abbrev pub move_refusal : World → ℕ → ℕ → ℕ → Option ℕ → Option TreeFault
-move_refusal w from to child None = place_refusal w from to child
-move_refusal w from to child (Some target) = replace_refusal w to child target
+move_refusal w from to child target =
+    if is_one (Some child) target then None
+    else if is_below (kind_of w) (parent_of w) w.next_number child to then Some Inval
+    else if not (may_replace (kind_of w) (has_entries w.names) child target) then Some Exist
+    else if may_move (name_count w.names to) w.next_cookie from to target then None
+    else Some NoSpc
 
 -- RENAME
 abbrev pub rename_refusal : World → ℕ → List ℕ → ℕ → List ℕ → Option TreeFault

@@ -5,22 +5,11 @@ use Rattle.acl_list.specs.declared.entry.Kind.TheVariants.{File, Directory}
 use Rattle.acl_shape.specs.Mode.{set_mode}
 use Rattle.node_tree.specs.Limits.{ROOT}
 use Rattle.node_tree.specs.World.{World, Object}
-use Rattle.node_tree.specs.Changes.{epoch}
+use Rattle.node_tree.specs.Changes.{new_object, from_start}
 
 -- an object of the sample: its stamp and its last change are its number
 abbrev pub sample_object : ℕ → Kind → List ℕ → ℕ → ℕ → ℕ → Object
-sample_object number kind bytes owner group mode = record {
-  kind = kind;
-  bytes = bytes;
-  owner = owner;
-  group = group;
-  list = set_mode [] kind mode;
-  high = 0;
-  change = number;
-  time_modify = epoch;
-  time_metadata = epoch;
-  stamp = number;
-}
+sample_object number kind bytes owner group mode = new_object kind bytes owner group (set_mode [] kind mode) 0 number (from_start number)
 
 -- modes 0755, 0640 and 0777
 abbrev pub sample : World

@@ -4,8 +4,7 @@ use Rattle.std.specs.Option.{option_map}
 use Rattle.acl_list.specs.declared.entry.Kind.{Kind}
 use Rattle.acl_list.specs.declared.entry.Kind.TheVariants.{File, Directory, Link}
 use Rattle.acl_shape.specs.Bounds.{IsBounded}
-use Rattle.nfs_types.specs.declared.name.TheConstants.{MAX_NAME}
-use Rattle.node_tree.specs.Limits.{ROOT, MAX_BYTES, MAX_TEXT, MAX_NAMES, MAX_OBJECTS, MAX_LINKS}
+use Rattle.node_tree.specs.Limits.{ROOT, MAX_BYTES, MAX_TEXT, MAX_NAME, MAX_NAMES, MAX_OBJECTS, MAX_LINKS}
 use Rattle.node_tree.specs.World.{World, Object, Name, object, kind_of, name_count, link_count}
 
 -- the name is one of these

@@ -1,6 +1,6 @@
 -- The world of a file server: objects by number, names by cookie, and the counters (RFC 8881, sections 4.2, 5.8 and 18.23).
 -- An object has no path. A directory holds no names itself: they stand beside the objects.
-use Rattle.std.specs.Prelude.{ℕ, Bool, false, ◌==◌, ◌&&◌, nat_lt, nat_eq, if◌then◌else◌, List, [], count_by, find, take, drop, Option, None}
+use Rattle.std.specs.Prelude.{ℕ, Bool, false, ◌==◌, ◌&&◌, nat_lt, nat_eq, if◌then◌else◌, List, [], length, count_by, filter, find, take, drop, Option, Some, None}
 use Rattle.std.specs.List.{list_any}
 use Rattle.std.specs.Option.{option_map, option_map_or}
 use Rattle.std.specs.Map.{lookup}
@@ -53,8 +53,12 @@ object w number = lookup (is_at (nat_cmp number)) w.objects
 abbrev pub kind_of : World → ℕ → Option Kind
 kind_of w number = option_map (λ o. o.kind) (object w number)
 
+-- whether the number is a directory's, by the kinds of objects
+abbrev pub is_directory_in : (ℕ → Option Kind) → ℕ → Bool
+is_directory_in kinds number = option_map_or is_directory (kinds number) false
+
 abbrev pub is_directory_at : World → ℕ → Bool
-is_directory_at w number = option_map_or (λ o. is_directory o.kind) (object w number) false
+is_directory_at w number = is_directory_in (kind_of w) number
 
 -- the bytes of a file, or the text of a link
 abbrev pub bytes_of : World → ℕ → List ℕ
@@ -70,9 +74,23 @@ bytes_at w number offset count = take count (drop offset (bytes_of w number))
 abbrev pub is_named : ℕ → List ℕ → Name → Bool
 is_named directory name n = (n.directory == directory) && pointwise nat_eq n.name name
 
+-- the names that stand in a directory, by rising cookie
+abbrev pub names_in : List Name → ℕ → List Name
+names_in names directory = filter (λ n. n.directory == directory) names
+
+-- the child of a name, by the names that stand in a directory
+abbrev pub child_in : List Name → List ℕ → Option ℕ
+child_in names name = option_map (λ n. n.child) (find (λ n. pointwise nat_eq n.name name) names)
+
 -- the child of a name in a directory
 abbrev pub child_named : World → ℕ → List ℕ → Option ℕ
-child_named w directory name = option_map (λ n. n.child) (find (is_named directory name) w.names)
+child_named w directory name = child_in (names_in w.names directory) name
+
+-- whether two names lead to one object, by the children of both
+abbrev pub is_one : Option ℕ → Option ℕ → Bool
+is_one (Some child) (Some target) = child == target
+is_one (Some child) None = false
+is_one None target = false
 
 -- the next name of a directory, by rising cookie
 abbrev pub name_after : World → ℕ → ℕ → Option Name
@@ -80,7 +98,7 @@ name_after w directory cookie = find (λ n. (n.directory == directory) && nat_lt
 
 -- how many names a directory has
 abbrev pub name_count : List Name → ℕ → ℕ
-name_count names directory = count_by (λ n. n.directory == directory) names
+name_count names directory = length (names_in names directory)
 
 -- whether a directory has names
 abbrev pub has_entries : List Name → ℕ → Bool

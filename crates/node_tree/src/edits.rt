@@ -5,7 +5,7 @@ ghost use Rattle.std.specs.Map.{lookup};
 ghost use Rattle.std.specs.BTreeMap.{is_at};
 ghost use Rattle.std.specs.Ordering.{nat_cmp};
 ghost use Rattle.std.specs.Vec.{vec_len, vec_capacity};
-ghost use Rattle.node_tree.specs.World.{has_name};
+ghost use Rattle.node_tree.specs.World.{is_named, has_name};
 ghost use Rattle.node_tree.specs.Changes.{changed, touched, retold, without, released, other_names, written, resized};
 
 use crate::at::At;
@@ -47,6 +47,16 @@ pub fn has_name<A: Allocator>(names: &[DirEntry<A>], number: u64) -> bool
     ensures { result ≡ has_name names.now number }
 {
     names.iter().any(|entry| entry.child() == number)
+}
+
+/// The child of a name in a directory.
+pub fn child_of<A: Allocator>(names: &[DirEntry<A>], directory: u64, name: &[u8]) -> Option<u64>
+    ensures { result ≡ option_map (λ n. n.child) (find (is_named directory name.now) names.now) }
+{
+    names
+        .iter()
+        .find(|entry| entry.is_named(directory, name))
+        .map(|entry| entry.child())
 }
 
 /// The directory of the first name that an object has.

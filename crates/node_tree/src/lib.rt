@@ -20,7 +20,7 @@ pub use at::{At, EPOCH};
 pub use entry::DirEntry;
 pub use fault::TreeFault;
 pub use laws::way_up_tells_what_lies_below;
-pub use limits::{MAX_BYTES, MAX_LINKS, MAX_NAMES, MAX_OBJECTS, MAX_TEXT, ROOT};
+pub use limits::{MAX_BYTES, MAX_LINKS, MAX_NAMES, MAX_OBJECTS, MAX_TEXT, ROOT, most_bytes};
 pub use nfs_types::Moment;
 pub use node::{NewObject, Node};
 pub use tree::Tree;

@@ -1,4 +1,8 @@
 //! How much a tree holds.
+ghost use Rattle.std.specs.Prelude.{◌≡◌};
+ghost use Rattle.node_tree.specs.Sound.{most_bytes};
+
+use acl_list::Kind;
 
 /// The number of the root: the directory that every other lies below.
 pub const ROOT: u64 = 1;
@@ -17,3 +21,14 @@ pub const MAX_OBJECTS: usize = 16_384;
 
 /// The most names of an object, the attribute `maxlink`.
 pub const MAX_LINKS: usize = 1000;
+
+/// The most bytes of an object: those of a file, or of a link's text. A directory has none.
+pub fn most_bytes(kind: Kind) -> u64
+    ensures { result ≡ most_bytes kind }
+{
+    match kind {
+        Kind::File => MAX_BYTES,
+        Kind::Directory => 0,
+        Kind::Link => MAX_TEXT,
+    }
+}

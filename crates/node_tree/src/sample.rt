@@ -1,5 +1,6 @@
 //! The sample tree.
 ghost use Rattle.std.specs.Prelude.{◌≡◌, IfOk, [], codes};
+ghost use Rattle.node_tree.specs.Limits.{ROOT};
 ghost use Rattle.node_tree.specs.Sample.{sample, sample_object};
 
 use crate::at::from_start;

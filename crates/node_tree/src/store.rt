@@ -2,15 +2,15 @@
 //! whatever they are; whether they are a tree is for [`crate::Tree`] to see to.
 ghost use Rattle.std.specs.Prelude.{◌≡◌, ◌+◌, ◌-◌, ◌<◌, ◌≤◌, ◌^◌, ◌&&◌, ◌++◌, ℕ, nat_le, nat_lt, if◌then◌else◌, slice_index, length, drop, filter, not, OnOk, OnErr, IfOk, IsOk};
 ghost use Rattle.std.specs.Option.{option_copied};
-ghost use Rattle.node_tree.specs.World.{object, bytes_of, bytes_at, child_named, name_after, is_named, is_directory_at, has_name, has_entries, name_count, link_count, parent_of};
+ghost use Rattle.node_tree.specs.World.{object, kind_of, bytes_of, bytes_at, child_named, name_after, is_named, is_directory_at, has_name, has_entries, name_count, link_count, parent_of};
 ghost use Rattle.node_tree.specs.Ways.{is_within};
 ghost use Rattle.node_tree.specs.Changes.{alone, made, changed, touched, retold, without, released, other_names, written, resized, with_new, with_link, without_name, with_move, with_bytes, with_size, with_list, with_owner};
-ghost use Rattle.node_tree.specs.Refusals.{add_refusal, link_refusal, has_left, has_room, goes_below_itself, may_replace, place_refusal, replace_refusal, move_refusal, rename_refusal};
+ghost use Rattle.node_tree.specs.Refusals.{add_refusal, link_refusal, has_left, has_room, has_object_room, may_link, may_name, may_add, is_below, may_replace, may_move, move_refusal, rename_refusal};
 
 use crate::at::At;
 use crate::edits;
 use crate::edits::{
-    directory_of, has_name, move_child, release, remove_name, remove_names, retell, touch,
+    child_of, directory_of, has_name, move_child, release, remove_name, remove_names, retell, touch,
 };
 use crate::entry::DirEntry;
 use crate::fault::TreeFault;
@@ -71,13 +71,11 @@ impl<A: Allocator + Copy> Store<A> {
     }
 
     /// The child of a name in a directory.
+    #[tactic(auto, using(crate::proofs::Names::child_sought))]
     pub fn find(&self, directory: u64, name: &[u8]) -> Option<u64>
         ensures { result ≡ child_named self.now directory name.now }
     {
-        self.names
-            .iter()
-            .find(|entry| entry.is_named(directory, name))
-            .map(|entry| entry.child())
+        child_of(&self.names, directory, name)
     }
 
     /// The next name of a directory, by rising cookie.
@@ -144,18 +142,25 @@ impl<A: Allocator + Copy> Store<A> {
     }
 }
 
-// Whether there is room.
+// Whether there is space.
 impl<A: Allocator + Copy> Store<A> {
     /// Whether a directory has room for a name more.
     pub fn has_room(&self, directory: u64) -> bool
-        ensures { result ≡ has_room self.now.names directory }
+        ensures { result ≡ has_room (name_count self.now.names directory) }
     {
         self.name_count(directory) < MAX_NAMES
     }
 
+    /// Whether an object may have a name more.
+    pub fn may_link(&self, number: u64) -> bool
+        ensures { result ≡ may_link (link_count self.now.names number) }
+    {
+        self.link_count(number) < MAX_LINKS
+    }
+
     /// Whether there is room for an object more.
     pub fn has_object_room(&self) -> bool
-        ensures { result ≡ nat_lt (length self.now.objects) MAX_OBJECTS }
+        ensures { result ≡ has_object_room (length self.now.objects) }
     {
         self.objects.len() < MAX_OBJECTS
     }
@@ -172,6 +177,20 @@ impl<A: Allocator + Copy> Store<A> {
         ensures { result ≡ has_left self.now.next_cookie }
     {
         self.next_cookie < END
+    }
+
+    /// Whether a directory may have a name more.
+    pub fn may_name(&self, directory: u64) -> bool
+        ensures { result ≡ may_name (name_count self.now.names directory) self.now.next_cookie }
+    {
+        self.has_room(directory) && self.has_cookie()
+    }
+
+    /// Whether a directory may have a new object under a name more.
+    pub fn may_add(&self, directory: u64) -> bool
+        ensures { result ≡ may_add (name_count self.now.names directory) (length self.now.objects) self.now.next_number self.now.next_stamp self.now.next_cookie }
+    {
+        self.has_room(directory) && self.has_object_room() && self.has_counters()
     }
 
     /// The tick of the next operation that changes anything.
@@ -198,7 +217,7 @@ impl<A: Allocator + Copy> Store<A> {
         if self.find(directory, name).is_some() {
             return Some(TreeFault::Exist);
         }
-        if self.has_room(directory) && self.has_object_room() && self.has_counters() {
+        if self.may_add(directory) {
             return None;
         }
         Some(TreeFault::NoSpc)
@@ -211,26 +230,29 @@ impl<A: Allocator + Copy> Store<A> {
         if self.find(directory, name).is_some() {
             return Some(TreeFault::Exist);
         }
-        if self.link_count(number) >= MAX_LINKS {
+        if !self.may_link(number) {
             return Some(TreeFault::MLink);
         }
-        if self.has_room(directory) && self.has_cookie() {
+        if self.may_name(directory) {
             return None;
         }
         Some(TreeFault::NoSpc)
     }
 
-    /// Whether a directory would come to lie below itself, or in itself.
-    pub fn goes_below_itself(&self, child: u64, to: u64) -> bool
-        ensures { result ≡ goes_below_itself self.now child to }
+    /// Whether a child is a directory that another directory is, or lies below.
+    pub fn is_below(&self, child: u64, directory: u64) -> bool
+        ensures { result ≡ is_below (kind_of self.now) (parent_of self.now) self.now.next_number child directory }
     {
-        self.is_directory(child) && self.is_within(child, to)
+        self.is_directory(child) && self.is_within(child, directory)
     }
 
-    /// Whether a child may take the name of a target.
-    pub fn may_replace(&self, child: u64, target: u64) -> bool
-        ensures { result ≡ may_replace self.now child target }
+    /// Whether a child may take a name that a target has, or none.
+    pub fn may_replace(&self, child: u64, target: Option<u64>) -> bool
+        ensures { result ≡ may_replace (kind_of self.now) (has_entries self.now.names) child target }
     {
+        let Some(target) = target else {
+            return true;
+        };
         if self.is_directory(child) {
             self.is_directory(target) && !self.has_entries(target)
         } else {
@@ -238,36 +260,14 @@ impl<A: Allocator + Copy> Store<A> {
         }
     }
 
-    /// Why a child may not come under a name that nothing has.
-    pub fn place_fault(&self, from: u64, to: u64, child: u64) -> Option<TreeFault>
-        ensures { result ≡ place_refusal self.now from to child }
+    /// Whether there is space for a child's new name, which a target has or none.
+    pub fn may_move(&self, from: u64, to: u64, target: Option<u64>) -> bool
+        ensures { result ≡ may_move (name_count self.now.names to) self.now.next_cookie from to target }
     {
-        if self.goes_below_itself(child, to) {
-            return Some(TreeFault::Inval);
+        match target {
+            Some(_) => self.has_cookie(),
+            None => (from == to || self.has_room(to)) && self.has_cookie(),
         }
-        if (from == to || self.has_room(to)) && self.has_cookie() {
-            return None;
-        }
-        Some(TreeFault::NoSpc)
-    }
-
-    /// Why a child may not come under the name of a target.
-    pub fn replace_fault(&self, to: u64, child: u64, target: u64) -> Option<TreeFault>
-        ensures { result ≡ replace_refusal self.now to child target }
-    {
-        if child == target {
-            return None;
-        }
-        if self.goes_below_itself(child, to) {
-            return Some(TreeFault::Inval);
-        }
-        if !self.may_replace(child, target) {
-            return Some(TreeFault::Exist);
-        }
-        if self.has_cookie() {
-            return None;
-        }
-        Some(TreeFault::NoSpc)
     }
 
     /// Why a child may not come under another name, which a target has or none.
@@ -280,10 +280,19 @@ impl<A: Allocator + Copy> Store<A> {
     ) -> Option<TreeFault>
         ensures { result ≡ move_refusal self.now from to child target }
     {
-        match target {
-            Some(target) => self.replace_fault(to, child, target),
-            None => self.place_fault(from, to, child),
+        if target == Some(child) {
+            return None;
         }
+        if self.is_below(child, to) {
+            return Some(TreeFault::Inval);
+        }
+        if !self.may_replace(child, target) {
+            return Some(TreeFault::Exist);
+        }
+        if self.may_move(from, to, target) {
+            return None;
+        }
+        Some(TreeFault::NoSpc)
     }
 
     /// Why the child of a name may not get another name.

@@ -2,6 +2,7 @@
 ghost use Rattle.std.specs.Prelude.{◌≡◌, ◌≢◌, ◌<◌, ◌≤◌, ◌^◌, ◌++◌, [], length, drop, MatchOption, OnOk, OnErr, IfOk, IsOk, IsOkUnless, IfSome, IsSome, Some};
 ghost use Rattle.std.specs.Option.{option_copied};
 ghost use Rattle.acl_shape.specs.Bounds.{IsBounded};
+ghost use Rattle.node_tree.specs.Limits.{ROOT, MAX_NAME, MAX_LINKS};
 ghost use Rattle.node_tree.specs.World.{object, kind_of, bytes_of, bytes_at, child_named, name_after, has_entries, link_count, parent_of};
 ghost use Rattle.node_tree.specs.Changes.{alone, root_of, made, with_new, with_link, unlinked, renamed, with_write, with_size, with_list, with_owner};
 ghost use Rattle.node_tree.specs.Refusals.{add_refusal, link_refusal, unlink_refusal, rename_refusal, write_refusal, resize_refusal};
@@ -74,7 +75,7 @@ impl<A: Allocator + Copy> Tree<A> {
     /// How many names an object has: none the root, one each other directory.
     pub fn links(&self, number: u64) -> usize
         ensures value { result ≡ link_count self.now.names number }
-        ensures few { result ≤ 1000 }
+        ensures few { result ≤ MAX_LINKS }
     {
         self.store.link_count(number)
     }
@@ -182,7 +183,7 @@ impl<A: Allocator + Copy> Tree<A> {
     ) -> Result<u64, TreeFault>
         requires tick { IsTick self.old at.tick }
         requires live { kind_of self.old directory ≡ Some Kind.Directory }
-        requires short { length name.now ≤ 255 }
+        requires short { length name.now ≤ MAX_NAME }
         requires bounded { IsBounded new.list }
         requires bytes { length new.bytes.items ≤ most_bytes new.kind }
         ensures refused { MatchOption (add_refusal self.old directory name.now) (IsOkUnless result TreeFault.Memory) (λ fault. result ≡ Err fault) }
@@ -214,7 +215,7 @@ impl<A: Allocator + Copy> Tree<A> {
         requires live { kind_of self.old directory ≡ Some Kind.Directory }
         requires there { IsSome (object self.old number) }
         requires plain { kind_of self.old number ≢ Some Kind.Directory }
-        requires short { length name.now ≤ 255 }
+        requires short { length name.now ≤ MAX_NAME }
         ensures refused { MatchOption (link_refusal self.old directory name.now number) (IsOkUnless result TreeFault.Memory) (λ fault. result ≡ Err fault) }
         ensures ok { OnOk result (self.new ≡ with_link self.old directory name.now number at) }
         ensures err { OnErr result (self.new ≡ self.old) }
@@ -276,7 +277,7 @@ impl<A: Allocator + Copy> Tree<A> {
     ) -> Result<(), TreeFault>
         requires tick { IsTick self.old at.tick }
         requires live { kind_of self.old to ≡ Some Kind.Directory }
-        requires short { length new.now ≤ 255 }
+        requires short { length new.now ≤ MAX_NAME }
         ensures refused { MatchOption (rename_refusal self.old from old.now to new.now) (IsOkUnless result TreeFault.Memory) (λ fault. result ≡ Err fault) }
         ensures same { IfSome (child_named self.old from old.now) (λ child. child_named self.old to new.now ≡ Some child → IsOk result) }
         ensures ok { OnOk result (self.new ≡ renamed self.old from old.now to new.now at) }

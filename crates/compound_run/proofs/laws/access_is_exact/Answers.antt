@@ -5,9 +5,7 @@ use Rattle.nfs_types.specs.declared.status.Status.TheVariants as statuses
 use Rattle.nfs_ops.specs.Results.{Outcome}
 use Rattle.compound_run.specs.Sight.{whole}
 use Rattle.compound_run.specs.Questions.{told}
-use Rattle.compound_run.specs.Operations.{meaning}
 use Rattle.compound_run.proofs.Exactly.{refused_by_row, by_row, ends_in_refusal}
-use Rattle.compound_run.proofs.Statuses.{meaning_apart}
 use Rattle.compound_run.proofs.laws.access_is_exact.Goals as goal
 
 -- what is told is the failure
@@ -16,11 +14,11 @@ told_failure None o h = cc
 told_failure (Some status) o h = cc
 
 pub returns-clause-exact : goal.returns-clause-exact
-returns-clause-exact c caller w p op = (
-  λ told. refused_by_row caller (whole w) (meaning p op).questions (meaning_apart p op) (told_failure _ _ told),
-  λ row. ap (λ f. told f ((meaning p op).answer (whole w))) (by_row caller (whole w) (meaning p op).questions row.demands row.first),
+returns-clause-exact c m r = (
+  λ told. refused_by_row m.caller (whole r) m.questions (told_failure _ _ told),
+  λ row. ap (λ f. told f (m.answer (whole r))) (by_row m.caller (whole r) m.questions row.demands row.first),
 )
 
 pub returns-clause-told : goal.returns-clause-told
-returns-clause-told c caller w p op told =
-    let e = ends_in_refusal caller (meaning p op).number (whole w) (meaning p op).questions (meaning_apart p op) (told_failure _ _ told) in (e.row, e.ends)
+returns-clause-told c m r told =
+    let e = ends_in_refusal m.caller m.number (whole r) m.questions (told_failure _ _ told) in (e.row, e.ends)

@@ -1,5 +1,5 @@
-use Rattle.compound_run.proofs.Exempt.{exempt_never}
+use Rattle.compound_run.proofs.Ending.{never_delayed}
 use Rattle.compound_run.proofs.laws.others_never_delay.Goals as goal
 
 pub returns : goal.returns
-returns c caller w p op exempt = exempt_never p op caller w exempt
+returns c = never_delayed

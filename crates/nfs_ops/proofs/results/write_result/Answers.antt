@@ -353,13 +353,13 @@ pub returns-in-ReclaimComplete-clause-fits : goal.returns-in-ReclaimComplete-cla
 returns-in-ReclaimComplete-clause-fits g c = rw c.in-ReclaimComplete.is (λ room. fits _ _ _ c.write-in-ReclaimComplete.result 8 c.write-in-ReclaimComplete.ensures.puts (omega arith) room)
 
 pub returns-in-Refused-clause-has_spelling : goal.returns-in-Refused-clause-has_spelling
-returns-in-Refused-clause-has_spelling g c = rw (c.in-Refused.is, sym c.refusal.ensures) c.write_refusal.ensures.has_spelling
+returns-in-Refused-clause-has_spelling g c = rw c.in-Refused.is c.write_refusal.ensures.has_spelling
 
 pub returns-in-Refused-clause-in_normal_form : goal.returns-in-Refused-clause-in_normal_form
-returns-in-Refused-clause-in_normal_form g c = rw (c.in-Refused.is, sym c.refusal.ensures) c.write_refusal.ensures.in_normal_form
+returns-in-Refused-clause-in_normal_form g c = rw c.in-Refused.is c.write_refusal.ensures.in_normal_form
 
 pub returns-in-Refused-clause-puts : goal.returns-in-Refused-clause-puts
-returns-in-Refused-clause-puts g c = rw (c.in-Refused.is, sym c.refusal.ensures) c.write_refusal.ensures.puts
+returns-in-Refused-clause-puts g c = rw c.in-Refused.is c.write_refusal.ensures.puts
 
 pub returns-in-Refused-clause-fits : goal.returns-in-Refused-clause-fits
-returns-in-Refused-clause-fits g c = rw (c.in-Refused.is, sym c.refusal.ensures) c.write_refusal.ensures.fits
+returns-in-Refused-clause-fits g c = rw c.in-Refused.is c.write_refusal.ensures.fits

@@ -1,14 +1,22 @@
 use Rattle.std.proofs.Common.{rules}
 use Rattle.nfs_ops.specs.OpViews.{op_view}
-use Rattle.compound_run.specs.Operations.{body, may_delay, is_run}
-use Rattle.compound_run.specs.Runs.{place, point_at}
-use Rattle.compound_run.specs.Views.{view, sender_of}
-use Rattle.compound_run.proofs.Rooms.{in_time}
+use Rattle.compound_run.specs.Operations.{body, takes_memory, entry_fault, entry_may}
+use Rattle.compound_run.specs.Views.{context_of}
+use Rattle.compound_run.proofs.Entering.{enters_so, roomy, stops_so}
 use Rattle.compound_run.proofs.export.Export.answer.Goals as goal
 
-pub returns-clause-answers : goal.returns-clause-answers
-returns-clause-answers g c =
+pub returns-in-Some : goal.returns-in-Some
+returns-in-Some g c =
+    let context = context_of c.args.context in
     let op = op_view c.args.op.now in
-    let p = place (sender_of c.args.turn) c.args.files.now c.args.turn.room in
-    in_time (may_delay op) (is_run op) p (body p op) (sender_of c.args.turn) (point_at c.args.self.now.tree c.args.files.now) (view c.body.result) (point_at c.body.new.self.tree c.body.new.files)
+    stops_so (takes_memory op) (entry_fault context op) (entry_may context op) c.args.context.room (body context c.args.handles.now op) c.args.self.now c.args.handles.now c.args.out.now c.in-Some.fault (search rules)
+
+pub body-requires-clause-room : goal.body-requires-clause-room
+body-requires-clause-room g c = roomy c.args.context (op_view c.args.op.now) c.args.out.now (search rules) c.requires.room
+
+pub returns : goal.returns
+returns g c =
+    let context = context_of c.args.context in
+    let op = op_view c.args.op.now in
+    enters_so (takes_memory op) (entry_fault context op) (entry_may context op) c.args.context.room (body context c.args.handles.now op) c.args.self.now c.args.handles.now c.args.out.now c.body.result c.body.new.self c.body.new.handles c.body.new.out
     (search rules) c.body.ensures

@@ -1,6 +1,6 @@
 use Rattle.std.proofs.Common.{◌∙◌, ap}
 use Rattle.compound_run.specs.Views.{is_inval}
-use Rattle.compound_run.proofs.Bridges.{inval_is_below}
+use Rattle.compound_run.proofs.Refused.{inval_is_below}
 use Rattle.compound_run.proofs.export.Export.is_below.Goals as goal
 
 pub returns : goal.returns

@@ -1,7 +1,7 @@
 use Rattle.std.proofs.Common.{◌∙◌, ap}
 use Rattle.std.specs.Prelude.{not}
 use Rattle.compound_run.specs.Views.{is_exist}
-use Rattle.compound_run.proofs.Bridges.{exist_is_taken}
+use Rattle.compound_run.proofs.Refused.{exist_is_taken}
 use Rattle.compound_run.proofs.export.Export.may_replace.Goals as goal
 
 pub returns : goal.returns

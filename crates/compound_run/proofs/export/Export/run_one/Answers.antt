@@ -1,50 +1,40 @@
-use Rattle.std.proofs.Common.{rules, refl, ◌-◌, arith}
+use Rattle.std.proofs.Common.{rules, ℕ, arith, ap, length, subst}
 use Rattle.std.specs.Prelude.{Ok, Err}
-use Rattle.xdr_wire.specs.Buffer.{Appends}
-use Rattle.nfs_ops.specs.Items.{item_spelling, ItemHasSpelling}
-use Rattle.nfs_ops.specs.Operations.{number_of}
+use Rattle.xdr_wire.specs.Buffer.{Buffer, Appends}
+use Rattle.nfs_types.specs.declared.status.Status.{Status}
 use Rattle.nfs_ops.specs.OpViews.{op_view}
-use Rattle.nfs_ops.specs.Results.{outcome_item, refused, refusal}
-use Rattle.nfs_ops.specs.ResultViews.{result_view}
-use Rattle.compound_run.specs.Runs.{point_at}
-use Rattle.compound_run.specs.Views.{sender_from}
-use Rattle.compound_run.proofs.Bounds.{result_fits, stays_within, refusal_within, refused_is_refusal, le_trans}
+use Rattle.compound_run.specs.Sight.{whole}
+use Rattle.compound_run.specs.Operations.{meaning}
+use Rattle.compound_run.specs.Runs.{Given, result_bytes}
+use Rattle.compound_run.specs.Views.{context_of, realm_of}
 use Rattle.compound_run.proofs.export.Export.run_one.Goals as goal
 
 pub returns-in-Ok-clause-gives : goal.returns-in-Ok-clause-gives
 returns-in-Ok-clause-gives g c =
-    let o = result_view c.in-Ok.result in
-    let item = item_spelling (outcome_item o) in
-    let room = c.args.limit - c.len.result - 16 in
-    let fits = result_fits (sender_from c.args.sent) room (op_view c.args.op.now) (point_at c.args.self.now.tree c.args.files.now) o (point_at c.run.new.self.tree c.run.new.files) c.in-Ok.ensures.steps in
-    let appends : Appends c.args.results.now c.write_result.new.writer item = search rules in
-    let spelled : ItemHasSpelling (outcome_item o) = search rules in
-    let bounded = c.results_are_bounded.ensures o spelled in
-    let within = stays_within c.args.results.now c.write_result.new.writer item c.args.limit room appends (le_trans bounded fits) (search rules) c.requires.left in
+    let gives = c.in-Ok.ensures.gives in
     record {
-      given = record { number = number_of (op_view c.args.op.now); outcome = Ok (result_view c.in-Ok.result) };
-      number = refl;
-      steps = search rules;
-      written = search rules;
-      left = within;
-      within = omega (arith, within);
-      tells = search rules;
+      outcome = Ok ((meaning (context_of c.args.context) c.args.handles.now (op_view c.args.op.now)).answer (whole (realm_of c.args.self.now)));
+      steps = gives.answered;
+      written = gives.written;
+      fits = gives.within;
+      within = omega (arith, gives.within);
+      tells = tt;
     }
+
+-- the operation of this number is refused
+abbrev refusal_at : ℕ → Status → Given
+refusal_at number status = record { number = number; outcome = Err status }
 
 pub returns-in-Err-clause-gives : goal.returns-in-Err-clause-gives
 returns-in-Err-clause-gives g c =
-    let o = refused (number_of (op_view c.args.op.now)) (refusal c.in-Err.status) in
-    let item = item_spelling (outcome_item o) in
-    let appends : Appends c.args.results.now c.write_result-in-Err.new.writer item = search rules in
-    let spelled : ItemHasSpelling (outcome_item o) = search rules in
-    let bounded = c.results_are_bounded.ensures o spelled in
-    let short = c.refusals_are_short.ensures o (refused_is_refusal (number_of (op_view c.args.op.now)) (refusal c.in-Err.status)) in
+    let gives = c.in-Err.ensures.gives in
+    let long = ap (λ (b : Buffer). length b.bytes) gives.unwritten in
     record {
-      given = record { number = number_of (op_view c.args.op.now); outcome = Err c.in-Err.status };
-      number = refl;
-      steps = search rules;
-      written = search rules;
-      left = search rules;
-      within = refusal_within c.args.results.now c.write_result-in-Err.new.writer item c.args.limit appends (le_trans bounded short) c.requires.left;
+      outcome = Err c.in-Err.status;
+      steps = gives.answered;
+      written = subst (λ (n : ℕ). Appends c.args.out.now c.put_refusal.new.out (result_bytes (refusal_at n c.in-Err.status))) c.number.ensures
+          (subst (λ (b : Buffer). Appends b c.put_refusal.new.out (result_bytes (refusal_at c.number.result c.in-Err.status))) gives.unwritten c.put_refusal.ensures.written);
+      fits = tt;
+      within = omega (arith, long, c.put_refusal.ensures.within);
       tells = search rules;
     }

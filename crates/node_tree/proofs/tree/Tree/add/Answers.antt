@@ -1,15 +1,15 @@
 use Rattle.std.proofs.Common.{refl, arith, ◌<◌, ◌+◌}
-use Rattle.node_tree.proofs.Adding.{may_add, IsSound-with_new, KeepsJudged-with_new}
+use Rattle.node_tree.proofs.Adding.{unrefused_add, IsSound-with_new, KeepsJudged-with_new}
 use Rattle.node_tree.proofs.tree.Tree.add.Goals as goal
 
 pub add-requires : goal.add-requires
 add-requires g c =
-    let may = may_add c.self.inside.store c.args.directory c.args.name.now c.in_default.ensures in
+    let may = unrefused_add c.self.inside.store c.args.directory c.args.name.now c.in_default.ensures in
     record { ticks = c.requires.tick.left; numbers = may.number; stamps = may.stamp; cookies = may.cookie }
 
 pub invariant_of-self-2 : goal.invariant_of-self-2
 invariant_of-self-2 g c =
-    let may = may_add c.self.inside.store c.args.directory c.args.name.now c.in_default.ensures in
+    let may = unrefused_add c.self.inside.store c.args.directory c.args.name.now c.in_default.ensures in
     let due : c.args.at.tick < c.args.at.tick + 1 = omega arith in
     rw c.in_ok-add.ensures.ok
     (IsSound-with_new _ c.self.invariant _ _ _ _ (rw c.self.view_is c.requires.tick) (rw c.self.view_is c.requires.live) may.none c.requires.short

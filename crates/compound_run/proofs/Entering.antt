@@ -1,0 +1,89 @@
+-- An operation behind its place and its room.
+use Rattle.std.proofs.Common.{◌≡◌, ℕ, ◌+◌, ◌≤◌, Bool, true, false, ◌&&◌, cond, refl, sym, ap, append-nil, subst}
+use Rattle.std.specs.Prelude.{Option, Some, None, is_none, nat_lt, Result, Err}
+use Rattle.std.proofs.lemmas.Bool.{ltb-false}
+use Rattle.xdr_wire.specs.Buffer.{Buffer}
+use Rattle.nfs_types.specs.declared.status.Status.{Status}
+use Rattle.nfs_ops.specs.Results.{Outcome}
+use Rattle.nfs_ops.specs.Operations.{Operation}
+use Rattle.compound_run.specs.declared.context.Context as code
+use Rattle.compound_run.specs.declared.export.Export.{Export}
+use Rattle.compound_run.specs.declared.filehandles.FileHandles.{FileHandles}
+use Rattle.compound_run.specs.Limits.{MIN_ROOM, REFUSAL_ROOM}
+use Rattle.compound_run.specs.Faults.{IsFault, MayFault, first_fault}
+use Rattle.compound_run.specs.Meaning.{Meaning, too_big_for}
+use Rattle.compound_run.specs.Operations.{entered, entry_fault, place_fault, room_fault, is_run}
+use Rattle.compound_run.specs.Views.{GivesSo, HasRoom, IfRun, context_of, point_at, realm_of, told_as}
+use Rattle.compound_run.specs.Runs.{Point, Answered, waits}
+
+entered_freely : (takes : Bool) (may : MayFault None) (m : Meaning) (old : Point) (r : Result Outcome Status) (new : Point)
+    → Answered takes m waits old r new → Answered takes (entered None may m) waits old r new
+entered_freely takes may m old r new a = record {
+  outcome = a.outcome;
+  log = a.log;
+  trail_stays = a.trail_stays;
+  total_stays = a.total_stays;
+  realm = a.realm;
+  handles = a.handles;
+  realm_stays = a.realm_stays;
+  handles_stay = a.handles_stay;
+  capacity = a.capacity;
+}
+
+-- nothing is wrong with them
+enters : (takes : Bool) (fault : Option Status) (may : MayFault fault) (m : Meaning) (old : Point) (r : Result Outcome Status) (new : Point) → fault ≡ None
+    → Answered takes m waits old r new → Answered (takes && is_none fault) (entered fault may m) waits old r new
+enters true None may m old r new is a = entered_freely true may m old r new a
+enters false None may m old r new is a = entered_freely false may m old r new a
+enters takes (Some status) may m old r new is a = cc
+
+stopped : (status : Status) (is : IsFault status) (m : Meaning) (old : Point) → Answered false (entered (Some status) is m) waits old (Err status) old
+stopped status is m old = record {
+  outcome = refl;
+  log = ap (λ h. record old.log { held = h }) (sym (append-nil old.log.held));
+  trail_stays = λ d. refl;
+  total_stays = λ d. refl;
+  realm = tt;
+  handles = tt;
+  realm_stays = refl;
+  handles_stay = refl;
+  capacity = refl;
+}
+
+some_same : (a b : Status) → Some a ≡ Some b → a ≡ b
+some_same a b e = cc
+
+-- something is
+stops : (takes : Bool) (fault : Option Status) (may : MayFault fault) (m : Meaning) (old : Point) (status : Status) → fault ≡ Some status
+    → Answered (takes && is_none fault) (entered fault may m) waits old (Err status) old
+stops takes None may m old status is = cc
+stops true (Some other) may m old status is = subst (λ s. Answered false (entered (Some other) may m) waits old (Err s) old) (some_same other status is) (stopped other may m old)
+stops false (Some other) may m old status is = subst (λ s. Answered false (entered (Some other) may m) waits old (Err s) old) (some_same other status is) (stopped other may m old)
+
+-- ---- what the code gives
+
+pub enters_so : {A : Type 0} (takes : Bool) (fault : Option Status) (may : MayFault fault) (room : ℕ) (m : Meaning) (e : Export A) (h : FileHandles) (before : Buffer) (r : Result (Unit {0}) Status) (e' : Export A) (h' : FileHandles) (after : Buffer) → fault ≡ None
+    → GivesSo takes room m waits e h before r e' h' after → GivesSo (takes && is_none fault) room (entered fault may m) waits e h before r e' h' after
+enters_so takes fault may room m e h before r e' h' after is gives = record {
+  answered = enters takes fault may m (point_at e h) (told_as m (realm_of e) r) (point_at e' h') is gives.answered;
+  written = gives.written;
+  within = gives.within;
+  unwritten = gives.unwritten;
+}
+
+pub stops_so : {A : Type 0} (takes : Bool) (fault : Option Status) (may : MayFault fault) (room : ℕ) (m : Meaning) (e : Export A) (h : FileHandles) (before : Buffer) (status : Status) → fault ≡ Some status
+    → GivesSo (takes && is_none fault) room (entered fault may m) waits e h before (Err status) e h before
+stops_so takes fault may room m e h before status is = record { answered = stops takes fault may m (point_at e h) status is; written = tt; within = tt; unwritten = refl }
+
+-- one that is run has room for its result
+pub roomy : (c : code.Context) (op : Operation) (out : Buffer) → entry_fault (context_of c) op ≡ None → c.room + REFUSAL_ROOM ≤ out.room → IfRun (is_run op) (HasRoom c out)
+roomy c op out none room = of (is_run op) (nat_lt c.room MIN_ROOM) refl (second (place_fault op) (room_fault (context_of c) op) none)
+  where
+    second : (first more : Option Status) → first_fault first more ≡ None → more ≡ None
+    second None more h = h
+    second (Some status) more h = cc
+
+    of : (run small : Bool) → nat_lt c.room MIN_ROOM ≡ small → cond (run && small) (Some (too_big_for c.calling)) None ≡ None → IfRun run (HasRoom c out)
+    of false small is none = tt
+    of true false is none = (ltb-false c.room MIN_ROOM is, room)
+    of true true is none = cc

@@ -1,0 +1,125 @@
+-- What is wrong with a name, a filehandle or attributes is a fault: neither ACCESS nor DELAY, nor OK.
+use Rattle.std.specs.Prelude.{ℕ, ◌==◌, ◌&&◌, Bool, true, false, cond, not, is_none, nat_lt, List, [], ◌∷◌, length, map, take, Option, Some, None, Result, Ok, Err, slice_get, ◌||◌}
+use Rattle.std.specs.List.{list_any, filter_map, cons_option}
+use Rattle.std.specs.Str.{is_utf8}
+use Rattle.xdr_wire.specs.Xdr.{Value}
+use Rattle.xdr_wire.specs.Reading.{are_zero}
+use Rattle.acl_list.specs.Kinds.{kind_of}
+use Rattle.acl_list.specs.declared.entry.Entry.{Entry}
+use Rattle.acl_list.specs.declared.entry.Kind.{Kind}
+use Rattle.acl_list.specs.declared.flag.TheConstants as flag
+use Rattle.acl_list.specs.declared.mask.TheConstants as mask
+use Rattle.acl_shape.specs.Admitted.{admitted}
+use Rattle.acl_shape.specs.Admitted as lists
+use Rattle.acl_shape.specs.Mode.{without}
+use Rattle.acl_shape.specs.declared.request.AdmitFault.{AdmitFault}
+use Rattle.acl_shape.specs.declared.request.AdmitFault.TheVariants as faults
+use Rattle.acl_shape.specs.declared.request.Raw.{Raw}
+use Rattle.who_book.specs.Content.{Content}
+use Rattle.who_book.specs.Spelling.{principal_in}
+use Rattle.who_book.specs.declared.kind.NameKind.{NameKind}
+use Rattle.who_book.specs.declared.kind.NameKind.TheVariants as names
+use Rattle.nfs_types.specs.declared.status.Status.{Status}
+use Rattle.nfs_types.specs.Name.{name_fault, separates, is_dots}
+use Rattle.nfs_types.specs.Handles.{object_of}
+use Rattle.nfs_types.specs.Attributes.{ace, is_within, supported_words, settable_words}
+use Rattle.nfs_types.specs.Sent.{Sent, ◌>>◌, raw_of, unless, taken_list, taken_mode, taken_name, taken_plain, taken, known, spelled, whole, sent_at, wanted_of}
+use Rattle.compound_run.specs.Faults.{MayFault, IsValueOrFault}
+
+-- ---- names
+
+either : (b : Bool) (first second : Option Status) → MayFault first → MayFault second → MayFault (cond b first second)
+either true first second f s = f
+either false first second f s = s
+
+pub name_may : (name : List ℕ) → MayFault (name_fault name)
+name_may name =
+    either (length name == 0) _ _ tt (either (nat_lt 255 (length name)) _ _ tt (either (not (is_utf8 name)) _ _ tt
+    (either (list_any separates name) _ _ tt (either (is_dots name) _ _ tt tt))))
+
+-- ---- filehandles
+
+choose : {A : Type 0} (b : Bool) (first second : Result A Status) → IsValueOrFault first → IsValueOrFault second → IsValueOrFault (cond b first second)
+choose true first second f s = f
+choose false first second f s = s
+
+pub object_may : (handle : List ℕ) → IsValueOrFault (object_of handle)
+object_may handle = choose ((length handle == 16) && are_zero (take 8 handle)) _ _ tt tt
+
+-- ---- attributes
+
+bind : {A B : Type 0} (r : Result A Status) (f : A → Result B Status) → IsValueOrFault r → ((x : A) → IsValueOrFault (f x)) → IsValueOrFault (r >> f)
+bind (Ok x) f may more = more x
+bind (Err status) f may more = may
+
+-- no entry is refused for want of memory
+abbrev MayAdmit : Option AdmitFault → Type 0
+MayAdmit None = Unit {0}
+MayAdmit (Some faults.NoSpc) = Unit {0}
+MayAdmit (Some faults.AttrNotSupp) = Unit {0}
+MayAdmit (Some faults.Inval) = Unit {0}
+MayAdmit (Some faults.BadOwner) = Unit {0}
+MayAdmit (Some faults.Memory) = ⊥
+
+admits : (b : Bool) (first second : Option AdmitFault) → MayAdmit first → MayAdmit second → MayAdmit (cond b first second)
+admits true first second f s = f
+admits false first second f s = s
+
+entry_may : (raw : Raw) → MayAdmit (lists.fault_of raw)
+entry_may raw =
+    admits (is_none (kind_of raw.kind)) _ _ tt (admits (nat_lt flag.DEFINED raw.flags || not (without raw.mask mask.DEFINED == 0)) _ _ tt
+    (admits (is_none raw.who) _ _ tt tt))
+
+first_of : (fault : Option AdmitFault) (more : List AdmitFault) → MayAdmit fault → MayAdmit (slice_get more 0) → MayAdmit (slice_get (cons_option fault more) 0)
+first_of None more may may' = may'
+first_of (Some fault) more may may' = may
+
+entries_may : (raws : List Raw) → MayAdmit (slice_get (filter_map lists.fault_of raws) 0)
+entries_may [] = tt
+entries_may (raw ∷ raws) = first_of (lists.fault_of raw) (filter_map lists.fault_of raws) (entry_may raw) (entries_may raws)
+
+list_may : (raws : List Raw) → MayAdmit (lists.first_fault raws)
+list_may raws = admits (nat_lt 59 (length raws)) _ _ tt (entries_may raws)
+
+admit_may : (fault : Option AdmitFault) (list : List Entry) → MayAdmit fault → IsValueOrFault (unless fault list)
+admit_may None list may = tt
+admit_may (Some faults.NoSpc) list may = tt
+admit_may (Some faults.AttrNotSupp) list may = tt
+admit_may (Some faults.Inval) list may = tt
+admit_may (Some faults.BadOwner) list may = tt
+admit_may (Some faults.Memory) list may = may
+
+acl_may : (book : Content) (kind : Kind) (entries : Option (List (Value ace))) → IsValueOrFault (taken_list book kind entries)
+acl_may book kind None = tt
+acl_may book kind (Some entries) =
+    admit_may (lists.first_fault (map (raw_of book) entries)) (admitted kind (map (raw_of book) entries)) (list_may (map (raw_of book) entries))
+
+mode_may : (mode : Option ℕ) → IsValueOrFault (taken_mode mode)
+mode_may None = tt
+mode_may (Some mode) = choose (nat_lt 4095 mode) _ _ tt tt
+
+known_may : (number : Option ℕ) → IsValueOrFault (known number)
+known_may None = tt
+known_may (Some number) = tt
+
+principal_may : (book : Content) (kind : NameKind) (name : Option (List ℕ)) → IsValueOrFault (taken_name book kind name)
+principal_may book kind None = tt
+principal_may book kind (Some name) = known_may (principal_in kind book name)
+
+plain_may : (book : Content) (mode : Option ℕ) (owner group : Option (List ℕ)) → IsValueOrFault (taken_plain book mode owner group)
+plain_may book mode owner group =
+    bind (taken_mode mode) _ (mode_may mode) (λ m. bind (taken_name book names.User owner) _ (principal_may book names.User owner)
+    (λ o. bind (taken_name book names.Group group) _ (principal_may book names.Group group) (λ g. tt)))
+
+taken_may : (book : Content) (kind : Kind) (s : Sent) → IsValueOrFault (taken book kind s)
+taken_may book kind s =
+    bind (taken_list book kind s.entries) _ (acl_may book kind s.entries)
+    (λ list. bind (taken_plain book s.mode s.owner s.group) _ (plain_may book s.mode s.owner s.group) (λ plain. tt))
+
+spelled_may : (book : Content) (kind : Kind) (s : Option Sent) → IsValueOrFault (spelled book kind s)
+spelled_may book kind None = tt
+spelled_may book kind (Some s) = taken_may book kind s
+
+pub wanted_may : (book : Content) (kind : Kind) (set bytes : List ℕ) → IsValueOrFault (wanted_of book kind set bytes)
+wanted_may book kind set bytes =
+    choose (not (is_within set supported_words)) _ _ tt (choose (not (is_within set settable_words)) _ _ tt (spelled_may book kind (whole (sent_at set bytes))))

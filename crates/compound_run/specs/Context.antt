@@ -1,0 +1,29 @@
+-- What an operation of a COMPOUND is run with (RFC 8881, sections 2.10 and 16.2).
+use Rattle.std.specs.Prelude.{ℕ, ◌+◌, ◌-◌, Option, None}
+use Rattle.rpc_record.specs.Identity.{Identity}
+use Rattle.who_book.specs.Content.{Content}
+use Rattle.nfs_types.specs.declared.moment.Moment.{Moment}
+use Rattle.compound_run.specs.declared.context.Calling.{Calling}
+use Rattle.compound_run.specs.declared.filehandles.FileHandles.{FileHandles}
+
+pub record Context : Type 0 where
+  -- who sends it, and when
+  pub caller : Identity
+  pub now : Moment
+  -- the book of names
+  pub book : Content
+  -- the client of the session, and whether its reply is to be kept; none where there is no session
+  pub calling : Option Calling
+  -- how many operations stand before it, and how many the COMPOUND has
+  pub position : ℕ
+  pub count : ℕ
+  -- how many bytes its result may take
+  pub room : ℕ
+
+-- behind an operation whose result takes so many bytes
+abbrev pub behind : Context → ℕ → Context
+behind c taken = record c { position = c.position + 1; room = c.room - taken }
+
+-- a COMPOUND begins with no filehandle
+abbrev pub no_handles : FileHandles
+no_handles = record { current = None; saved = None }

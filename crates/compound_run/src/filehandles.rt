@@ -1,0 +1,22 @@
+//! The filehandles of a COMPOUND.
+ghost use Rattle.std.specs.Prelude.{◌≡◌};
+ghost use Rattle.compound_run.specs.Context.{no_handles};
+
+/// The current and the saved filehandle (RFC 8881, section 16.2.3.1), each the number of an object, if there is one.
+#[derive(Clone, Copy, Debug, PartialEq, Eq)]
+pub(crate) struct FileHandles {
+    pub current: Option<u64>,
+    pub saved: Option<u64>,
+}
+
+impl FileHandles {
+    /// A COMPOUND begins with neither.
+    pub fn none() -> Self
+        ensures { result ≡ no_handles }
+    {
+        FileHandles {
+            current: None,
+            saved: None,
+        }
+    }
+}

@@ -1,0 +1,10 @@
+pub mod Histories
+pub mod Places
+pub mod Repeating
+pub mod Found
+pub mod Members
+pub mod Beginning
+pub mod Creations
+pub mod Keeping
+pub mod Orderly
+pub mod Whole

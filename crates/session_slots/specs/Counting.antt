@@ -1,0 +1,29 @@
+-- How numbers are counted, on a slot and for the sessions of a client: each call that is accepted has the number behind the one
+-- before it, from 1 on, modulo 2^32 (RFC 8881, sections 2.10.6.1 and 18.36.4).
+use Rattle.std.specs.Prelude.{◌≡◌, ℕ, ◌+◌, ◌%◌, ◌^◌, ◌==◌, ◌&&◌, Bool, if◌then◌else◌, List, [], ◌∷◌, length, Option, Some, None}
+
+-- the number behind a number
+abbrev pub due : ℕ → ℕ
+due last = (last + 1) % 2 ^ 32
+
+-- Of calls with numbers, the newest first, those that were accepted: each has the number that was due after those before it. `keeps`
+-- tells whether a call that had it was accepted.
+abbrev pub accepted : {X : Type 0} → (X → ℕ) → (X → Bool) → List X → List X
+accepted number_of keeps [] = []
+accepted number_of keeps (call ∷ before) =
+    if (number_of call == due (length (accepted number_of keeps before))) && keeps call
+    then call ∷ accepted number_of keeps before else accepted number_of keeps before
+
+abbrev pub newest : {X : Type 0} → List X → Option X
+newest [] = None
+newest (call ∷ before) = Some call
+
+-- the last number: 0 where nothing was accepted
+abbrev pub last_number : {X : Type 0} → (X → ℕ) → Option X → ℕ
+last_number number_of None = 0
+last_number number_of (Some kept) = number_of kept
+
+-- The last call that was accepted, as it is kept, stands for each history that gives it, and its number for how many were accepted.
+pub record StandsFor {X : Type 0} (number_of : X → ℕ) (keeps : X → Bool) (last : Option X) (history : List X) : Type 0 where
+  pub kept : last ≡ newest (accepted number_of keeps history)
+  pub number : last_number number_of last ≡ length (accepted number_of keeps history) % 2 ^ 32

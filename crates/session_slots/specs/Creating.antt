@@ -1,0 +1,154 @@
+-- CREATE_SESSION (RFC 8881, section 18.36), by its arguments and by the history of a client's calls.
+use Rattle.std.specs.Prelude.{◌≡◌, ◌⊎◌, ℕ, ◌+◌, ◌%◌, ◌^◌, ◌==◌, ◌&&◌, ◌||◌, Bool, true, false, not, nat_lt, nat_le, min, max, if◌then◌else◌, List, [], ◌∷◌, length, find, Option, Some, None, Result, Ok, Err}
+use Rattle.std.specs.Option.{option_map}
+use Rattle.std.specs.Map.{values_of}
+use Rattle.std.specs.BTreeMap.{insert_entry}
+use Rattle.std.specs.Ordering.{nat_cmp}
+use Rattle.nfs_types.specs.declared.status.Status.{Status}
+use Rattle.nfs_types.specs.declared.status.Status.TheVariants as statuses
+use Rattle.session_slots.specs.declared.session.Channel.{Channel}
+use Rattle.session_slots.specs.declared.client.Created.{Created}
+use Rattle.session_slots.specs.declared.client.Creation.{Creation}
+use Rattle.session_slots.specs.declared.creating.Create.{Create}
+use Rattle.session_slots.specs.declared.creating.Made.{Made}
+use Rattle.session_slots.specs.declared.creating.Judged.{Judged}
+use Rattle.session_slots.specs.declared.creating.Judged.TheVariants.{Answers, Refuses, Makes}
+use Rattle.session_slots.specs.Limits.{MOST_SESSIONS, MOST_SLOTS, MOST_BYTES, LEAST_REPLY, MOST_OPERATIONS, END}
+use Rattle.session_slots.specs.Counting.{due, accepted, last_number, StandsFor}
+use Rattle.session_slots.specs.Registry.{Client, Registry, client_at, is_confirmed_of, changed_client, new_session, without_record, without_sessions}
+
+abbrev pub number_of : Creation → ℕ
+number_of c = c.number
+
+-- the result of the last call, where this has its number
+abbrev pub repeated : Option Creation → ℕ → Option (Result Created Status)
+repeated None number = None
+repeated (Some kept) number = if kept.number == number then Some kept.result else None
+
+-- as much of a channel as is granted
+abbrev pub granted : Channel → Channel
+granted asked = record {
+  padding = 0;
+  request_size = min asked.request_size MOST_BYTES;
+  reply_size = min asked.reply_size MOST_BYTES;
+  cached_size = min asked.reply_size MOST_BYTES;
+  operations = max 1 (min asked.operations MOST_OPERATIONS);
+  slots = max 1 (min asked.slots MOST_SLOTS);
+}
+
+-- why a call with the number that is due is refused
+abbrev pub creation_fault : Client → Registry → Create → Option Status
+creation_fault c r a =
+    if not c.confirmed && not (c.uid == a.uid) then Some statuses.ClidInUse
+    else if nat_lt a.fore.reply_size LEAST_REPLY then Some statuses.TooSmall
+    else if nat_le MOST_SESSIONS (length r.sessions) || nat_le END r.next_session then Some statuses.NoSpc
+    else None
+
+abbrev pub created_of : Registry → Create → Created
+created_of r a = record { session = r.next_session; sequence = a.sequence; fore = granted a.fore; back = a.back }
+
+-- the call is accepted, with this result
+abbrev pub accepts : Create → Result Created Status → Client → Client
+accepts a result c = record c { created = Some (record { number = a.sequence; result = result }) }
+
+abbrev pub with_refusal : Registry → Create → Status → Registry
+with_refusal r a status = record r { clients = changed_client a.client (accepts a (Err status)) r.clients }
+
+-- the owner's other confirmed record
+abbrev pub is_other : List ℕ → ℕ → Client → Bool
+is_other owner number c = is_confirmed_of owner c && not (c.number == number)
+
+abbrev pub other_record : List ℕ → ℕ → List (ℕ × Client) → Option ℕ
+other_record owner number clients = option_map (λ c. c.number) (find (is_other owner number) (values_of clients))
+
+-- the record is confirmed, and the owner's other confirmed one goes with its sessions
+abbrev pub with_creation : Registry → Create → Option ℕ → Registry
+with_creation r a other = record r {
+  clients = changed_client a.client (λ c. record (accepts a (Ok (created_of r a)) c) { confirmed = true }) (without_record other r.clients);
+  sessions = without_sessions other (insert_entry nat_cmp r.sessions r.next_session (new_session a.client (granted a.fore)));
+  next_session = r.next_session + 1;
+}
+
+abbrev pub refusing : Status → Made
+refusing status = record { result = Err status; gone = None }
+
+-- a call with the number that is due: it is refused and kept, or it makes a session
+abbrev pub judged_due : Option Status → Client → Registry → Create → Judged
+judged_due (Some status) c r a = Refuses status
+judged_due None c r a = Makes (other_record c.owner a.client r.clients)
+
+abbrev pub judged_unless : Option (Result Created Status) → Client → Registry → Create → Judged
+judged_unless (Some kept) c r a = Answers (record { result = kept; gone = None })
+judged_unless None c r a =
+    if a.sequence == due (last_number number_of c.created) then judged_due (creation_fault c r a) c r a else Answers (refusing statuses.SeqMisordered)
+
+abbrev pub judged_for : Option Client → Registry → Create → Judged
+judged_for None r a = Answers (refusing statuses.StaleClientId)
+judged_for (Some c) r a = judged_unless (repeated c.created a.sequence) c r a
+
+abbrev pub judged : Registry → Create → Judged
+judged r a = judged_for (client_at r a.client) r a
+
+abbrev pub delayed : Made
+delayed = record { result = Err statuses.Delay; gone = None }
+
+-- a session is made, unless memory is refused: then nothing changes
+abbrev pub MakesSession : Registry → Create → Option ℕ → Made → Registry → Type 0
+MakesSession r a other made new =
+    ((made ≡ record { result = Ok (created_of r a); gone = other }) × (new ≡ with_creation r a other))
+    ⊎ ((made ≡ delayed) × (new ≡ r))
+
+abbrev pub CreatesBy : Judged → Registry → Create → Made → Registry → Type 0
+CreatesBy (Answers answer) r a made new = (made ≡ answer) × (new ≡ r)
+CreatesBy (Refuses status) r a made new = (made ≡ refusing status) × (new ≡ with_refusal r a status)
+CreatesBy (Makes other) r a made new = MakesSession r a other made new
+
+-- the answer to CREATE_SESSION, and clients and sessions afterwards
+abbrev pub Creates : Registry → Create → Made → Registry → Type 0
+Creates r a made new = CreatesBy (judged r a) r a made new
+
+-- ---- by history
+
+abbrev pub is_delay_status : Status → Bool
+is_delay_status statuses.Delay = true
+is_delay_status _ = false
+
+abbrev pub is_accepted : Result Created Status → Bool
+is_accepted (Ok created) = true
+is_accepted (Err status) = not (is_delay_status status)
+
+-- a call that found no memory isn't accepted
+abbrev pub keeps : Creation → Bool
+keeps c = is_accepted c.result
+
+abbrev pub RecordStandsFor : Option Creation → List Creation → Type 0
+RecordStandsFor kept history = StandsFor number_of keeps kept history
+
+-- the fate of a call: it is new, or it gets this result
+pub data CreationFate : Type 0 where
+  Runs : CreationFate
+  Gets : Result Created Status → CreationFate
+
+abbrev pub fate_behind : List Creation → ℕ → CreationFate
+fate_behind [] number = if number == 1 then Runs else Gets (Err statuses.SeqMisordered)
+fate_behind (last ∷ before) number =
+    if number == length (last ∷ before) % 2 ^ 32 then Gets last.result
+    else if number == due (length (last ∷ before)) then Runs
+    else Gets (Err statuses.SeqMisordered)
+
+abbrev pub fate : List Creation → ℕ → CreationFate
+fate history number = fate_behind (accepted number_of keeps history) number
+
+abbrev pub Agrees : CreationFate → Result Created Status → Type 0
+Agrees Runs result = Unit {0}
+Agrees (Gets given) result = result ≡ given
+
+-- For every history that the record stood for, the call got what the history says, and the record stands for the history with the call.
+pub record CreatesByHistory (old new : Option Creation) (number : ℕ) (result : Result Created Status) : Type 0 where
+  pub fate : (history : List Creation) → RecordStandsFor old history → Agrees (fate history number) result
+  pub stands : (history : List Creation) → RecordStandsFor old history → RecordStandsFor new (record { number = number; result = result } ∷ history)
+
+-- if the client has a record
+pub record CreatesAt (old new : Registry) (a : Create) (result : Result Created Status) : Type 0 where
+  pub by_history : (c : Client) → client_at old a.client ≡ Some c →
+      (d : Client) × (client_at new a.client ≡ Some d) × CreatesByHistory c.created d.created a.sequence result

@@ -1,0 +1,100 @@
+-- EXCHANGE_ID (RFC 8881, section 18.35).
+use Rattle.std.specs.Prelude.{◌≡◌, ◌⊎◌, ℕ, ◌+◌, ◌==◌, ◌&&◌, ◌||◌, Bool, true, false, not, nat_eq, nat_le, bit_and, if◌then◌else◌, List, length, filter, Option, Some, None, Result, Ok, Err}
+use Rattle.std.specs.BTreeMap.{insert_entry}
+use Rattle.std.specs.Ordering.{nat_cmp}
+use Rattle.std.specs.Cmp.Lexicographic.{pointwise}
+use Rattle.nfs_types.specs.declared.status.Status.{Status}
+use Rattle.nfs_types.specs.declared.status.Status.TheVariants as statuses
+use Rattle.session_slots.specs.declared.exchanging.Exchanged.{Exchanged}
+use Rattle.session_slots.specs.declared.exchanging.Standing.{Standing}
+use Rattle.session_slots.specs.declared.exchanging.Standing.TheVariants.{Refuses, Knows, Makes}
+use Rattle.session_slots.specs.Limits.{MOST_CLIENTS, END, USE_NON_PNFS, UPDATE_CONFIRMED, CONFIRMED}
+use Rattle.session_slots.specs.Counting.{due, last_number}
+use Rattle.session_slots.specs.Creating.{number_of}
+use Rattle.session_slots.specs.Registry.{Client, Registry, confirmed_entry, without_sessions}
+
+-- the arguments of EXCHANGE_ID, the user of the caller, and whether the owner's confirmed record has opens
+pub record Exchanging : Type 0 where
+  pub owner : List ℕ
+  pub verifier : ℕ
+  pub uid : ℕ
+  pub flags : ℕ
+  pub has_opens : Bool
+
+abbrev pub flags_fault : ℕ → Option Status
+flags_fault flags =
+    if not (bit_and flags CONFIRMED == 0) then Some statuses.Inval
+    else if not (bit_and flags UPDATE_CONFIRMED == 0) then Some statuses.NotSupp
+    else None
+
+abbrev pub is_unconfirmed_of : List ℕ → Client → Bool
+is_unconfirmed_of owner c = pointwise nat_eq c.owner owner && not c.confirmed
+
+abbrev pub without_unconfirmed : List ℕ → Registry → Registry
+without_unconfirmed owner r = record r { clients = filter (λ e. not (is_unconfirmed_of owner e.1)) r.clients }
+
+-- the client goes
+abbrev pub goes : Option ℕ → ℕ → Bool
+goes None number = false
+goes (Some client) number = number == client
+
+-- a record stays as this owner gets a new one, unless it is the owner's unconfirmed one or that of the client that goes
+abbrev pub stays : Option ℕ → List ℕ → ℕ × Client → Bool
+stays gone owner e = not (is_unconfirmed_of owner e.1) && not (goes gone e.0)
+
+abbrev pub new_client : ℕ → Exchanging → Client
+new_client number a = record { number = number; owner = a.owner; verifier = a.verifier; uid = a.uid; confirmed = false; created = None; reclaimed = false }
+
+-- a new record, beside those that stay; the sessions of the client that goes are gone
+abbrev pub with_client : Option ℕ → Registry → Exchanging → Registry
+with_client gone r a = record r {
+  clients = filter (λ e. e.0 == r.next_client || stays gone a.owner e) (insert_entry nat_cmp r.clients r.next_client (new_client r.next_client a));
+  sessions = without_sessions gone r.sessions;
+  next_client = r.next_client + 1;
+}
+
+abbrev pub is_full : Option ℕ → Registry → Exchanging → Bool
+is_full gone r a = nat_le MOST_CLIENTS (length (filter (stays gone a.owner) r.clients)) || nat_le END r.next_client
+
+-- a new record, unless there are too many, or no number is left
+abbrev pub standing_new : Option ℕ → Registry → Exchanging → Standing
+standing_new gone r a = if is_full gone r a then Refuses statuses.NoSpc else Makes gone
+
+abbrev pub known : Client → Exchanged
+known c = record { client = c.number; sequence = due (last_number number_of c.created); is_confirmed = true }
+
+-- by the confirmed record of the owner
+abbrev pub standing_behind : Option Client → Registry → Exchanging → Standing
+standing_behind None r a = standing_new None r a
+standing_behind (Some c) r a =
+    if c.uid == a.uid then (if c.verifier == a.verifier then Knows (known c) else standing_new None r a)
+    else if a.has_opens then Refuses statuses.ClidInUse
+    else standing_new (Some c.number) r a
+
+abbrev pub standing_unless : Option Status → Registry → Exchanging → Standing
+standing_unless (Some status) r a = Refuses status
+standing_unless None r a = standing_behind (confirmed_entry r a.owner) r a
+
+abbrev pub standing : Registry → Exchanging → Standing
+standing r a = standing_unless (flags_fault a.flags) r a
+
+-- the flags of the answer
+abbrev pub answered_flags : Exchanged → ℕ
+answered_flags e = if e.is_confirmed then CONFIRMED + USE_NON_PNFS else USE_NON_PNFS
+
+abbrev pub made_known : ℕ → Exchanged
+made_known number = record { client = number; sequence = 1; is_confirmed = false }
+
+-- a record is made, unless memory is refused: then nothing changes
+abbrev pub MakesClient : Registry → Exchanging → Option ℕ → Result Exchanged Status → Registry → Type 0
+MakesClient r a gone result new =
+    ((result ≡ Ok (made_known r.next_client)) × (new ≡ with_client gone r a)) ⊎ ((result ≡ Err statuses.Delay) × (new ≡ r))
+
+abbrev pub ExchangesBy : Standing → Registry → Exchanging → Result Exchanged Status → Registry → Type 0
+ExchangesBy (Refuses status) r a result new = (result ≡ Err status) × (new ≡ r)
+ExchangesBy (Knows known) r a result new = (result ≡ Ok known) × (new ≡ without_unconfirmed a.owner r)
+ExchangesBy (Makes gone) r a result new = MakesClient r a gone result new
+
+-- the answer to EXCHANGE_ID, and clients and sessions afterwards
+abbrev pub Exchanges : Registry → Exchanging → Result Exchanged Status → Registry → Type 0
+Exchanges r a result new = ExchangesBy (standing r a) r a result new

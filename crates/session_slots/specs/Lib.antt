@@ -1,0 +1,12 @@
+pub mod Limits
+pub mod Counting
+pub mod Slots
+pub mod Registry
+pub mod Orderly
+pub mod Sequencing
+pub mod Creating
+pub mod Exchanging
+pub mod Destroying
+pub mod Views
+pub mod Repeating
+pub mod Calls

@@ -1,0 +1,42 @@
+-- How many clients, sessions and slots there may be, and what a session carries.
+use Rattle.std.specs.Prelude.{ℕ}
+
+-- records of clients
+abbrev pub MOST_CLIENTS : ℕ
+MOST_CLIENTS = 64
+
+-- sessions
+abbrev pub MOST_SESSIONS : ℕ
+MOST_SESSIONS = 64
+
+-- slots of a session
+abbrev pub MOST_SLOTS : ℕ
+MOST_SLOTS = 8
+
+-- bytes of a request, and of a reply
+abbrev pub MOST_BYTES : ℕ
+MOST_BYTES = 65536
+
+-- bytes of a reply that a client has to take
+abbrev pub LEAST_REPLY : ℕ
+LEAST_REPLY = 4096
+
+-- operations of a COMPOUND
+abbrev pub MOST_OPERATIONS : ℕ
+MOST_OPERATIONS = 16
+
+-- 2 ^ 63: no client and no session has this number
+abbrev pub END : ℕ
+END = 9223372036854775808
+
+-- EXCHGID4_FLAG_USE_NON_PNFS (RFC 8881, section 18.35)
+abbrev pub USE_NON_PNFS : ℕ
+USE_NON_PNFS = 65536
+
+-- EXCHGID4_FLAG_UPD_CONFIRMED_REC_A (RFC 8881, section 18.35)
+abbrev pub UPDATE_CONFIRMED : ℕ
+UPDATE_CONFIRMED = 1073741824
+
+-- EXCHGID4_FLAG_CONFIRMED_R (RFC 8881, section 18.35)
+abbrev pub CONFIRMED : ℕ
+CONFIRMED = 2147483648

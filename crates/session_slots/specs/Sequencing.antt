@@ -1,0 +1,101 @@
+-- SEQUENCE (RFC 8881, section 18.46).
+use Rattle.std.specs.Prelude.{◌≡◌, ℕ, ◌+◌, ◌-◌, ◌≤◌, nat_lt, nat_le, if◌then◌else◌, List, length, All, slice_get, Option, Some, None, IsSome}
+use Rattle.nfs_types.specs.declared.status.Status.{Status}
+use Rattle.nfs_types.specs.declared.status.Status.TheVariants as statuses
+use Rattle.session_slots.specs.declared.session.Channel.{Channel}
+use Rattle.session_slots.specs.declared.session.Begin.{Begin}
+use Rattle.session_slots.specs.declared.session.Begin.TheVariants as begins
+use Rattle.session_slots.specs.declared.slot.Turn.{Turn}
+use Rattle.session_slots.specs.declared.slot.Turn.TheVariants as turns
+use Rattle.session_slots.specs.Limits.{MOST_BYTES, LEAST_REPLY}
+use Rattle.session_slots.specs.Slots.{Call, Place, turn_of, begun, BeginsByHistory, KeepsByHistory}
+use Rattle.session_slots.specs.Registry.{Session, Registry, session_at, place_at, client_at, with_session, with_place}
+
+-- the arguments of SEQUENCE, and the call that it stands in
+pub record Asked : Type 0 where
+  pub slot : ℕ
+  pub highest : ℕ
+  -- how many operations the COMPOUND has, and how many bytes its record
+  pub count : ℕ
+  pub record_len : ℕ
+  pub call : Call
+
+-- a refusal that comes before the number is looked at
+abbrev pub grant_fault : Channel → Asked → Option Status
+grant_fault granted a =
+    if nat_lt granted.request_size a.record_len then Some statuses.ReqTooBig
+    else if nat_lt granted.operations a.count then Some statuses.TooManyOps
+    else if nat_le granted.slots a.slot then Some statuses.BadSlot
+    else if nat_le granted.slots a.highest then Some statuses.BadHighSlot
+    else None
+
+abbrev pub place_turn : Option Place → Call → Turn
+place_turn None call = turns.Refused statuses.BadSlot
+place_turn (Some p) call = turn_of p.kept call
+
+abbrev pub turn_unless : Option Status → Session → Asked → Turn
+turn_unless (Some status) s a = turns.Refused status
+turn_unless None s a = place_turn (slice_get s.slots a.slot) a.call
+
+abbrev pub session_turn : Session → Asked → Turn
+session_turn s a = turn_unless (grant_fault s.granted a) s a
+
+abbrev pub begun_unless : Option Status → Session → Asked → Session
+begun_unless (Some status) s a = s
+begun_unless None s a = with_place a.slot (λ p. begun p a.call) s
+
+abbrev pub session_begun : Session → Asked → Session
+session_begun s a = begun_unless (grant_fault s.granted a) s a
+
+-- the answer to a turn: a new call is told its client, how long its reply may be, and the highest slot
+abbrev pub begin_of : ℕ → Channel → Turn → Begin
+begin_of client granted turns.New = begins.New (record { client = client; reply_size = granted.reply_size; highest_slot = granted.slots - 1 })
+begin_of client granted turns.Repeat = begins.Repeat
+begin_of client granted (turns.Refused status) = begins.Refused status
+
+abbrev pub session_begin : Session → Asked → Begin
+session_begin s a = begin_of s.client s.granted (session_turn s a)
+
+abbrev pub begin_in : Option Session → Asked → Begin
+begin_in None a = begins.Refused statuses.BadSession
+begin_in (Some s) a = session_begin s a
+
+-- the answer to SEQUENCE, and the sessions afterwards
+abbrev pub sequence_begin : Registry → ℕ → Asked → Begin
+sequence_begin r session a = begin_in (session_at r session) a
+
+abbrev pub sequence_begun : Registry → ℕ → Asked → Registry
+sequence_begun r session a = with_session session (λ s. session_begun s a) r
+
+-- the slots of a session are as many as were granted, and have as much room
+pub record HasSlots (granted : Channel) (slots : List Place) : Type 0 where
+  pub count : length slots ≡ granted.slots
+  pub some : 1 ≤ granted.slots
+  pub arguments : All (λ p. p.most_arguments ≡ granted.request_size) slots
+  pub results : All (λ p. p.most_results ≡ granted.reply_size) slots
+
+-- the turn that an answer tells
+abbrev pub turn_told : Begin → Turn
+turn_told (begins.New new) = turns.New
+turn_told begins.Repeat = turns.Repeat
+turn_told (begins.Refused status) = turns.Refused status
+
+-- A call that isn't refused before its number is looked at: for every history of its slot it gets what the history says, and the slot
+-- stands for the history with the call.
+pub record SequencesByHistory (old new : Registry) (session : ℕ) (a : Asked) (answer : Begin) : Type 0 where
+  pub by_history : (s : Session) (p : Place) → session_at old session ≡ Some s → grant_fault s.granted a ≡ None → slice_get s.slots a.slot ≡ Some p →
+      (q : Place) × (place_at new session a.slot ≡ Some q) × BeginsByHistory p.kept q.kept a.call (turn_told answer)
+
+-- A new call has a session that is there, with its slot and its client, until one of them is destroyed; its results may be kept.
+abbrev pub StandsIn : Registry → ℕ → ℕ → Begin → Type 0
+StandsIn r session slot (begins.New new) =
+    (s : Session) × (session_at r session ≡ Some s) × (s.client ≡ new.client) × (s.granted.reply_size ≡ new.reply_size)
+    × (s.granted.slots ≡ new.highest_slot + 1) × (slot ≤ new.highest_slot) × IsSome (client_at r new.client)
+    × (LEAST_REPLY ≤ new.reply_size) × (new.reply_size ≤ MOST_BYTES)
+StandsIn r session slot begins.Repeat = Unit {0}
+StandsIn r session slot (begins.Refused status) = Unit {0}
+
+-- A slot that is there has the results of its newest call now, for every history.
+pub record KeepsAt (old new : Registry) (session slot : ℕ) (results : List ℕ) : Type 0 where
+  pub by_history : (s : Session) (p : Place) → session_at old session ≡ Some s → slice_get s.slots slot ≡ Some p →
+      (q : Place) × (place_at new session slot ≡ Some q) × KeepsByHistory p.kept q.kept results

@@ -1,0 +1,177 @@
+//! The record of a client (RFC 8881, section 2.4).
+ghost use Rattle.std.specs.Prelude.{◌≡◌, ◌==◌, ◌&&◌, if◌then◌else◌, not, true, false, Some, None, Ok, IfOk};
+ghost use Rattle.std.specs.Option.{option_map};
+ghost use Rattle.session_slots.specs.Counting.{due, last_number};
+ghost use Rattle.session_slots.specs.Creating.{number_of, repeated};
+ghost use Rattle.session_slots.specs.Destroying.{has_reclaimed};
+ghost use Rattle.session_slots.specs.Exchanging.{is_unconfirmed_of};
+ghost use Rattle.session_slots.specs.Registry.{is_confirmed_of};
+
+use crate::session::Channel;
+use crate::slot;
+use nfs_types::Status;
+use std::alloc::{AllocError, Allocator, Global};
+use std::marker::Model;
+
+/// The answer to a CREATE_SESSION that made a session (RFC 8881, section 18.36).
+#[derive(Clone, Copy, Debug, PartialEq, Eq)]
+pub struct Created {
+    /// The number of the session.
+    pub session: u64,
+    /// The number of the call.
+    pub sequence: u32,
+    /// For calls: as much as is granted.
+    pub fore: Channel,
+    /// For callbacks: as much as was asked.
+    pub back: Channel,
+}
+
+/// A CREATE_SESSION that was accepted.
+#[derive(Clone, Copy, Debug, PartialEq, Eq)]
+pub struct Creation {
+    /// The number of the call.
+    pub number: u32,
+    /// The session, or why there is none.
+    pub result: Result<Created, Status>,
+}
+
+/// The record of a client.
+#[derive(Drop)]
+pub struct Client<A: Allocator = Global> {
+    number: u64,
+    owner: Vec<u8, A>,
+    verifier: u64,
+    uid: u32,
+    confirmed: bool,
+    created: Option<Creation>,
+    reclaimed: bool,
+}
+
+impl<A: Allocator> Model for Client<A> {
+    ghost use Rattle.session_slots.specs.Registry.{Client};
+
+    ghost Value = { Client };
+
+    ghost view = { λ c. record { number = c.number; owner = c.owner.items; verifier = c.verifier; uid = c.uid; confirmed = c.confirmed; created = c.created; reclaimed = c.reclaimed } };
+}
+
+impl<A: Allocator> Client<A> {
+    /// The record of an owner that isn't confirmed. `Err`: there is no memory for it.
+    pub fn new(
+        alloc: A,
+        number: u64,
+        owner: &[u8],
+        verifier: u64,
+        uid: u32,
+    ) -> Result<Self, AllocError>
+        ensures { IfOk result (λ c. c ≡ record { number = number; owner = owner.now; verifier = verifier; uid = uid; confirmed = false; created = None; reclaimed = false }) }
+    {
+        Ok(Client {
+            number,
+            owner: Vec::from_slice(alloc, owner)?,
+            verifier,
+            uid,
+            confirmed: false,
+            created: None,
+            reclaimed: false,
+        })
+    }
+
+    /// Its number.
+    pub fn number(&self) -> u64
+        ensures { result ≡ self.now.number }
+    {
+        self.number
+    }
+
+    /// Its verifier.
+    pub fn verifier(&self) -> u64
+        ensures { result ≡ self.now.verifier }
+    {
+        self.verifier
+    }
+
+    /// The user that it was made for.
+    pub fn uid(&self) -> u32
+        ensures { result ≡ self.now.uid }
+    {
+        self.uid
+    }
+
+    /// Whether it is confirmed.
+    pub fn is_confirmed(&self) -> bool
+        ensures { result ≡ self.now.confirmed }
+    {
+        self.confirmed
+    }
+
+    /// The owner.
+    pub fn owner(&self) -> &[u8]
+        ensures { result.now ≡ self.now.owner }
+    {
+        &self.owner
+    }
+
+    /// Whether it is the confirmed one of an owner.
+    pub fn is_confirmed_of(&self, owner: &[u8]) -> bool
+        ensures { result ≡ is_confirmed_of owner.now self.now }
+    {
+        self.confirmed && self.owner.as_slice() == owner
+    }
+
+    /// Whether it is an unconfirmed one of an owner.
+    pub fn is_unconfirmed_of(&self, owner: &[u8]) -> bool
+        ensures { result ≡ is_unconfirmed_of owner.now self.now }
+    {
+        self.owner.as_slice() == owner && !self.confirmed
+    }
+
+    /// The number that the next CREATE_SESSION is to have.
+    pub fn due(&self) -> u32
+        ensures { result ≡ due (last_number number_of self.now.created) }
+    {
+        match &self.created {
+            Some(creation) => slot::due(creation.number),
+            None => 1,
+        }
+    }
+
+    /// The result of the last CREATE_SESSION, if this is its number.
+    pub fn repeated(&self, number: u32) -> Option<Result<Created, Status>>
+        ensures { result ≡ repeated self.now.created number }
+    {
+        match &self.created {
+            Some(creation) if creation.number == number => Some(creation.result),
+            _ => None,
+        }
+    }
+
+    /// Keeps a CREATE_SESSION as the last one.
+    pub fn accept(&mut self, creation: Creation)
+        ensures { self.new ≡ record self.old { created = Some creation } }
+    {
+        self.created = Some(creation);
+    }
+
+    /// Confirms the record, and keeps the CREATE_SESSION that did it.
+    pub fn confirm(&mut self, creation: Creation)
+        ensures { self.new ≡ record self.old { confirmed = true; created = Some creation } }
+    {
+        self.confirmed = true;
+        self.created = Some(creation);
+    }
+
+    /// Whether it has said RECLAIM_COMPLETE.
+    pub fn has_reclaimed(&self) -> bool
+        ensures { result ≡ self.now.reclaimed }
+    {
+        self.reclaimed
+    }
+
+    /// Keeps that it has said RECLAIM_COMPLETE.
+    pub fn reclaim(&mut self)
+        ensures { self.new ≡ has_reclaimed self.old }
+    {
+        self.reclaimed = true;
+    }
+}

@@ -1,0 +1,32 @@
+//! Clients, sessions and slots (RFC 8881, sections 2.4 and 2.10).
+//!
+//! A server keeps of a client its record, of a session how much was granted, and of a slot the last call with its results. What it keeps
+//! stands for every history of calls that leads to it.
+#![tactic(auto)]
+
+mod changes;
+mod client;
+mod clients;
+mod creating;
+mod destroying;
+mod exchanging;
+mod laws;
+mod limits;
+mod registry;
+mod session;
+mod slot;
+
+pub use client::Created;
+pub use clients::Clients;
+pub use creating::{Create, Made};
+pub use exchanging::{Exchange, Exchanged};
+pub use laws::{
+    World, every_slot_has_a_history, nothing_was_accepted, repeats_change_nothing,
+    slots_go_by_history,
+};
+pub use limits::{
+    CONFIRMED, END, LEAST_REPLY, MOST_BYTES, MOST_CLIENTS, MOST_OPERATIONS, MOST_SESSIONS,
+    MOST_SLOTS, UPDATE_CONFIRMED, USE_NON_PNFS,
+};
+pub use session::{Begin, Channel, NewCall, Sequence};
+pub use slot::due;

@@ -1,0 +1,31 @@
+//! How many clients, sessions and slots there may be, and what a session carries.
+
+/// The most records of clients.
+pub const MOST_CLIENTS: usize = 64;
+
+/// The most sessions.
+pub const MOST_SESSIONS: usize = 64;
+
+/// The most slots of a session.
+pub const MOST_SLOTS: u32 = 8;
+
+/// The most bytes of a request, and of a reply.
+pub const MOST_BYTES: u32 = 65_536;
+
+/// The fewest bytes of a reply that a client may ask for.
+pub const LEAST_REPLY: u32 = 4096;
+
+/// The most operations of a COMPOUND.
+pub const MOST_OPERATIONS: u32 = 16;
+
+/// No client and no session has this number.
+pub const END: u64 = 1 << 63;
+
+/// The server isn't one of pNFS, EXCHGID4_FLAG_USE_NON_PNFS (RFC 8881, section 18.35).
+pub const USE_NON_PNFS: u32 = 0x1_0000;
+
+/// A confirmed record is to be updated, EXCHGID4_FLAG_UPD_CONFIRMED_REC_A (RFC 8881, section 18.35).
+pub const UPDATE_CONFIRMED: u32 = 0x4000_0000;
+
+/// The record is confirmed, EXCHGID4_FLAG_CONFIRMED_R (RFC 8881, section 18.35).
+pub const CONFIRMED: u32 = 0x8000_0000;

@@ -1,0 +1,94 @@
+//! Clients and their sessions, by number (RFC 8881, sections 2.4 and 2.10).
+//!
+//! Each call makes one change of the registry. [`crate::Clients`] says what that comes to for the histories of calls, and that records
+//! and sessions stay orderly.
+ghost use Rattle.std.specs.Prelude.{◌≡◌, ◌≤◌, ◌<◌, length, IfSome};
+ghost use Rattle.std.specs.Option.{option_map};
+ghost use Rattle.session_slots.specs.Slots.{finished};
+ghost use Rattle.session_slots.specs.Registry.{nobody, session_at, results_at, confirmed_entry, with_session, with_place};
+ghost use Rattle.session_slots.specs.Sequencing.{sequence_begin, sequence_begun};
+ghost use Rattle.session_slots.specs.Views.{asked_of};
+
+use crate::changes::confirmed_in;
+use crate::client::Client;
+use crate::session::{Begin, Sequence, Session};
+use nfs_types::Status;
+use std::alloc::{Allocator, Global};
+use std::collections::BTreeMap;
+use std::marker::Model;
+
+/// Clients and their sessions, and the numbers that the next ones get.
+#[derive(Drop)]
+pub struct Registry<A: Allocator = Global> {
+    pub(crate) alloc: A,
+    pub(crate) clients: BTreeMap<u64, Client<A>, A>,
+    pub(crate) sessions: BTreeMap<u64, Session<A>, A>,
+    pub(crate) next_client: u64,
+    pub(crate) next_session: u64,
+}
+
+impl<A: Allocator> Model for Registry<A> {
+    ghost use Rattle.session_slots.specs.Registry.{Registry};
+
+    ghost Value = { Registry };
+
+    ghost view = { λ r. record { clients = r.clients.entries; sessions = r.sessions.entries; next_client = r.next_client; next_session = r.next_session } };
+}
+
+impl<A: Allocator + Copy> Registry<A> {
+    /// No client and no session.
+    pub fn new(alloc: A) -> Self
+        ensures { result ≡ nobody }
+    {
+        Registry {
+            alloc,
+            clients: BTreeMap::new(alloc),
+            sessions: BTreeMap::new(alloc),
+            next_client: 1,
+            next_session: 1,
+        }
+    }
+
+    /// The number of an owner's confirmed record.
+    pub fn confirmed_of(&self, owner: &[u8]) -> Option<u64>
+        ensures { result ≡ option_map (λ c. c.number) (confirmed_entry self.now owner.now) }
+    {
+        confirmed_in(&self.clients, owner).map(|client| client.number())
+    }
+
+    /// Begins a call on a slot of a session.
+    pub fn begin(&mut self, session: u64, asked: Sequence<'_>) -> Begin
+        requires { length asked.arguments.now ≤ asked.record_len }
+        ensures answer { result ≡ sequence_begin self.old session (asked_of asked.entry) }
+        ensures begun { self.new ≡ sequence_begun self.old session (asked_of asked.entry) }
+    {
+        match self.sessions.get_mut(&session) {
+            Some(session) => session.begin(asked),
+            None => Begin::Refused(Status::BadSession),
+        }
+    }
+
+    /// The results that a slot keeps.
+    pub fn results(&self, session: u64, slot: u32) -> &[u8]
+        ensures { result.now ≡ results_at self.now session slot }
+    {
+        match self.sessions.get(&session) {
+            Some(session) => match session.slot(slot) {
+                Some(slot) => slot.results(),
+                None => &[],
+            },
+            None => &[],
+        }
+    }
+
+    /// Keeps the results of the call that was begun last on a slot.
+    pub fn keep(&mut self, session: u64, slot: u32, results: &[u8])
+        requires slot { IfSome (session_at self.old session) (λ s. slot < s.granted.slots) }
+        requires few { IfSome (session_at self.old session) (λ s. length results.now ≤ s.granted.reply_size) }
+        ensures { self.new ≡ with_session session (with_place slot (λ p. finished p results.now)) self.old }
+    {
+        if let Some(session) = self.sessions.get_mut(&session) {
+            session.keep(slot, results);
+        }
+    }
+}

@@ -1,0 +1,222 @@
+//! A session (RFC 8881, section 2.10).
+ghost use Rattle.std.specs.Prelude.{◌≡◌, ◌≤◌, ◌<◌, length, slice_get, IfSome, IfOk};
+ghost use Rattle.std.specs.Option.{option_copied};
+ghost use Rattle.session_slots.specs.Slots.{begun, finished};
+ghost use Rattle.session_slots.specs.Registry.{changed_place, with_place, unused_places, new_session};
+ghost use Rattle.session_slots.specs.Views.{asked_of, call_of};
+ghost use Rattle.session_slots.specs.Sequencing.{grant_fault, place_turn, begin_of, session_begin, session_begun};
+
+use crate::slot::{Slot, Turn};
+use nfs_types::Status;
+use rpc_record::Caller;
+use std::alloc::{AllocError, Allocator, Global};
+use std::marker::Model;
+
+/// How much a channel may carry, `channel_attrs4` (RFC 8881, section 18.36), RDMA apart.
+#[derive(Clone, Copy, Debug, PartialEq, Eq)]
+pub struct Channel {
+    /// Padding of requests and replies, in bytes.
+    pub padding: u32,
+    /// The most bytes of a request.
+    pub request_size: u32,
+    /// The most bytes of a reply.
+    pub reply_size: u32,
+    /// The most bytes of a reply that is kept.
+    pub cached_size: u32,
+    /// The most operations of a COMPOUND.
+    pub operations: u32,
+    /// How many slots there are.
+    pub slots: u32,
+}
+
+/// The arguments of SEQUENCE (RFC 8881, section 18.46), and the call that it stands in.
+#[derive(Clone, Copy, Debug)]
+pub struct Sequence<'a> {
+    /// The slot.
+    pub slot: u32,
+    /// The sequence id of the call.
+    pub number: u32,
+    /// The highest slot that is in use.
+    pub highest: u32,
+    /// How many operations the COMPOUND has, SEQUENCE among them.
+    pub count: u32,
+    /// How many bytes the call's record has.
+    pub record_len: usize,
+    /// The bytes behind the call's header.
+    pub arguments: &'a [u8],
+    /// Who sends it.
+    pub caller: &'a Caller,
+}
+
+/// A new call on a slot.
+#[derive(Clone, Copy, Debug, PartialEq, Eq)]
+pub struct NewCall {
+    /// The client of its session.
+    pub client: u64,
+    /// The most bytes of its reply.
+    pub reply_size: u32,
+    /// The highest slot of its session.
+    pub highest_slot: u32,
+}
+
+/// The answer to SEQUENCE.
+#[derive(Clone, Copy, Debug, PartialEq, Eq)]
+pub enum Begin {
+    /// The call is new: its operations run, and its results are kept at the end.
+    New(NewCall),
+    /// The call is the last one of its slot again: it gets the results that are kept.
+    Repeat,
+    /// It is refused.
+    Refused(Status),
+}
+
+/// A session.
+#[derive(Drop)]
+pub struct Session<A: Allocator = Global> {
+    client: u64,
+    granted: Channel,
+    slots: Vec<Slot<A>, A>,
+}
+
+impl<A: Allocator> Model for Session<A> {
+    ghost use Rattle.session_slots.specs.Registry.{Session};
+    ghost use Rattle.session_slots.specs.Sequencing.{HasSlots};
+
+    ghost Value = { Session };
+
+    ghost view = { λ s. record { client = s.client; granted = s.granted; slots = s.slots.items } };
+
+    ghost invariant = { λ s. HasSlots s.granted s.slots.items };
+}
+
+/// Tells a new call what it may use.
+fn begin_of(client: u64, granted: Channel, turn: Turn) -> Begin
+    requires { 1 ≤ granted.slots }
+    ensures { result ≡ begin_of client granted turn }
+{
+    match turn {
+        Turn::New => Begin::New(NewCall {
+            client,
+            reply_size: granted.reply_size,
+            highest_slot: granted.slots - 1,
+        }),
+        Turn::Repeat => Begin::Repeat,
+        Turn::Refused(status) => Begin::Refused(status),
+    }
+}
+
+/// Begins a call on a slot of these.
+#[tactic(auto, using(crate::proofs::Places::changed_there, crate::proofs::Places::is_there))]
+fn begin_at<A: Allocator + Copy>(slots: &mut Vec<Slot<A>, A>, asked: Sequence<'_>) -> Turn
+    requires within { asked.slot < length slots.old.items }
+    requires room { IfSome (slice_get slots.old.items asked.slot) (λ p. length asked.arguments.now ≤ p.most_arguments) }
+    ensures turn { result ≡ place_turn (slice_get slots.old.items asked.entry.slot) (call_of asked.entry) }
+    ensures begun { slots.new.items ≡ changed_place asked.entry.slot (λ p. begun p (call_of asked.entry)) slots.old.items }
+{
+    let index = asked.slot as usize;
+    let slot = &mut slots[index];
+    slot.begin(asked.number, asked.arguments, asked.caller)
+}
+
+/// Keeps the results of the call that was begun last on a slot of these.
+#[tactic(auto, using(crate::proofs::Places::changed_there, crate::proofs::Places::is_there))]
+fn keep_at<A: Allocator + Copy>(slots: &mut Vec<Slot<A>, A>, index: usize, results: &[u8])
+    requires within { index < length slots.old.items }
+    requires room { IfSome (slice_get slots.old.items index) (λ p. length results.now ≤ p.most_results) }
+    ensures { slots.new.items ≡ changed_place index (λ p. finished p results.now) slots.old.items }
+{
+    let slot = &mut slots[index];
+    slot.keep(results);
+}
+
+/// So many slots that have accepted no call, each with this room.
+fn new_slots<A: Allocator + Copy>(
+    alloc: A,
+    count: u32,
+    most_arguments: usize,
+    most_results: usize,
+) -> Result<Vec<Slot<A>, A>, AllocError>
+    ensures { IfOk result (λ slots. slots.items ≡ unused_places count most_arguments most_results) }
+{
+    let mut slots = Vec::with_capacity(alloc, count as usize)?;
+    for _ in 0..count {
+        slots.push(Slot::new(alloc, most_arguments, most_results)?)?;
+    }
+    Ok(slots)
+}
+
+impl<A: Allocator + Copy> Session<A> {
+    /// A session of a client, with what was granted. Its slots have accepted no call, and have the room for their calls and replies.
+    /// `Err`: there is no memory for it.
+    #[tactic(auto, using(crate::proofs::Places::unused_has_slots))]
+    pub fn new(alloc: A, client: u64, granted: Channel) -> Result<Self, AllocError>
+        requires { 1 ≤ granted.slots }
+        ensures { IfOk result (λ session. session ≡ new_session client granted) }
+    {
+        let arguments = granted.request_size as usize;
+        let results = granted.reply_size as usize;
+        Ok(Session {
+            client,
+            granted,
+            slots: new_slots(alloc, granted.slots, arguments, results)?,
+        })
+    }
+
+    /// The number of its client.
+    pub fn client(&self) -> u64
+        ensures { result ≡ self.now.client }
+    {
+        self.client
+    }
+
+    /// The slot of a number.
+    pub fn slot(&self, number: u32) -> Option<&Slot<A>>
+        ensures { option_copied result ≡ slice_get self.now.slots number }
+    {
+        self.slots.get(number as usize)
+    }
+
+    /// Why a call is refused before its number is looked at.
+    fn fault(&self, asked: Sequence<'_>) -> Option<Status>
+        ensures { result ≡ grant_fault self.now.granted (asked_of asked.entry) }
+    {
+        let granted = &self.granted;
+        if asked.record_len > granted.request_size as usize {
+            return Some(Status::ReqTooBig);
+        }
+        if asked.count > granted.operations {
+            return Some(Status::TooManyOps);
+        }
+        if asked.slot >= granted.slots {
+            return Some(Status::BadSlot);
+        }
+        if asked.highest >= granted.slots {
+            return Some(Status::BadHighSlot);
+        }
+        None
+    }
+
+    /// Begins a call on a slot. It takes no memory.
+    #[tactic(auto, using(crate::proofs::Places::begun_has_slots, crate::proofs::Places::has_room_for_arguments))]
+    pub fn begin(&mut self, asked: Sequence<'_>) -> Begin
+        requires { length asked.arguments.now ≤ asked.record_len }
+        ensures answer { result ≡ session_begin self.old (asked_of asked.entry) }
+        ensures begun { self.new ≡ session_begun self.old (asked_of asked.entry) }
+    {
+        if let Some(status) = self.fault(asked) {
+            return Begin::Refused(status);
+        }
+        let turn = begin_at(&mut self.slots, asked);
+        begin_of(self.client, self.granted, turn)
+    }
+
+    /// Keeps the results of the call that was begun last on a slot. It takes no memory.
+    #[tactic(auto, using(crate::proofs::Places::finished_has_slots, crate::proofs::Places::has_room_for_results))]
+    pub fn keep(&mut self, number: u32, results: &[u8])
+        requires slot { number < self.old.granted.slots }
+        requires few { length results.now ≤ self.old.granted.reply_size }
+        ensures { self.new ≡ with_place number (λ p. finished p results.now) self.old }
+    {
+        keep_at(&mut self.slots, number as usize, results);
+    }
+}

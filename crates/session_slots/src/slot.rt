@@ -1,0 +1,157 @@
+//! A slot of a session (RFC 8881, section 2.10.6.1).
+ghost use Rattle.std.specs.Prelude.{◌≡◌, ◌+◌, ◌%◌, ◌^◌, ◌≤◌, ◌<◌, ℕ, ◌==◌, if◌then◌else◌, length, Some, None, IfOk};
+ghost use Rattle.session_slots.specs.Counting as specs;
+ghost use Rattle.session_slots.specs.Slots.{Call, Kept, Place, turn_of, begun, finished, results_of, BeginsByHistory, KeepsByHistory};
+
+use nfs_types::Status;
+use rpc_record::Caller;
+use std::alloc::{AllocError, Allocator, Global};
+use std::marker::Model;
+
+/// Whether a call on a slot is new.
+#[derive(Clone, Copy, Debug, PartialEq, Eq)]
+pub enum Turn {
+    /// It has the number that is due.
+    New,
+    /// It is the last one again.
+    Repeat,
+    /// It is refused.
+    Refused(Status),
+}
+
+/// The number behind a number: that of the next call.
+pub fn due(last: u32) -> u32
+    ensures { result ≡ specs.due last }
+{
+    last.wrapping_add(1)
+}
+
+/// Whether a call on a slot that has accepted none is new.
+fn first_turn(number: u32) -> Turn
+    ensures { result ≡ (if number == 1 then Turn.New else Turn.Refused Status.SeqMisordered) }
+{
+    match number {
+        1 => Turn::New,
+        _ => Turn::Refused(Status::SeqMisordered),
+    }
+}
+
+/// A slot: the last call that it accepted, with its results. The room for them is reserved as it is made.
+#[derive(Drop)]
+pub struct Slot<A: Allocator = Global> {
+    // its number, and who sent it; `None`: no call was accepted
+    last: Option<(u32, Caller)>,
+    arguments: Vec<u8, A>,
+    results: Vec<u8, A>,
+    most_arguments: usize,
+    most_results: usize,
+}
+
+impl<A: Allocator> Model for Slot<A> {
+    ghost use Rattle.std.specs.Prelude.{◌≤◌, vec_len, vec_capacity};
+    ghost use Rattle.std.specs.Option.{option_map};
+    ghost use Rattle.session_slots.specs.Slots.{Place};
+
+    ghost Value = { Place };
+
+    ghost view = { λ s. record {
+      kept = option_map (λ last. record { call = record { number = last.0; caller = last.1; arguments = s.arguments.items }; results = s.results.items }) s.last;
+      most_arguments = s.most_arguments;
+      most_results = s.most_results;
+    } };
+
+    ghost invariant = { λ s. (s.most_arguments ≤ vec_capacity s.arguments) × (s.most_results ≤ vec_capacity s.results) };
+}
+
+impl<A: Allocator + Copy> Slot<A> {
+    /// A slot that has accepted no call. `Err`: there is no memory for its calls and their results.
+    pub fn new(alloc: A, most_arguments: usize, most_results: usize) -> Result<Self, AllocError>
+        ensures { IfOk result (λ slot. slot ≡ record { kept = None; most_arguments = most_arguments; most_results = most_results }) }
+    {
+        Ok(Slot {
+            last: None,
+            arguments: Vec::with_capacity(alloc, most_arguments)?,
+            results: Vec::with_capacity(alloc, most_results)?,
+            most_arguments,
+            most_results,
+        })
+    }
+
+    /// The results that it keeps: none where it has accepted no call.
+    pub fn results(&self) -> &[u8]
+        ensures { result.now ≡ results_of self.now.kept }
+    {
+        match &self.last {
+            Some(_) => &self.results,
+            None => &[],
+        }
+    }
+
+    /// Whether a call is new, the last one again, or refused.
+    fn turn(&self, number: u32, arguments: &[u8], caller: &Caller) -> Turn
+        ensures { result ≡ turn_of self.now.kept (record { number = number; caller = caller.now; arguments = arguments.now }) }
+    {
+        let Some((last, sender)) = &self.last else {
+            return first_turn(number);
+        };
+        if number == due(*last) {
+            return Turn::New;
+        }
+        if number != *last {
+            return Turn::Refused(Status::SeqMisordered);
+        }
+        if arguments == self.arguments.as_slice() && *caller == *sender {
+            return Turn::Repeat;
+        }
+        Turn::Refused(Status::SeqFalseRetry)
+    }
+
+    /// Begins a call, as [`Slot::begin`] does.
+    fn take(&mut self, number: u32, arguments: &[u8], caller: &Caller) -> Turn
+        requires { length arguments.now ≤ self.old.most_arguments }
+        ensures turn { result ≡ turn_of self.old.kept (record { number = number; caller = caller.now; arguments = arguments.now }) }
+        ensures begun { self.new ≡ begun self.old (record { number = number; caller = caller.now; arguments = arguments.now }) }
+    {
+        let turn = self.turn(number, arguments, caller);
+        if let Turn::New = turn {
+            self.last = Some((number, *caller));
+            self.arguments.clear();
+            self.arguments.extend_from_slice(arguments).unwrap();
+            self.results.clear();
+        }
+        turn
+    }
+
+    /// Begins a call: a new one is kept, with no results yet. It takes no memory.
+    ///
+    /// For every history of calls that the slot stood for, the call gets what that history says, and the slot stands for the history
+    /// with the call.
+    #[tactic(auto, using(crate::proofs::Histories::begins_by_history))]
+    pub fn begin(&mut self, number: u32, arguments: &[u8], caller: &Caller) -> Turn
+        requires { length arguments.now ≤ self.old.most_arguments }
+        ensures turn { result ≡ turn_of self.old.kept (record { number = number; caller = caller.now; arguments = arguments.now }) }
+        ensures begun { self.new ≡ begun self.old (record { number = number; caller = caller.now; arguments = arguments.now }) }
+        ensures by_history { BeginsByHistory self.old.kept self.new.kept (record { number = number; caller = caller.now; arguments = arguments.now }) result }
+    {
+        self.take(number, arguments, caller)
+    }
+
+    /// Keeps the results of the call that was begun last, as [`Slot::keep`] does.
+    fn put(&mut self, results: &[u8])
+        requires { length results.now ≤ self.old.most_results }
+        ensures { self.new ≡ finished self.old results.now }
+    {
+        self.results.clear();
+        self.results.extend_from_slice(results).unwrap();
+    }
+
+    /// Keeps the results of the call that was begun last. It takes no memory.
+    #[tactic(auto, using(crate::proofs::Histories::keeps_by_history))]
+    pub fn keep(&mut self, results: &[u8])
+        requires { length results.now ≤ self.old.most_results }
+        ensures finished { self.new ≡ finished self.old results.now }
+        ensures by_history { KeepsByHistory self.old.kept self.new.kept results.now }
+    {
+        self.put(results);
+    }
+}
