@@ -27,6 +27,7 @@ pub mod Remove
 pub mod Rename
 pub mod Restorefh
 pub mod Savefh
+pub mod Setattr
 pub mod Verify
 pub mod Write
 pub mod Operations
@@ -35,6 +36,7 @@ pub mod Telling
 pub mod Compound
 pub mod State
 pub mod Views
+pub mod Permits
 pub mod Asking
 pub mod Says
 pub mod Written

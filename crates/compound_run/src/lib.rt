@@ -32,6 +32,7 @@ mod results;
 mod run;
 mod savefh;
 mod server;
+mod setattr;
 mod stateids;
 mod values;
 mod verify;

@@ -1,0 +1,297 @@
+//! SETATTR (RFC 8881, section 18.30).
+ghost use Rattle.std.specs.Prelude.{◌≡◌, ◌<◌, ◌≤◌, ◌+◌, ◌^◌, ◌||◌, [], true, is_some, Some, None, if◌then◌else◌, IfOk, IfSome, IsSome, IsOkUnless, MatchResult, OnOk, OnErr};
+ghost use Rattle.acl_shape.specs.Bounds.{IsBounded};
+ghost use Rattle.nfs_types.specs.Views.{stateid_value};
+ghost use Rattle.nfs_ops.specs.OpViews.{op_view};
+ghost use Rattle.nfs_ops.specs.Operations.{Known};
+ghost use Rattle.nfs_ops.specs.Views.{setattr_args_value};
+ghost use Rattle.nfs_ops.specs.declared.op_kind.OpKind.TheVariants as kinds;
+ghost use Rattle.node_tree.specs.Sound.{IsTick};
+ghost use Rattle.node_tree.specs.World.{kind_of, object};
+ghost use Rattle.compound_run.specs.Asking.{sight_of};
+ghost use Rattle.compound_run.specs.Sight.{kind_at};
+ghost use Rattle.compound_run.specs.Setattr.{setattr, sent, size_fault, size_fits, has_counts, sets_list, sets_owner, sets_any, stamps, sized, setting};
+ghost use Rattle.compound_run.specs.Permits.{Permits, permitted, entitled};
+ghost use Rattle.compound_run.specs.Views.{context_of, GivesOrDelays, HasRoom, wanted_view, with_world, IsWanted};
+
+use crate::context::Context;
+use crate::export::{Export, status_of};
+use crate::filehandles::FileHandles;
+use crate::results::put_result;
+use crate::stateids::Purpose;
+use acl_list::AclList;
+use acl_shape::{Given, Permissions, changed_permissions};
+use nfs_ops::{Op, OpResult, SetAttrArgs, SetAttrResult};
+use nfs_types::{Attrs, Moment, StateId, Status};
+use node_tree::{At, Kind, MAX_BYTES};
+use std::alloc::{AllocError, Allocator};
+use xdr_wire::Writer;
+
+/// No counter reaches this one.
+const COUNTS: u64 = 1 << 63;
+
+/// Whether another list is made.
+fn sets_list<A: Allocator>(wanted: &Attrs<A>) -> bool
+    ensures { result ≡ sets_list (wanted_view wanted.now) }
+{
+    wanted.mode.is_some() || wanted.list.is_some()
+}
+
+/// Whether an owner or a group is set.
+fn sets_owner<A: Allocator>(wanted: &Attrs<A>) -> bool
+    ensures { result ≡ sets_owner (wanted_view wanted.now) }
+{
+    wanted.owner.is_some() || wanted.group.is_some()
+}
+
+/// Whether any attribute is set.
+fn sets_any<A: Allocator>(wanted: &Attrs<A>) -> bool
+    ensures { result ≡ sets_any (wanted_view wanted.now) }
+{
+    wanted.size.is_some() || sets_list(wanted) || sets_owner(wanted)
+}
+
+/// Whether either is there.
+fn is_either(first: Option<u32>, second: Option<u32>) -> bool
+    ensures { result ≡ is_some first || is_some second }
+{
+    first.is_some() || second.is_some()
+}
+
+/// How many stamps are taken.
+fn stamps<A: Allocator>(wanted: &Attrs<A>) -> u64
+    ensures value { result ≡ stamps (wanted_view wanted.now) }
+    ensures few { result ≤ 2 }
+{
+    let list = if sets_list(wanted) { 1 } else { 0 };
+    let owner = if sets_owner(wanted) { 1 } else { 0 };
+    list + owner
+}
+
+/// Whether a size is within the limit of a file.
+fn size_fits(size: Option<u64>) -> bool
+    ensures { result ≡ size_fits size }
+{
+    match size {
+        Some(size) => size <= MAX_BYTES,
+        None => true,
+    }
+}
+
+impl<A: Allocator + Copy> Export<A> {
+    /// What is wrong with a size that is to be set, if one is: it is a file's alone, and takes a stateid.
+    fn check_size(
+        &self,
+        context: Context<'_>,
+        number: u64,
+        size: Option<u64>,
+        stateid: &StateId,
+    ) -> Result<(), Status>
+        requires there { IsSome (object self.now.tree.world number) }
+        ensures fault { MatchResult result (λ done. size_fault size (context_of context.entry) number (stateid_value stateid.now) (sight_of self.now) ≡ None) (λ status. size_fault size (context_of context.entry) number (stateid_value stateid.now) (sight_of self.now) ≡ Some status) }
+        ensures file { OnOk result (IfSome size (λ size. kind_of self.now.tree.world number ≡ Some Kind.File)) }
+    {
+        if size.is_none() {
+            return Ok(());
+        }
+        let Some(node) = self.tree.object(number) else {
+            unreachable!();
+        };
+        if node.kind() != Kind::File {
+            return Err(Status::Inval);
+        }
+        self.check_stateid(context, number, stateid, Purpose::ToWrite)
+    }
+
+    /// What the attributes that are sent set on an object. `Delay`: there is no memory for the list.
+    fn wanted_on(
+        &self,
+        context: Context<'_>,
+        number: u64,
+        args: &SetAttrArgs<'_>,
+    ) -> Result<Attrs<A>, Status>
+        requires there { IsSome (object self.now.tree.world number) }
+        ensures wanted { IsWanted (sent (context_of context.entry) (setattr_args_value args.now) (kind_at (sight_of self.now) number)) result }
+        ensures bounded { IfOk result (λ wanted. IfSome wanted.list IsBounded) }
+    {
+        let Some(node) = self.tree.object(number) else {
+            unreachable!();
+        };
+        self.wanted(context.book, node.kind(), &args.attributes)
+    }
+
+    /// Whether a tick is left for what is set, and the stamps that it takes.
+    #[tactic(auto, unfolding(crate::specs::Setattr::has_counts))]
+    fn has_counts(&self, wanted: &Attrs<A>) -> bool
+        ensures { result ≡ has_counts (wanted_view wanted.now) (sight_of self.now) }
+    {
+        if !sets_any(wanted) {
+            return true;
+        }
+        self.tree.next_tick() < COUNTS && self.tree.next_stamp() <= COUNTS - stamps(wanted)
+    }
+
+    /// What the list of an object becomes, and the high bits of its mode. `None`: it stays. `Err`: there is no memory for it.
+    fn permissions(
+        &self,
+        number: u64,
+        mode: Option<u32>,
+        list: Option<AclList<A>>,
+    ) -> Result<Option<Permissions<A>>, AllocError>
+        requires there { IsSome (object self.now.tree.world number) }
+        requires bounded { IfSome list IsBounded }
+        ensures some { IfOk result (λ made. is_some made ≡ is_some mode || is_some list) }
+        ensures value { IfOk result (λ made. IfSome made (Permits self.now.tree.world number mode list)) }
+    {
+        if mode.is_none() && list.is_none() {
+            return Ok(None);
+        }
+        let Some(node) = self.tree.object(number) else {
+            unreachable!();
+        };
+        let given = Given { mode, list };
+        let made = changed_permissions(self.alloc, node.list(), node.high(), node.kind(), given)?;
+        Ok(Some(made))
+    }
+
+    /// Sets the size of a file, if one is to be set. `Delay`: there is no memory for it.
+    fn set_size(&mut self, number: u64, size: Option<u64>, at: At) -> Result<(), Status>
+        requires tick { IsTick self.old.tree.world at.tick }
+        requires file { IfSome size (λ size. kind_of self.old.tree.world number ≡ Some Kind.File) }
+        requires fits { size_fits size ≡ true }
+        ensures space { IsOkUnless result Status.Delay }
+        ensures ok { OnOk result (self.new ≡ with_world (sized number size at self.old.tree.world) self.old) }
+        ensures tick { IsTick self.new.tree.world at.tick }
+        ensures stamps { self.new.tree.world.next_stamp ≡ self.old.tree.world.next_stamp }
+        ensures err { OnErr result (self.new ≡ self.old) }
+    {
+        match size {
+            Some(size) => self.tree.resize(number, size, at).map_err(status_of),
+            None => Ok(()),
+        }
+    }
+
+    /// Sets the list of an object with the high bits of its mode, if another is made.
+    fn set_permissions(&mut self, number: u64, made: Option<Permissions<A>>, at: At)
+        requires tick { IsTick self.old.tree.world at.tick }
+        requires stamps { is_some made ≡ true → self.old.tree.world.next_stamp < 2 ^ 63 }
+        requires bounded { IfSome made (λ p. IsBounded p.list) }
+        ensures set { self.new ≡ with_world (permitted number made at self.old.tree.world) self.old }
+        ensures tick { IsTick self.new.tree.world at.tick }
+        ensures stamps { self.new.tree.world.next_stamp ≡ self.old.tree.world.next_stamp + (if is_some made then 1 else 0) }
+    {
+        if let Some(made) = made {
+            self.tree.set_list(number, made.list, made.high, at);
+        }
+    }
+
+    /// Sets the owner and the group of an object, where one of them is to be set; the other stays as it was.
+    fn set_principals(
+        &mut self,
+        number: u64,
+        owner: Option<u32>,
+        group: Option<u32>,
+        before: (u32, u32),
+        at: At,
+    )
+        requires tick { IsTick self.old.tree.world at.tick }
+        requires stamps { is_some owner || is_some group ≡ true → self.old.tree.world.next_stamp < 2 ^ 63 }
+        ensures { self.new ≡ with_world (entitled number owner group before at self.old.tree.world) self.old }
+    {
+        if is_either(owner, group) {
+            let (old_owner, old_group) = before;
+            let owner = owner.unwrap_or(old_owner);
+            let group = group.unwrap_or(old_group);
+            self.tree.set_owner(number, owner, group, at);
+        }
+    }
+
+    /// Sets attributes of an object, all or none. `Delay`: there is no memory for them.
+    #[tactic(auto, unfolding(crate::specs::Setattr::setting))]
+    fn set_all(&mut self, number: u64, wanted: Attrs<A>, at: At) -> Result<(), Status>
+        requires tick { IsTick self.old.tree.world at.tick }
+        requires there { IsSome (object self.old.tree.world number) }
+        requires file { IfSome wanted.size (λ size. kind_of self.old.tree.world number ≡ Some Kind.File) }
+        requires fits { size_fits wanted.size ≡ true }
+        requires bounded { IfSome wanted.list IsBounded }
+        requires stamps { self.old.tree.world.next_stamp + stamps (wanted_view wanted) ≤ 2 ^ 63 }
+        ensures space { IsOkUnless result Status.Delay }
+        ensures ok { OnOk result (self.new ≡ with_world (setting number (wanted_view wanted) at self.old.tree.world) self.old) }
+        ensures err { OnErr result (self.new ≡ self.old) }
+    {
+        let Some(node) = self.tree.object(number) else {
+            unreachable!();
+        };
+        let before = (node.owner(), node.group());
+        let Attrs {
+            size,
+            list,
+            mode,
+            owner,
+            group,
+        } = wanted;
+        let Ok(made) = self.permissions(number, mode, list) else {
+            return Err(Status::Delay);
+        };
+        self.set_size(number, size, at)?;
+        self.set_permissions(number, made, at);
+        self.set_principals(number, owner, group, before, at);
+        Ok(())
+    }
+
+    /// The same, where none may be set.
+    #[tactic(auto, unfolding(crate::specs::Setattr::has_counts, crate::specs::Setattr::setting))]
+    fn set_any(&mut self, now: Moment, number: u64, wanted: Attrs<A>) -> Result<(), Status>
+        requires there { IsSome (object self.old.tree.world number) }
+        requires file { IfSome wanted.size (λ size. kind_of self.old.tree.world number ≡ Some Kind.File) }
+        requires fits { size_fits wanted.size ≡ true }
+        requires bounded { IfSome wanted.list IsBounded }
+        requires counts { has_counts (wanted_view wanted) (sight_of self.old) ≡ true }
+        ensures space { IsOkUnless result Status.Delay }
+        ensures ok { OnOk result (self.new ≡ with_world (setting number (wanted_view wanted) (record { tick = self.old.tree.world.next_tick; moment = now }) self.old.tree.world) self.old) }
+        ensures err { OnErr result (self.new ≡ self.old) }
+    {
+        if !sets_any(&wanted) {
+            return Ok(());
+        }
+        let Some(at) = self.tick(now) else {
+            unreachable!();
+        };
+        self.set_all(number, wanted, at)
+    }
+
+    /// Attributes of the current object are set, all of those that are sent or none. `Delay`: there is no memory for them.
+    pub fn setattr(
+        &mut self,
+        context: Context<'_>,
+        handles: FileHandles,
+        op: &Op<'_>,
+        args: &SetAttrArgs<'_>,
+        out: &mut Writer<A>,
+    ) -> Result<(), Status>
+        requires op { op_view op.now ≡ Known kinds.SetAttr (setattr_args_value args.now) }
+        requires settled { self.old.tree.log.held ≡ [] }
+        requires room { HasRoom context out.old }
+        ensures { GivesOrDelays context.entry (setattr (setattr_args_value args.now)) self.old handles out.old result self.new handles out.new }
+    {
+        let number = handles.current.ok_or(Status::NoFileHandle)?;
+        if self.tree.object(number).is_none() {
+            return Err(Status::Stale);
+        }
+        let wanted = self.wanted_on(context, number, args)?;
+        self.check_size(context, number, wanted.size, &args.stateid)?;
+        if !self.grants_sized(op, handles, context.caller, wanted.size) {
+            return Err(Status::Access);
+        }
+        if !size_fits(wanted.size) {
+            return Err(Status::FBig);
+        }
+        if !self.has_counts(&wanted) {
+            return Err(Status::NoSpc);
+        }
+        self.set_any(context.now, number, wanted)?;
+        let set = args.attributes.set;
+        put_result(OpResult::SetAttr(SetAttrResult { set }), out);
+        Ok(())
+    }
+}
