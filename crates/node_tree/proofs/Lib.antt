@@ -14,3 +14,4 @@ pub mod Epoch
 pub mod Starting
 pub mod Sampling
 pub mod Below
+pub mod Placing

@@ -3,6 +3,8 @@ pub mod World
 pub mod Ways
 pub mod Changes
 pub mod Refusals
+pub mod Contents
+pub mod Blocks
 pub mod Judged
 pub mod Sound
 pub mod Sample

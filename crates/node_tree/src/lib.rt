@@ -4,7 +4,9 @@
 #![tactic(auto)]
 
 mod at;
-mod bytes;
+mod block;
+mod blocks;
+mod contents;
 mod edits;
 mod entry;
 mod fault;

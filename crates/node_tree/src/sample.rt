@@ -25,7 +25,7 @@ fn file<A: Allocator + Copy>(alloc: A) -> Result<Node<A>, AllocError>
         list: set_mode(alloc, &AclList::new(alloc), Kind::File, 0o640)?,
         high: 0,
     };
-    Ok(Node::made(new, 2, from_start(2)))
+    Node::made(alloc, new, 2, from_start(2))
 }
 
 /// A directory of the sample. Its stamp and its last change are its number.
@@ -40,7 +40,7 @@ fn directory<A: Allocator + Copy>(alloc: A, number: u64, mode: u32) -> Result<No
         list: set_mode(alloc, &AclList::new(alloc), Kind::Directory, mode)?,
         high: 0,
     };
-    Ok(Node::made(new, number, from_start(number)))
+    Node::made(alloc, new, number, from_start(number))
 }
 
 /// A name in the root.

@@ -1,10 +1,11 @@
 //! What a tree is kept in: objects in a map by number, names in one list by rising cookie. What it answers and does is right
 //! whatever they are; whether they are a tree is for [`crate::Tree`] to see to.
-ghost use Rattle.std.specs.Prelude.{◌≡◌, ◌+◌, ◌-◌, ◌<◌, ◌≤◌, ◌^◌, ◌&&◌, ◌++◌, ℕ, nat_le, nat_lt, if◌then◌else◌, slice_index, length, drop, filter, not, OnOk, OnErr, IfOk, IsOk};
+ghost use Rattle.std.specs.Prelude.{◌≡◌, ◌+◌, ◌-◌, ◌<◌, ◌≤◌, ◌^◌, ◌&&◌, ◌++◌, ℕ, nat_le, nat_lt, if◌then◌else◌, slice_index, length, drop, filter, not, OnOk, OnErr, IfOk, Some};
 ghost use Rattle.std.specs.Option.{option_copied};
-ghost use Rattle.node_tree.specs.World.{object, kind_of, bytes_of, bytes_at, child_named, name_after, is_named, is_directory_at, has_name, has_entries, name_count, link_count, parent_of};
+ghost use Rattle.node_tree.specs.World.{object, kind_of, bytes_at, child_named, name_after, is_named, is_directory_at, has_name, has_entries, name_count, link_count, parent_of};
 ghost use Rattle.node_tree.specs.Ways.{is_within};
 ghost use Rattle.node_tree.specs.Changes.{alone, made, changed, touched, retold, without, released, other_names, written, resized, with_new, with_link, without_name, with_move, with_bytes, with_size, with_list, with_owner};
+ghost use Rattle.node_tree.specs.Sound.{most_bytes};
 ghost use Rattle.node_tree.specs.Refusals.{add_refusal, link_refusal, has_left, has_room, has_object_room, may_link, may_name, may_add, is_below, may_replace, may_move, move_refusal, rename_refusal};
 
 use crate::at::At;
@@ -16,7 +17,7 @@ use crate::entry::DirEntry;
 use crate::fault::TreeFault;
 use crate::limits::{MAX_LINKS, MAX_NAMES, MAX_OBJECTS, ROOT};
 use crate::node::{NewObject, Node};
-use acl_list::AclList;
+use acl_list::{AclList, Kind};
 use std::alloc::{AllocError, Allocator, Global};
 use std::collections::BTreeMap;
 use std::marker::Model;
@@ -350,13 +351,14 @@ impl<A: Allocator + Copy> Store<A> {
         requires numbers { self.old.next_number < 2 ^ 63 }
         requires stamps { self.old.next_stamp < 2 ^ 63 }
         requires cookies { self.old.next_cookie < 2 ^ 63 }
+        requires bytes { length new.bytes.items ≤ most_bytes new.kind }
         ensures number { IfOk result (λ number. number ≡ self.old.next_number) }
         ensures ok { OnOk result (self.new ≡ with_new self.old directory name.now (made new self.old.next_stamp at) at) }
         ensures err { OnErr result (self.new ≡ self.old) }
     {
         let name = Vec::from_slice(self.alloc, name)?;
         self.names.reserve(1)?;
-        let node = Node::made(new, self.next_stamp, at);
+        let node = Node::made(self.alloc, new, self.next_stamp, at)?;
         self.objects.insert(self.next_number, node)?;
         touch(&mut self.objects, directory, at);
         let number = self.next_number;
@@ -447,24 +449,23 @@ impl<A: Allocator + Copy> Store<A> {
     pub fn write(&mut self, file: u64, offset: usize, more: &[u8], at: At) -> Result<(), AllocError>
         requires ticks { at.tick < 2 ^ 63 }
         requires few { offset + length more.now < 2 ^ 32 }
+        requires file { kind_of self.old file ≡ Some Kind.File }
         ensures ok { OnOk result (self.new ≡ with_bytes self.old file offset more.now at) }
         ensures err { OnErr result (self.new ≡ self.old) }
     {
-        edits::write(&mut self.objects, file, offset, more, at)?;
+        edits::write(&mut self.objects, self.alloc, file, offset, more, at)?;
         self.next_tick = at.tick + 1;
         Ok(())
     }
 
-    /// Sets the size of a file: it is cut, or zeros are added. It takes memory only where the file grows.
-    pub fn resize(&mut self, file: u64, size: usize, at: At) -> Result<(), AllocError>
-        requires { at.tick < 2 ^ 63 }
-        ensures shrinks { size ≤ length (bytes_of self.old file) → IsOk result }
-        ensures ok { OnOk result (self.new ≡ with_size self.old file size at) }
-        ensures err { OnErr result (self.new ≡ self.old) }
+    /// Sets the size of a file: it is cut, or zeros are added. It takes no memory.
+    pub fn resize(&mut self, file: u64, size: usize, at: At)
+        requires ticks { at.tick < 2 ^ 63 }
+        requires file { kind_of self.old file ≡ Some Kind.File }
+        ensures { self.new ≡ with_size self.old file size at }
     {
-        edits::resize(&mut self.objects, file, size, at)?;
+        edits::resize(&mut self.objects, file, size, at);
         self.next_tick = at.tick + 1;
-        Ok(())
     }
 
     /// Sets a list with the high bits of the mode.
