@@ -125,7 +125,8 @@ fn a_whole_call(rt: HostRuntime) -> Result<(), Fail> {
     assert_eq!(rt; call.len(), 100);
     let record = record_of(rt.alloc(), &call[60..])?;
     assert_eq!(rt; record.len(), 104);
-    assert_eq!(rt; &record[..4], &[0x80, 0, 0, 0x64]);
-    assert_eq!(rt; &record[4..], call.as_slice());
+    let (mark, content) = record.split_at(4);
+    assert_eq!(rt; mark, [0x80, 0, 0, 0x64].as_slice());
+    assert_eq!(rt; content, call.as_slice());
     Ok(())
 }
