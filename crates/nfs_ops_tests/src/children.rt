@@ -29,6 +29,7 @@ impl<'a> Entries for Children<'a> {
     type Refusal = u32;
 
     ghost left = { judged };
+
     ghost Kept = { Content };
 
     ghost kept = { λ c. c.book.now };

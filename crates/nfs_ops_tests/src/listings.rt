@@ -20,6 +20,7 @@ const ENTRIES: [&[u8]; 3] = [
 
 /// The end mark, and eof.
 const MORE: &[u8] = b"\0\0\0\0\0\0\0\0";
+
 const END: &[u8] = b"\0\0\0\0\0\0\0\x01";
 
 /// How a listing ends.
@@ -42,13 +43,7 @@ pub struct Case {
     pub ending: Ending,
 }
 
-const fn case(
-    names: usize,
-    refused: Option<usize>,
-    maxcount: u32,
-    room: usize,
-    ending: Ending,
-) -> Case {
+fn listing(names: usize, refused: Option<usize>, maxcount: u32, room: usize, ending: Ending) -> Case {
     Case {
         names,
         refused,
@@ -58,32 +53,29 @@ const fn case(
     }
 }
 
-/// An entry takes 48 bytes, and what stands around entries 16 behind the status and 24 in all.
-static CASES: [Case; 19] = [
-    case(1, None, 64, 256, Ending::Given(1, true)),
-    case(1, None, 63, 256, Ending::TooSmall),
-    case(1, None, 64, 72, Ending::Given(1, true)),
-    case(1, None, 64, 71, Ending::TooSmall),
-    case(0, None, 16, 256, Ending::Given(0, true)),
-    case(0, None, 15, 256, Ending::TooSmall),
-    case(0, None, 0, 24, Ending::TooSmall),
-    case(0, None, 4096, 24, Ending::Given(0, true)),
-    case(2, None, 112, 256, Ending::Given(2, true)),
-    case(2, None, 111, 256, Ending::Given(1, false)),
-    case(2, None, 4096, 119, Ending::Given(1, false)),
-    case(3, None, 159, 256, Ending::Given(2, false)),
-    case(3, None, 160, 256, Ending::Given(3, true)),
-    case(3, None, 4096, 168, Ending::Given(3, true)),
-    case(1, Some(0), 0, 256, Ending::Refused(13)),
-    case(2, Some(1), 64, 256, Ending::Refused(13)),
-    case(2, Some(1), 63, 256, Ending::TooSmall),
-    case(3, Some(2), 111, 256, Ending::Given(1, false)),
-    case(3, Some(2), 112, 256, Ending::Refused(13)),
-];
-
-/// All cases.
-pub fn cases() -> &'static [Case] {
-    &CASES
+/// All cases: an entry takes 48 bytes, and what stands around entries 16 behind the status and 24 in all.
+pub fn cases() -> [Case; 19] {
+    [
+        listing(1, None, 64, 256, Ending::Given(1, true)),
+        listing(1, None, 63, 256, Ending::TooSmall),
+        listing(1, None, 64, 72, Ending::Given(1, true)),
+        listing(1, None, 64, 71, Ending::TooSmall),
+        listing(0, None, 16, 256, Ending::Given(0, true)),
+        listing(0, None, 15, 256, Ending::TooSmall),
+        listing(0, None, 0, 24, Ending::TooSmall),
+        listing(0, None, 4096, 24, Ending::Given(0, true)),
+        listing(2, None, 112, 256, Ending::Given(2, true)),
+        listing(2, None, 111, 256, Ending::Given(1, false)),
+        listing(2, None, 4096, 119, Ending::Given(1, false)),
+        listing(3, None, 159, 256, Ending::Given(2, false)),
+        listing(3, None, 160, 256, Ending::Given(3, true)),
+        listing(3, None, 4096, 168, Ending::Given(3, true)),
+        listing(1, Some(0), 0, 256, Ending::Refused(13)),
+        listing(2, Some(1), 64, 256, Ending::Refused(13)),
+        listing(2, Some(1), 63, 256, Ending::TooSmall),
+        listing(3, Some(2), 111, 256, Ending::Given(1, false)),
+        listing(3, Some(2), 112, 256, Ending::Refused(13)),
+    ]
 }
 
 fn facts() -> ObjectFacts<'static> {

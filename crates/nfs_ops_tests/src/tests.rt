@@ -88,7 +88,7 @@ fn no_results(rt: HostRuntime) -> Result<(), Fail> {
 #[test]
 fn listings(rt: HostRuntime) -> Result<(), Fail> {
     for case in listings::cases() {
-        let (written, fault) = listings::listed(rt.alloc(), *case)?;
+        let (written, fault) = listings::listed(rt.alloc(), case)?;
         assert_eq!(rt; fault, listings::fault_of(case.ending), "{case:?}");
         let want = listings::wanted(rt.alloc(), case.ending)?;
         assert_eq!(rt; written.as_slice(), want.as_slice(), "{case:?}");
