@@ -7,19 +7,19 @@ use xdr_wire::Writer;
 
 /// A name as it is judged.
 #[derive(Clone, Copy)]
-pub struct Child<'a> {
+pub struct Child {
     pub cookie: u64,
-    pub name: Bytes<'a>,
-    pub facts: &'a ObjectFacts<'a>,
+    pub name: Bytes<'static>,
     /// What is given of it, or what refuses it.
     pub judged: Result<Bitmap, u32>,
 }
 
-/// Names by rising cookie.
+/// Names by rising cookie, of objects that are alike.
 #[derive(Clone, Copy)]
 pub struct Children<'a> {
     pub book: &'a Book,
-    pub left: &'a [Child<'a>],
+    pub facts: &'a ObjectFacts<'a>,
+    pub left: &'a [Child],
 }
 
 impl<'a> Entries for Children<'a> {
@@ -35,7 +35,7 @@ impl<'a> Entries for Children<'a> {
     ghost kept = { λ c. c.book.now };
 
     fn write_next<A: Allocator>(&mut self, writer: &mut Writer<A>) -> Next<u32> {
-        let Children { book, left } = *self;
+        let Children { book, facts, left } = *self;
         let Some((child, rest)) = left.split_first() else {
             return Next::End;
         };
@@ -43,11 +43,7 @@ impl<'a> Entries for Children<'a> {
             Ok(asked) => asked,
             Err(refusal) => return Next::Refused(refusal),
         };
-        let attributes = GivenAttributes {
-            book,
-            facts: child.facts,
-            asked,
-        };
+        let attributes = GivenAttributes { book, facts, asked };
         let given = GivenEntry {
             cookie: child.cookie,
             name: child.name,
@@ -55,7 +51,11 @@ impl<'a> Entries for Children<'a> {
         };
         match write_entry(given, writer) {
             Ok(()) => {
-                *self = Children { book, left: rest };
+                *self = Children {
+                    book,
+                    facts,
+                    left: rest,
+                };
                 Next::Written
             }
             Err(_) => Next::Full,

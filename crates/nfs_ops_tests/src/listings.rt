@@ -43,7 +43,13 @@ pub struct Case {
     pub ending: Ending,
 }
 
-fn listing(names: usize, refused: Option<usize>, maxcount: u32, room: usize, ending: Ending) -> Case {
+fn listing(
+    names: usize,
+    refused: Option<usize>,
+    maxcount: u32,
+    room: usize,
+    ending: Ending,
+) -> Case {
     Case {
         names,
         refused,
@@ -107,46 +113,55 @@ fn asked() -> Bitmap {
 }
 
 /// The name of this index, which may be refused by 13.
-fn child<'a>(facts: &'a ObjectFacts<'a>, index: usize, refused: Option<usize>) -> Child<'a> {
-    let (cookie, name): (u64, &'static [u8]) = match index {
+fn child(index: usize, refused: Option<usize>) -> Child {
+    let (cookie, bytes): (u64, &'static [u8]) = match index {
         0 => (4, b"f"),
         1 => (6, b"go"),
         _ => (7, b"x"),
     };
+    let name = Opaque { bytes };
+    let judged = if refused == Some(index) {
+        Err(13)
+    } else {
+        Ok(asked())
+    };
     Child {
         cookie,
-        name: Opaque { bytes: name },
-        facts,
-        judged: if refused == Some(index) {
-            Err(13)
-        } else {
-            Ok(asked())
-        },
+        name,
+        judged,
+    }
+}
+
+/// How the listing ends that is written.
+fn write_listing(mut children: Children<'_>, case: Case, writer: &mut Writer) -> Option<Ending> {
+    let room = writer.room();
+    if room < 24 {
+        return None;
+    }
+    match write_readdir(&mut children, case.maxcount, room, writer) {
+        Ok(()) => None,
+        Err(ListFault::Refused(refusal)) => Some(Ending::Refused(refusal)),
+        Err(ListFault::TooSmall) => Some(Ending::TooSmall),
     }
 }
 
 /// What is written of a case, and how it ends.
 pub fn listed(alloc: Global, case: Case) -> Result<(Vec<u8>, Option<Ending>), AllocError> {
+    let mut writer = Writer::new(alloc, case.room)?;
     let book = Book::default(alloc);
     let facts = facts();
     let all = [
-        child(&facts, 0, case.refused),
-        child(&facts, 1, case.refused),
-        child(&facts, 2, case.refused),
+        child(0, case.refused),
+        child(1, case.refused),
+        child(2, case.refused),
     ];
-    let mut children = Children {
+    let left = all.get(..case.names).unwrap_or(&[]);
+    let children = Children {
         book: &book,
-        left: all.get(..case.names).unwrap_or(&[]),
+        facts: &facts,
+        left,
     };
-    let mut writer = Writer::new(alloc, case.room)?;
-    if case.room < 24 {
-        return Ok((writer.into_bytes(), None));
-    }
-    let ending = match write_readdir(&mut children, case.maxcount, case.room, &mut writer) {
-        Ok(()) => None,
-        Err(ListFault::Refused(refusal)) => Some(Ending::Refused(refusal)),
-        Err(ListFault::TooSmall) => Some(Ending::TooSmall),
-    };
+    let ending = write_listing(children, case, &mut writer);
     Ok((writer.into_bytes(), ending))
 }
 
