@@ -15,3 +15,5 @@ pub mod Starting
 pub mod Sampling
 pub mod Below
 pub mod Placing
+pub mod Keys
+pub mod Indexing

@@ -5,6 +5,7 @@ pub mod Changes
 pub mod Refusals
 pub mod Contents
 pub mod Blocks
+pub mod Indexes
 pub mod Judged
 pub mod Sound
 pub mod Sample

@@ -1,12 +1,11 @@
 //! Edits of the objects and of the names.
-ghost use Rattle.std.specs.Prelude.{◌≡◌, ◌+◌, ◌<◌, ◌≤◌, ◌^◌, ◌==◌, if◌then◌else◌, length, find, OnOk, OnErr, Some};
+ghost use Rattle.std.specs.Prelude.{◌≡◌, ◌+◌, ◌<◌, ◌^◌, ◌==◌, if◌then◌else◌, length, find, OnOk, OnErr, Some};
 ghost use Rattle.std.specs.Option.{option_map, option_map_or};
 ghost use Rattle.std.specs.Map.{lookup};
 ghost use Rattle.std.specs.BTreeMap.{is_at};
 ghost use Rattle.std.specs.Ordering.{nat_cmp};
-ghost use Rattle.std.specs.Vec.{vec_len, vec_capacity};
-ghost use Rattle.node_tree.specs.World.{is_named, has_name};
-ghost use Rattle.node_tree.specs.Changes.{changed, touched, retold, without, released, other_names, written, resized};
+ghost use Rattle.node_tree.specs.World.{has_name};
+ghost use Rattle.node_tree.specs.Changes.{changed, touched, retold, without, released, written, resized};
 
 use crate::at::At;
 use crate::entry::DirEntry;
@@ -17,46 +16,11 @@ use std::collections::BTreeMap;
 
 // ---- names
 
-/// Takes a name away.
-pub fn remove_name<A: Allocator>(names: &mut Vec<DirEntry<A>, A>, directory: u64, name: &[u8])
-    ensures names { names.new.items ≡ other_names directory name.now names.old.items }
-    ensures shorter { vec_len names.new ≤ vec_len names.old }
-    ensures room { vec_capacity names.new ≡ vec_capacity names.old }
-{
-    names.retain(|entry| !entry.is_named(directory, name));
-}
-
-/// Takes two names away.
-pub fn remove_names<A: Allocator>(
-    names: &mut Vec<DirEntry<A>, A>,
-    from: u64,
-    old: &[u8],
-    to: u64,
-    new: &[u8],
-)
-    ensures names { names.new.items ≡ other_names to new.now (other_names from old.now names.old.items) }
-    ensures shorter { vec_len names.new ≤ vec_len names.old }
-    ensures room { vec_capacity names.new ≡ vec_capacity names.old }
-{
-    remove_name(names, from, old);
-    remove_name(names, to, new);
-}
-
 /// Whether an object has a name.
 pub fn has_name<A: Allocator>(names: &[DirEntry<A>], number: u64) -> bool
     ensures { result ≡ has_name names.now number }
 {
     names.iter().any(|entry| entry.child() == number)
-}
-
-/// The child of a name in a directory.
-pub fn child_of<A: Allocator>(names: &[DirEntry<A>], directory: u64, name: &[u8]) -> Option<u64>
-    ensures { result ≡ option_map (λ n. n.child) (find (is_named directory name.now) names.now) }
-{
-    names
-        .iter()
-        .find(|entry| entry.is_named(directory, name))
-        .map(|entry| entry.child())
 }
 
 /// The directory of the first name that an object has.

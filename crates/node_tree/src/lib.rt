@@ -12,6 +12,8 @@ mod entry;
 mod fault;
 mod laws;
 mod limits;
+mod name_index;
+mod name_table;
 mod node;
 mod sample;
 mod store;

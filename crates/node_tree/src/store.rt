@@ -1,6 +1,6 @@
 //! What a tree is kept in: objects in a map by number, names in one list by rising cookie. What it answers and does is right
 //! whatever they are; whether they are a tree is for [`crate::Tree`] to see to.
-ghost use Rattle.std.specs.Prelude.{◌≡◌, ◌+◌, ◌-◌, ◌<◌, ◌≤◌, ◌^◌, ◌&&◌, ◌++◌, ℕ, nat_le, nat_lt, if◌then◌else◌, slice_index, length, drop, filter, not, OnOk, OnErr, IfOk, Some};
+ghost use Rattle.std.specs.Prelude.{◌≡◌, ◌+◌, ◌-◌, ◌<◌, ◌≤◌, ◌^◌, ◌&&◌, ◌++◌, ℕ, nat_le, nat_lt, if◌then◌else◌, slice_index, length, drop, filter, not, None, OnOk, OnErr, IfOk, Some};
 ghost use Rattle.std.specs.Option.{option_copied};
 ghost use Rattle.node_tree.specs.World.{object, kind_of, bytes_at, child_named, name_after, is_named, is_directory_at, has_name, has_entries, name_count, link_count, parent_of};
 ghost use Rattle.node_tree.specs.Ways.{is_within};
@@ -10,12 +10,11 @@ ghost use Rattle.node_tree.specs.Refusals.{add_refusal, link_refusal, has_left, 
 
 use crate::at::At;
 use crate::edits;
-use crate::edits::{
-    child_of, directory_of, has_name, move_child, release, remove_name, remove_names, retell, touch,
-};
+use crate::edits::{directory_of, has_name, move_child, release, retell, touch};
 use crate::entry::DirEntry;
 use crate::fault::TreeFault;
 use crate::limits::{MAX_LINKS, MAX_NAMES, MAX_OBJECTS, ROOT};
+use crate::name_table::NameTable;
 use crate::node::{NewObject, Node};
 use acl_list::{AclList, Kind};
 use std::alloc::{AllocError, Allocator, Global};
@@ -30,7 +29,7 @@ const END: u64 = 1 << 63;
 pub struct Store<A: Allocator = Global> {
     alloc: A,
     objects: BTreeMap<u64, Node<A>, A>,
-    names: Vec<DirEntry<A>, A>,
+    names: NameTable<A>,
     next_number: u64,
     next_tick: u64,
     next_stamp: u64,
@@ -44,7 +43,7 @@ impl<A: Allocator> Model for Store<A> {
 
     ghost view = { λ s. record {
       objects = s.objects.entries;
-      names = s.names.items;
+      names = s.names;
       next_number = s.next_number;
       next_tick = s.next_tick;
       next_stamp = s.next_stamp;
@@ -76,14 +75,15 @@ impl<A: Allocator + Copy> Store<A> {
     pub fn find(&self, directory: u64, name: &[u8]) -> Option<u64>
         ensures { result ≡ child_named self.now directory name.now }
     {
-        child_of(&self.names, directory, name)
+        self.names.find(directory, name)
     }
 
     /// The next name of a directory, by rising cookie.
     pub fn list_after(&self, directory: u64, cookie: u64) -> Option<&DirEntry<A>>
         ensures { option_copied result ≡ name_after self.now directory cookie }
     {
-        self.names.iter().find(|entry| entry.directory() == directory && cookie < entry.cookie())
+        self.names.as_slice().iter().find(|entry| entry.directory() == directory
+            && cookie < entry.cookie())
     }
 
     /// Whether a directory has names.
@@ -91,6 +91,7 @@ impl<A: Allocator + Copy> Store<A> {
         ensures { result ≡ has_entries self.now.names directory }
     {
         self.names
+            .as_slice()
             .iter()
             .any(|entry| entry.directory() == directory)
     }
@@ -100,6 +101,7 @@ impl<A: Allocator + Copy> Store<A> {
         ensures { result ≡ name_count self.now.names directory }
     {
         self.names
+            .as_slice()
             .iter()
             .filter(|entry| entry.directory() == directory)
             .count()
@@ -110,6 +112,7 @@ impl<A: Allocator + Copy> Store<A> {
         ensures { result ≡ link_count self.now.names number }
     {
         self.names
+            .as_slice()
             .iter()
             .filter(|entry| entry.child() == number)
             .count()
@@ -122,7 +125,7 @@ impl<A: Allocator + Copy> Store<A> {
         if !self.is_directory(number) {
             return None;
         }
-        directory_of(&self.names, number)
+        directory_of(self.names.as_slice(), number)
     }
 
     /// Whether an object is a directory or lies below it.
@@ -315,18 +318,18 @@ impl<A: Allocator + Copy> Store<A> {
     {
         let mut objects = BTreeMap::new(alloc);
         objects.insert(ROOT, root)?;
-        Ok(Store::from_start(alloc, objects, Vec::new(alloc), 2, 3))
+        Ok(Store::from_start(alloc, objects, NameTable::new(alloc), 2, 3))
     }
 
     /// What is there from the start. Its numbers, ticks and stamps go on from one number.
     pub fn from_start(
         alloc: A,
         objects: BTreeMap<u64, Node<A>, A>,
-        names: Vec<DirEntry<A>, A>,
+        names: NameTable<A>,
         next: u64,
         next_cookie: u64,
     ) -> Self
-        ensures { result ≡ record { objects = objects.entries; names = names.items; next_number = next; next_tick = next; next_stamp = next; next_cookie = next_cookie } }
+        ensures { result ≡ record { objects = objects.entries; names = names; next_number = next; next_tick = next; next_stamp = next; next_cookie = next_cookie } }
     {
         Store {
             alloc,
@@ -352,18 +355,20 @@ impl<A: Allocator + Copy> Store<A> {
         requires stamps { self.old.next_stamp < 2 ^ 63 }
         requires cookies { self.old.next_cookie < 2 ^ 63 }
         requires bytes { length new.bytes.items ≤ most_bytes new.kind }
+        requires absent { child_named self.old directory name.now ≡ None }
         ensures number { IfOk result (λ number. number ≡ self.old.next_number) }
         ensures ok { OnOk result (self.new ≡ with_new self.old directory name.now (made new self.old.next_stamp at) at) }
         ensures err { OnErr result (self.new ≡ self.old) }
     {
-        let name = Vec::from_slice(self.alloc, name)?;
-        self.names.reserve(1)?;
         let node = Node::made(self.alloc, new, self.next_stamp, at)?;
-        self.objects.insert(self.next_number, node)?;
-        touch(&mut self.objects, directory, at);
         let number = self.next_number;
         self.names
-            .push_reserved(DirEntry::new(self.next_cookie, directory, name, number));
+            .push(self.alloc, self.next_cookie, directory, name, number)?;
+        if let Err(_) = self.objects.insert(number, node) {
+            self.names.remove(directory, name);
+            return Err(AllocError);
+        }
+        touch(&mut self.objects, directory, at);
         self.next_number += 1;
         self.next_tick = at.tick + 1;
         self.next_stamp += 1;
@@ -381,15 +386,14 @@ impl<A: Allocator + Copy> Store<A> {
     ) -> Result<(), AllocError>
         requires ticks { at.tick < 2 ^ 63 }
         requires cookies { self.old.next_cookie < 2 ^ 63 }
+        requires absent { child_named self.old directory name.now ≡ None }
         ensures ok { OnOk result (self.new ≡ with_link self.old directory name.now number at) }
         ensures err { OnErr result (self.new ≡ self.old) }
     {
-        let name = Vec::from_slice(self.alloc, name)?;
-        self.names.reserve(1)?;
+        self.names
+            .push(self.alloc, self.next_cookie, directory, name, number)?;
         retell(&mut self.objects, number, at);
         touch(&mut self.objects, directory, at);
-        self.names
-            .push_reserved(DirEntry::new(self.next_cookie, directory, name, number));
         self.next_tick = at.tick + 1;
         self.next_cookie += 1;
         Ok(())
@@ -400,8 +404,8 @@ impl<A: Allocator + Copy> Store<A> {
         requires { at.tick < 2 ^ 63 }
         ensures { self.new ≡ without_name self.old directory name.now child at }
     {
-        remove_name(&mut self.names, directory, name);
-        let stays = has_name(&self.names, child);
+        self.names.remove(directory, name);
+        let stays = has_name(self.names.as_slice(), child);
         release(&mut self.objects, child, stays, at);
         touch(&mut self.objects, directory, at);
         self.next_tick = at.tick + 1;
@@ -423,12 +427,17 @@ impl<A: Allocator + Copy> Store<A> {
         ensures ok { OnOk result (self.new ≡ with_move self.old from old.now to new.now child target at) }
         ensures err { OnErr result (self.new ≡ self.old) }
     {
-        let name = Vec::from_slice(self.alloc, new)?;
-        self.names.reserve(1)?;
-        remove_names(&mut self.names, from, old, to, new);
-        move_child(&mut self.objects, &self.names, from, to, child, target, at);
         self.names
-            .push_reserved(DirEntry::new(self.next_cookie, to, name, child));
+            .replace(self.alloc, from, old, to, new, self.next_cookie, child)?;
+        move_child(
+            &mut self.objects,
+            self.names.but_last(),
+            from,
+            to,
+            child,
+            target,
+            at,
+        );
         self.next_tick = at.tick + 1;
         self.next_cookie += 1;
         Ok(())
