@@ -43,6 +43,12 @@ fn written() -> &'static [Written] {
     &WRITTEN
 }
 
+/// The caller of a credential of uid 1001, with no contract, so that the prover doesn't compute on its groups.
+fn caller(gid: u32, further: &[u32]) -> Caller {
+    let most = further.len().min(MOST_FURTHER);
+    Caller::new(1001, gid, &further[..most])
+}
+
 /// Whether the header of a call by uid 1001, or by nobody, is written in a room, the room that is left, and the bytes.
 fn written_in(
     alloc: Global,
@@ -53,9 +59,12 @@ fn written_in(
     let is_written = match groups {
         None => write_call(1, None, &mut writer).is_ok(),
         Some((gid, further)) => {
-            let most = further.len().min(MOST_FURTHER);
-            let caller = Caller::new(1001, gid, &further[..most]);
-            write_call(3, Some(caller), &mut writer).is_ok()
+            let caller = caller(gid, further);
+            if caller.is_member(caller.gid()) {
+                write_call(3, Some(caller), &mut writer).is_ok()
+            } else {
+                false
+            }
         }
     };
     let left = writer.room();
