@@ -15,11 +15,7 @@ use Rattle.compound_run.specs.Sight.{Sight, whole}
 use Rattle.compound_run.specs.Questions.{Question, Row, failure, trace, told, all_granted, demand_lines}
 use Rattle.compound_run.specs.Meaning.{Meaning}
 use Rattle.compound_run.specs.Runs.{waits}
-use Rattle.compound_run.specs.Views.{GivesSo, realm_of}
-
--- the lines of decisions are held
-abbrev pub holding : {A : Type 0} → List Line → Export A → Export A
-holding lines e = record e { tree = record e.tree { log = held lines e.tree.log } }
+use Rattle.compound_run.specs.Views.{GivesSo, holding, realm_of}
 
 -- The questions before the rest pass, and their lines are held.
 pub behind : {A : Type 0} (room : ℕ) (m : Meaning) (rest : List Question) (e : Export A) (handles : FileHandles) (before : Buffer) (lines : List Line) (mid : Export A) (r : Result (Unit {0}) Status) (new : Export A) (handles' : FileHandles) (after : Buffer)

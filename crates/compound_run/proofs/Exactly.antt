@@ -56,7 +56,7 @@ suffices false more A goes h = inr (refl, goes h)
 pub passed : (caller : Identity) (s : Sight) (questions : List Question) → failure caller s questions ≡ None → ArePassedOrSuffice caller s questions
 passed caller s [] h = tt
 passed caller s (Holds test status is ∷ questions) h = let x = both (test s) (failure caller s questions) status h in (x.0, passed caller s questions x.1)
-passed caller s (Valid fault may ∷ questions) h = let x = neither fault (failure caller s questions) h in (x.0, passed caller s questions x.1)
+passed caller s (Valid fault may ∷ questions) h = let x = neither (fault s) (failure caller s questions) h in (x.0, passed caller s questions x.1)
 passed caller s (Row demands ∷ questions) h =
     let x = both (all_granted s.lists caller (demands s)) (failure caller s questions) statuses.Access h in (x.0, passed caller s questions x.1)
 passed caller s (Suffices test ∷ questions) h = suffices (test s) (failure caller s questions) (ArePassedOrSuffice caller s questions) (passed caller s questions) h
@@ -64,7 +64,7 @@ passed caller s (Suffices test ∷ questions) h = suffices (test s) (failure cal
 pub is_ok : (caller : Identity) (s : Sight) (questions : List Question) → ArePassedOrSuffice caller s questions → failure caller s questions ≡ None
 is_ok caller s [] h = refl
 is_ok caller s (Holds test status is ∷ questions) h = none_of (test s) (failure caller s questions) status h.0 (is_ok caller s questions h.1)
-is_ok caller s (Valid fault may ∷ questions) h = no_fault fault (failure caller s questions) h.0 (is_ok caller s questions h.1)
+is_ok caller s (Valid fault may ∷ questions) h = no_fault (fault s) (failure caller s questions) h.0 (is_ok caller s questions h.1)
 is_ok caller s (Row demands ∷ questions) h = none_of (all_granted s.lists caller (demands s)) (failure caller s questions) statuses.Access h.0 (is_ok caller s questions h.1)
 is_ok caller s (Suffices test ∷ questions) (inl is) = rw is refl
 is_ok caller s (Suffices test ∷ questions) (inr more) = rw more.0 (is_ok caller s questions more.1)
@@ -107,7 +107,7 @@ refused_by_row caller s [] h = absurd (none_apart h)
 refused_by_row caller s (Holds test status is ∷ questions) h =
     let x = either (test s) (failure caller s questions) status is h in behind caller s (Holds test status is) questions x.0 (refused_by_row caller s questions x.1)
 refused_by_row caller s (Valid fault may ∷ questions) h =
-    let x = fault_or fault (failure caller s questions) may h in behind caller s (Valid fault may) questions x.0 (refused_by_row caller s questions x.1)
+    let x = fault_or (fault s) (failure caller s questions) (may s) h in behind caller s (Valid fault may) questions x.0 (refused_by_row caller s questions x.1)
 refused_by_row caller s (Row demands ∷ questions) h =
     row_or (all_granted s.lists caller (demands s)) (failure caller s questions) (IsRefusedByRow caller s (Row demands ∷ questions))
     (λ refused. record { demands = demands; first = inl (refl, refused) })
@@ -204,7 +204,7 @@ ends_in_refusal caller op s (Holds test status is ∷ questions) h =
     let x = either (test s) (failure caller s questions) status is h in
     rw x.0 (passed_before caller op s (Holds test status is) questions [] _ x.0 (ends_in_refusal caller op s questions x.1))
 ends_in_refusal caller op s (Valid fault may ∷ questions) h =
-    let x = fault_or fault (failure caller s questions) may h in
+    let x = fault_or (fault s) (failure caller s questions) (may s) h in
     subst (λ f. EndsSo caller op s (Valid fault may ∷ questions) (lines_unless f (trace caller op s questions))) (sym x.0)
     (passed_before caller op s (Valid fault may) questions [] _ x.0 (ends_in_refusal caller op s questions x.1))
 ends_in_refusal caller op s (Row demands ∷ questions) h =
@@ -227,12 +227,15 @@ pick : (b : Bool) (first second : Option Status) → first ≢ Some statuses.Del
 pick true first second f s = f
 pick false first second f s = s
 
+no_fault_delays : (fault more : Option Status) → MayFault fault → more ≢ Some statuses.Delay → first_fault fault more ≢ Some statuses.Delay
+no_fault_delays None more may none = none
+no_fault_delays (Some status) more may none = λ e. no_delay status may (some_same status statuses.Delay e)
+
 -- no question fails by DELAY
 pub never_delays : (caller : Identity) (s : Sight) (questions : List Question) → failure caller s questions ≢ Some statuses.Delay
 never_delays caller s [] = λ e. cc
 never_delays caller s (Holds test status is ∷ questions) =
     pick (test s) _ _ (never_delays caller s questions) (λ e. no_delay status is (some_same status statuses.Delay e))
-never_delays caller s (Valid None may ∷ questions) = never_delays caller s questions
-never_delays caller s (Valid (Some status) may ∷ questions) = λ e. no_delay status may (some_same status statuses.Delay e)
+never_delays caller s (Valid fault may ∷ questions) = no_fault_delays (fault s) (failure caller s questions) (may s) (never_delays caller s questions)
 never_delays caller s (Row demands ∷ questions) = pick (all_granted s.lists caller (demands s)) _ _ (never_delays caller s questions) (λ e. cc)
 never_delays caller s (Suffices test ∷ questions) = pick (test s) None _ (λ e. cc) (never_delays caller s questions)

@@ -16,7 +16,8 @@ use Rattle.compound_run.specs.declared.filehandles.FileHandles.{FileHandles}
 use Rattle.compound_run.specs.Realm.{Realm}
 use Rattle.compound_run.specs.Context.{Context}
 use Rattle.compound_run.specs.Sight.{whole, view, gives, child}
-use Rattle.compound_run.specs.Questions.{Question, Holds, Valid, Row, Suffices, failure, trace, all_granted, demand_lines, told}
+use Rattle.compound_run.specs.Faults.{first_fault}
+use Rattle.compound_run.specs.Questions.{Question, Holds, Valid, Row, Suffices, failure, trace, lines_unless, all_granted, demand_lines, told}
 use Rattle.compound_run.specs.Rows.{object_of}
 use Rattle.compound_run.specs.Meaning.{Meaning, number_in}
 use Rattle.compound_run.specs.Operations.{meaning}
@@ -25,10 +26,10 @@ use Rattle.compound_run.specs.Disclosure.{shown, DisclosesNothing}
 -- ---- questions that are the same in a view
 
 -- As far as they are asked, the questions are the same in the whole as in the view; and so is what comes at the end.
-abbrev Agree : Realm → Identity → List Question → Type 0 → Type 0
+abbrev pub Agree : Realm → Identity → List Question → Type 0 → Type 0
 Agree w caller [] end = end
 Agree w caller (Holds test status is ∷ questions) end = (test (whole w) ≡ test (view w caller)) × (test (whole w) ≡ true → Agree w caller questions end)
-Agree w caller (Valid fault may ∷ questions) end = fault ≡ None → Agree w caller questions end
+Agree w caller (Valid fault may ∷ questions) end = (fault (whole w) ≡ fault (view w caller)) × (fault (whole w) ≡ None → Agree w caller questions end)
 Agree w caller (Row demands ∷ questions) end =
     (demands (whole w) ≡ demands (view w caller)) × (all_granted (judged_of w.world) caller (demands (whole w)) ≡ true → Agree w caller questions end)
 Agree w caller (Suffices test ∷ questions) end =
@@ -42,8 +43,11 @@ told_alike w caller r s (Holds test status is ∷ questions) agree =
       | true ↦ λ h. told_alike w caller r s questions (h refl)
       | false ↦ λ h. refl
     ] agree.1)
-told_alike w caller r s (Valid None may ∷ questions) agree = told_alike w caller r s questions (agree refl)
-told_alike w caller r s (Valid (Some status) may ∷ questions) agree = refl
+told_alike w caller r s (Valid fault may ∷ questions) agree =
+    rw (sym agree.0) (elim (fault (whole w)) as (λ f. (f ≡ None → Agree w caller questions (r ≡ s)) → told (first_fault f (failure caller (whole w) questions)) r ≡ told (first_fault f (failure caller (view w caller) questions)) s) [
+      | None ↦ λ h. told_alike w caller r s questions (h refl)
+      | Some status ↦ λ h. refl
+    ] agree.1)
 told_alike w caller r s (Row demands ∷ questions) agree =
     rw (sym agree.0) (elim (all_granted (judged_of w.world) caller (demands (whole w))) as (λ b. (b ≡ true → Agree w caller questions (r ≡ s)) → told (cond b (failure caller (whole w) questions) (Some statuses.Access)) r ≡ told (cond b (failure caller (view w caller) questions) (Some statuses.Access)) s) [
       | true ↦ λ h. told_alike w caller r s questions (h refl)
@@ -63,8 +67,11 @@ traced_alike w caller op end (Holds test status is ∷ questions) agree =
       | true ↦ λ h. traced_alike w caller op end questions (h refl)
       | false ↦ λ h. refl
     ] agree.1)
-traced_alike w caller op end (Valid None may ∷ questions) agree = traced_alike w caller op end questions (agree refl)
-traced_alike w caller op end (Valid (Some status) may ∷ questions) agree = refl
+traced_alike w caller op end (Valid fault may ∷ questions) agree =
+    rw (sym agree.0) (elim (fault (whole w)) as (λ f. (f ≡ None → Agree w caller questions end) → lines_unless f (trace caller op (whole w) questions) ≡ lines_unless f (trace caller op (view w caller) questions)) [
+      | None ↦ λ h. traced_alike w caller op end questions (h refl)
+      | Some status ↦ λ h. refl
+    ] agree.1)
 traced_alike w caller op end (Row demands ∷ questions) agree =
     rw (sym agree.0) (elim (all_granted (judged_of w.world) caller (demands (whole w))) as (λ b. (b ≡ true → Agree w caller questions end) → demand_lines (judged_of w.world) caller op (demands (whole w)) ++ cond b (trace caller op (whole w) questions) [] ≡ demand_lines (judged_of w.world) caller op (demands (whole w)) ++ cond b (trace caller op (view w caller) questions) []) [
       | true ↦ λ h. ap (λ more. demand_lines (judged_of w.world) caller op (demands (whole w)) ++ more) (traced_alike w caller op end questions (h refl))
@@ -77,7 +84,7 @@ traced_alike w caller op end (Suffices test ∷ questions) agree =
     ] agree.2)
 
 -- what is asked and given is the same in the view
-abbrev IsSeen : Meaning → Type 0
+abbrev pub IsSeen : Meaning → Type 0
 IsSeen m = (w : Realm) → Agree w m.caller m.questions (m.answer (whole w) ≡ m.answer (view w m.caller))
 
 in_view : (m : Meaning) → IsSeen m → (w : Realm) → shown m (whole w) ≡ shown m (view w m.caller)
@@ -86,7 +93,7 @@ in_view m seen w =
     let l = traced_alike w m.caller m.number (m.answer (whole w) ≡ m.answer (view w m.caller)) m.questions (seen w) in
     λ i. (t i, l i)
 
-discloses_nothing : (m : Meaning) → IsSeen m → DisclosesNothing m
+pub discloses_nothing : (m : Meaning) → IsSeen m → DisclosesNothing m
 discloses_nothing m seen v w same = in_view m seen v ∙ ap (shown m) same ∙ sym (in_view m seen w)
 
 -- ---- a name in a directory that EXECUTE is granted of
@@ -95,7 +102,7 @@ discloses_nothing m seen v w same = in_view m seen v ∙ ap (shown m) same ∙ s
 abbrev Executes : Realm → Identity → Option ℕ → Type 0
 Executes w caller handle = all_granted (judged_of w.world) caller (bits (object_of (whole w) handle) EXECUTE ∷ None ∷ []) ≡ true
 
-first : (a b : Bool) → a && b ≡ true → a ≡ true
+pub first : (a b : Bool) → a && b ≡ true → a ≡ true
 first true b h = refl
 first false b h = cc
 
@@ -117,26 +124,31 @@ child_seen w caller (Some number) name set live h =
 
 lookup_seen : (c : Context) (h : FileHandles) (name : List ℕ) → IsSeen (meaning c h (Known kinds.Lookup name))
 lookup_seen c h name w =
-    λ entered. (refl, λ set. (refl, λ live. (refl, λ _. (refl, λ _. λ _. (refl, λ granted. (ap is_some (child_seen w c.caller h.current name set live granted), λ _. refl))))))
+    (refl, λ entered. (refl, λ set. (refl, λ live. (refl, λ _. (refl, λ _. (refl, λ _. (refl, λ granted. (ap is_some (child_seen w c.caller h.current name set live granted), λ _. refl))))))))
 
 remove_seen : (c : Context) (h : FileHandles) (name : List ℕ) → IsSeen (meaning c h (Known kinds.Remove name))
-remove_seen c h name w = λ entered. (
+remove_seen c h name w = (
   refl,
-  λ set. (
+  λ entered. (
     refl,
-    λ live. (
+    λ set. (
       refl,
-      λ _. λ _. (
+      λ live. (
         refl,
-        λ granted.
-            let seen = child_seen w c.caller h.current name set live granted in (
-              ap is_some seen,
-              λ _. (
-                λ i. removal (object_of (whole w) h.current) (object_of (whole w) (seen i)) ∷ None ∷ None ∷ [],
-                λ _.
-                    (λ i. not ((whole w).has_entries (number_in (seen i))), λ _. (refl, λ _. refl)),
-              ),
-            ),
+        λ _. (
+          refl,
+          λ _. (
+            refl,
+            λ granted.
+                let seen = child_seen w c.caller h.current name set live granted in (
+                  ap is_some seen,
+                  λ _. (
+                    λ i. removal (object_of (whole w) h.current) (object_of (whole w) (seen i)) ∷ None ∷ None ∷ [],
+                    λ _. (λ i. not ((whole w).has_entries (number_in (seen i))), λ _. (refl, λ _. refl)),
+                  ),
+                ),
+          ),
+        ),
       ),
     ),
   ),

@@ -1,6 +1,7 @@
 -- What is written of a result.
-use Rattle.std.proofs.Common.{◌≡◌, ℕ, ◌+◌, ◌≤◌, ap, ◌∙◌, subst, length, arith}
-use Rattle.std.proofs.lemmas.List.{length-append}
+use Rattle.std.proofs.Common.{◌≡◌, ℕ, ◌+◌, ◌≤◌, List, ap, sym, ◌∙◌, subst, length, arith}
+use Rattle.std.specs.Prelude.{take}
+use Rattle.std.proofs.lemmas.List.{length-append, take_at}
 use Rattle.xdr_wire.specs.Buffer.{Buffer, Appends}
 use Rattle.nfs_ops.specs.Results.{Outcome}
 use Rattle.compound_run.specs.Runs.{spelled}
@@ -14,3 +15,11 @@ pub no_longer : (before after : Buffer) (o : Outcome) (most : ℕ) → Appends b
 no_longer before after o most written short =
     let long = ap length written.behind ∙ length-append before.bytes (spelled o) in
     omega (arith, long, short)
+
+-- what was appended is cut off again
+pub cut_back : (before mid after : Buffer) (item : List ℕ) (len : ℕ) → Appends before mid item → len ≡ length before.bytes → after.bytes ≡ take len mid.bytes → after.room + len ≡ mid.room + length mid.bytes → after ≡ before
+cut_back before mid after item len appends is bytes room =
+    let long = ap length appends.behind ∙ length-append before.bytes item in
+    let same : after.bytes ≡ before.bytes = bytes ∙ ap (take len) appends.behind ∙ take_at before.bytes item len (sym is) in
+    let roomy : after.room ≡ before.room = omega (arith, long, is, room, appends.less_room) in
+    λ i. record { bytes = same i; room = roomy i }

@@ -1,8 +1,7 @@
 -- ACCESS (RFC 8881, section 18.1): which of the rights that are asked have a meaning for the object, and which of these its list
 -- grants. It asks nothing of the list, and writes no line.
-use Rattle.std.specs.Prelude.{ℕ, [], unwrap_or}
+use Rattle.std.specs.Prelude.{ℕ, []}
 use Rattle.xdr_wire.specs.Xdr.{Value}
-use Rattle.acl_list.specs.declared.entry.Kind.TheVariants.{File}
 use Rattle.nfs_ops.specs.Forms.{access_result}
 use Rattle.nfs_ops.specs.declared.op_kind.OpKind.TheVariants as kinds
 use Rattle.nfs_ops.specs.Rows.{row}
@@ -12,7 +11,7 @@ use Rattle.access_rows.specs.Rights.{rights_of}
 use Rattle.access_guard.specs.Lists.{granted_at}
 use Rattle.compound_run.specs.declared.filehandles.FileHandles.{FileHandles}
 use Rattle.compound_run.specs.Context.{Context}
-use Rattle.compound_run.specs.Sight.{Sight}
+use Rattle.compound_run.specs.Sight.{Sight, kind_at}
 use Rattle.compound_run.specs.Meaning.{Meaning, stays, with_handle, here}
 
 abbrev pub told_rights : Rights → Value access_result
@@ -20,7 +19,7 @@ told_rights r = (r.supported, r.granted)
 
 -- the rights of an object
 abbrev pub rights_at : Context → FileHandles → ℕ → Sight → Rights
-rights_at c h asked s = rights_of (unwrap_or (s.kinds (here h)) File) asked (granted_at s.lists c.caller (here h))
+rights_at c h asked s = rights_of (kind_at s (here h)) asked (granted_at s.lists c.caller (here h))
 
 abbrev pub access : ℕ → Context → FileHandles → Meaning
 access asked c h = record {

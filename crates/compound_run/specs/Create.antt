@@ -27,7 +27,7 @@ use Rattle.compound_run.specs.Context.{Context}
 use Rattle.compound_run.specs.Sight.{Sight}
 use Rattle.compound_run.specs.Faults.{MayFault, fault_in, fault_in_may}
 use Rattle.compound_run.specs.ArgumentFaults.{wanted_may}
-use Rattle.compound_run.specs.Questions.{Holds, Valid}
+use Rattle.compound_run.specs.Questions.{Holds, is_valid}
 use Rattle.compound_run.specs.Rows.{first_row}
 use Rattle.compound_run.specs.Meaning.{Meaning, at, in_world, changed, with_handle, here, names_at, is_link, is_directory, is_name, has_no_child, has_space}
 
@@ -126,11 +126,11 @@ create v c h = record {
   caller = c.caller;
   questions = with_handle h.current
       (is_directory (here h)
-      ∷ Valid (type_fault (draft_of (created_type v))) (type_may (draft_of (created_type v)))
+      ∷ is_valid (type_fault (draft_of (created_type v))) (type_may (draft_of (created_type v)))
       ∷ is_name (created_name v)
-      ∷ Valid (text_fault (draft v)) (text_may (draft v))
-      ∷ Valid (fault_in (sent c v)) (sent_may c v)
-      ∷ Valid (size_fault (wanted c v)) (size_may (wanted c v))
+      ∷ is_valid (text_fault (draft v)) (text_may (draft v))
+      ∷ is_valid (fault_in (sent c v)) (sent_may c v)
+      ∷ is_valid (size_fault (wanted c v)) (size_may (wanted c v))
       ∷ first_row h (Known ops.Create v)
       ∷ has_no_child (here h) (created_name v)
       ∷ Holds (λ s. is_own c.caller (wanted c v)) statuses.Perm tt

@@ -14,13 +14,13 @@ use Rattle.compound_run.specs.Questions.{Question, Holds, Valid, Row, Suffices, 
 -- the question is passed, and the next one is asked
 abbrev pub Passes : Identity → Sight → Question → Type 0
 Passes caller s (Holds test status is) = test s ≡ true
-Passes caller s (Valid fault may) = fault ≡ None
+Passes caller s (Valid fault may) = fault s ≡ None
 Passes caller s (Row demands) = all_granted s.lists caller (demands s) ≡ true
 Passes caller s (Suffices test) = test s ≡ false
 
 abbrev pub Fails : Identity → Sight → Question → Type 0
 Fails caller s (Holds test status is) = test s ≡ false
-Fails caller s (Valid fault may) = IsSome fault
+Fails caller s (Valid fault may) = IsSome (fault s)
 Fails caller s (Row demands) = all_granted s.lists caller (demands s) ≡ false
 Fails caller s (Suffices test) = ⊥
 
@@ -43,7 +43,7 @@ pub record IsRefusedByRow (caller : Identity) (s : Sight) (questions : List Ques
 abbrev pub ArePassedOrSuffice : Identity → Sight → List Question → Type 0
 ArePassedOrSuffice caller s [] = Unit {0}
 ArePassedOrSuffice caller s (Holds test status is ∷ questions) = (test s ≡ true) × ArePassedOrSuffice caller s questions
-ArePassedOrSuffice caller s (Valid fault may ∷ questions) = (fault ≡ None) × ArePassedOrSuffice caller s questions
+ArePassedOrSuffice caller s (Valid fault may ∷ questions) = (fault s ≡ None) × ArePassedOrSuffice caller s questions
 ArePassedOrSuffice caller s (Row demands ∷ questions) = (all_granted s.lists caller (demands s) ≡ true) × ArePassedOrSuffice caller s questions
 ArePassedOrSuffice caller s (Suffices test ∷ questions) = (test s ≡ true) ⊎ ((test s ≡ false) × ArePassedOrSuffice caller s questions)
 

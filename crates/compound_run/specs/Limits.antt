@@ -32,3 +32,7 @@ MIN_ROOM = 256
 -- kept back in each reply for the result of an operation that is refused
 abbrev pub REFUSAL_ROOM : ℕ
 REFUSAL_ROOM = 16
+
+-- of a file's bytes that a READ gives
+abbrev pub MAX_READ : ℕ
+MAX_READ = 32768

@@ -22,7 +22,7 @@ use Rattle.compound_run.specs.Context.{Context}
 use Rattle.compound_run.specs.Sight.{Sight, child}
 use Rattle.compound_run.specs.Faults.{IsFault}
 use Rattle.compound_run.specs.ArgumentFaults.{name_may}
-use Rattle.compound_run.specs.Questions.{Question, Holds, Valid}
+use Rattle.compound_run.specs.Questions.{Question, Holds, is_valid}
 
 pub record Meaning : Type 0 where
   -- its number, which stands in its lines
@@ -105,7 +105,7 @@ is_no_link number = Holds (λ s. not (is_link_in s number)) statuses.Symlink tt
 -- ---- names
 
 abbrev pub is_name : List ℕ → Question
-is_name name = Valid (name_fault name) (name_may name)
+is_name name = is_valid (name_fault name) (name_may name)
 
 abbrev pub has_child : ℕ → List ℕ → Question
 has_child directory name = Holds (λ s. is_some (child s directory name)) statuses.NoEnt tt
@@ -152,7 +152,7 @@ abbrev pub refusing : Context → FileHandles → ℕ → (status : Status) → 
 refusing c h number status is = record {
   number = number;
   caller = c.caller;
-  questions = Valid (Some status) is ∷ [];
+  questions = is_valid (Some status) is ∷ [];
   answer = λ s. Refused number 0;
   effect = stays;
   goes = λ s. h;

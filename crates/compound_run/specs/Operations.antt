@@ -10,21 +10,28 @@ use Rattle.compound_run.specs.declared.filehandles.FileHandles.{FileHandles}
 use Rattle.compound_run.specs.Limits.{MIN_ROOM}
 use Rattle.compound_run.specs.Context.{Context}
 use Rattle.compound_run.specs.Faults.{MayFault, first_fault, first_may}
-use Rattle.compound_run.specs.Questions.{Valid}
+use Rattle.compound_run.specs.Questions.{is_valid}
 use Rattle.compound_run.specs.Meaning.{Meaning, refusing, too_big_for, too_big_may}
 use Rattle.compound_run.specs.Access.{access}
+use Rattle.compound_run.specs.Close.{close}
+use Rattle.compound_run.specs.Commit.{commit}
 use Rattle.compound_run.specs.Create.{create}
+use Rattle.compound_run.specs.Getattr.{getattr}
 use Rattle.compound_run.specs.Getfh.{getfh}
 use Rattle.compound_run.specs.Link.{link}
 use Rattle.compound_run.specs.Lookup.{lookup}
 use Rattle.compound_run.specs.Lookupp.{lookupp}
+use Rattle.compound_run.specs.Nverify.{nverify}
 use Rattle.compound_run.specs.Putfh.{putfh}
 use Rattle.compound_run.specs.Putrootfh.{putrootfh}
+use Rattle.compound_run.specs.Read.{read}
 use Rattle.compound_run.specs.Readlink.{readlink}
 use Rattle.compound_run.specs.Remove.{remove}
 use Rattle.compound_run.specs.Rename.{rename}
 use Rattle.compound_run.specs.Restorefh.{restorefh}
 use Rattle.compound_run.specs.Savefh.{savefh}
+use Rattle.compound_run.specs.Verify.{verify}
+use Rattle.compound_run.specs.Write.{write}
 
 -- ---- place
 
@@ -54,18 +61,25 @@ place_may op = of (is_of_sessions op)
 -- whether it is built: it needs room for its result
 abbrev pub is_run : Operation → Bool
 is_run (Known kinds.Access v) = true
+is_run (Known kinds.Close v) = true
+is_run (Known kinds.Commit v) = true
 is_run (Known kinds.Create v) = true
+is_run (Known kinds.GetAttr v) = true
 is_run (Known kinds.GetFh v) = true
 is_run (Known kinds.Link v) = true
 is_run (Known kinds.Lookup v) = true
 is_run (Known kinds.LookupP v) = true
+is_run (Known kinds.NVerify v) = true
 is_run (Known kinds.PutFh v) = true
 is_run (Known kinds.PutRootFh v) = true
+is_run (Known kinds.Read v) = true
 is_run (Known kinds.ReadLink v) = true
 is_run (Known kinds.Remove v) = true
 is_run (Known kinds.Rename v) = true
 is_run (Known kinds.RestoreFh v) = true
 is_run (Known kinds.SaveFh v) = true
+is_run (Known kinds.Verify v) = true
+is_run (Known kinds.Write v) = true
 is_run _ = false
 
 -- What isn't an operation, or isn't built, is refused whatever the room.
@@ -91,18 +105,25 @@ entry_may c op = first_may (place_fault op) (room_fault c op) (place_may op) (ro
 -- what is asked behind place and room
 abbrev pub body : Context → FileHandles → Operation → Meaning
 body c h (Known kinds.Access v) = access v c h
+body c h (Known kinds.Close v) = close v c h
+body c h (Known kinds.Commit v) = commit c h
 body c h (Known kinds.Create v) = create v c h
+body c h (Known kinds.GetAttr v) = getattr v c h
 body c h (Known kinds.GetFh v) = getfh c h
 body c h (Known kinds.Link v) = link v c h
 body c h (Known kinds.Lookup v) = lookup v c h
 body c h (Known kinds.LookupP v) = lookupp c h
+body c h (Known kinds.NVerify v) = nverify v c h
 body c h (Known kinds.PutFh v) = putfh v c h
 body c h (Known kinds.PutRootFh v) = putrootfh c h
+body c h (Known kinds.Read v) = read v c h
 body c h (Known kinds.ReadLink v) = readlink c h
 body c h (Known kinds.Remove v) = remove v c h
 body c h (Known kinds.Rename v) = rename v c h
 body c h (Known kinds.RestoreFh v) = restorefh c h
 body c h (Known kinds.SaveFh v) = savefh c h
+body c h (Known kinds.Verify v) = verify v c h
+body c h (Known kinds.Write v) = write v c h
 body c h (Known k v) = refusing c h (row k).number statuses.NotSupp tt
 body c h (Unsupported n) = refusing c h n statuses.NotSupp tt
 body c h Illegal = refusing c h illegal statuses.OpIllegal tt
@@ -110,17 +131,20 @@ body c h (Bad n) = refusing c h n statuses.BadXdr tt
 
 -- behind a fault, if there is one
 abbrev pub entered : (fault : Option Status) → MayFault fault → Meaning → Meaning
-entered fault may m = record m { questions = Valid fault may ∷ m.questions }
+entered fault may m = record m { questions = is_valid fault may ∷ m.questions }
 
 abbrev pub meaning : Context → FileHandles → Operation → Meaning
 meaning c h op = entered (entry_fault c op) (entry_may c op) (body c h op)
 
 -- ---- memory
 
--- Of those that are built CREATE, LINK and RENAME take memory, which may be refused.
+-- Of those that are built CREATE, LINK, NVERIFY, RENAME, VERIFY and WRITE take memory, which may be refused.
 abbrev pub takes_memory : Operation → Bool
 takes_memory (Known k v) = (row k).delays && is_run (Known k v)
 takes_memory _ = false
+
+abbrev pub takes_memory_in : Context → Operation → Bool
+takes_memory_in c op = takes_memory op
 
 -- Once it has its place and its room such an operation may answer DELAY, and no other ever does.
 abbrev pub may_delay : Context → Operation → Bool

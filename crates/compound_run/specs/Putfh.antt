@@ -9,7 +9,7 @@ use Rattle.compound_run.specs.declared.filehandles.FileHandles.{FileHandles}
 use Rattle.compound_run.specs.Context.{Context}
 use Rattle.compound_run.specs.Faults.{fault_in, fault_in_may}
 use Rattle.compound_run.specs.ArgumentFaults.{object_may}
-use Rattle.compound_run.specs.Questions.{Valid}
+use Rattle.compound_run.specs.Questions.{is_valid}
 use Rattle.compound_run.specs.Meaning.{Meaning, stays, is_live}
 
 -- the object that is named, if one is
@@ -21,7 +21,7 @@ abbrev pub putfh : List ℕ → Context → FileHandles → Meaning
 putfh handle c h = record {
   number = (row kinds.PutFh).number;
   caller = c.caller;
-  questions = Valid (fault_in (object_of handle)) (fault_in_may (object_of handle) (object_may handle)) ∷ is_live (object_in (object_of handle)) ∷ [];
+  questions = is_valid (fault_in (object_of handle)) (fault_in_may (object_of handle) (object_may handle)) ∷ is_live (object_in (object_of handle)) ∷ [];
   answer = λ s. Done kinds.PutFh tt;
   effect = stays;
   goes = λ s. record h { current = object_in (object_of handle) };

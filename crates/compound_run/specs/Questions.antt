@@ -15,12 +15,16 @@ use Rattle.compound_run.specs.Sight.{Sight}
 pub data Question : Type 0 where
   -- it holds, or the outcome is this status
   Holds : (Sight → Bool) → (status : Status) → IsFault status → Question
-  -- the arguments, the place and the room are without a fault, or the outcome is the fault
-  Valid : (fault : Option Status) → MayFault fault → Question
+  -- the arguments and what is seen of them are without a fault, or the outcome is the fault
+  Valid : (fault : Sight → Option Status) → ((s : Sight) → MayFault (fault s)) → Question
   -- the lists grant these demands, each where there is one, or the outcome is ACCESS
   Row : (Sight → List (Option Demand)) → Question
   -- where it holds nothing more is asked, and the outcome is OK
   Suffices : (Sight → Bool) → Question
+
+-- a fault of the arguments alone, of the place or of the room
+abbrev pub is_valid : (fault : Option Status) → MayFault fault → Question
+is_valid fault may = Valid (λ s. fault) (λ s. may)
 
 abbrev pub all_granted : Lists → Identity → List (Option Demand) → Bool
 all_granted lists caller [] = true
@@ -31,7 +35,7 @@ all_granted lists caller (Some d ∷ demands) = is_granted (decision lists calle
 abbrev pub failure : Identity → Sight → List Question → Option Status
 failure caller s [] = None
 failure caller s (Holds test status is ∷ questions) = if test s then failure caller s questions else Some status
-failure caller s (Valid fault may ∷ questions) = first_fault fault (failure caller s questions)
+failure caller s (Valid fault may ∷ questions) = first_fault (fault s) (failure caller s questions)
 failure caller s (Row demands ∷ questions) = if all_granted s.lists caller (demands s) then failure caller s questions else Some statuses.Access
 failure caller s (Suffices test ∷ questions) = if test s then None else failure caller s questions
 
@@ -51,7 +55,7 @@ lines_unless (Some status) lines = []
 abbrev pub trace : Identity → ℕ → Sight → List Question → List Line
 trace caller op s [] = []
 trace caller op s (Holds test status is ∷ questions) = if test s then trace caller op s questions else []
-trace caller op s (Valid fault may ∷ questions) = lines_unless fault (trace caller op s questions)
+trace caller op s (Valid fault may ∷ questions) = lines_unless (fault s) (trace caller op s questions)
 trace caller op s (Row demands ∷ questions) =
     demand_lines s.lists caller op (demands s) ++ (if all_granted s.lists caller (demands s) then trace caller op s questions else [])
 trace caller op s (Suffices test ∷ questions) = if test s then [] else trace caller op s questions

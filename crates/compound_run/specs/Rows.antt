@@ -21,6 +21,10 @@ object_of s (Some number) = option_map (λ kind. record { number = number; kind 
 abbrev pub first_facts : Sight → FileHandles → First
 first_facts s h = record { current = object_of s h.current; saved = object_of s h.saved; size = None; new_size = None }
 
+-- the same where a size is asked about: that of the current object, and the one to be set
+abbrev pub sized_facts : Sight → FileHandles → Option ℕ → First
+sized_facts s h new_size = record (first_facts s h) { size = option_map s.sizes h.current; new_size = new_size }
+
 -- What is known once the names are looked up: the child that is named, and what has the new name of a RENAME.
 abbrev pub second_facts : Sight → FileHandles → Option ℕ → Option ℕ → Second
 second_facts s h child replaced = record {
@@ -34,6 +38,9 @@ second_facts s h child replaced = record {
 -- what an operation asks first, and what it asks once its names are looked up
 abbrev pub first_row : FileHandles → Operation → Question
 first_row h op = Row (λ s. first_demands op (first_facts s h))
+
+abbrev pub sized_row : FileHandles → Operation → (Sight → Option ℕ) → Question
+sized_row h op new_size = Row (λ s. first_demands op (sized_facts s h (new_size s)))
 
 abbrev pub second_row : FileHandles → Operation → (Sight → Option ℕ) → (Sight → Option ℕ) → Question
 second_row h op child replaced = Row (λ s. second_demands op (second_facts s h (child s) (replaced s)))

@@ -1,9 +1,10 @@
 -- How an operation sees the realm: part by part, and each part that lists govern where it may be seen. What an operation asks, gives
 -- and writes into the trail is a function of a sight, so it is said once for the whole realm and for what a caller may see of it.
-use Rattle.std.specs.Prelude.{ℕ, Bool, true, ◌||◌, if◌then◌else◌, List, [], length, Option, None}
+use Rattle.std.specs.Prelude.{ℕ, Bool, true, ◌||◌, if◌then◌else◌, List, [], length, unwrap_or, Option, None}
 use Rattle.std.specs.Option.{option_map, option_map_or}
 use Rattle.rpc_record.specs.Identity.{Identity}
 use Rattle.acl_list.specs.declared.entry.Kind.{Kind}
+use Rattle.acl_list.specs.declared.entry.Kind.TheVariants.{File}
 use Rattle.acl_list.specs.declared.mask.TheConstants.{READ_DATA, LIST_DIRECTORY, EXECUTE, READ_ATTRIBUTES}
 use Rattle.acl_shape.specs.Inherited.{is_directory}
 use Rattle.nfs_types.specs.declared.moment.Moment.{Moment}
@@ -12,6 +13,7 @@ use Rattle.node_tree.specs.Judged.{judged_of}
 use Rattle.access_rows.specs.declared.demand.Demand.TheVariants.{Bits}
 use Rattle.access_guard.specs.Lists.{Lists}
 use Rattle.access_guard.specs.Decisions.{decision, is_granted}
+use Rattle.session_slots.specs.Registry.{Registry}
 use Rattle.compound_run.specs.Realm.{Realm, Opened}
 
 -- what READ_ATTRIBUTES governs of an object that isn't a directory, and of a directory all but the change
@@ -37,9 +39,10 @@ pub record Sight : Type 0 where
   pub next_tick : ℕ
   pub next_stamp : ℕ
   pub next_cookie : ℕ
-  -- and the open files
+  -- the open files, and the clients with their sessions
   pub opens : List Opened
   pub next_open : ℕ
+  pub registry : Registry
   -- the bytes of a file, or the text of a link
   pub bytes : ℕ → List ℕ
   -- the names of a directory, by rising cookie
@@ -70,6 +73,7 @@ sight gives r = let w = r.world in record {
   next_cookie = w.next_cookie;
   opens = r.opens;
   next_open = r.next_open;
+  registry = r.registry;
   bytes = λ number. if gives number READ_DATA then bytes_of w number else [];
   names = λ number. if gives number EXECUTE || gives number LIST_DIRECTORY then names_in w.names number else [];
   details = λ number. if gives number READ_ATTRIBUTES then option_map details_of (object w number) else None;
@@ -88,6 +92,10 @@ abbrev pub view : Realm → Identity → Sight
 view r caller = sight (gives r.world caller) r
 
 -- ---- looks at a sight
+
+-- the kind of an object that is there
+abbrev pub kind_at : Sight → ℕ → Kind
+kind_at s number = unwrap_or (s.kinds number) File
 
 -- the child of a name in a directory
 abbrev pub child : Sight → ℕ → List ℕ → Option ℕ

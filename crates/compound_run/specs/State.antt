@@ -18,7 +18,7 @@ use Rattle.compound_run.specs.Runs.{Point, Given, Runs}
 use Rattle.compound_run.specs.Compound.{args_form, args_in, head, first_room, together, opening_fault}
 
 pub record State : Type 0 where
-  -- the world and the open files
+  -- the world, the open files, and the clients
   pub realm : Realm
   -- the last lines, in order, and how many there were in all
   pub trail : List Line

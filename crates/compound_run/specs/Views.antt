@@ -6,7 +6,11 @@ use Rattle.nfs_types.specs.declared.attrs.Attrs.{Attrs}
 use Rattle.nfs_types.specs.declared.status.Status.{Status}
 use Rattle.nfs_types.specs.declared.status.Status.TheVariants as statuses
 use Rattle.nfs_types.specs.Sent.{Wanted, made}
+use Rattle.nfs_ops.specs.declared.op.Op.{Op}
+use Rattle.nfs_ops.specs.Operations.{Operation}
+use Rattle.nfs_ops.specs.OpViews.{op_view}
 use Rattle.nfs_ops.specs.Results.{Outcome}
+use Rattle.node_tree.specs.World.{World}
 use Rattle.node_tree.specs.declared.fault.TreeFault.{TreeFault}
 use Rattle.node_tree.specs.declared.fault.TreeFault.TheVariants.{Inval, Exist}
 use Rattle.compound_run.specs.declared.compound.CompoundArgs.{CompoundArgs}
@@ -15,7 +19,8 @@ use Rattle.compound_run.specs.declared.create.Draft as drafts
 use Rattle.compound_run.specs.declared.export.Export.{Export}
 use Rattle.compound_run.specs.declared.filehandles.FileHandles.{FileHandles}
 use Rattle.compound_run.specs.declared.opens.Open.{Open}
-use Rattle.access_guard.specs.Log.{Log}
+use Rattle.access_guard.specs.declared.line.Line.{Line}
+use Rattle.access_guard.specs.Log.{Log, held}
 use Rattle.compound_run.specs.Limits.{MIN_ROOM, REFUSAL_ROOM}
 use Rattle.compound_run.specs.Realm.{Realm, Opened}
 use Rattle.compound_run.specs.Context.{Context}
@@ -34,10 +39,18 @@ opens_view opens = map open_view opens
 
 -- what is served
 abbrev pub realm_of : {A : Type 0} → Export A → Realm
-realm_of e = record { world = e.tree.world; opens = opens_view e.opens.items; next_open = e.next_open }
+realm_of e = record { world = e.tree.world; opens = opens_view e.opens.items; next_open = e.next_open; registry = e.clients }
 
 abbrev pub point_at : {A : Type 0} → Export A → FileHandles → Point
 point_at e h = record { realm = realm_of e; log = e.tree.log; capacity = e.tree.capacity; handles = h }
+
+-- the lines of decisions are held
+abbrev pub holding : {A : Type 0} → List Line → Export A → Export A
+holding lines e = record e { tree = record e.tree { log = held lines e.tree.log } }
+
+-- the world is another
+abbrev pub with_world : {A : Type 0} → World → Export A → Export A
+with_world w e = record e { tree = record e.tree { world = w } }
 
 -- what an operation is run with
 abbrev pub context_of : code.Context → Context
@@ -62,6 +75,13 @@ Gives c m old handles before result new handles' after = GivesSo false c.room (m
 -- one that takes memory may say DELAY
 abbrev pub GivesOrDelays : {A : Type 0} → code.Context → (Context → FileHandles → Meaning) → Export A → FileHandles → Buffer → Result (Unit {0}) Status → Export A → FileHandles → Buffer → Type 0
 GivesOrDelays c m old handles before result new handles' after = GivesSo true c.room (m (context_of c) handles) waits old handles before result new handles' after
+
+-- what an operation that may be delayed gives, by what it means at its place
+abbrev pub GivesBy : {A : Type 0} → (Context → Operation → Bool) → (Context → FileHandles → Operation → Meaning) → (Log → Log) → code.Context → Op
+    → Export A → FileHandles → Buffer → Result (Unit {0}) Status → Export A → FileHandles → Buffer → Type 0
+GivesBy delays means ends c op old handles before result new handles' after =
+    let context = context_of c in
+    GivesSo (delays context (op_view op)) c.room (means context handles (op_view op)) ends old handles before result new handles' after
 
 -- there is room for the result of an operation that is run, and for a refusal
 abbrev pub HasRoom : code.Context → Buffer → Type 0

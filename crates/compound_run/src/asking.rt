@@ -1,15 +1,10 @@
 //! What operations ask of lists.
 ghost use Rattle.std.specs.Prelude.{◌≡◌, ◌+◌, ◌*◌, ◌<◌, ◌≤◌, [], length, true};
 ghost use Rattle.acl_shape.specs.declared.bounds.TheConstants.{MAX_ENTRIES};
-ghost use Rattle.nfs_ops.specs.OpViews.{op_view};
-ghost use Rattle.nfs_ops.specs.Operations.{number_of};
-ghost use Rattle.node_tree.specs.Judged.{judged_of};
-ghost use Rattle.access_rows.specs.Rows as rows;
-ghost use Rattle.access_guard.specs.Log.{held};
-ghost use Rattle.compound_run.specs.Sight.{whole};
-ghost use Rattle.compound_run.specs.Questions.{all_granted, demand_lines};
+ghost use Rattle.node_tree.specs.World.{bytes_of};
+ghost use Rattle.access_rows.specs.Rows.{lists_in};
+ghost use Rattle.compound_run.specs.Asking.{grants_all, asked, op_number, first_of, sized_of, second_of, sight_of};
 ghost use Rattle.compound_run.specs.Rows as specs;
-ghost use Rattle.compound_run.specs.Views.{realm_of};
 
 use crate::export::Export;
 use crate::filehandles::FileHandles;
@@ -22,7 +17,7 @@ use std::alloc::Allocator;
 impl<A: Allocator + Copy> Export<A> {
     /// The object of a number, if it is there.
     fn object(&self, number: Option<u64>) -> Option<Object>
-        ensures { result ≡ specs.object_of (whole (realm_of self.now)) number }
+        ensures { result ≡ specs.object_of (sight_of self.now) number }
     {
         let number = number?;
         let node = self.tree.object(number)?;
@@ -32,14 +27,50 @@ impl<A: Allocator + Copy> Export<A> {
         })
     }
 
+    /// How many bytes a file has, or the text of a link; 0 where it isn't there.
+    pub fn size(&self, number: u64) -> u64
+        ensures { result ≡ length (bytes_of self.now.tree.world number) }
+    {
+        match self.tree.object(number) {
+            Some(node) => node.size(),
+            None => 0,
+        }
+    }
+
     /// Whether the lists grant what an operation asks before it looks up a name. Its lines are held.
     pub fn grants_first(&mut self, op: &Op<'_>, handles: FileHandles, caller: &Caller) -> bool
         requires { self.old.tree.log.held ≡ [] }
-        ensures answer { result ≡ all_granted (judged_of self.old.tree.world) caller.now (rows.first_demands (op_view op.now) (specs.first_facts (whole (realm_of self.old)) handles)) }
-        ensures state { self.new ≡ record self.old { tree = record self.old.tree { log = held (demand_lines (judged_of self.old.tree.world) caller.now (number_of (op_view op.now)) (rows.first_demands (op_view op.now) (specs.first_facts (whole (realm_of self.old)) handles))) self.old.tree.log } } }
+        ensures answer { result ≡ grants_all self.old caller.now (first_of self.old op.now handles) }
+        ensures state { self.new ≡ asked self.old caller.now (op_number op.now) (first_of self.old op.now handles) }
         ensures few { result ≡ true → length self.new.tree.log.held ≤ specs.MAX_FIRST_LINES }
     {
         let facts = First::of(self.object(handles.current), self.object(handles.saved));
+        self.grants(&first_demands(op, &facts), caller, op.number())
+    }
+
+    /// The same of an operation that asks by the size of the current object, and by the size that it sets.
+    pub fn grants_sized(
+        &mut self,
+        op: &Op<'_>,
+        handles: FileHandles,
+        caller: &Caller,
+        new_size: Option<u64>,
+    ) -> bool
+        requires { self.old.tree.log.held ≡ [] }
+        ensures answer { result ≡ grants_all self.old caller.now (sized_of self.old op.now handles new_size) }
+        ensures state { self.new ≡ asked self.old caller.now (op_number op.now) (sized_of self.old op.now handles new_size) }
+        ensures few { result ≡ true → length self.new.tree.log.held ≤ specs.MAX_FIRST_LINES }
+    {
+        let size = match handles.current {
+            Some(number) => Some(self.size(number)),
+            None => None,
+        };
+        let facts = First {
+            current: self.object(handles.current),
+            saved: self.object(handles.saved),
+            size,
+            new_size,
+        };
         self.grants(&first_demands(op, &facts), caller, op.number())
     }
 
@@ -54,8 +85,8 @@ impl<A: Allocator + Copy> Export<A> {
         replaced: Option<u64>,
     ) -> bool
         requires { length self.old.tree.log.held ≤ specs.MAX_FIRST_LINES }
-        ensures answer { result ≡ all_granted (judged_of self.old.tree.world) caller.now (rows.second_demands (op_view op.now) (specs.second_facts (whole (realm_of self.old)) handles child replaced)) }
-        ensures state { self.new ≡ record self.old { tree = record self.old.tree { log = held (demand_lines (judged_of self.old.tree.world) caller.now (number_of (op_view op.now)) (rows.second_demands (op_view op.now) (specs.second_facts (whole (realm_of self.old)) handles child replaced))) self.old.tree.log } } }
+        ensures answer { result ≡ grants_all self.old caller.now (second_of self.old op.now handles child replaced) }
+        ensures state { self.new ≡ asked self.old caller.now (op_number op.now) (second_of self.old op.now handles child replaced) }
     {
         let facts = Second {
             current: self.object(handles.current),
@@ -69,10 +100,10 @@ impl<A: Allocator + Copy> Export<A> {
 
     /// Whether the lists grant the demands, each where there is one; none is asked behind one that is refused. Their lines are held.
     fn grants(&mut self, demands: &[Option<Demand>], caller: &Caller, op: u32) -> bool
-        requires { length self.old.tree.log.held + MAX_ENTRIES * rows.lists_in demands.now < MOST_HELD }
-        ensures answer { result ≡ all_granted (judged_of self.old.tree.world) caller.now demands.now }
-        ensures state { self.new ≡ record self.old { tree = record self.old.tree { log = held (demand_lines (judged_of self.old.tree.world) caller.now op demands.now) self.old.tree.log } } }
-        ensures few { result ≡ true → length self.new.tree.log.held ≤ length self.old.tree.log.held + MAX_ENTRIES * rows.lists_in demands.now }
+        requires { length self.old.tree.log.held + MAX_ENTRIES * lists_in demands.now < MOST_HELD }
+        ensures answer { result ≡ grants_all self.old caller.now demands.now }
+        ensures state { self.new ≡ asked self.old caller.now op demands.now }
+        ensures few { result ≡ true → length self.new.tree.log.held ≤ length self.old.tree.log.held + MAX_ENTRIES * lists_in demands.now }
     {
         for demand in demands {
             let Some(demand) = *demand else {

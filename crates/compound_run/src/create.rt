@@ -86,7 +86,7 @@ fn is_own<A: Allocator>(caller: &Caller, wanted: &Attrs<A>) -> bool
 
 impl<A: Allocator + Copy> Export<A> {
     /// What the attributes that were sent set. `Delay`: there is no memory for the list.
-    fn wanted(&self, book: &Book, kind: Kind, sent: &Attributes<'_>) -> Result<Attrs<A>, Status>
+    pub fn wanted(&self, book: &Book, kind: Kind, sent: &Attributes<'_>) -> Result<Attrs<A>, Status>
         ensures wanted { IsWanted (wanted_of book.now kind (bitmap_value sent.now.set) sent.now.values.bytes.now) result }
         ensures bounded { IfOk result (λ wanted. IfSome wanted.list IsBounded) }
     {

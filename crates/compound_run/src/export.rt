@@ -3,25 +3,27 @@ ghost use Rattle.std.specs.Prelude.{◌≡◌, ◌≢◌, ◌<◌, ◌≤◌, �
 ghost use Rattle.acl_shape.specs.Bounds.{IsBounded};
 ghost use Rattle.nfs_types.specs.Name.{name_fault};
 ghost use Rattle.node_tree.specs.World.{object, kind_of, has_entries, link_count, is_one};
-ghost use Rattle.node_tree.specs.Changes.{made, with_new, with_link, unlinked, renamed};
+ghost use Rattle.node_tree.specs.Changes.{made, with_new, with_link, with_write, unlinked, renamed};
 ghost use Rattle.node_tree.specs.Sound.{IsTick, most_bytes};
 ghost use Rattle.node_tree.specs.Refusals.{has_left, may_name};
 ghost use Rattle.compound_run.specs.Sight.{child, whole};
 ghost use Rattle.compound_run.specs.Meaning.{names_at};
 ghost use Rattle.compound_run.specs.Create.{can_add};
 ghost use Rattle.compound_run.specs.Rename.{goes_below, can_replace, can_move};
-ghost use Rattle.compound_run.specs.Views.{realm_of, is_inval, is_exist};
+ghost use Rattle.compound_run.specs.Write.{fits};
+ghost use Rattle.compound_run.specs.Views.{realm_of, with_world, is_inval, is_exist};
 
 use crate::opens::Open;
 use access_guard::GuardedTree;
 use nfs_types::{Moment, Status, check_name};
 use node_tree::{At, Kind, MAX_LINKS, NewObject, TreeFault};
+use session_slots::Clients;
 use std::alloc::{Allocator, Global};
 
 /// No counter reaches this one.
 const COUNTS: u64 = 1 << 63;
 
-/// What is served: the tree, with the guard of its lists, and the open files.
+/// What is served: the tree, with the guard of its lists, the open files, and the clients.
 #[derive(Drop)]
 pub(crate) struct Export<A: Allocator + Copy = Global> {
     pub alloc: A,
@@ -30,6 +32,8 @@ pub(crate) struct Export<A: Allocator + Copy = Global> {
     pub opens: Vec<Open<A>, A>,
     /// The number that the next open gets.
     pub next_open: u64,
+    /// The clients and their sessions.
+    pub clients: Clients<A>,
 }
 
 /// What is wrong with a name, if anything is.
@@ -44,7 +48,7 @@ pub(crate) fn check(name: &[u8]) -> Result<(), Status>
 }
 
 /// The status of a change that is refused where it is known that only space or memory can be wanting.
-fn status_of(fault: TreeFault) -> Status
+pub(crate) fn status_of(fault: TreeFault) -> Status
     ensures memory { fault ≡ TreeFault.Memory → result ≡ Status.Delay }
     ensures space { fault ≡ TreeFault.NoSpc → result ≡ Status.NoSpc }
 {
@@ -110,6 +114,18 @@ impl<A: Allocator + Copy> Export<A> {
         ensures err { OnErr result (self.new ≡ self.old) }
     {
         self.tree.add(directory, name, new, at).map_err(status_of)
+    }
+
+    /// Writes bytes into a file, within its limit. `Delay`: there is no memory for them.
+    pub fn write_bytes(&mut self, file: u64, offset: u64, more: &[u8], at: At) -> Result<(), Status>
+        requires tick { IsTick self.old.tree.world at.tick }
+        requires file { kind_of self.old.tree.world file ≡ Some Kind.File }
+        requires fits { fits offset more.now ≡ true }
+        ensures space { IsOkUnless result Status.Delay }
+        ensures ok { OnOk result (self.new ≡ with_world (with_write self.old.tree.world file offset more.now at) self.old) }
+        ensures err { OnErr result (self.new ≡ self.old) }
+    {
+        self.tree.write(file, offset, more, at).map_err(status_of)
     }
 
     /// Gives an object a name that nothing has. `NoSpc`: there is no space for it. `Delay`: there is no memory for it.

@@ -3,6 +3,8 @@ ghost use Rattle.std.specs.Prelude.{◌≡◌, ◌≢◌, ◌↔◌, ℕ, if◌t
 ghost use Rattle.rpc_record.specs.Identity.{Identity};
 ghost use Rattle.nfs_types.specs.declared.status.Status.{Status};
 ghost use Rattle.nfs_types.specs.declared.status.Status.TheVariants as statuses;
+ghost use Rattle.xdr_wire.specs.Xdr.{Value};
+ghost use Rattle.nfs_ops.specs.Forms.{close_args, commit_args, nverify_args, read_args, verify_args, write_args};
 ghost use Rattle.nfs_ops.specs.Operations.{Operation, Known};
 ghost use Rattle.nfs_ops.specs.declared.op_kind.OpKind.TheVariants as kinds;
 ghost use Rattle.nfs_ops.specs.Results.{Outcome};
@@ -40,7 +42,7 @@ pub fn access_is_exact()
         (row : IsRefusedByRow m.caller (whole r) m.questions) × EndsInRefusal m.caller m.number (judged_of r.world) (row.demands (whole r)) (traced m r) }
 {}
 
-/// An operation that takes no memory never answers DELAY: all but CREATE, LINK and RENAME. Nor does one that lacks its place or room.
+/// An operation that takes no memory never answers DELAY: all but CREATE, LINK, NVERIFY, RENAME, VERIFY and WRITE. Nor does one that lacks its place or room.
 pub fn others_never_delay()
     ensures { (c : Context) (op : Operation) (old new : Point) (result : Result Outcome Status) → may_delay c op ≡ false → Steps c op old result new → result ≢ Err statuses.Delay }
 {}
@@ -53,4 +55,39 @@ pub fn lookup_discloses_nothing()
 /// The same of REMOVE.
 pub fn remove_discloses_nothing()
     ensures { (c : Context) (h : FileHandles) (name : List ℕ) → DisclosesNothing (meaning c h (Known kinds.Remove name)) }
+{}
+
+/// The same of CLOSE.
+pub fn close_discloses_nothing()
+    ensures { (c : Context) (h : FileHandles) (v : Value close_args) → DisclosesNothing (meaning c h (Known kinds.Close v)) }
+{}
+
+/// The same of COMMIT.
+pub fn commit_discloses_nothing()
+    ensures { (c : Context) (h : FileHandles) (v : Value commit_args) → DisclosesNothing (meaning c h (Known kinds.Commit v)) }
+{}
+
+/// The same of GETATTR.
+pub fn getattr_discloses_nothing()
+    ensures { (c : Context) (h : FileHandles) (asked : List ℕ) → DisclosesNothing (meaning c h (Known kinds.GetAttr asked)) }
+{}
+
+/// The same of NVERIFY.
+pub fn nverify_discloses_nothing()
+    ensures { (c : Context) (h : FileHandles) (v : Value nverify_args) → DisclosesNothing (meaning c h (Known kinds.NVerify v)) }
+{}
+
+/// The same of READ.
+pub fn read_discloses_nothing()
+    ensures { (c : Context) (h : FileHandles) (v : Value read_args) → DisclosesNothing (meaning c h (Known kinds.Read v)) }
+{}
+
+/// The same of VERIFY.
+pub fn verify_discloses_nothing()
+    ensures { (c : Context) (h : FileHandles) (v : Value verify_args) → DisclosesNothing (meaning c h (Known kinds.Verify v)) }
+{}
+
+/// The same of WRITE.
+pub fn write_discloses_nothing()
+    ensures { (c : Context) (h : FileHandles) (v : Value write_args) → DisclosesNothing (meaning c h (Known kinds.Write v)) }
 {}

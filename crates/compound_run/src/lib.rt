@@ -5,20 +5,25 @@
 
 mod access;
 mod asking;
+mod close;
+mod commit;
 mod compound;
 mod context;
 mod create;
 mod export;
 mod filehandles;
+mod getattr;
 mod getfh;
 mod laws;
 mod limits;
 mod link;
 mod lookup;
 mod lookupp;
+mod nverify;
 mod opens;
 mod putfh;
 mod putrootfh;
+mod read;
 mod readlink;
 mod remove;
 mod rename;
@@ -27,10 +32,16 @@ mod results;
 mod run;
 mod savefh;
 mod server;
+mod stateids;
+mod values;
+mod verify;
+mod write;
 
 pub use laws::{
-    access_is_exact, lookup_discloses_nothing, ok_is_exact, others_never_delay,
-    remove_discloses_nothing, rows_decide,
+    access_is_exact, close_discloses_nothing, commit_discloses_nothing, getattr_discloses_nothing,
+    lookup_discloses_nothing, nverify_discloses_nothing, ok_is_exact, others_never_delay,
+    read_discloses_nothing, remove_discloses_nothing, rows_decide, verify_discloses_nothing,
+    write_discloses_nothing,
 };
 pub use limits::{MAX_REPLY, MAX_RESULTS};
 pub use opens::Open;

@@ -1,13 +1,13 @@
 //! One operation at its place (RFC 8881, section 16.2.3).
 ghost use Rattle.std.specs.Prelude.{◌≡◌, ◌+◌, ◌≤◌, [], true};
 ghost use Rattle.nfs_ops.specs.OpViews.{op_view};
-ghost use Rattle.compound_run.specs.Operations.{body, is_run, meaning, may_delay, takes_memory};
+ghost use Rattle.compound_run.specs.Operations.{body, is_run, meaning, may_delay, takes_memory_in};
 ghost use Rattle.compound_run.specs.Operations as specs;
 ghost use Rattle.access_guard.specs.Log.{settled};
 ghost use Rattle.compound_run.specs.Limits as limits;
 ghost use Rattle.compound_run.specs.Runs.{waits};
 ghost use Rattle.compound_run.specs.Telling.{is_delay};
-ghost use Rattle.compound_run.specs.Views.{context_of, point_at, GivesSo, HasRoom, IfRun};
+ghost use Rattle.compound_run.specs.Views.{context_of, point_at, GivesBy, HasRoom, IfRun};
 ghost use Rattle.compound_run.specs.Written.{StepGives};
 
 use crate::context::Context;
@@ -42,18 +42,25 @@ fn is_run(op: &Op<'_>) -> bool
     matches!(
         op,
         Op::Access(_)
+            | Op::Close(_)
+            | Op::Commit(_)
             | Op::Create(_)
+            | Op::GetAttr(_)
             | Op::GetFh
             | Op::Link(_)
             | Op::Lookup(_)
             | Op::LookupP
+            | Op::NVerify(_)
             | Op::PutFh(_)
             | Op::PutRootFh
+            | Op::Read(_)
             | Op::ReadLink
             | Op::Remove(_)
             | Op::Rename(_)
             | Op::RestoreFh
             | Op::SaveFh
+            | Op::Verify(_)
+            | Op::Write(_)
     )
 }
 
@@ -88,25 +95,41 @@ impl<A: Allocator + Copy> Export<A> {
     ) -> Result<(), Status>
         requires settled { self.old.tree.log.held ≡ [] }
         requires room { IfRun (is_run (op_view op.now)) (HasRoom context out.old) }
-        ensures { GivesSo (takes_memory (op_view op.now)) context.entry.room (body (context_of context.entry) handles.old (op_view op.now)) waits self.old handles.old out.old result self.new handles.new out.new }
+        ensures { GivesBy takes_memory_in body waits context.entry op.now self.old handles.old out.old result self.new handles.new out.new }
     {
         match op {
             Op::Access(args) => self.access(context, *handles, args.asked, out),
+            Op::Close(args) => self.close(context, *handles, args, out),
+            Op::Commit(_) => self.commit(context, *handles, out),
             Op::Create(args) => self.create(context, handles, op, args, out),
+            Op::GetAttr(args) => self.getattr(context, *handles, op, args.asked, out),
             Op::GetFh => self.getfh(context, *handles, out),
             Op::Link(args) => self.link(context, *handles, op, args.name.bytes, out),
             Op::Lookup(args) => self.lookup(context, handles, op, args.name.bytes, out),
             Op::LookupP => self.lookupp(context, handles, op, out),
+            Op::NVerify(args) => self.nverify(context, *handles, op, &args.attributes, out),
             Op::PutFh(args) => self.putfh(context, handles, &args.handle, out),
             Op::PutRootFh => self.putrootfh(context, handles, out),
+            Op::Read(args) => self.read(context, *handles, op, args, out),
             Op::ReadLink => self.readlink(context, *handles, op, out),
             Op::Remove(args) => self.remove(context, *handles, op, args.name.bytes, out),
             Op::Rename(args) => self.rename(context, *handles, op, args, out),
             Op::RestoreFh => self.restorefh(context, handles, out),
             Op::SaveFh => self.savefh(context, handles, out),
+            Op::Verify(args) => self.verify(context, *handles, op, &args.attributes, out),
+            Op::Write(args) => self.write(context, *handles, op, args, out),
             Op::Illegal => Err(Status::OpIllegal),
             Op::Bad(_) => Err(Status::BadXdr),
-            _ => Err(Status::NotSupp),
+            Op::Open(_)
+            | Op::ReadDir(_)
+            | Op::SetAttr(_)
+            | Op::ExchangeId(_)
+            | Op::CreateSession(_)
+            | Op::DestroySession(_)
+            | Op::Sequence(_)
+            | Op::DestroyClientId(_)
+            | Op::ReclaimComplete(_)
+            | Op::Unsupported(_) => Err(Status::NotSupp),
         }
     }
 
@@ -120,7 +143,7 @@ impl<A: Allocator + Copy> Export<A> {
     ) -> Result<(), Status>
         requires settled { self.old.tree.log.held ≡ [] }
         requires room { context.room + limits.REFUSAL_ROOM ≤ out.old.room }
-        ensures { GivesSo (may_delay (context_of context.entry) (op_view op.now)) context.entry.room (meaning (context_of context.entry) handles.old (op_view op.now)) waits self.old handles.old out.old result self.new handles.new out.new }
+        ensures { GivesBy may_delay meaning waits context.entry op.now self.old handles.old out.old result self.new handles.new out.new }
     {
         if let Some(fault) = entry_fault(context, op) {
             return Err(fault);
@@ -138,7 +161,7 @@ impl<A: Allocator + Copy> Export<A> {
     ) -> Result<(), Status>
         requires settled { self.old.tree.log.held ≡ [] }
         requires room { context.room + limits.REFUSAL_ROOM ≤ out.old.room }
-        ensures gives { GivesSo (may_delay (context_of context.entry) (op_view op.now)) context.entry.room (meaning (context_of context.entry) handles.old (op_view op.now)) (settled true) self.old handles.old out.old result self.new handles.new out.new }
+        ensures gives { GivesBy may_delay meaning (settled true) context.entry op.now self.old handles.old out.old result self.new handles.new out.new }
         ensures settled { self.new.tree.log.held ≡ [] }
     {
         let result = self.answer(context, handles, op, out);

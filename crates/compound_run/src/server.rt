@@ -15,6 +15,7 @@ use access_guard::{Guard, GuardedTree};
 use nfs_types::Moment;
 use node_tree::Tree;
 use rpc_record::Caller;
+use session_slots::Clients;
 use std::alloc::{AllocError, Allocator, Global};
 use std::hash::RandomState;
 use std::marker::Model;
@@ -77,6 +78,7 @@ impl<A: Allocator + Copy> Server<A> {
                 tree: GuardedTree::new(alloc, tree, capacity, hasher)?,
                 opens: Vec::new(alloc),
                 next_open: 1,
+                clients: Clients::new(alloc),
             },
             book,
         })
@@ -86,8 +88,8 @@ impl<A: Allocator + Copy> Server<A> {
     /// isn't OK. Its results are put behind what `out` holds, at most [`MAX_RESULTS`] bytes, for which there has to be room.
     ///
     /// Another minor version than 1 answers MINOR_VERS_MISMATCH, and more than 16 operations TOO_MANY_OPS, with no results. The
-    /// operations of sessions, and those that aren't built, answer NOTSUPP. CREATE, LINK and RENAME answer DELAY where memory is
-    /// refused, and then nothing changes; no other takes memory that it needs.
+    /// operations of sessions, and those that aren't built, answer NOTSUPP. CREATE, LINK, NVERIFY, RENAME, VERIFY and WRITE answer DELAY
+    /// where memory is refused, and then nothing changes; no other takes memory that it needs.
     #[tactic(auto, unfolding(crate::specs::State::fate))]
     pub fn run_bare(
         &mut self,

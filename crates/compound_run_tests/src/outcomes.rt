@@ -116,7 +116,7 @@ static READ: [Row; 25] = [
     (
         BOB,
         "PUTROOTFH GETATTR 1 2",
-        "notsupp PUTROOTFH ok GETATTR notsupp",
+        "ok PUTROOTFH ok GETATTR ok 1 2 4 2",
     ),
     (BOB, "LOCK", "notsupp LOCK notsupp"),
     (

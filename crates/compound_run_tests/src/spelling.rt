@@ -14,8 +14,10 @@ use std::alloc::Global;
 use std::test::Fail;
 
 /// Operations (RFC 8881, section 18).
-static OPERATIONS: [(&str, u32); 24] = [
+static OPERATIONS: [(&str, u32); 30] = [
     ("ACCESS", 3),
+    ("CLOSE", 4),
+    ("COMMIT", 5),
     ("CREATE", 6),
     ("GETATTR", 9),
     ("GETFH", 10),
@@ -23,15 +25,19 @@ static OPERATIONS: [(&str, u32); 24] = [
     ("LOCK", 12),
     ("LOOKUP", 15),
     ("LOOKUPP", 16),
+    ("NVERIFY", 17),
     ("OPEN", 18),
     ("PUTFH", 22),
     ("PUTROOTFH", 24),
+    ("READ", 25),
     ("READDIR", 26),
     ("READLINK", 27),
     ("REMOVE", 28),
     ("RENAME", 29),
     ("RESTOREFH", 31),
     ("SAVEFH", 32),
+    ("VERIFY", 37),
+    ("WRITE", 38),
     ("EXCHANGE_ID", 42),
     ("CREATE_SESSION", 43),
     ("DESTROY_SESSION", 44),
@@ -42,7 +48,7 @@ static OPERATIONS: [(&str, u32); 24] = [
 ];
 
 /// Statuses (RFC 8881, section 15.1).
-static STATUSES: [(&str, u32); 27] = [
+static STATUSES: [(&str, u32); 31] = [
     ("ok", 0),
     ("perm", 1),
     ("noent", 2),
@@ -51,6 +57,7 @@ static STATUSES: [(&str, u32); 27] = [
     ("notdir", 20),
     ("isdir", 21),
     ("inval", 22),
+    ("fbig", 27),
     ("nospc", 28),
     ("mlink", 31),
     ("nametoolong", 63),
@@ -59,8 +66,11 @@ static STATUSES: [(&str, u32); 27] = [
     ("badhandle", 10001),
     ("notsupp", 10004),
     ("badtype", 10007),
+    ("same", 10009),
     ("nofilehandle", 10020),
     ("minorvers", 10021),
+    ("badstateid", 10025),
+    ("notsame", 10027),
     ("symlink", 10029),
     ("attrnotsupp", 10032),
     ("badxdr", 10036),

@@ -1,5 +1,7 @@
-use Rattle.std.proofs.Common.{rules, arith, ◌-◌}
+use Rattle.std.proofs.Common.{rules, arith, ◌-◌, ◌∙◌, ap, length}
+use Rattle.std.proofs.lemmas.List.{length-append}
 use Rattle.nfs_ops.specs.OpViews.{op_view}
+use Rattle.compound_run.specs.Runs.{results_bytes}
 use Rattle.compound_run.specs.Views.{context_of}
 use Rattle.compound_run.proofs.Running.{starts, goes_on, ends_with, ends_whole}
 use Rattle.compound_run.proofs.export.Export.run_all.Goals as goal
@@ -11,6 +13,12 @@ loop-position-init g c = record {
       (starts (record { context = context_of c.args.context; operations = c.args.operations.now; export = c.args.self.now; out = c.args.results.now })));
   settled = c.requires.settled;
 }
+
+pub run_one-requires-clause-room : goal.run_one-requires-clause-room
+run_one-requires-clause-room g c =
+    let running = c.loop-position.invariant.running in
+    let long = ap length running.written.behind ∙ length-append c.args.results.now.bytes (results_bytes running.results) in
+    omega (arith, c.capacity.ensures, c.room.ensures, c.len.ensures, c.requires.room, running.fits, long, running.written.less_room)
 
 pub returns-in-Err-clause-gives : goal.returns-in-Err-clause-gives
 returns-in-Err-clause-gives g c =

@@ -1,0 +1,93 @@
+-- What is said of an object is what its attributes are.
+use Rattle.std.proofs.Common.{◌≡◌, ℕ, ◌≤◌, List, Bool, true, false, cond, refl, sym, ap, ◌∙◌, length}
+use Rattle.std.specs.Prelude.{[], ◌∷◌, ◌++◌, if◌then◌else◌, map, take, unwrap_or, bit_or, Option, Some}
+use Rattle.std.specs.Option.{option_map, option_map_or}
+use Rattle.std.proofs.lemmas.List.{take_all}
+use Rattle.std.specs.List.{flat_map}
+use Rattle.xdr_wire.specs.Xdr.{spelling, Value, uint, hyper, boolean}
+use Rattle.acl_list.specs.declared.entry.Entry.{Entry}
+use Rattle.acl_list.specs.declared.entry.Kind.TheVariants.{File}
+use Rattle.acl_shape.specs.Inherited.{is_directory}
+use Rattle.acl_shape.specs.Mode.{mode_of}
+use Rattle.who_book.specs.Content.{Content}
+use Rattle.who_book.specs.Spelling.{principal_text}
+use Rattle.who_book.specs.declared.kind.NameKind.TheVariants as name
+use Rattle.nfs_types.specs.Attributes.{all, acl, text, number_of, form_of}
+use Rattle.nfs_types.specs.Forms.{handle, time}
+use Rattle.nfs_types.specs.Given.{type_number, ace_of, value_of, attribute_bytes, part, given_values}
+use Rattle.nfs_types.specs.Handles.{object_handle}
+use Rattle.nfs_types.specs.MomentView.{moment_value}
+use Rattle.nfs_types.specs.Sets.{has_number}
+use Rattle.nfs_types.specs.Status as status
+use Rattle.nfs_types.specs.declared.attribute.Attribute.{Attribute}
+use Rattle.nfs_types.specs.declared.attribute.Attribute.TheVariants.{SupportedAttrs, ObjectType, FhExpireType, Change, Size, LinkSupport, SymlinkSupport, NamedAttr, Fsid, UniqueHandles, LeaseTime, RdattrError, Acl, AclSupport, FileHandle, FileId, MaxFileSize, MaxName, MaxRead, MaxWrite, Mode, NumLinks, Owner, OwnerGroup, TimeMetadata, TimeModify, MountedOnFileId, SuppattrExclcreat}
+use Rattle.nfs_types.specs.declared.facts.ObjectFacts.{ObjectFacts}
+use Rattle.nfs_types.specs.declared.status.Status.{Status}
+use Rattle.node_tree.specs.World.{Object, object}
+use Rattle.node_tree.specs.Judged.{judged}
+use Rattle.compound_run.specs.Realm.{Realm}
+use Rattle.compound_run.specs.Sight.{Sight, whole, details_of}
+use Rattle.compound_run.specs.Values.{facts_at, links_at, unseen}
+use Rattle.compound_run.specs.Says.{Says}
+
+same_value : (book : Content) (s : Sight) (n : ℕ) (e : Status) (f : ObjectFacts) → Says s n e f → (a : Attribute) → value_of book f a ≡ value_of book (facts_at s n e) a
+same_value book s n e f says SupportedAttrs = refl
+same_value book s n e f says ObjectType = ap type_number says.kind
+same_value book s n e f says FhExpireType = refl
+same_value book s n e f says Change = says.change
+same_value book s n e f says Size = says.size
+same_value book s n e f says LinkSupport = refl
+same_value book s n e f says SymlinkSupport = refl
+same_value book s n e f says NamedAttr = refl
+same_value book s n e f says Fsid = refl
+same_value book s n e f says UniqueHandles = refl
+same_value book s n e f says LeaseTime = refl
+same_value book s n e f says RdattrError = ap status.number_of says.error
+same_value book s n e f says Acl = ap (map (ace_of book)) says.entries
+same_value book s n e f says AclSupport = refl
+same_value book s n e f says FileHandle = ap object_handle says.number
+same_value book s n e f says FileId = says.number
+same_value book s n e f says MaxFileSize = refl
+same_value book s n e f says MaxName = refl
+same_value book s n e f says MaxRead = refl
+same_value book s n e f says MaxWrite = refl
+same_value book s n e f says Mode = says.mode
+same_value book s n e f says NumLinks = says.links
+same_value book s n e f says Owner = ap (principal_text name.User book) says.owner
+same_value book s n e f says OwnerGroup = ap (principal_text name.Group book) says.group
+same_value book s n e f says TimeMetadata = ap moment_value says.metadata
+same_value book s n e f says TimeModify = ap moment_value says.modify
+same_value book s n e f says MountedOnFileId = says.number
+same_value book s n e f says SuppattrExclcreat = refl
+
+same_part : (book : Content) (s : Sight) (n : ℕ) (e : Status) (f : ObjectFacts) (asked : List ℕ) → Says s n e f → (a : Attribute) → part book f asked a ≡ part book (facts_at s n e) asked a
+same_part book s n e f asked says a = ap (λ v. cond (has_number asked (number_of a)) (spelling (form_of a) v) []) (same_value book s n e f says a)
+
+same_parts : (book : Content) (s : Sight) (n : ℕ) (e : Status) (f : ObjectFacts) (asked : List ℕ) → Says s n e f → (some : List Attribute)
+    → flat_map (part book f asked) some ≡ flat_map (part book (facts_at s n e) asked) some
+same_parts book s n e f asked says [] = refl
+same_parts book s n e f asked says (a ∷ some) = λ i. same_part book s n e f asked says a i ++ same_parts book s n e f asked says some i
+
+pub same_values : (book : Content) (s : Sight) (n : ℕ) (e : Status) (f : ObjectFacts) (asked : List ℕ) → Says s n e f → given_values book f asked ≡ given_values book (facts_at s n e) asked
+unfolding given_values
+same_values book s n e f asked says = same_parts book s n e f asked says all
+
+-- what the code tells of an object that is there
+pub says_of : (r : Realm) (n : ℕ) (e : Status) (o : Object) (f : ObjectFacts) → object r.world n ≡ Some o → length o.list ≤ 64
+    → f.kind ≡ o.kind → f.number ≡ n → f.change ≡ o.change → f.size ≡ cond (is_directory o.kind) 0 (length o.bytes) → f.error ≡ e → f.entries.now ≡ o.list
+    → f.mode ≡ bit_or o.high (mode_of o.list) → f.links ≡ links_at (whole r) n → f.owner ≡ o.owner → f.group ≡ o.group → f.metadata ≡ o.time_metadata → f.modify ≡ o.time_modify
+    → Says (whole r) n e f
+says_of r n e o f there few kind number change size error entries mode links owner group metadata modify = record {
+  kind = kind ∙ ap (λ (x : Option Object). unwrap_or (option_map (λ o. o.kind) x) File) (sym there);
+  number = number;
+  change = change ∙ ap (λ (x : Option Object). (unwrap_or (option_map details_of x) unseen).change) (sym there);
+  size = size ∙ ap (λ (x : Option Object). cond (option_map_or is_directory (option_map (λ o. o.kind) x) false) 0 (length (option_map_or (λ o. o.bytes) x []))) (sym there);
+  error = error;
+  entries = entries ∙ sym (take_all 64 o.list few) ∙ ap (λ (x : Option Object). take 64 (option_map_or (λ j. j.list) (option_map judged x) [])) (sym there);
+  mode = mode ∙ ap (λ (x : Option Object). bit_or (unwrap_or (option_map details_of x) unseen).high (mode_of (option_map_or (λ j. j.list) (option_map judged x) []))) (sym there);
+  links = links;
+  owner = owner ∙ ap (λ (x : Option Object). option_map_or (λ j. j.owner) (option_map judged x) 0) (sym there);
+  group = group ∙ ap (λ (x : Option Object). option_map_or (λ j. j.group) (option_map judged x) 0) (sym there);
+  metadata = metadata ∙ ap (λ (x : Option Object). (unwrap_or (option_map details_of x) unseen).time_metadata) (sym there);
+  modify = modify ∙ ap (λ (x : Option Object). (unwrap_or (option_map details_of x) unseen).time_modify) (sym there);
+}

@@ -1,0 +1,145 @@
+-- Operations on one object tell a caller nothing but what the caller may see.
+use Rattle.std.proofs.Common.{◌≡◌, ℕ, List, refl, ap}
+use Rattle.std.specs.Prelude.{◌+◌, nat_le, not, nat_eq, length, take, drop}
+use Rattle.std.specs.Cmp.Lexicographic.{pointwise}
+use Rattle.xdr_wire.specs.Xdr.{Value}
+use Rattle.nfs_types.specs.Given.{given_set}
+use Rattle.nfs_types.specs.declared.status.Status.TheVariants as statuses
+use Rattle.nfs_ops.specs.Forms.{close_args, commit_args, verify_args, nverify_args, read_args, write_args, getattr_size}
+use Rattle.nfs_ops.specs.Operations.{Known}
+use Rattle.nfs_ops.specs.Parts.{set_of, values_of, read_offset, read_count, read_gives}
+use Rattle.nfs_ops.specs.declared.op_kind.OpKind.TheVariants as kinds
+use Rattle.nfs_ops.specs.Results.{Done}
+use Rattle.acl_list.specs.declared.mask.TheConstants.{READ_DATA}
+use Rattle.node_tree.specs.World.{kind_of}
+use Rattle.compound_run.specs.declared.filehandles.FileHandles.{FileHandles}
+use Rattle.compound_run.specs.Realm.{Realm}
+use Rattle.compound_run.specs.Context.{Context}
+use Rattle.compound_run.specs.Sight.{whole, view}
+use Rattle.compound_run.specs.Meaning.{here}
+use Rattle.compound_run.specs.Getattr.{told, told_size}
+use Rattle.compound_run.specs.Read.{most_of}
+use Rattle.compound_run.specs.Operations.{meaning}
+use Rattle.compound_run.specs.Values.{values_at}
+use Rattle.compound_run.specs.Verify.{is_same}
+use Rattle.compound_run.specs.Disclosure.{DisclosesNothing}
+use Rattle.compound_run.proofs.Seen.{IsSeen, discloses_nothing}
+use Rattle.compound_run.proofs.Showing.{reads, bytes_seen, may_see, values_seen}
+
+commit_seen : (c : Context) (h : FileHandles) (v : Value commit_args) → IsSeen (meaning c h (Known kinds.Commit v))
+commit_seen c h v w = (refl, λ _. (refl, λ _. (refl, λ _. (refl, λ _. (refl, λ _. refl)))))
+
+close_seen : (c : Context) (h : FileHandles) (v : Value close_args) → IsSeen (meaning c h (Known kinds.Close v))
+close_seen c h v w = (refl, λ _. (refl, λ _. (refl, λ _. (refl, λ _. refl))))
+
+getattr_seen : (c : Context) (h : FileHandles) (asked : List ℕ) → IsSeen (meaning c h (Known kinds.GetAttr asked))
+unfolding told
+getattr_seen c h asked w = (
+  refl,
+  λ _. (
+    refl,
+    λ set. (
+      refl,
+      λ live. (
+        refl,
+        λ granted.
+            let same = values_seen c.book w c.caller (here h) statuses.Ok asked (may_see w c.caller h.current asked set live granted) in
+            (ap (λ values. nat_le (getattr_size (length (given_set asked)) (length values)) c.room) same, λ _. ap (λ values. Done kinds.GetAttr (given_set asked, values)) same),
+      ),
+    ),
+  ),
+)
+
+verify_seen : (c : Context) (h : FileHandles) (v : Value verify_args) → IsSeen (meaning c h (Known kinds.Verify v))
+unfolding is_same
+verify_seen c h v w = (
+  refl,
+  λ _. (
+    refl,
+    λ set. (
+      refl,
+      λ live. (
+        refl,
+        λ _. (
+          refl,
+          λ granted.
+              let same = values_seen c.book w c.caller (here h) statuses.Ok (set_of v) (may_see w c.caller h.current (set_of v) set live granted) in
+              (ap (λ values. pointwise nat_eq values (values_of v)) same, λ _. refl),
+        ),
+      ),
+    ),
+  ),
+)
+
+nverify_seen : (c : Context) (h : FileHandles) (v : Value nverify_args) → IsSeen (meaning c h (Known kinds.NVerify v))
+unfolding is_same
+nverify_seen c h v w = (
+  refl,
+  λ _. (
+    refl,
+    λ set. (
+      refl,
+      λ live. (
+        refl,
+        λ _. (
+          refl,
+          λ granted.
+              let same = values_seen c.book w c.caller (here h) statuses.Ok (set_of v) (may_see w c.caller h.current (set_of v) set live granted) in
+              (ap (λ values. not (pointwise nat_eq values (values_of v))) same, λ _. refl),
+        ),
+      ),
+    ),
+  ),
+)
+
+read_seen : (c : Context) (h : FileHandles) (v : Value read_args) → IsSeen (meaning c h (Known kinds.Read v))
+read_seen c h v w = (
+  refl,
+  λ _. (
+    refl,
+    λ set. (
+      refl,
+      λ live. (
+        refl,
+        λ _. (
+          refl,
+          λ _. (
+            refl,
+            λ _. (
+              refl,
+              λ granted.
+                  ap (λ bytes.
+                  let part = take (most_of (read_count v) c.room) (drop (read_offset v) bytes) in
+                  Done kinds.Read (read_gives (nat_le ((whole w).sizes (here h)) (read_offset v + length part)) part))
+                  (bytes_seen w c.caller (here h) (reads w c.caller h.current set live granted)),
+            ),
+          ),
+        ),
+      ),
+    ),
+  ),
+)
+
+pub commit_discloses_nothing : (c : Context) (h : FileHandles) (v : Value commit_args) → DisclosesNothing (meaning c h (Known kinds.Commit v))
+commit_discloses_nothing c h v = discloses_nothing (meaning c h (Known kinds.Commit v)) (commit_seen c h v)
+
+pub close_discloses_nothing : (c : Context) (h : FileHandles) (v : Value close_args) → DisclosesNothing (meaning c h (Known kinds.Close v))
+close_discloses_nothing c h v = discloses_nothing (meaning c h (Known kinds.Close v)) (close_seen c h v)
+
+pub getattr_discloses_nothing : (c : Context) (h : FileHandles) (asked : List ℕ) → DisclosesNothing (meaning c h (Known kinds.GetAttr asked))
+getattr_discloses_nothing c h asked = discloses_nothing (meaning c h (Known kinds.GetAttr asked)) (getattr_seen c h asked)
+
+pub verify_discloses_nothing : (c : Context) (h : FileHandles) (v : Value verify_args) → DisclosesNothing (meaning c h (Known kinds.Verify v))
+verify_discloses_nothing c h v = discloses_nothing (meaning c h (Known kinds.Verify v)) (verify_seen c h v)
+
+pub nverify_discloses_nothing : (c : Context) (h : FileHandles) (v : Value nverify_args) → DisclosesNothing (meaning c h (Known kinds.NVerify v))
+nverify_discloses_nothing c h v = discloses_nothing (meaning c h (Known kinds.NVerify v)) (nverify_seen c h v)
+
+pub read_discloses_nothing : (c : Context) (h : FileHandles) (v : Value read_args) → DisclosesNothing (meaning c h (Known kinds.Read v))
+read_discloses_nothing c h v = discloses_nothing (meaning c h (Known kinds.Read v)) (read_seen c h v)
+
+write_seen : (c : Context) (h : FileHandles) (v : Value write_args) → IsSeen (meaning c h (Known kinds.Write v))
+write_seen c h v w = (refl, λ _. (refl, λ _. (refl, λ _. (refl, λ _. (refl, λ _. (refl, λ _. (refl, λ _. (refl, λ _. (refl, λ _. refl)))))))))
+
+pub write_discloses_nothing : (c : Context) (h : FileHandles) (v : Value write_args) → DisclosesNothing (meaning c h (Known kinds.Write v))
+write_discloses_nothing c h v = discloses_nothing (meaning c h (Known kinds.Write v)) (write_seen c h v)

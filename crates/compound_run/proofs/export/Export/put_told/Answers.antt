@@ -1,0 +1,18 @@
+use Rattle.std.proofs.Common.{subst, List, ℕ}
+use Rattle.nfs_types.specs.Given.{given_set}
+use Rattle.nfs_types.specs.Views.{bitmap_value}
+use Rattle.nfs_types.specs.declared.status.Status.TheVariants as statuses
+use Rattle.nfs_ops.specs.Results.{Done}
+use Rattle.nfs_ops.specs.declared.op_kind.OpKind.TheVariants as kinds
+use Rattle.compound_run.specs.Asking.{sight_of}
+use Rattle.compound_run.specs.Getattr.{told}
+use Rattle.compound_run.specs.Says.{PutsWithin}
+use Rattle.compound_run.proofs.Saying.{same_values}
+use Rattle.compound_run.proofs.export.Export.put_told.Goals as goal
+
+pub returns : goal.returns
+unfolding told
+returns g c =
+    let asked = bitmap_value c.args.asked in
+    subst (λ (values : List ℕ). PutsWithin c.args.context.room (Done kinds.GetAttr (given_set asked, values)) c.args.out.now c.put_attributes.result c.put_attributes.new.out)
+    (same_values c.args.context.book.now (sight_of c.args.self.now) c.args.number statuses.Ok c.in-Some.facts asked c.in-Some.ensures.says) c.put_attributes.ensures

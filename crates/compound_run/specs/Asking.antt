@@ -1,0 +1,41 @@
+-- What the lists that are served are asked, and what they answer.
+use Rattle.std.specs.Prelude.{ℕ, Bool, Option}
+use Rattle.rpc_record.specs.Identity.{Identity}
+use Rattle.nfs_ops.specs.declared.op.Op.{Op}
+use Rattle.nfs_ops.specs.OpViews.{op_view}
+use Rattle.nfs_ops.specs.Operations.{number_of}
+use Rattle.node_tree.specs.Judged.{judged_of}
+use Rattle.access_rows.specs.Rows.{Demands, first_demands, second_demands}
+use Rattle.compound_run.specs.declared.export.Export.{Export}
+use Rattle.compound_run.specs.declared.filehandles.FileHandles.{FileHandles}
+use Rattle.compound_run.specs.Sight.{Sight, whole}
+use Rattle.compound_run.specs.Questions.{all_granted, demand_lines}
+use Rattle.compound_run.specs.Rows.{first_facts, sized_facts, second_facts}
+use Rattle.compound_run.specs.Views.{holding, realm_of}
+
+-- all of what is served
+abbrev pub sight_of : {A : Type 0} → Export A → Sight
+sight_of e = whole (realm_of e)
+
+-- whether the lists grant these demands
+abbrev pub grants_all : {A : Type 0} → Export A → Identity → Demands → Bool
+grants_all e caller demands = all_granted (judged_of e.tree.world) caller demands
+
+-- their lines are held
+abbrev pub asked : {A : Type 0} → Export A → Identity → ℕ → Demands → Export A
+asked e caller op demands = holding (demand_lines (judged_of e.tree.world) caller op demands) e
+
+abbrev pub op_number : Op → ℕ
+op_number op = number_of (op_view op)
+
+-- what an operation asks first
+abbrev pub first_of : {A : Type 0} → Export A → Op → FileHandles → Demands
+first_of e op h = first_demands (op_view op) (first_facts (sight_of e) h)
+
+-- the same of one that asks by a size
+abbrev pub sized_of : {A : Type 0} → Export A → Op → FileHandles → Option ℕ → Demands
+sized_of e op h new_size = first_demands (op_view op) (sized_facts (sight_of e) h new_size)
+
+-- what it asks once its names are looked up
+abbrev pub second_of : {A : Type 0} → Export A → Op → FileHandles → Option ℕ → Option ℕ → Demands
+second_of e op h child replaced = second_demands (op_view op) (second_facts (sight_of e) h child replaced)

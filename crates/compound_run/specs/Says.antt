@@ -1,0 +1,42 @@
+-- What the code says of an object, as its attributes are, and what it writes of it.
+use Rattle.std.specs.Prelude.{◌≡◌, ◌≤◌, ℕ, ◌+◌, true, false, nat_le, List, length, Result, Ok, Err}
+use Rattle.xdr_wire.specs.Buffer.{Buffer, Appends}
+use Rattle.nfs_types.specs.declared.facts.ObjectFacts.{ObjectFacts}
+use Rattle.nfs_types.specs.declared.given.GivenAttributes.{GivenAttributes}
+use Rattle.nfs_types.specs.declared.status.Status.{Status}
+use Rattle.nfs_types.specs.Given.{given_set, given_values}
+use Rattle.nfs_types.specs.Views.{bitmap_value}
+use Rattle.nfs_ops.specs.declared.op_kind.OpKind.TheVariants as kinds
+use Rattle.nfs_ops.specs.Results.{Outcome, Done, most}
+use Rattle.compound_run.specs.Sight.{Sight}
+use Rattle.compound_run.specs.Values.{facts_at}
+use Rattle.compound_run.specs.Runs.{spelled}
+
+-- each of the facts is the object's, as it is seen
+pub record Says (s : Sight) (n : ℕ) (e : Status) (f : ObjectFacts) : Type 0 where
+  pub kind : f.kind ≡ (facts_at s n e).kind
+  pub number : f.number ≡ (facts_at s n e).number
+  pub change : f.change ≡ (facts_at s n e).change
+  pub size : f.size ≡ (facts_at s n e).size
+  pub error : f.error ≡ (facts_at s n e).error
+  pub entries : f.entries.now ≡ (facts_at s n e).entries.now
+  pub mode : f.mode ≡ (facts_at s n e).mode
+  pub links : f.links ≡ (facts_at s n e).links
+  pub owner : f.owner ≡ (facts_at s n e).owner
+  pub group : f.group ≡ (facts_at s n e).group
+  pub metadata : f.metadata ≡ (facts_at s n e).metadata
+  pub modify : f.modify ≡ (facts_at s n e).modify
+
+-- the values of what is given
+abbrev pub values_given : GivenAttributes → List ℕ
+values_given g = given_values g.book.now g.facts.now (bitmap_value g.asked)
+
+-- the result of a GETATTR that gives it
+abbrev pub given_outcome : GivenAttributes → Outcome
+given_outcome g = Done kinds.GetAttr (given_set (bitmap_value g.asked), values_given g)
+
+-- A result is written where it has at most so many bytes, and else nothing is.
+abbrev pub PutsWithin : {E : Type 0} → ℕ → Outcome → Buffer → Result (Unit {0}) E → Buffer → Type 0
+PutsWithin room o before (Ok done) after =
+    Appends before after (spelled o) × (nat_le (most o) room ≡ true) × (length after.bytes ≤ length before.bytes + room)
+PutsWithin room o before (Err full) after = (nat_le (most o) room ≡ false) × (after ≡ before)

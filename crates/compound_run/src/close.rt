@@ -1,0 +1,56 @@
+//! CLOSE (RFC 8881, section 18.2).
+ghost use Rattle.nfs_ops.specs.Views.{close_args_value};
+ghost use Rattle.compound_run.specs.Close.{close};
+ghost use Rattle.compound_run.specs.Stateids.{without_open};
+ghost use Rattle.compound_run.specs.Views.{Gives, HasRoom, opens_view};
+ghost use Rattle.std.specs.Prelude.{◌≡◌, ◌==◌, not, filter};
+
+use crate::context::Context;
+use crate::export::Export;
+use crate::filehandles::FileHandles;
+use crate::opens::Open;
+use crate::results::put_result;
+use crate::stateids::Purpose;
+use nfs_ops::{CloseArgs, CloseResult, OpResult};
+use nfs_types::{StateId, Status};
+use std::alloc::Allocator;
+use xdr_wire::Writer;
+
+/// Keeps the opens of other numbers.
+fn keep_others<A: Allocator>(opens: &mut Vec<Open<A>, A>, number: u64)
+    ensures { opens.new.items ≡ filter (λ o. not (o.number == number)) opens.old.items }
+{
+    opens.retain(|open| open.number != number);
+}
+
+/// Takes the open of a number away.
+fn remove_open<A: Allocator>(opens: &mut Vec<Open<A>, A>, number: u64)
+    ensures { opens_view opens.new.items ≡ without_open number (opens_view opens.old.items) }
+{
+    keep_others(opens, number);
+}
+
+impl<A: Allocator + Copy> Export<A> {
+    /// An open of the current file ends. It takes no memory.
+    pub fn close(
+        &mut self,
+        context: Context<'_>,
+        handles: FileHandles,
+        args: &CloseArgs,
+        out: &mut Writer<A>,
+    ) -> Result<(), Status>
+        requires room { HasRoom context out.old }
+        ensures { Gives context.entry (close (close_args_value args.now)) self.old handles out.old result self.new handles out.new }
+    {
+        let number = handles.current.ok_or(Status::NoFileHandle)?;
+        if self.tree.object(number).is_none() {
+            return Err(Status::Stale);
+        }
+        self.check_stateid(context, number, &args.stateid, Purpose::ToClose)?;
+        let opened = args.stateid.open_number().unwrap_or(0);
+        remove_open(&mut self.opens, opened);
+        let stateid = StateId::closed();
+        put_result(OpResult::Close(CloseResult { stateid }), out);
+        Ok(())
+    }
+}

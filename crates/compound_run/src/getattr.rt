@@ -1,0 +1,86 @@
+//! GETATTR (RFC 8881, section 18.7).
+ghost use Rattle.std.specs.Prelude.{◌≡◌, ◌≤◌, [], IsSome};
+ghost use Rattle.nfs_types.specs.Views.{bitmap_value};
+ghost use Rattle.nfs_ops.specs.OpViews.{op_view};
+ghost use Rattle.nfs_ops.specs.Operations.{Known};
+ghost use Rattle.nfs_ops.specs.Results.{Done};
+ghost use Rattle.nfs_ops.specs.declared.op_kind.OpKind.TheVariants as kinds;
+ghost use Rattle.node_tree.specs.World.{object};
+ghost use Rattle.compound_run.specs.Asking.{sight_of};
+ghost use Rattle.compound_run.specs.Getattr.{getattr, told};
+ghost use Rattle.compound_run.specs.Says.{PutsWithin, given_outcome};
+ghost use Rattle.compound_run.specs.Views.{context_of, Gives, HasRoom};
+
+use crate::context::Context;
+use crate::export::Export;
+use crate::filehandles::FileHandles;
+use nfs_ops::{Op, sizes_of_carried_bytes_are_exact, write_getattr};
+use nfs_types::{Bitmap, GivenAttributes, Status};
+use std::alloc::Allocator;
+use xdr_wire::{Full, Writer};
+
+/// Writes the result of a GETATTR, of at most so many bytes; else nothing.
+#[tactic(auto, unfolding(crate::specs::Runs::spelled))]
+fn put_attributes<A: Allocator>(
+    given: GivenAttributes<'_>,
+    room: usize,
+    out: &mut Writer<A>,
+) -> Result<(), Full>
+    requires { room ≤ out.old.room }
+    ensures { PutsWithin room (given_outcome given.entry) out.old result out.new }
+{
+    sizes_of_carried_bytes_are_exact();
+    write_getattr(given, room, out)
+}
+
+impl<A: Allocator + Copy> Export<A> {
+    /// Writes attributes of an object, in the room of the operation; else nothing.
+    fn put_told(
+        &self,
+        context: Context<'_>,
+        number: u64,
+        asked: Bitmap,
+        out: &mut Writer<A>,
+    ) -> Result<(), Full>
+        requires there { IsSome (object self.now.tree.world number) }
+        requires room { HasRoom context out.old }
+        ensures { PutsWithin context.entry.room (Done kinds.GetAttr (told (context_of context.entry) number (bitmap_value asked) (sight_of self.now))) out.old result out.new }
+    {
+        let Some(facts) = self.facts(number, Status::Ok) else {
+            unreachable!();
+        };
+        let given = GivenAttributes {
+            book: context.book,
+            facts: &facts,
+            asked,
+        };
+        put_attributes(given, context.room, out)
+    }
+
+    /// Attributes of the current object.
+    pub fn getattr(
+        &mut self,
+        context: Context<'_>,
+        handles: FileHandles,
+        op: &Op<'_>,
+        asked: Bitmap,
+        out: &mut Writer<A>,
+    ) -> Result<(), Status>
+        requires op { op_view op.now ≡ Known kinds.GetAttr (bitmap_value asked) }
+        requires settled { self.old.tree.log.held ≡ [] }
+        requires room { HasRoom context out.old }
+        ensures { Gives context.entry (getattr (bitmap_value asked)) self.old handles out.old result self.new handles out.new }
+    {
+        let number = handles.current.ok_or(Status::NoFileHandle)?;
+        if self.tree.object(number).is_none() {
+            return Err(Status::Stale);
+        }
+        if !self.grants_first(op, handles, context.caller) {
+            return Err(Status::Access);
+        }
+        match self.put_told(context, number, asked, out) {
+            Ok(()) => Ok(()),
+            Err(Full) => Err(context.too_big()),
+        }
+    }
+}

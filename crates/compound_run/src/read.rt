@@ -1,0 +1,97 @@
+//! READ (RFC 8881, section 18.22).
+ghost use Rattle.std.specs.Prelude.{◌≡◌, ◌+◌, ◌≤◌, [], length};
+ghost use Rattle.xdr_wire.specs.Buffer.{Appends};
+ghost use Rattle.nfs_ops.specs.OpViews.{op_view};
+ghost use Rattle.nfs_ops.specs.Operations.{Known};
+ghost use Rattle.nfs_ops.specs.Results.{Done};
+ghost use Rattle.nfs_ops.specs.Views.{read_args_value};
+ghost use Rattle.nfs_ops.specs.declared.op_kind.OpKind.TheVariants as kinds;
+ghost use Rattle.compound_run.specs.Asking.{sight_of};
+ghost use Rattle.compound_run.specs.Read as specs;
+ghost use Rattle.compound_run.specs.Read.{read, gives};
+ghost use Rattle.compound_run.specs.Runs.{spelled};
+ghost use Rattle.compound_run.specs.Views.{context_of, Gives, HasRoom};
+
+use crate::context::Context;
+use crate::export::Export;
+use crate::filehandles::FileHandles;
+use crate::stateids::Purpose;
+use access_guard::GuardedTree;
+use nfs_ops::{MAX_READ, Op, ReadArgs, write_read};
+use nfs_types::Status;
+use node_tree::Kind;
+use std::alloc::Allocator;
+use xdr_wire::{Source, Writer};
+
+/// Bytes of a file from an offset, which are copied from the tree.
+#[derive(Drop)]
+struct Data<'t, A: Allocator + Copy> {
+    tree: &'t GuardedTree<A>,
+    file: u64,
+    offset: u64,
+}
+
+impl<A: Allocator + Copy> Source for Data<'_, A> {
+    ghost use Rattle.node_tree.specs.World.{bytes_at};
+
+    ghost gives = { λ s n. bytes_at s.tree.now.world s.file s.offset n };
+
+    fn copy(self, space: &mut [u8]) -> usize {
+        self.tree.read(self.file, self.offset, space)
+    }
+}
+
+/// How many bytes are given at most, of so many that are asked, in so much room.
+fn most_of(count: u32, room: usize) -> usize
+    requires { 16 ≤ room }
+    ensures { result ≡ specs.most_of count room }
+{
+    let fits = (room - 16) / 4 * 4;
+    fits.min(count.min(MAX_READ) as usize)
+}
+
+impl<A: Allocator + Copy> Export<A> {
+    /// Writes the bytes of a file, in the room of the operation, straight from the tree.
+    fn put_data(&self, context: Context<'_>, file: u64, args: &ReadArgs, out: &mut Writer<A>)
+        requires room { HasRoom context out.old }
+        ensures written { Appends out.old out.new (spelled (Done kinds.Read (gives (context_of context.entry) (read_args_value args.now) file (sight_of self.now)))) }
+        ensures within { length out.new.bytes ≤ length out.old.bytes + context.entry.room }
+    {
+        let most = most_of(args.count, context.room);
+        let left = self.size(file).saturating_sub(args.offset);
+        let data = Data {
+            tree: &self.tree,
+            file,
+            offset: args.offset,
+        };
+        write_read(left <= most as u64, most, data, out);
+    }
+
+    /// Bytes of the current file.
+    pub fn read(
+        &mut self,
+        context: Context<'_>,
+        handles: FileHandles,
+        op: &Op<'_>,
+        args: &ReadArgs,
+        out: &mut Writer<A>,
+    ) -> Result<(), Status>
+        requires op { op_view op.now ≡ Known kinds.Read (read_args_value args.now) }
+        requires settled { self.old.tree.log.held ≡ [] }
+        requires room { HasRoom context out.old }
+        ensures { Gives context.entry (read (read_args_value args.now)) self.old handles out.old result self.new handles out.new }
+    {
+        let number = handles.current.ok_or(Status::NoFileHandle)?;
+        match self.tree.object(number).ok_or(Status::Stale)?.kind() {
+            Kind::Directory => return Err(Status::IsDir),
+            Kind::Link => return Err(Status::Symlink),
+            Kind::File => {}
+        }
+        self.check_stateid(context, number, &args.stateid, Purpose::ToRead)?;
+        if !self.grants_first(op, handles, context.caller) {
+            return Err(Status::Access);
+        }
+        self.put_data(context, number, args, out);
+        Ok(())
+    }
+}

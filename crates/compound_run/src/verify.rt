@@ -1,0 +1,118 @@
+//! VERIFY (RFC 8881, section 18.31), and what NVERIFY has in common with it.
+ghost use Rattle.std.specs.Prelude.{◌≡◌, [], nat_eq, Some, None, Err, IsSome, MatchResult};
+ghost use Rattle.std.specs.Cmp.Lexicographic.{pointwise};
+ghost use Rattle.nfs_types.specs.Given.{given_values};
+ghost use Rattle.nfs_types.specs.Views.{attributes_value, bitmap_value};
+ghost use Rattle.nfs_ops.specs.OpViews.{op_view};
+ghost use Rattle.nfs_ops.specs.Operations.{Known};
+ghost use Rattle.nfs_ops.specs.declared.op_kind.OpKind.TheVariants as kinds;
+ghost use Rattle.node_tree.specs.World.{object};
+ghost use Rattle.compound_run.specs.Asking.{sight_of};
+ghost use Rattle.compound_run.specs.Verify.{verify, is_same, set_fault};
+ghost use Rattle.compound_run.specs.Says.{values_given};
+ghost use Rattle.compound_run.specs.Views.{context_of, GivesOrDelays, HasRoom};
+ghost use Rattle.std.specs.Prelude.{IfOk};
+
+use crate::context::Context;
+use crate::export::Export;
+use crate::filehandles::FileHandles;
+use crate::results::put_result;
+use nfs_ops::{Op, OpResult, sizes_of_carried_bytes_are_exact};
+use nfs_types::{Attributes, Bitmap, GivenAttributes, Status};
+use std::alloc::{AllocError, Allocator};
+use xdr_wire::{Reader, Spell, Wire, Writer};
+
+/// The number of the attribute rdattr_error.
+const RDATTR_ERROR: u32 = 11;
+
+/// More than a bitmap of supported attributes and the length of their values take.
+const MOST_BEFORE: usize = 32;
+
+/// An attribute that isn't supported can't be compared, nor rdattr_error.
+pub(crate) fn check_set(set: &Bitmap) -> Result<(), Status>
+    ensures { MatchResult result (λ done. set_fault (bitmap_value set.now) ≡ None) (λ status. set_fault (bitmap_value set.now) ≡ Some status) }
+{
+    if !set.is_within(&Bitmap::supported()) {
+        return Err(Status::AttrNotSupp);
+    }
+    if set.has(RDATTR_ERROR) {
+        return Err(Status::Inval);
+    }
+    Ok(())
+}
+
+/// Whether the values that are given are these bytes. `Err`: there is no memory to spell them.
+fn is_given<A: Allocator + Copy>(
+    alloc: A,
+    given: GivenAttributes<'_>,
+    sent: &[u8],
+) -> Result<bool, AllocError>
+    ensures { IfOk result (λ same. same ≡ pointwise nat_eq (values_given given.entry) sent.now) }
+{
+    sizes_of_carried_bytes_are_exact();
+    let mut buffer = Writer::new(alloc, sent.len() + MOST_BEFORE)?;
+    if given.write(&mut buffer).is_err() {
+        return Ok(false);
+    }
+    let mut reader = Reader::new(buffer.bytes());
+    let Ok(spelled) = Attributes::read(&mut reader) else {
+        unreachable!();
+    };
+    Ok(spelled.values.bytes == sent)
+}
+
+impl<A: Allocator + Copy> Export<A> {
+    /// Whether attributes of an object are as they are sent. `Delay`: there is no memory to compare them.
+    pub fn is_same(
+        &self,
+        context: Context<'_>,
+        number: u64,
+        sent: &Attributes<'_>,
+    ) -> Result<bool, Status>
+        requires there { IsSome (object self.now.tree.world number) }
+        ensures same { IfOk result (λ same. same ≡ is_same (context_of context.entry) number (attributes_value sent.now) (sight_of self.now)) }
+        ensures delay { MatchResult result (λ same. Unit {0}) (λ status. status ≡ Status.Delay) }
+    {
+        let Some(facts) = self.facts(number, Status::Ok) else {
+            unreachable!();
+        };
+        let given = GivenAttributes {
+            book: context.book,
+            facts: &facts,
+            asked: sent.set,
+        };
+        match is_given(self.alloc, given, sent.values.bytes) {
+            Ok(same) => Ok(same),
+            Err(AllocError) => Err(Status::Delay),
+        }
+    }
+
+    /// It is OK where attributes of the current object are as they are sent. `Delay`: there is no memory to compare them.
+    pub fn verify(
+        &mut self,
+        context: Context<'_>,
+        handles: FileHandles,
+        op: &Op<'_>,
+        sent: &Attributes<'_>,
+        out: &mut Writer<A>,
+    ) -> Result<(), Status>
+        requires op { op_view op.now ≡ Known kinds.Verify (attributes_value sent.now) }
+        requires settled { self.old.tree.log.held ≡ [] }
+        requires room { HasRoom context out.old }
+        ensures { GivesOrDelays context.entry (verify (attributes_value sent.now)) self.old handles out.old result self.new handles out.new }
+    {
+        let number = handles.current.ok_or(Status::NoFileHandle)?;
+        if self.tree.object(number).is_none() {
+            return Err(Status::Stale);
+        }
+        check_set(&sent.set)?;
+        if !self.grants_first(op, handles, context.caller) {
+            return Err(Status::Access);
+        }
+        if !self.is_same(context, number, sent)? {
+            return Err(Status::NotSame);
+        }
+        put_result(OpResult::Verify, out);
+        Ok(())
+    }
+}
