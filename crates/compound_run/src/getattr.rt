@@ -30,13 +30,7 @@ fn put_attributes<A: Allocator>(
     ensures { PutsWithin room (given_outcome given.entry) out.old result out.new }
 {
     sizes_of_carried_bytes_are_exact();
-    let start = out.len();
-    write_getattr(given, out)?;
-    if out.len() - start > room {
-        out.truncate(start);
-        return Err(Full);
-    }
-    Ok(())
+    write_getattr(given, room, out)
 }
 
 impl<A: Allocator + Copy> Export<A> {

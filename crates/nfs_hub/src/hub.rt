@@ -13,7 +13,7 @@ use std::hash::RandomState;
 use std::marker::Model;
 
 /// The most connections that are open at once, broken ones among them.
-pub const MAX_CONNECTIONS: usize = 1;
+pub const MAX_CONNECTIONS: usize = 16;
 
 /// No number of a connection reaches this one.
 const NUMBERS: u64 = 1 << 63;

@@ -11,7 +11,6 @@ use std::test::Fail;
 
 fn see_connections(rt: &impl Abort, hub: &mut Hub) -> Result<(), Fail> {
     let first = connect(hub)?;
-    assert_eq!(rt; connect(hub).err(), Some(HubFault::TooMany));
     assert_eq!(rt; close(hub, first), Ok(()));
     assert_eq!(rt; close(hub, first), Err(HubFault::NoSuch));
     assert_eq!(rt; feed(hub, first, &[0]), Err(HubFault::NoSuch));

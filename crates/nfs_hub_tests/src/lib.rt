@@ -6,6 +6,8 @@ mod calls;
 #[cfg(test)]
 mod connections;
 #[cfg(test)]
+mod interleaving;
+#[cfg(test)]
 mod plain;
 #[cfg(test)]
 mod serving;

@@ -2,7 +2,7 @@
 
 use crate::plain::{bare, changed_at, connect, serve_all, serve_by};
 use crate::words::{ACCESS_NOTES, ACCESS_NOTES_REPLY, CREATE_D, CREATE_E, NULL, bytes_of};
-use nfs_hub::{Clock, HubFault, ServeEnd};
+use nfs_hub::{Clock, Hub, HubFault, MAX_CONNECTIONS, ServeEnd};
 use nfs_types::Moment;
 use std::alloc::Global;
 use std::cell::Cell;
@@ -212,7 +212,15 @@ fn an_endless_reader_uses_up_the_turns(rt: HostRuntime) -> Result<(), Fail> {
     Ok(())
 }
 
-/// How serving a stream ends, and serving it again while a connection is open; and how many bytes are written in all.
+/// Opens as many connections as may be.
+fn fill(hub: &mut Hub) -> Result<(), HubFault> {
+    for _ in 0..MAX_CONNECTIONS {
+        connect(hub)?;
+    }
+    Ok(())
+}
+
+/// How serving a stream ends, and serving it again while as many connections are open as may be; and how many bytes are written in all.
 fn served_twice(
     alloc: Global,
     hasher: RandomState,
@@ -222,7 +230,7 @@ fn served_twice(
     let mut written = Vec::new(alloc);
     let mut reader = stream;
     let first = serve_all(&mut hub, &mut reader, &mut written, 10);
-    let is_open = connect(&mut hub).is_ok();
+    let is_open = fill(&mut hub).is_ok();
     let mut reader = stream;
     let second = serve_all(&mut hub, &mut reader, &mut written, 10);
     Ok((first, is_open, second, written.len()))

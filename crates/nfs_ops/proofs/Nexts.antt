@@ -1,5 +1,5 @@
 -- An operation is read exactly where a spelling of it stands at the front.
-use Rattle.std.proofs.Common.{◌≡◌, ℕ, true, List, ◌++◌, Option, Some, None, Ok, refl, sym, ap, ◌∙◌}
+use Rattle.std.proofs.Common.{◌≡◌, ℕ, true, List, ◌++◌, None, Ok, sym, ap, ◌∙◌}
 use Rattle.xdr_wire.specs.Xdr.{Xdr, Value, uint, pair}
 use Rattle.xdr_wire.specs.Reading.{read_at}
 use Rattle.xdr_wire.specs.Wire.{normalized, in_normal_form}
@@ -7,7 +7,7 @@ use Rattle.xdr_wire.proofs.Spelling.{begins_from_read, read_from_begins, again, 
 use Rattle.xdr_wire.proofs.Normal.{to_normal, both_is}
 use Rattle.xdr_wire.proofs.Steps.{bind_ok, ok_is}
 use Rattle.nfs_ops.specs.Items.{Item, Spelled, numbered, Stands, ItemHasSpelling, ItemIsNormal, item_spelling}
-use Rattle.nfs_ops.specs.Rows.{row, kind_at}
+use Rattle.nfs_ops.specs.Rows.{row}
 use Rattle.nfs_ops.specs.Operations.{Operation, Known, Unsupported, Illegal, Bad, op_item, is_built, supported, arguments_of, arguments_from, arguments_at, or_bad, next_at, next_from}
 use Rattle.nfs_ops.specs.declared.op_kind.OpKind.{OpKind}
 use Rattle.nfs_ops.proofs.Numbers.{kind_is}

@@ -2,7 +2,7 @@
 use Rattle.std.proofs.Common.{◌≡◌, ◌≢◌, ℕ, Bool, true, false, cond, List, ◌++◌, Option, Some, None, Ok, refl, sym, ap, subst, ◌∙◌, inl, inr, eq-eqb}
 use Rattle.std.proofs.lemmas.Bool.{ne_eqb, cases_eq}
 use Rattle.std.specs.Prelude.{◌==◌, nat_lt}
-use Rattle.xdr_wire.specs.Xdr.{Xdr, Value, uint, pair}
+use Rattle.xdr_wire.specs.Xdr.{Value, uint, pair}
 use Rattle.xdr_wire.specs.Reading.{◌>>=◌, Read as ReadOf, read_at}
 use Rattle.xdr_wire.specs.Wire.{normalized, in_normal_form, both}
 use Rattle.xdr_wire.proofs.Spelling.{begins_from_read}

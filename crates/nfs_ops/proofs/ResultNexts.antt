@@ -1,14 +1,14 @@
 -- A result that stands at the front is read.
-use Rattle.std.proofs.Common.{◌≡◌, ℕ, List, ◌++◌, Option, Some, None, Ok, refl, sym, ap, ◌∙◌}
+use Rattle.std.proofs.Common.{◌≡◌, ℕ, List, ◌++◌, Some, None, Ok, refl, sym, ap, ◌∙◌}
 use Rattle.std.proofs.lemmas.Bool.{ne_eqb}
-use Rattle.xdr_wire.specs.Xdr.{Xdr, Value, uint, pair}
+use Rattle.xdr_wire.specs.Xdr.{Value, uint, pair}
 use Rattle.xdr_wire.specs.Reading.{◌>>=◌, Read as ReadOf, read_at}
 use Rattle.xdr_wire.specs.Wire.{normalized, in_normal_form, both}
 use Rattle.xdr_wire.proofs.Spelling.{begins_from_read, read_from_begins, again, spelled}
 use Rattle.xdr_wire.proofs.Normal.{to_normal, both_is}
 use Rattle.nfs_types.specs.Forms.{bitmap, trimmed}
 use Rattle.nfs_ops.specs.Items.{Item, Spelled, done, plain, Stands, ItemHasSpelling, ItemIsNormal, item_spelling}
-use Rattle.nfs_ops.specs.Rows.{row, kind_at}
+use Rattle.nfs_ops.specs.Rows.{row}
 use Rattle.nfs_ops.specs.Results.{Outcome, Done, Refused, SetAttrRefused, outcome_item}
 use Rattle.nfs_ops.specs.ResultReading.{refused_at, behind_status, result_at, done_at, done_of, done_from}
 use Rattle.nfs_ops.specs.Readable.{IsResult}

@@ -40,6 +40,10 @@ padded_is v = length-append v (replicate (padding (length v)) 0) ∙ ap (λ (n :
 rounded : (n words : ℕ) → n ≤ 4 * words → with_padding n ≤ 4 * words
 rounded n words short = omega (arith, short)
 
+-- more bytes take no less
+pub rises : (few many : ℕ) → few ≤ many → with_padding few ≤ with_padding many
+rises few many le = omega (arith, le)
+
 opaque_is : (max : ℕ) (v : List ℕ) → length (spelling (opaque max) v) ≡ 4 + with_padding (length v)
 opaque_is max v = omega (arith, padded_is v)
 
@@ -65,10 +69,10 @@ attributes_is v = omega (arith, two bitmap bytes v, bitmap_is v.0, opaque_is 0xf
 channel_short : (v : Value channel) → length v.1.1.1.1.1.1 ≤ 1 → length (spelling channel v) ≤ 32
 channel_short v few = omega (arith, length_words v.1.1.1.1.1.1, few)
 
-entry_is : (e : Value entry) → length (link (spelling entry) e) ≡ size_of_entry e
+pub entry_is : (e : Value entry) → length (link (spelling entry) e) ≡ size_of_entry e
 entry_is e = omega (arith, two bytes attributes e.1, opaque_is 0xffff_ffff e.1.0, attributes_is e.1.1)
 
-entries_are : (es : List (Value entry)) → length (flat_map (link (spelling entry)) es) ≡ sum_by size_of_entry es
+pub entries_are : (es : List (Value entry)) → length (flat_map (link (spelling entry)) es) ≡ sum_by size_of_entry es
 entries_are [] = refl
 entries_are (e ∷ es) = omega (arith, length-append (link (spelling entry) e) (flat_map (link (spelling entry)) es), entry_is e, entries_are es, sum_by-cons size_of_entry e es)
 

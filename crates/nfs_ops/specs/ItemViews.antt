@@ -3,13 +3,17 @@ use Rattle.std.specs.Prelude.{None}
 use Rattle.std.proofs.Common.{inl, inr}
 use Rattle.xdr_wire.specs.Xdr.{Value, uint}
 use Rattle.xdr_wire.specs.Wire.{array_values}
-use Rattle.nfs_types.specs.Views.{attributes_value}
+use Rattle.nfs_types.specs.Forms.{attributes}
+use Rattle.nfs_types.specs.Given.{given_set, given_values}
+use Rattle.nfs_types.specs.Views.{bitmap_value, attributes_value}
+use Rattle.nfs_types.specs.declared.given.GivenAttributes.{GivenAttributes}
 use Rattle.nfs_ops.specs.Forms.{authsys, gss_handles, callback_security, entry}
 use Rattle.nfs_ops.specs.declared.callback_security.AuthSys.{AuthSys}
 use Rattle.nfs_ops.specs.declared.callback_security.GssHandles.{GssHandles}
 use Rattle.nfs_ops.specs.declared.callback_security.CallbackSecurity.{CallbackSecurity}
 use Rattle.nfs_ops.specs.declared.callback_security.CallbackSecurity.TheVariants as credentials
 use Rattle.nfs_ops.specs.declared.readdir.Entry.{Entry}
+use Rattle.nfs_ops.specs.declared.readdir.GivenEntry.{GivenEntry}
 
 abbrev pub authsys_value : AuthSys → Value authsys
 authsys_value s = (s.stamp, (s.machine.bytes.now, (s.uid, (s.gid, array_values uint None s.gids.count s.gids.bytes.now))))
@@ -24,3 +28,10 @@ callback_security_value (credentials.Gss gss) = inr (inr (inl (gss_handles_value
 
 abbrev pub entry_value : Entry → Value entry
 entry_value e = (e.cookie, (e.name.bytes.now, attributes_value e.attributes))
+
+-- the attributes that are given of an object
+abbrev pub given_value : GivenAttributes → Value attributes
+given_value g = (given_set (bitmap_value g.asked), given_values g.book.now g.facts.now (bitmap_value g.asked))
+
+abbrev pub given_entry_value : GivenEntry → Value entry
+given_entry_value e = (e.cookie, (e.name.bytes.now, given_value e.attributes))

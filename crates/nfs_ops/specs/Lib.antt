@@ -12,4 +12,6 @@ pub mod ResultReading
 pub mod Results
 pub mod ResultViews
 pub mod Readable
+pub mod Listing
 pub mod Given
+pub mod ListingSteps

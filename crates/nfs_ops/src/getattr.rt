@@ -1,9 +1,7 @@
-ghost use Rattle.std.specs.Prelude.{OnOk};
-ghost use Rattle.xdr_wire.specs.Buffer.{Puts};
-ghost use Rattle.nfs_types.specs.Given.{given_set, given_values};
-ghost use Rattle.nfs_types.specs.Views.{bitmap_value};
-ghost use Rattle.nfs_ops.specs.Given.{getattr_outcome};
-ghost use Rattle.nfs_ops.specs.Items.{ItemHasSpelling, ItemIsNormal, item_spelling};
+ghost use Rattle.std.specs.Prelude.{◌≤◌, OnOk};
+ghost use Rattle.nfs_ops.specs.Given.{PutsWithin, getattr_outcome};
+ghost use Rattle.nfs_ops.specs.ItemViews.{given_value};
+ghost use Rattle.nfs_ops.specs.Items.{ItemHasSpelling, ItemIsNormal};
 ghost use Rattle.nfs_ops.specs.Results.{outcome_item};
 
 use nfs_types::{Attributes, Bitmap, GivenAttributes};
@@ -75,15 +73,23 @@ impl<'a> Wire<'a> for GetAttrResult<'a> {
     }
 }
 
-/// Writes the result of a GETATTR that is OK, each value once, straight to where the reply is taken from. `Full` exactly where the
-/// room is less than that takes; then nothing is written.
+/// Writes the result of a GETATTR that is OK, each value once, straight to where the reply is taken from. `Full` exactly where it takes
+/// more than `room` bytes; then nothing is written.
 pub fn write_getattr<A: Allocator>(
     given: GivenAttributes<'_>,
+    room: usize,
     writer: &mut Writer<A>,
 ) -> Result<(), Full>
-    ensures has_spelling { OnOk result (ItemHasSpelling (outcome_item (getattr_outcome (given_set (bitmap_value given.entry.asked), given_values given.entry.book.now given.entry.facts.now (bitmap_value given.entry.asked))))) }
-    ensures in_normal_form { OnOk result (ItemIsNormal (outcome_item (getattr_outcome (given_set (bitmap_value given.entry.asked), given_values given.entry.book.now given.entry.facts.now (bitmap_value given.entry.asked))))) }
-    ensures puts { Puts writer.old writer.new (item_spelling (outcome_item (getattr_outcome (given_set (bitmap_value given.entry.asked), given_values given.entry.book.now given.entry.facts.now (bitmap_value given.entry.asked))))) result }
+    requires { room ≤ writer.old.room }
+    ensures has_spelling { OnOk result (ItemHasSpelling (outcome_item (getattr_outcome (given_value given.entry)))) }
+    ensures in_normal_form { OnOk result (ItemIsNormal (outcome_item (getattr_outcome (given_value given.entry)))) }
+    ensures puts { PutsWithin room writer.old writer.new (outcome_item (getattr_outcome (given_value given.entry))) result }
 {
-    (OP_GETATTR, (0u32, given)).write(writer)
+    let start = writer.len();
+    (OP_GETATTR, (0u32, given)).write(writer)?;
+    if writer.len() - start > room {
+        writer.truncate(start);
+        return Err(Full);
+    }
+    Ok(())
 }

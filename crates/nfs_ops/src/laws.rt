@@ -5,6 +5,7 @@ ghost use Rattle.nfs_ops.specs.Results.{Outcome, outcome_item, most, carries_byt
 ghost use Rattle.nfs_ops.specs.ResultReading.{result_at};
 ghost use Rattle.nfs_ops.specs.Readable.{IsResult};
 ghost use Rattle.nfs_ops.specs.Operations.{Operation, op_item, is_built, next_at};
+ghost use Rattle.nfs_ops.specs.Listing.{Judged, IsListing, listing};
 
 /// An operation is read exactly where a spelling of it stands at the front, whatever is behind it.
 pub fn reading_is_spelling()
@@ -60,4 +61,9 @@ pub fn changes_are_short()
 /// A refusal has at most 12 bytes: its number, its status, and of SETATTR the count of a bitmap without words.
 pub fn refusals_are_short()
     ensures { (o : Outcome) → is_refusal o ≡ true → most o ≤ setattr_refused_size }
+{}
+
+/// What a READDIR gives is the longest beginning of the entries that fits, unless an entry that is judged is refused, or nothing fits.
+pub fn a_listing_is_the_longest<R>()
+    ensures { (limit : ℕ) (all : List (Judged R)) → IsListing limit all (listing limit all) }
 {}

@@ -1,4 +1,4 @@
-ghost use Rattle.std.specs.Prelude.{◌≤◌, ◌++◌, length};
+ghost use Rattle.std.specs.Prelude.{◌≤◌, ◌+◌, ◌++◌, length};
 ghost use Rattle.std.specs.Int.{w32, to_be_bytes};
 ghost use Rattle.xdr_wire.specs.Xdr.{number_of_bool};
 ghost use Rattle.xdr_wire.specs.Buffer.{Appends};
@@ -110,6 +110,7 @@ pub fn write_read<S: Source, A: Allocator>(
     ensures has_spelling { ItemHasSpelling (outcome_item (read_outcome eof (S.gives source most))) }
     ensures in_normal_form { ItemIsNormal (outcome_item (read_outcome eof (S.gives source most))) }
     ensures written { Appends writer.old writer.new (item_spelling (outcome_item (read_outcome eof (S.gives source most)))) }
+    ensures within { length writer.new.bytes ≤ length writer.old.bytes + read_size most }
 {
     put_head(eof, writer);
     writer.put_opaque_by(most, source);

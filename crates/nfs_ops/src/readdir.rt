@@ -1,6 +1,6 @@
 use crate::always::Zeros;
 use crate::bytes::Bytes;
-use nfs_types::{Attributes, Bitmap};
+use nfs_types::{Attributes, Bitmap, GivenAttributes};
 use std::alloc::Allocator;
 use xdr_wire::{Chain, Full, Reader, Spell, Wire, Writer, XdrFault};
 
@@ -87,6 +87,32 @@ impl<'a> Wire<'a> for Entry<'a> {
             name,
             attributes,
         })
+    }
+}
+
+/// An entry that is written, with the attributes that are given of its object (RFC 8881, section 18.23, `entry4`).
+#[derive(Clone, Copy)]
+pub struct GivenEntry<'a> {
+    /// Rising from entry to entry.
+    pub cookie: u64,
+    pub name: Bytes<'a>,
+    /// The attributes asked, those of them that may be given.
+    pub attributes: GivenAttributes<'a>,
+}
+
+impl<'a> Spell for GivenEntry<'a> {
+    ghost use Rattle.std.specs.Prelude.{Some};
+    ghost use Rattle.nfs_ops.specs.Forms.{entry, entry_normal};
+    ghost use Rattle.nfs_ops.specs.ItemViews.{given_entry_value};
+
+    ghost form = { entry };
+
+    ghost view = { given_entry_value };
+
+    ghost normal = { Some entry_normal };
+
+    fn write<A: Allocator>(self, writer: &mut Writer<A>) -> Result<(), Full> {
+        (self.cookie, (self.name, self.attributes)).write(writer)
     }
 }
 

@@ -1,19 +1,14 @@
 ghost use Rattle.std.specs.Prelude.{◌≡◌, option_map, Some};
 ghost use Rattle.xdr_wire.specs.Reading.{Gives};
 ghost use Rattle.nfs_types.specs.Status.{number_of};
-ghost use Rattle.nfs_ops.specs.ResultReading.{result_at, done_at, refused_from, refused_at, refusal_at, behind_status};
+ghost use Rattle.nfs_ops.specs.ResultReading.{result_at, done_at, done_of, refused_from, refused_at, refusal_at, behind_status};
 ghost use Rattle.nfs_ops.specs.ResultReading as specs;
 ghost use Rattle.nfs_ops.specs.ResultViews.{read_view};
 
+use crate::OP_SETATTR;
 use crate::always::Zeros;
+use crate::op_kind::OpKind;
 use crate::op_result::OpResult;
-use crate::{
-    OP_ACCESS, OP_CLOSE, OP_COMMIT, OP_CREATE, OP_CREATE_SESSION, OP_DESTROY_CLIENTID,
-    OP_DESTROY_SESSION, OP_EXCHANGE_ID, OP_GETATTR, OP_GETFH, OP_LINK, OP_LOOKUP, OP_LOOKUPP,
-    OP_NVERIFY, OP_OPEN, OP_PUTFH, OP_PUTROOTFH, OP_READ, OP_READDIR, OP_READLINK,
-    OP_RECLAIM_COMPLETE, OP_REMOVE, OP_RENAME, OP_RESTOREFH, OP_SAVEFH, OP_SEQUENCE, OP_SETATTR,
-    OP_VERIFY, OP_WRITE,
-};
 use nfs_types::{Bitmap, Status};
 use xdr_wire::{Reader, Wire, XdrFault};
 
@@ -107,45 +102,54 @@ fn refusal_of(number: u32) -> Option<Status>
     }
 }
 
-/// Reads what the operation of this number gives.
-#[tactic(auto, unfolding(crate::specs::ResultReading::done_at, crate::specs::ResultReading::done_of, crate::specs::Rows::kind_at))]
-fn read_done<'a>(number: u32, reader: &mut Reader<'a>) -> Result<OpResult<'a>, XdrFault>
-    ensures { Gives read_view reader.old reader.new result (done_at number reader.old) }
+/// Reads what an operation gives.
+fn read_done<'a>(kind: OpKind, reader: &mut Reader<'a>) -> Result<OpResult<'a>, XdrFault>
+    ensures { Gives read_view reader.old reader.new result (done_of kind reader.old) }
 {
-    match number {
-        OP_ACCESS => Ok(OpResult::Access(Wire::read(reader)?)),
-        OP_CLOSE => Ok(OpResult::Close(Wire::read(reader)?)),
-        OP_COMMIT => {
+    match kind {
+        OpKind::Access => Ok(OpResult::Access(Wire::read(reader)?)),
+        OpKind::Close => Ok(OpResult::Close(Wire::read(reader)?)),
+        OpKind::Commit => {
             let Zeros = Wire::read(reader)?;
             Ok(OpResult::Commit)
         }
-        OP_CREATE => Ok(OpResult::Create(Wire::read(reader)?)),
-        OP_GETATTR => Ok(OpResult::GetAttr(Wire::read(reader)?)),
-        OP_GETFH => Ok(OpResult::GetFh(Wire::read(reader)?)),
-        OP_LINK => Ok(OpResult::Link(Wire::read(reader)?)),
-        OP_LOOKUP => Ok(OpResult::Lookup),
-        OP_LOOKUPP => Ok(OpResult::LookupP),
-        OP_NVERIFY => Ok(OpResult::NVerify),
-        OP_OPEN => Ok(OpResult::Open(Wire::read(reader)?)),
-        OP_PUTFH => Ok(OpResult::PutFh),
-        OP_PUTROOTFH => Ok(OpResult::PutRootFh),
-        OP_READ => Ok(OpResult::Read(Wire::read(reader)?)),
-        OP_READDIR => Ok(OpResult::ReadDir(Wire::read(reader)?)),
-        OP_READLINK => Ok(OpResult::ReadLink(Wire::read(reader)?)),
-        OP_REMOVE => Ok(OpResult::Remove(Wire::read(reader)?)),
-        OP_RENAME => Ok(OpResult::Rename(Wire::read(reader)?)),
-        OP_RESTOREFH => Ok(OpResult::RestoreFh),
-        OP_SAVEFH => Ok(OpResult::SaveFh),
-        OP_SETATTR => Ok(OpResult::SetAttr(Wire::read(reader)?)),
-        OP_VERIFY => Ok(OpResult::Verify),
-        OP_WRITE => Ok(OpResult::Write(Wire::read(reader)?)),
-        OP_EXCHANGE_ID => Ok(OpResult::ExchangeId(Wire::read(reader)?)),
-        OP_CREATE_SESSION => Ok(OpResult::CreateSession(Wire::read(reader)?)),
-        OP_DESTROY_SESSION => Ok(OpResult::DestroySession),
-        OP_SEQUENCE => Ok(OpResult::Sequence(Wire::read(reader)?)),
-        OP_DESTROY_CLIENTID => Ok(OpResult::DestroyClientId),
-        OP_RECLAIM_COMPLETE => Ok(OpResult::ReclaimComplete),
-        _ => Err(XdrFault::BadChoice),
+        OpKind::Create => Ok(OpResult::Create(Wire::read(reader)?)),
+        OpKind::GetAttr => Ok(OpResult::GetAttr(Wire::read(reader)?)),
+        OpKind::GetFh => Ok(OpResult::GetFh(Wire::read(reader)?)),
+        OpKind::Link => Ok(OpResult::Link(Wire::read(reader)?)),
+        OpKind::Lookup => Ok(OpResult::Lookup),
+        OpKind::LookupP => Ok(OpResult::LookupP),
+        OpKind::NVerify => Ok(OpResult::NVerify),
+        OpKind::Open => Ok(OpResult::Open(Wire::read(reader)?)),
+        OpKind::PutFh => Ok(OpResult::PutFh),
+        OpKind::PutRootFh => Ok(OpResult::PutRootFh),
+        OpKind::Read => Ok(OpResult::Read(Wire::read(reader)?)),
+        OpKind::ReadDir => Ok(OpResult::ReadDir(Wire::read(reader)?)),
+        OpKind::ReadLink => Ok(OpResult::ReadLink(Wire::read(reader)?)),
+        OpKind::Remove => Ok(OpResult::Remove(Wire::read(reader)?)),
+        OpKind::Rename => Ok(OpResult::Rename(Wire::read(reader)?)),
+        OpKind::RestoreFh => Ok(OpResult::RestoreFh),
+        OpKind::SaveFh => Ok(OpResult::SaveFh),
+        OpKind::SetAttr => Ok(OpResult::SetAttr(Wire::read(reader)?)),
+        OpKind::Verify => Ok(OpResult::Verify),
+        OpKind::Write => Ok(OpResult::Write(Wire::read(reader)?)),
+        OpKind::ExchangeId => Ok(OpResult::ExchangeId(Wire::read(reader)?)),
+        OpKind::CreateSession => Ok(OpResult::CreateSession(Wire::read(reader)?)),
+        OpKind::DestroySession => Ok(OpResult::DestroySession),
+        OpKind::Sequence => Ok(OpResult::Sequence(Wire::read(reader)?)),
+        OpKind::DestroyClientId => Ok(OpResult::DestroyClientId),
+        OpKind::ReclaimComplete => Ok(OpResult::ReclaimComplete),
+    }
+}
+
+/// Reads what the operation of this number gives.
+#[tactic(auto, unfolding(crate::specs::ResultReading::done_at))]
+fn read_numbered<'a>(number: u32, reader: &mut Reader<'a>) -> Result<OpResult<'a>, XdrFault>
+    ensures { Gives read_view reader.old reader.new result (done_at number reader.old) }
+{
+    match OpKind::of_number(number) {
+        Some(kind) => read_done(kind, reader),
+        None => Err(XdrFault::BadChoice),
     }
 }
 
@@ -191,7 +195,7 @@ fn read_behind_status<'a>(
     ensures { Gives read_view reader.old reader.new result (behind_status number status reader.old) }
 {
     match status {
-        0 => read_done(number, reader),
+        0 => read_numbered(number, reader),
         _ => read_refused(number, status, reader),
     }
 }

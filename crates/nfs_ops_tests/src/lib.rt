@@ -1,10 +1,13 @@
 //! Tests of `nfs_ops`, from outside: operations and results by hand, and their borders.
 #![tactic(auto)]
 
+mod children;
 #[cfg(test)]
 mod given;
 #[cfg(test)]
 mod lent;
+#[cfg(test)]
+mod listings;
 #[cfg(test)]
 mod results;
 #[cfg(test)]

@@ -1,5 +1,5 @@
 use crate::given::{self, Kind};
-use crate::{lent, results, vectors};
+use crate::{lent, listings, results, vectors};
 use std::test::Fail;
 use xdr_wire::Full;
 
@@ -80,6 +80,20 @@ fn no_results(rt: HostRuntime) -> Result<(), Fail> {
             given::result_again(rt.alloc(), bytes)?.is_empty(),
             "{bytes:?}"
         );
+    }
+    Ok(())
+}
+
+/// READDIR gives as many entries as fit, is refused where one that is judged is, and else finds too little room.
+#[test]
+fn listings(rt: HostRuntime) -> Result<(), Fail> {
+    for case in listings::cases() {
+        let (written, fault) = listings::listed(rt.alloc(), case)?;
+        assert_eq!(rt; fault, listings::fault_of(case.ending), "{case:?}");
+        let want = listings::wanted(rt.alloc(), case.ending)?;
+        assert_eq!(rt; written.as_slice(), want.as_slice(), "{case:?}");
+        let again = given::result_again(rt.alloc(), written.as_slice())?;
+        assert_eq!(rt; again.as_slice(), want.as_slice(), "{case:?}");
     }
     Ok(())
 }

@@ -15,6 +15,7 @@ use Rattle.nfs_types.specs.Handles.{object_handle}
 use Rattle.nfs_types.specs.Sets.{has_number}
 use Rattle.nfs_types.specs.Status as status
 use Rattle.nfs_types.specs.MomentView.{moment_value}
+use Rattle.nfs_types.specs.Name.{MAX_NAME}
 use Rattle.nfs_types.specs.Attributes.{ace, number_of, form_of, all, supported_words}
 use Rattle.nfs_types.specs.declared.attribute.Attribute.{Attribute}
 use Rattle.nfs_types.specs.declared.attribute.Attribute.TheVariants.{SupportedAttrs, ObjectType, FhExpireType, Change, Size, LinkSupport, SymlinkSupport, NamedAttr, Fsid, UniqueHandles, LeaseTime, RdattrError, Acl, AclSupport, FileHandle, FileId, MaxFileSize, MaxName, MaxRead, MaxWrite, Mode, NumLinks, Owner, OwnerGroup, TimeMetadata, TimeModify, MountedOnFileId, SuppattrExclcreat}
@@ -49,7 +50,7 @@ value_of book o AclSupport = 15
 value_of book o FileHandle = object_handle o.number
 value_of book o FileId = o.number
 value_of book o MaxFileSize = 1048576
-value_of book o MaxName = 255
+value_of book o MaxName = MAX_NAME
 value_of book o MaxRead = 32768
 value_of book o MaxWrite = 61440
 value_of book o Mode = o.mode

@@ -5,6 +5,10 @@ use Rattle.std.specs.Str.{is_utf8}
 use Rattle.nfs_types.specs.declared.status.Status.{Status}
 use Rattle.nfs_types.specs.declared.status.Status.TheVariants.{Inval, NameTooLong, BadChar, BadName}
 
+-- the most bytes of a name (the attribute maxname)
+abbrev pub MAX_NAME : ℕ
+MAX_NAME = 255
+
 -- `/` and NUL
 abbrev pub separates : ℕ → Bool
 separates byte = (byte == 47) || (byte == 0)
@@ -20,7 +24,7 @@ is_dots (a ∷ b ∷ c ∷ bytes) = false
 abbrev pub name_fault : List ℕ → Option Status
 name_fault name =
     if length name == 0 then Some Inval
-    else if nat_lt 255 (length name) then Some NameTooLong
+    else if nat_lt MAX_NAME (length name) then Some NameTooLong
     else if not (is_utf8 name) then Some Inval
     else if list_any separates name then Some BadChar
     else if is_dots name then Some BadName

@@ -85,7 +85,7 @@ pub enum Status {
     CompleteAlready = 10054,
     /// NFS4ERR_SEQ_MISORDERED: neither the next number nor the last.
     SeqMisordered = 10063,
-    /// NFS4ERR_SEQUENCE_POS: sEQUENCE isn't the first operation.
+    /// NFS4ERR_SEQUENCE_POS: a SEQUENCE that isn't the first operation.
     SequencePos = 10064,
     /// NFS4ERR_REQ_TOO_BIG: the request is larger than the session takes.
     ReqTooBig = 10065,

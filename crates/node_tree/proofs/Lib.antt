@@ -14,3 +14,6 @@ pub mod Epoch
 pub mod Starting
 pub mod Sampling
 pub mod Below
+pub mod Placing
+pub mod Keys
+pub mod Indexing

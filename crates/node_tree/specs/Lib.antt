@@ -3,6 +3,9 @@ pub mod World
 pub mod Ways
 pub mod Changes
 pub mod Refusals
+pub mod Contents
+pub mod Blocks
+pub mod Indexes
 pub mod Judged
 pub mod Sound
 pub mod Sample

@@ -1,62 +1,26 @@
 //! Edits of the objects and of the names.
-ghost use Rattle.std.specs.Prelude.{◌≡◌, ◌+◌, ◌<◌, ◌≤◌, ◌^◌, ◌==◌, if◌then◌else◌, [], length, find, OnOk, OnErr, IsOk};
+ghost use Rattle.std.specs.Prelude.{◌≡◌, ◌+◌, ◌<◌, ◌^◌, ◌==◌, if◌then◌else◌, length, find, OnOk, OnErr, Some};
 ghost use Rattle.std.specs.Option.{option_map, option_map_or};
 ghost use Rattle.std.specs.Map.{lookup};
 ghost use Rattle.std.specs.BTreeMap.{is_at};
 ghost use Rattle.std.specs.Ordering.{nat_cmp};
-ghost use Rattle.std.specs.Vec.{vec_len, vec_capacity};
-ghost use Rattle.node_tree.specs.World.{is_named, has_name};
-ghost use Rattle.node_tree.specs.Changes.{changed, touched, retold, without, released, other_names, written, resized};
+ghost use Rattle.node_tree.specs.World.{has_name};
+ghost use Rattle.node_tree.specs.Changes.{changed, touched, retold, without, released, written, resized};
 
 use crate::at::At;
 use crate::entry::DirEntry;
 use crate::node::Node;
-use acl_list::AclList;
+use acl_list::{AclList, Kind};
 use std::alloc::{AllocError, Allocator};
 use std::collections::BTreeMap;
 
 // ---- names
-
-/// Takes a name away.
-pub fn remove_name<A: Allocator>(names: &mut Vec<DirEntry<A>, A>, directory: u64, name: &[u8])
-    ensures names { names.new.items ≡ other_names directory name.now names.old.items }
-    ensures shorter { vec_len names.new ≤ vec_len names.old }
-    ensures room { vec_capacity names.new ≡ vec_capacity names.old }
-{
-    names.retain(|entry| !entry.is_named(directory, name));
-}
-
-/// Takes two names away.
-pub fn remove_names<A: Allocator>(
-    names: &mut Vec<DirEntry<A>, A>,
-    from: u64,
-    old: &[u8],
-    to: u64,
-    new: &[u8],
-)
-    ensures names { names.new.items ≡ other_names to new.now (other_names from old.now names.old.items) }
-    ensures shorter { vec_len names.new ≤ vec_len names.old }
-    ensures room { vec_capacity names.new ≡ vec_capacity names.old }
-{
-    remove_name(names, from, old);
-    remove_name(names, to, new);
-}
 
 /// Whether an object has a name.
 pub fn has_name<A: Allocator>(names: &[DirEntry<A>], number: u64) -> bool
     ensures { result ≡ has_name names.now number }
 {
     names.iter().any(|entry| entry.child() == number)
-}
-
-/// The child of a name in a directory.
-pub fn child_of<A: Allocator>(names: &[DirEntry<A>], directory: u64, name: &[u8]) -> Option<u64>
-    ensures { result ≡ option_map (λ n. n.child) (find (is_named directory name.now) names.now) }
-{
-    names
-        .iter()
-        .find(|entry| entry.is_named(directory, name))
-        .map(|entry| entry.child())
 }
 
 /// The directory of the first name that an object has.
@@ -143,39 +107,38 @@ fn release_target<A: Allocator>(
 
 /// Writes data into a file. `Err`: there is no memory, and nothing has changed.
 #[tactic(auto, using(std::proofs::lemmas::Map::Steps::set_value_same))]
-pub fn write<A: Allocator>(
+pub fn write<A: Allocator + Copy>(
     objects: &mut BTreeMap<u64, Node<A>, A>,
+    alloc: A,
     number: u64,
     offset: usize,
     more: &[u8],
     at: At,
 ) -> Result<(), AllocError>
-    requires { offset + length more.now < 2 ^ 32 }
+    requires few { offset + length more.now < 2 ^ 32 }
+    requires file { option_map (λ o. o.kind) (lookup (is_at (nat_cmp number)) objects.old.entries) ≡ Some Kind.File }
     ensures ok { OnOk result (objects.new.entries ≡ changed number (λ o. touched at (record o { bytes = written o.bytes offset more.now })) objects.old.entries) }
     ensures err { OnErr result (objects.new.entries ≡ objects.old.entries) }
 {
     if let Some(node) = objects.get_mut(&number) {
-        node.write(offset, more, at)?;
+        node.write(alloc, offset, more, at)?;
     }
     Ok(())
 }
 
-/// Sets the size of a file. It takes memory only where the file grows. `Err`: there is none, and nothing has changed.
-#[tactic(auto, using(std::proofs::lemmas::Map::Steps::set_value_same))]
+/// Sets the size of a file. It takes no memory.
 pub fn resize<A: Allocator>(
     objects: &mut BTreeMap<u64, Node<A>, A>,
     number: u64,
     size: usize,
     at: At,
-) -> Result<(), AllocError>
-    ensures shrinks { size ≤ length (option_map_or (λ o. o.bytes) (lookup (is_at (nat_cmp number)) objects.old.entries) []) → IsOk result }
-    ensures ok { OnOk result (objects.new.entries ≡ changed number (λ o. touched at (record o { bytes = resized o.bytes size })) objects.old.entries) }
-    ensures err { OnErr result (objects.new.entries ≡ objects.old.entries) }
+)
+    requires { option_map (λ o. o.kind) (lookup (is_at (nat_cmp number)) objects.old.entries) ≡ Some Kind.File }
+    ensures { objects.new.entries ≡ changed number (λ o. touched at (record o { bytes = resized o.bytes size })) objects.old.entries }
 {
     if let Some(node) = objects.get_mut(&number) {
-        node.resize(size, at)?;
+        node.resize(size, at);
     }
-    Ok(())
 }
 
 /// Sets the list of an object.

@@ -4,12 +4,16 @@
 #![tactic(auto)]
 
 mod at;
-mod bytes;
+mod block;
+mod blocks;
+mod contents;
 mod edits;
 mod entry;
 mod fault;
 mod laws;
 mod limits;
+mod name_index;
+mod name_table;
 mod node;
 mod sample;
 mod store;

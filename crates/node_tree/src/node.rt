@@ -1,10 +1,12 @@
 //! An object with what it is judged by.
-ghost use Rattle.std.specs.Prelude.{◌≡◌, ◌+◌, ◌<◌, ◌≤◌, ◌^◌, ◌++◌, length, take, drop, OnOk, OnErr, IsOk};
+ghost use Rattle.std.specs.Prelude.{◌≡◌, ◌+◌, ◌<◌, ◌≤◌, ◌^◌, ◌++◌, length, take, drop, OnOk, OnErr, IfOk};
+ghost use Rattle.acl_list.specs.declared.entry.Kind.TheVariants as kinds;
 ghost use Rattle.acl_shape.specs.Inherited.{is_directory};
+ghost use Rattle.node_tree.specs.Sound.{most_bytes};
 ghost use Rattle.node_tree.specs.Changes.{made, touched, retold, written, resized};
 
 use crate::at::At;
-use crate::bytes::{read_at, resize, write_at};
+use crate::contents::Contents;
 use acl_list::{AclList, Kind};
 use nfs_types::Moment;
 use std::alloc::{AllocError, Allocator, Global};
@@ -30,8 +32,7 @@ pub struct NewObject<A: Allocator = Global> {
 /// An object of a tree: its attributes, and what it is judged by. [`crate::Tree::read`] gives its bytes.
 #[derive(Debug, Drop)]
 pub struct Node<A: Allocator = Global> {
-    kind: Kind,
-    bytes: Vec<u8, A>,
+    contents: Contents<A>,
     owner: u32,
     group: u32,
     list: AclList<A>,
@@ -44,12 +45,13 @@ pub struct Node<A: Allocator = Global> {
 
 impl<A: Allocator> Model for Node<A> {
     ghost use Rattle.node_tree.specs.World.{Object};
+    ghost use Rattle.node_tree.specs.Contents.{kind_held, bytes_held};
 
     ghost Value = { Object };
 
     ghost view = { λ n. record {
-      kind = n.kind;
-      bytes = n.bytes.items;
+      kind = kind_held n.contents;
+      bytes = bytes_held n.contents;
       owner = n.owner;
       group = n.group;
       list = n.list;
@@ -66,21 +68,21 @@ impl<A: Allocator> Node<A> {
     pub fn kind(&self) -> Kind
         ensures { result ≡ self.now.kind }
     {
-        self.kind
+        self.contents.kind()
     }
 
     /// Whether it is a directory.
     pub fn is_directory(&self) -> bool
         ensures { result ≡ is_directory self.now.kind }
     {
-        matches!(self.kind, Kind::Directory)
+        matches!(self.kind(), Kind::Directory)
     }
 
     /// How many bytes a file has, or the text of a link.
     pub fn size(&self) -> u64
         ensures { result ≡ length self.now.bytes }
     {
-        self.bytes.len() as u64
+        self.contents.size() as u64
     }
 
     /// The number of its owner.
@@ -144,25 +146,7 @@ impl<A: Allocator> Node<A> {
         ensures count { result ≡ length (take (length buffer.old) (drop offset self.now.bytes)) }
         ensures copied { buffer.new ≡ take (length buffer.old) (drop offset self.now.bytes) ++ drop result buffer.old }
     {
-        read_at(&self.bytes, offset, buffer)
-    }
-
-    /// An object as it is made.
-    pub(crate) fn made(new: NewObject<A>, stamp: u64, at: At) -> Self
-        ensures { result ≡ made new stamp at }
-    {
-        Node {
-            kind: new.kind,
-            bytes: new.bytes,
-            owner: new.owner,
-            group: new.group,
-            list: new.list,
-            high: new.high,
-            change: at.tick,
-            time_modify: at.moment,
-            time_metadata: at.moment,
-            stamp,
-        }
+        self.contents.read(offset, buffer)
     }
 
     /// A change of bytes, of a size or of a directory's names.
@@ -202,24 +186,49 @@ impl<A: Allocator> Node<A> {
         self.retell(at);
     }
 
-    /// Writes data at an offset, and zeros between the end and it. `Err`: there is no memory, and nothing has changed.
-    pub(crate) fn write(&mut self, offset: usize, more: &[u8], at: At) -> Result<(), AllocError>
-        requires { offset + length more.now < 2 ^ 32 }
+    /// Sets the size of a file: cuts, or adds zeros. It takes no memory.
+    pub(crate) fn resize(&mut self, size: usize, at: At)
+        requires { self.old.kind ≡ kinds.File }
+        ensures { self.new ≡ touched at (record self.old { bytes = resized self.old.bytes size }) }
+    {
+        self.contents.resize(size);
+        self.touch(at);
+    }
+}
+
+impl<A: Allocator + Copy> Node<A> {
+    /// An object as it is made. `Err`: there is no memory for the bytes of a file.
+    pub(crate) fn made(alloc: A, new: NewObject<A>, stamp: u64, at: At) -> Result<Self, AllocError>
+        requires { length new.bytes.items ≤ most_bytes new.kind }
+        ensures { IfOk result (λ node. node ≡ made new stamp at) }
+    {
+        Ok(Node {
+            contents: Contents::made(alloc, new.kind, new.bytes)?,
+            owner: new.owner,
+            group: new.group,
+            list: new.list,
+            high: new.high,
+            change: at.tick,
+            time_modify: at.moment,
+            time_metadata: at.moment,
+            stamp,
+        })
+    }
+
+    /// Writes data into a file at an offset, and zeros between the end and it. `Err`: there is no memory, and nothing has changed.
+    pub(crate) fn write(
+        &mut self,
+        alloc: A,
+        offset: usize,
+        more: &[u8],
+        at: At,
+    ) -> Result<(), AllocError>
+        requires few { offset + length more.now < 2 ^ 32 }
+        requires file { self.old.kind ≡ kinds.File }
         ensures ok { OnOk result (self.new ≡ touched at (record self.old { bytes = written self.old.bytes offset more.now })) }
         ensures err { OnErr result (self.new ≡ self.old) }
     {
-        write_at(&mut self.bytes, offset, more)?;
-        self.touch(at);
-        Ok(())
-    }
-
-    /// Sets the size: cuts, or adds zeros, which alone takes memory. `Err`: there is none, and nothing has changed.
-    pub(crate) fn resize(&mut self, size: usize, at: At) -> Result<(), AllocError>
-        ensures shrinks { size ≤ length self.old.bytes → IsOk result }
-        ensures ok { OnOk result (self.new ≡ touched at (record self.old { bytes = resized self.old.bytes size })) }
-        ensures err { OnErr result (self.new ≡ self.old) }
-    {
-        resize(&mut self.bytes, size)?;
+        self.contents.write(alloc, offset, more)?;
         self.touch(at);
         Ok(())
     }

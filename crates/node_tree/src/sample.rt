@@ -1,11 +1,10 @@
 //! The sample tree.
 ghost use Rattle.std.specs.Prelude.{◌≡◌, IfOk, [], codes};
-ghost use Rattle.node_tree.specs.Limits.{ROOT};
 ghost use Rattle.node_tree.specs.Sample.{sample, sample_object};
 
 use crate::at::from_start;
-use crate::entry::DirEntry;
 use crate::limits::ROOT;
+use crate::name_table::NameTable;
 use crate::node::{NewObject, Node};
 use crate::store::Store;
 use acl_list::{AclList, Kind};
@@ -25,7 +24,7 @@ fn file<A: Allocator + Copy>(alloc: A) -> Result<Node<A>, AllocError>
         list: set_mode(alloc, &AclList::new(alloc), Kind::File, 0o640)?,
         high: 0,
     };
-    Ok(Node::made(new, 2, from_start(2)))
+    Node::made(alloc, new, 2, from_start(2))
 }
 
 /// A directory of the sample. Its stamp and its last change are its number.
@@ -40,19 +39,17 @@ fn directory<A: Allocator + Copy>(alloc: A, number: u64, mode: u32) -> Result<No
         list: set_mode(alloc, &AclList::new(alloc), Kind::Directory, mode)?,
         high: 0,
     };
-    Ok(Node::made(new, number, from_start(number)))
+    Node::made(alloc, new, number, from_start(number))
 }
 
-/// A name in the root.
-fn entry<A: Allocator + Copy>(
-    alloc: A,
-    cookie: u64,
-    name: &[u8],
-    child: u64,
-) -> Result<DirEntry<A>, AllocError>
-    ensures { IfOk result (λ entry. entry ≡ record { cookie = cookie; directory = ROOT; name = name.now; child = child }) }
+/// The names in the root.
+fn names<A: Allocator + Copy>(alloc: A) -> Result<NameTable<A>, AllocError>
+    ensures { IfOk result (λ names. names ≡ sample.names) }
 {
-    Ok(DirEntry::new(cookie, ROOT, Vec::from_slice(alloc, name)?, child))
+    let mut names = NameTable::new(alloc);
+    names.push(alloc, 3, ROOT, b"notes", 2)?;
+    names.push(alloc, 4, ROOT, b"pub", 3)?;
+    Ok(names)
 }
 
 impl<A: Allocator + Copy> Store<A> {
@@ -64,9 +61,6 @@ impl<A: Allocator + Copy> Store<A> {
         objects.insert(ROOT, directory(alloc, ROOT, 0o755)?)?;
         objects.insert(2, file(alloc)?)?;
         objects.insert(3, directory(alloc, 3, 0o777)?)?;
-        let mut names = Vec::new(alloc);
-        names.push(entry(alloc, 3, b"notes", 2)?)?;
-        names.push(entry(alloc, 4, b"pub", 3)?)?;
-        Ok(Store::from_start(alloc, objects, names, 4, 5))
+        Ok(Store::from_start(alloc, objects, names(alloc)?, 4, 5))
     }
 }

@@ -1,22 +1,22 @@
 //! What a tree is kept in: objects in a map by number, names in one list by rising cookie. What it answers and does is right
 //! whatever they are; whether they are a tree is for [`crate::Tree`] to see to.
-ghost use Rattle.std.specs.Prelude.{◌≡◌, ◌+◌, ◌-◌, ◌<◌, ◌≤◌, ◌^◌, ◌&&◌, ◌++◌, ℕ, nat_le, nat_lt, if◌then◌else◌, slice_index, length, drop, filter, not, OnOk, OnErr, IfOk, IsOk};
+ghost use Rattle.std.specs.Prelude.{◌≡◌, ◌+◌, ◌-◌, ◌<◌, ◌≤◌, ◌^◌, ◌&&◌, ◌++◌, ℕ, nat_le, nat_lt, if◌then◌else◌, slice_index, length, drop, filter, not, None, OnOk, OnErr, IfOk, Some};
 ghost use Rattle.std.specs.Option.{option_copied};
-ghost use Rattle.node_tree.specs.World.{object, kind_of, bytes_of, bytes_at, child_named, name_after, is_named, is_directory_at, has_name, has_entries, name_count, link_count, parent_of};
+ghost use Rattle.node_tree.specs.World.{object, kind_of, bytes_at, child_named, name_after, is_named, is_directory_at, has_name, has_entries, name_count, link_count, parent_of};
 ghost use Rattle.node_tree.specs.Ways.{is_within};
 ghost use Rattle.node_tree.specs.Changes.{alone, made, changed, touched, retold, without, released, other_names, written, resized, with_new, with_link, without_name, with_move, with_bytes, with_size, with_list, with_owner};
+ghost use Rattle.node_tree.specs.Sound.{most_bytes};
 ghost use Rattle.node_tree.specs.Refusals.{add_refusal, link_refusal, has_left, has_room, has_object_room, may_link, may_name, may_add, is_below, may_replace, may_move, move_refusal, rename_refusal};
 
 use crate::at::At;
 use crate::edits;
-use crate::edits::{
-    child_of, directory_of, has_name, move_child, release, remove_name, remove_names, retell, touch,
-};
+use crate::edits::{directory_of, has_name, move_child, release, retell, touch};
 use crate::entry::DirEntry;
 use crate::fault::TreeFault;
 use crate::limits::{MAX_LINKS, MAX_NAMES, MAX_OBJECTS, ROOT};
+use crate::name_table::NameTable;
 use crate::node::{NewObject, Node};
-use acl_list::AclList;
+use acl_list::{AclList, Kind};
 use std::alloc::{AllocError, Allocator, Global};
 use std::collections::BTreeMap;
 use std::marker::Model;
@@ -29,7 +29,7 @@ const END: u64 = 1 << 63;
 pub struct Store<A: Allocator = Global> {
     alloc: A,
     objects: BTreeMap<u64, Node<A>, A>,
-    names: Vec<DirEntry<A>, A>,
+    names: NameTable<A>,
     next_number: u64,
     next_tick: u64,
     next_stamp: u64,
@@ -43,7 +43,7 @@ impl<A: Allocator> Model for Store<A> {
 
     ghost view = { λ s. record {
       objects = s.objects.entries;
-      names = s.names.items;
+      names = s.names;
       next_number = s.next_number;
       next_tick = s.next_tick;
       next_stamp = s.next_stamp;
@@ -75,14 +75,15 @@ impl<A: Allocator + Copy> Store<A> {
     pub fn find(&self, directory: u64, name: &[u8]) -> Option<u64>
         ensures { result ≡ child_named self.now directory name.now }
     {
-        child_of(&self.names, directory, name)
+        self.names.find(directory, name)
     }
 
     /// The next name of a directory, by rising cookie.
     pub fn list_after(&self, directory: u64, cookie: u64) -> Option<&DirEntry<A>>
         ensures { option_copied result ≡ name_after self.now directory cookie }
     {
-        self.names.iter().find(|entry| entry.directory() == directory && cookie < entry.cookie())
+        self.names.as_slice().iter().find(|entry| entry.directory() == directory
+            && cookie < entry.cookie())
     }
 
     /// Whether a directory has names.
@@ -90,6 +91,7 @@ impl<A: Allocator + Copy> Store<A> {
         ensures { result ≡ has_entries self.now.names directory }
     {
         self.names
+            .as_slice()
             .iter()
             .any(|entry| entry.directory() == directory)
     }
@@ -99,6 +101,7 @@ impl<A: Allocator + Copy> Store<A> {
         ensures { result ≡ name_count self.now.names directory }
     {
         self.names
+            .as_slice()
             .iter()
             .filter(|entry| entry.directory() == directory)
             .count()
@@ -109,6 +112,7 @@ impl<A: Allocator + Copy> Store<A> {
         ensures { result ≡ link_count self.now.names number }
     {
         self.names
+            .as_slice()
             .iter()
             .filter(|entry| entry.child() == number)
             .count()
@@ -121,7 +125,7 @@ impl<A: Allocator + Copy> Store<A> {
         if !self.is_directory(number) {
             return None;
         }
-        directory_of(&self.names, number)
+        directory_of(self.names.as_slice(), number)
     }
 
     /// Whether an object is a directory or lies below it.
@@ -314,18 +318,18 @@ impl<A: Allocator + Copy> Store<A> {
     {
         let mut objects = BTreeMap::new(alloc);
         objects.insert(ROOT, root)?;
-        Ok(Store::from_start(alloc, objects, Vec::new(alloc), 2, 3))
+        Ok(Store::from_start(alloc, objects, NameTable::new(alloc), 2, 3))
     }
 
     /// What is there from the start. Its numbers, ticks and stamps go on from one number.
     pub fn from_start(
         alloc: A,
         objects: BTreeMap<u64, Node<A>, A>,
-        names: Vec<DirEntry<A>, A>,
+        names: NameTable<A>,
         next: u64,
         next_cookie: u64,
     ) -> Self
-        ensures { result ≡ record { objects = objects.entries; names = names.items; next_number = next; next_tick = next; next_stamp = next; next_cookie = next_cookie } }
+        ensures { result ≡ record { objects = objects.entries; names = names; next_number = next; next_tick = next; next_stamp = next; next_cookie = next_cookie } }
     {
         Store {
             alloc,
@@ -350,18 +354,21 @@ impl<A: Allocator + Copy> Store<A> {
         requires numbers { self.old.next_number < 2 ^ 63 }
         requires stamps { self.old.next_stamp < 2 ^ 63 }
         requires cookies { self.old.next_cookie < 2 ^ 63 }
+        requires bytes { length new.bytes.items ≤ most_bytes new.kind }
+        requires absent { child_named self.old directory name.now ≡ None }
         ensures number { IfOk result (λ number. number ≡ self.old.next_number) }
         ensures ok { OnOk result (self.new ≡ with_new self.old directory name.now (made new self.old.next_stamp at) at) }
         ensures err { OnErr result (self.new ≡ self.old) }
     {
-        let name = Vec::from_slice(self.alloc, name)?;
-        self.names.reserve(1)?;
-        let node = Node::made(new, self.next_stamp, at);
-        self.objects.insert(self.next_number, node)?;
-        touch(&mut self.objects, directory, at);
+        let node = Node::made(self.alloc, new, self.next_stamp, at)?;
         let number = self.next_number;
         self.names
-            .push_reserved(DirEntry::new(self.next_cookie, directory, name, number));
+            .push(self.alloc, self.next_cookie, directory, name, number)?;
+        if let Err(_) = self.objects.insert(number, node) {
+            self.names.remove(directory, name);
+            return Err(AllocError);
+        }
+        touch(&mut self.objects, directory, at);
         self.next_number += 1;
         self.next_tick = at.tick + 1;
         self.next_stamp += 1;
@@ -379,15 +386,14 @@ impl<A: Allocator + Copy> Store<A> {
     ) -> Result<(), AllocError>
         requires ticks { at.tick < 2 ^ 63 }
         requires cookies { self.old.next_cookie < 2 ^ 63 }
+        requires absent { child_named self.old directory name.now ≡ None }
         ensures ok { OnOk result (self.new ≡ with_link self.old directory name.now number at) }
         ensures err { OnErr result (self.new ≡ self.old) }
     {
-        let name = Vec::from_slice(self.alloc, name)?;
-        self.names.reserve(1)?;
+        self.names
+            .push(self.alloc, self.next_cookie, directory, name, number)?;
         retell(&mut self.objects, number, at);
         touch(&mut self.objects, directory, at);
-        self.names
-            .push_reserved(DirEntry::new(self.next_cookie, directory, name, number));
         self.next_tick = at.tick + 1;
         self.next_cookie += 1;
         Ok(())
@@ -398,8 +404,8 @@ impl<A: Allocator + Copy> Store<A> {
         requires { at.tick < 2 ^ 63 }
         ensures { self.new ≡ without_name self.old directory name.now child at }
     {
-        remove_name(&mut self.names, directory, name);
-        let stays = has_name(&self.names, child);
+        self.names.remove(directory, name);
+        let stays = has_name(self.names.as_slice(), child);
         release(&mut self.objects, child, stays, at);
         touch(&mut self.objects, directory, at);
         self.next_tick = at.tick + 1;
@@ -421,12 +427,17 @@ impl<A: Allocator + Copy> Store<A> {
         ensures ok { OnOk result (self.new ≡ with_move self.old from old.now to new.now child target at) }
         ensures err { OnErr result (self.new ≡ self.old) }
     {
-        let name = Vec::from_slice(self.alloc, new)?;
-        self.names.reserve(1)?;
-        remove_names(&mut self.names, from, old, to, new);
-        move_child(&mut self.objects, &self.names, from, to, child, target, at);
         self.names
-            .push_reserved(DirEntry::new(self.next_cookie, to, name, child));
+            .replace(self.alloc, from, old, to, new, self.next_cookie, child)?;
+        move_child(
+            &mut self.objects,
+            self.names.but_last(),
+            from,
+            to,
+            child,
+            target,
+            at,
+        );
         self.next_tick = at.tick + 1;
         self.next_cookie += 1;
         Ok(())
@@ -447,24 +458,23 @@ impl<A: Allocator + Copy> Store<A> {
     pub fn write(&mut self, file: u64, offset: usize, more: &[u8], at: At) -> Result<(), AllocError>
         requires ticks { at.tick < 2 ^ 63 }
         requires few { offset + length more.now < 2 ^ 32 }
+        requires file { kind_of self.old file ≡ Some Kind.File }
         ensures ok { OnOk result (self.new ≡ with_bytes self.old file offset more.now at) }
         ensures err { OnErr result (self.new ≡ self.old) }
     {
-        edits::write(&mut self.objects, file, offset, more, at)?;
+        edits::write(&mut self.objects, self.alloc, file, offset, more, at)?;
         self.next_tick = at.tick + 1;
         Ok(())
     }
 
-    /// Sets the size of a file: it is cut, or zeros are added. It takes memory only where the file grows.
-    pub fn resize(&mut self, file: u64, size: usize, at: At) -> Result<(), AllocError>
-        requires { at.tick < 2 ^ 63 }
-        ensures shrinks { size ≤ length (bytes_of self.old file) → IsOk result }
-        ensures ok { OnOk result (self.new ≡ with_size self.old file size at) }
-        ensures err { OnErr result (self.new ≡ self.old) }
+    /// Sets the size of a file: it is cut, or zeros are added. It takes no memory.
+    pub fn resize(&mut self, file: u64, size: usize, at: At)
+        requires ticks { at.tick < 2 ^ 63 }
+        requires file { kind_of self.old file ≡ Some Kind.File }
+        ensures { self.new ≡ with_size self.old file size at }
     {
-        edits::resize(&mut self.objects, file, size, at)?;
+        edits::resize(&mut self.objects, file, size, at);
         self.next_tick = at.tick + 1;
-        Ok(())
     }
 
     /// Sets a list with the high bits of the mode.

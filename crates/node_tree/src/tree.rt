@@ -153,7 +153,7 @@ impl<A: Allocator + Copy> Tree<A> {
             high,
         };
         Ok(Tree {
-            store: Store::new(alloc, Node::made(root, 1, from_start(1)))?,
+            store: Store::new(alloc, Node::made(alloc, root, 1, from_start(1))?)?,
         })
     }
 
@@ -338,7 +338,7 @@ impl<A: Allocator + Copy> Tree<A> {
         if size > MAX_BYTES {
             return Err(TreeFault::FBig);
         }
-        self.store.resize(file, size as usize, at)?;
+        self.store.resize(file, size as usize, at);
         Ok(())
     }
 

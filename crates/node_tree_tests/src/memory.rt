@@ -44,8 +44,8 @@ fn grow<'a>(tree: &mut Tree<&'a LocalHeap>, heap: &'a LocalHeap, call: u32) -> O
     match call {
         0 => add(tree, heap, 3, b"a longer name", Kind::File),
         1 => link(tree, 3, b"another", 2),
-        2 => write(tree, 2, 100, b"data"),
-        3 => resize(tree, 2, 300),
+        2 => write(tree, 2, 5000, b"data"),
+        3 => write(tree, 2, 8190, b"over a border"),
         _ => rename(tree, 1, b"notes", 3, b"renamed"),
     }
 }
@@ -56,7 +56,7 @@ fn refused_growth_changes_nothing(rt: HostRuntime) -> Result<(), Fail> {
     let mut refused = 0u32;
     let mut done = 0u32;
     for size in 0..120usize {
-        let heap = LocalHeap::new(rt.alloc(), size.saturating_mul(32))?;
+        let heap = LocalHeap::new(rt.alloc(), size.saturating_mul(128))?;
         let Ok(mut tree) = Tree::sample(&heap) else {
             continue;
         };
@@ -70,6 +70,7 @@ fn refused_growth_changes_nothing(rt: HostRuntime) -> Result<(), Fail> {
                 assert!(rt; look(&tree) != before, "call {call} at {size}");
             }
         }
+        assert_eq!(rt; resize(&mut tree, 2, 1_000_000), Outcome::Done);
         assert_eq!(rt; resize(&mut tree, 2, 1), Outcome::Done);
         assert_eq!(rt; set_owner(&mut tree, 2, 1, 1), Outcome::Done);
         assert_eq!(rt;
@@ -79,5 +80,28 @@ fn refused_growth_changes_nothing(rt: HostRuntime) -> Result<(), Fail> {
     }
     assert!(rt; refused > 5, "refused {refused}");
     assert!(rt; done > 50, "done {done}");
+    Ok(())
+}
+
+/// A heap in which the sample tree leaves room for one block more, and not for two.
+const ONE_BLOCK: usize = 11_000;
+
+/// A file of 1,048,576 bytes takes one block for the only byte that was written. Two further blocks are refused, none for zeros.
+#[test]
+fn absent_blocks_take_no_memory(rt: HostRuntime) -> Result<(), Fail> {
+    let heap = LocalHeap::new(rt.alloc(), ONE_BLOCK)?;
+    let mut tree = Tree::sample(&heap)?;
+    assert_eq!(rt; resize(&mut tree, 2, 0), Outcome::Done);
+    assert_eq!(rt; write(&mut tree, 2, 1_048_575, b"z"), Outcome::Done);
+    assert_eq!(rt; size(&tree, 2), Some(1_048_576));
+    let more_blocks = Outcome::Refused(TreeFault::Memory);
+    assert_eq!(rt; write(&mut tree, 2, 4095, b"xy"), more_blocks);
+    assert_eq!(rt; size(&tree, 2), Some(1_048_576));
+    assert_eq!(rt; write(&mut tree, 2, 1_044_480, b"y"), Outcome::Done);
+    let mut bytes = [9u8; 4];
+    assert_eq!(rt; tree.read(2, 4094, &mut bytes), 4);
+    assert_eq!(rt; bytes, [0, 0, 0, 0]);
+    assert_eq!(rt; tree.read(2, 1_048_574, &mut bytes), 2);
+    assert_eq!(rt; bytes, [0, b'z', 0, 0]);
     Ok(())
 }

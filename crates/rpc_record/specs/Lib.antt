@@ -7,3 +7,7 @@ pub mod Call
 pub mod CallViews
 pub mod Faults
 pub mod Reply
+pub mod Calling
+pub mod Answered
+pub mod AnsweredParts
+pub mod AnsweredViews

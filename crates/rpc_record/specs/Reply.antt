@@ -12,9 +12,9 @@ use Rattle.rpc_record.specs.declared.reply.Reply.TheVariants.{Success, ProgUnava
 abbrev pub versions : Xdr
 versions = fields (uint ∷ uint ∷ [])
 
--- how an accepted call ended: SUCCESS, PROG_UNAVAIL, PROG_MISMATCH, PROC_UNAVAIL, GARBAGE_ARGS
+-- how an accepted call ended: SUCCESS, PROG_UNAVAIL, PROG_MISMATCH, PROC_UNAVAIL, GARBAGE_ARGS, SYSTEM_ERR
 abbrev pub accept_data : Xdr
-accept_data = union (arm 0 void (arm 1 void (arm 2 versions (arm 3 void (arm 4 void no_more)))))
+accept_data = union (arm 0 void (arm 1 void (arm 2 versions (arm 3 void (arm 4 void (arm 5 void no_more))))))
 
 -- accepted_reply: a verifier, and how the call ended
 abbrev pub accepted_reply : Xdr

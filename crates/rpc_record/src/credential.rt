@@ -1,8 +1,11 @@
 //! The data of an AUTH_SYS credential (RFC 5531, appendix A).
-ghost use Rattle.std.specs.Prelude.{◌≡◌, ◌≤◌, ◌<◌, ◌++◌, ◌∷◌, [], length};
+ghost use Rattle.std.specs.Prelude.{◌≡◌, ◌≤◌, ◌<◌, ◌++◌, ◌∷◌, [], length, IsTrue};
+ghost use Rattle.std.specs.List.Sorted.{IsStrictlyIncreasing};
 ghost use Rattle.xdr_wire.specs.Xdr.{uint, array};
 ghost use Rattle.xdr_wire.specs.Reading.{Gives, read_at};
 ghost use Rattle.rpc_record.specs.Call.{authsys, caller_of};
+ghost use Rattle.rpc_record.specs.Calling.{further_groups};
+ghost use Rattle.rpc_record.specs.Identity.{is_member};
 
 use crate::caller::{Caller, MOST_FURTHER};
 use std::marker::Model;
@@ -13,7 +16,7 @@ const MOST_NAME: usize = 255;
 
 /// The further gids of a credential, at most 16, as they were sent.
 #[derive(Drop)]
-struct Further {
+pub(crate) struct Further {
     row: [u32; MOST_FURTHER],
     len: usize,
 }
@@ -46,11 +49,26 @@ impl Further {
         self.len += 1;
     }
 
-    fn as_slice(&self) -> &[u32]
+    pub(crate) fn as_slice(&self) -> &[u32]
         ensures groups { result.now ≡ self.now }
         ensures few { length self.now ≤ MOST_FURTHER }
     {
         &self.row[..self.len]
+    }
+
+    /// The groups of a caller besides its gid.
+    pub(crate) fn of(caller: &Caller) -> Further
+        requires { IsTrue (is_member caller.now caller.now.gid) }
+        ensures groups { result ≡ further_groups caller.now }
+        ensures rising { IsStrictlyIncreasing caller.now.groups }
+    {
+        let mut further = Further::new();
+        for group in caller.groups() {
+            if *group != caller.gid() {
+                further.push(*group);
+            }
+        }
+        further
     }
 
     fn read(reader: &mut Reader<'_>) -> Result<Further, XdrFault>

@@ -1,16 +1,20 @@
-//! Remote procedure calls over a stream (RFC 5531), a server's side: the records of a stream, the calls of NFS version
-//! 4 with their callers, and the headers of replies.
+//! Remote procedure calls over a stream (RFC 5531): the records of a stream, the calls of NFS version 4 with their
+//! callers, and the replies; a server reads calls and writes replies, a client writes calls and reads replies.
 #![tactic(auto)]
 
+mod answered;
 mod call;
 mod caller;
+mod calling;
 mod credential;
 mod framer;
 mod reading;
 mod reply;
 
+pub use answered::{ReplyFault, read_reply, results_stand_behind_a_reply, what_is_replied_is_read};
 pub use call::{Call, CallFault, Procedure};
 pub use caller::{Caller, MOST_FURTHER, MOST_GROUPS, equal_callers_are_the_same, groups_are_a_set};
+pub use calling::{CALL_HEADER_LIMIT, write_call};
 pub use framer::{
     Framer, RECORD_LIMIT, Step, a_framer_stands_for_a_rest, a_stream_has_one_cut, record_mark,
     records_of_a_growing_stream,

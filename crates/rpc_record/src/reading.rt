@@ -10,25 +10,25 @@ use crate::credential::read_caller;
 use xdr_wire::{Reader, XdrFault};
 
 /// The message type of a call.
-const CALL: u32 = 0;
+pub(crate) const CALL: u32 = 0;
 
 /// The version of the protocol.
-const RPC_VERSION: u32 = 2;
+pub(crate) const RPC_VERSION: u32 = 2;
 
 // the program NFS and its version, and the procedures (RFC 5662)
-const NFS_PROGRAM: u32 = 100_003;
+pub(crate) const NFS_PROGRAM: u32 = 100_003;
 
-const NFS_VERSION: u32 = 4;
+pub(crate) const NFS_VERSION: u32 = 4;
 
-const NULL: u32 = 0;
+pub(crate) const NULL: u32 = 0;
 
-const COMPOUND: u32 = 1;
+pub(crate) const COMPOUND: u32 = 1;
 
 /// The flavor of a credential of users and groups by their numbers.
-const AUTH_SYS: u32 = 1;
+pub(crate) const AUTH_SYS: u32 = 1;
 
 /// The most bytes of a credential's or a verifier's data.
-const MOST_AUTH: usize = 400;
+pub(crate) const MOST_AUTH: usize = 400;
 
 /// What can't be read is no header.
 fn header<T>(read: Result<T, XdrFault>) -> Result<T, CallFault>

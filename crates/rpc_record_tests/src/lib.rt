@@ -2,7 +2,11 @@
 #![tactic(auto)]
 
 #[cfg(test)]
+mod answers;
+#[cfg(test)]
 mod callers;
+#[cfg(test)]
+mod calling;
 #[cfg(test)]
 mod calls;
 #[cfg(test)]

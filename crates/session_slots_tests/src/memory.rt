@@ -25,6 +25,18 @@ fn is_there<'a>(clients: &mut Clients<&'a LocalHeap>, number: u64) -> bool {
     run(clients, number, call(9, 1, b"", &caller), b"") != Begin::Refused(Status::BadSession)
 }
 
+/// The session and the confirmed record are there, and so many bytes of the heap are taken.
+fn see_nothing_exchanged<'a>(
+    rt: &impl Abort,
+    clients: &mut Clients<&'a LocalHeap>,
+    heap: &'a LocalHeap,
+    used: usize,
+) {
+    assert_eq!(rt; heap.used(), used);
+    assert!(rt; is_there(clients, 1));
+    assert_eq!(rt; confirmed_of(clients, b"alice"), Some(1));
+}
+
 /// With so many bytes left, whether an EXCHANGE_ID is refused for memory, with all as it was.
 fn exchange_fails<'a>(
     rt: &impl Abort,
@@ -37,9 +49,7 @@ fn exchange_fails<'a>(
     let used = heap.used();
     let fails = exchange(clients, asked) == Err(Status::Delay);
     if fails {
-        assert_eq!(rt; heap.used(), used);
-        assert!(rt; is_there(clients, 1));
-        assert_eq!(rt; confirmed_of(clients, asked.owner), Some(1));
+        see_nothing_exchanged(rt, clients, heap, used);
     }
     Ok(fails)
 }
@@ -74,6 +84,19 @@ fn three_slots() -> Create {
     }
 }
 
+/// There is no session, no record is confirmed, the first number isn't accepted, and so many bytes of the heap are taken.
+fn see_nothing_created<'a>(
+    rt: &impl Abort,
+    clients: &mut Clients<&'a LocalHeap>,
+    heap: &'a LocalHeap,
+    used: usize,
+) {
+    assert_eq!(rt; heap.used(), used);
+    assert!(rt; !is_there(clients, 1));
+    assert_eq!(rt; confirmed_of(clients, b"alice"), None);
+    assert_eq!(rt; session(clients, 1, 2), Err(Status::SeqMisordered));
+}
+
 /// With so many bytes left, whether a CREATE_SESSION is refused for memory, with all as it was and its number not accepted.
 fn create_fails<'a>(
     rt: &impl Abort,
@@ -85,10 +108,7 @@ fn create_fails<'a>(
     let used = heap.used();
     let fails = create(clients, three_slots()).result == Err(Status::Delay);
     if fails {
-        assert_eq!(rt; heap.used(), used);
-        assert!(rt; !is_there(clients, 1));
-        assert_eq!(rt; confirmed_of(clients, b"alice"), None);
-        assert_eq!(rt; session(clients, 1, 2), Err(Status::SeqMisordered));
+        see_nothing_created(rt, clients, heap, used);
     }
     Ok(fails)
 }

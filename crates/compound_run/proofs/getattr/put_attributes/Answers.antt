@@ -1,39 +1,24 @@
-use Rattle.std.proofs.Common.{arith, refl, ap, ◌∙◌, length}
+use Rattle.std.proofs.Common.{◌≡◌, ℕ, ◌≤◌, arith, refl, ap, ◌∙◌, length, Result, Ok, Err}
 use Rattle.std.proofs.lemmas.Bool.{le-leb, lt-leb}
 use Rattle.std.proofs.lemmas.List.{length-append}
-use Rattle.std.proofs.lemmas.Result.{err_from_is_err_and}
+use Rattle.xdr_wire.specs.Buffer.{Buffer}
+use Rattle.nfs_ops.specs.Given as ops
 use Rattle.nfs_ops.specs.Items.{item_spelling}
-use Rattle.nfs_ops.specs.Results.{outcome_item, most}
+use Rattle.nfs_ops.specs.Results.{Outcome, outcome_item, most}
 use Rattle.compound_run.specs.Runs.{spelled}
-use Rattle.compound_run.specs.Says.{given_outcome}
-use Rattle.compound_run.proofs.Writing.{cut_back}
+use Rattle.compound_run.specs.Says.{PutsWithin, given_outcome}
 use Rattle.compound_run.proofs.getattr.put_attributes.Goals as goal
 
-pub returns-in_err-write_getattr : goal.returns-in_err-write_getattr
-returns-in_err-write_getattr g c =
-    let size = c.sizes_of_carried_bytes_are_exact.ensures (given_outcome c.args.given) refl in
-    let puts = c.in_err-write_getattr.ensures.puts in
-    let p = err_from_is_err_and c.from_residual.result c.from_residual.ensures.1 in
-    rw p.1 (lt-leb (most (given_outcome c.args.given)) c.args.room (omega (arith, size, c.requires, puts.0)), puts.1)
-
-pub returns-then-len-start : goal.returns-then-len-start
-returns-then-len-start g c =
-    let o = given_outcome c.args.given in
-    let size = c.sizes_of_carried_bytes_are_exact.ensures o refl in
-    let puts = c.in_ok-write_getattr.ensures.puts in
-    let long = ap length puts.behind ∙ length-append c.args.out.now.bytes (item_spelling (outcome_item o)) in (
-      lt-leb (most o) c.args.room (omega (arith, size, long, c.if-len-start.true, c.len.ensures, c.len-start.ensures)),
-      cut_back c.args.out.now c.write_getattr.new.writer c.truncate.new.self (item_spelling (outcome_item o)) c.len-start.result puts c.len-start.ensures c.truncate.ensures.bytes c.truncate.ensures.room,
-    )
+-- what takes as many bytes as its spelling has is written where they fit
+puts : {E : Type 0} (room : ℕ) (o : Outcome) (before after : Buffer) (result : Result (Unit {0}) E) → length (item_spelling (outcome_item o)) ≡ most o
+    → ops.PutsWithin room before after (outcome_item o) result → PutsWithin room o before result after
+unfolding spelled
+puts room o before after (Ok done) size p =
+    let long = ap length p.0.behind ∙ length-append before.bytes (item_spelling (outcome_item o)) in
+    (p.0, le-leb (most o) room (omega (arith, size, p.1)), omega (arith, long, p.1))
+puts room o before after (Err full) size p = (lt-leb (most o) room (omega (arith, size, p.0)), p.1)
 
 pub returns : goal.returns
-unfolding spelled
 returns g c =
     let o = given_outcome c.args.given in
-    let size = c.sizes_of_carried_bytes_are_exact.ensures o refl in
-    let puts = c.in_ok-write_getattr.ensures.puts in
-    let long = ap length puts.behind ∙ length-append c.args.out.now.bytes (item_spelling (outcome_item o)) in (
-      puts,
-      le-leb (most o) c.args.room (omega (arith, size, long, c.if-len-start.false, c.len.ensures, c.len-start.ensures)),
-      omega (arith, long, c.if-len-start.false, c.len.ensures, c.len-start.ensures),
-    )
+    puts c.args.room o c.args.out.now c.write_getattr.new.writer c.write_getattr.result (c.sizes_of_carried_bytes_are_exact.ensures o refl) c.write_getattr.ensures.puts

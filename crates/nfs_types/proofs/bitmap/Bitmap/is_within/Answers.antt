@@ -1,14 +1,15 @@
-use Rattle.std.proofs.Common.{sym, ◌∙◌}
-use Rattle.nfs_types.specs.Attributes.{stays_within}
-use Rattle.nfs_types.specs.Views.{bitmap_value}
-use Rattle.nfs_types.proofs.Within.{one_more, one_fails, all_pass}
+use Rattle.std.proofs.Common.{arith, rules, sym}
+use Rattle.nfs_types.proofs.Within.{one_word, word_fails, all_words}
 use Rattle.nfs_types.proofs.bitmap.Bitmap.is_within.Goals as goal
 
-pub returns-then-not-keeps_within : goal.returns-then-not-keeps_within
-returns-then-not-keeps_within c = sym (one_fails (stays_within (bitmap_value c.args.self.now) (bitmap_value c.args.other.now)) c.loop-number.number c.loop-number-test.true (sym c.keeps_within.ensures ∙ c.if-not-keeps_within.true))
+pub returns-then-self-index-ne0 : goal.returns-then-self-index-ne0
+returns-then-self-index-ne0 c = sym (word_fails c.args.self.now.words c.args.other.now.words c.loop-index.index c.loop-index-test.true (search rules) (search rules) c.if-self-index-ne0.true)
 
-pub loop-number-preserved : goal.loop-number-preserved
-loop-number-preserved c = one_more (stays_within (bitmap_value c.args.self.now) (bitmap_value c.args.other.now)) c.loop-number.number c.loop-number-test.true c.loop-number.invariant (sym c.keeps_within.ensures ∙ c.if-not-keeps_within.false)
+pub loop-index-init : goal.loop-index-init
+loop-index-init c = λ n lt. absurd (omega (arith, lt))
+
+pub loop-index-preserved : goal.loop-index-preserved
+loop-index-preserved c = one_word c.args.self.now.words c.args.other.now.words c.loop-index.index (search rules) c.if-self-index-ne0.false c.loop-index.invariant
 
 pub returns : goal.returns
-returns c = sym (all_pass (stays_within (bitmap_value c.args.self.now) (bitmap_value c.args.other.now)) c.loop-number.number c.loop-number-test.false c.loop-number.invariant)
+returns c = sym (all_words c.args.self.now.words c.args.other.now.words c.loop-index.index c.loop-index-test.false c.loop-index.invariant)

@@ -3,11 +3,11 @@ use Rattle.node_tree.specs.World.{bytes_of}
 use Rattle.node_tree.proofs.Setting.{short_file, IsSound-with_size, KeepsJudged-with_size}
 use Rattle.node_tree.proofs.tree.Tree.resize.Goals as goal
 
-pub invariant_of-self-2 : goal.invariant_of-self-2
-invariant_of-self-2 g c = rw c.in_ok-resize.ensures.ok (IsSound-with_size _ _ _ _ c.self.invariant (rw c.self.view_is c.requires.tick) (rw c.self.view_is c.requires.file) c.if-size-gt-MAX_BYTES.false)
+pub invariant_of-self : goal.invariant_of-self
+invariant_of-self g c = rw c.resize.ensures (IsSound-with_size _ _ _ _ c.self.invariant (rw c.self.view_is c.requires.tick) (rw c.self.view_is c.requires.file) c.if-size-gt-MAX_BYTES.false)
 
 pub returns-clause-judged : goal.returns-clause-judged
-returns-clause-judged g c = rw (← c.self.view_is) (rw c.in_ok-resize.ensures.ok (KeepsJudged-with_size _ _ _ _))
+returns-clause-judged g c = rw (← c.self.view_is) (rw c.resize.ensures (KeepsJudged-with_size _ _ _ _))
 
 pub returns-then-size-gt-MAX_BYTES-clause-shrinks : goal.returns-then-size-gt-MAX_BYTES-clause-shrinks
 returns-then-size-gt-MAX_BYTES-clause-shrinks g c =

@@ -1,0 +1,19 @@
+-- Bytes in blocks by their number.
+use Rattle.std.specs.Prelude.{ℕ, ◌/◌, ◌%◌, Bool, List, map, slice_index, is_some}
+use Rattle.std.specs.List.{range_with_len}
+use Rattle.std.specs.Map.{lookup}
+use Rattle.std.specs.BTreeMap.{is_at}
+use Rattle.std.specs.Ordering.{nat_cmp}
+use Rattle.std.specs.Option.{option_map_or}
+
+-- the byte at a place: where there is no block it is 0
+abbrev pub byte_at : List (ℕ × List ℕ) → ℕ → ℕ
+byte_at blocks i = option_map_or (λ block. slice_index block (i % 4096)) (lookup (is_at (nat_cmp (i / 4096))) blocks) 0
+
+-- whether there is a block
+abbrev pub is_held : List (ℕ × List ℕ) → ℕ → Bool
+is_held blocks number = is_some (lookup (is_at (nat_cmp number)) blocks)
+
+-- the bytes of a file of a size
+abbrev pub bytes_in : List (ℕ × List ℕ) → ℕ → List ℕ
+bytes_in blocks size = map (byte_at blocks) (range_with_len 0 size)

@@ -1,0 +1,129 @@
+//! A block of a file: 4,096 of its bytes.
+ghost use Rattle.std.specs.Prelude.{◌≡◌, ◌+◌, ◌-◌, ◌<◌, ◌≤◌, ◌^◌, ◌&&◌, ◌++◌, ℕ, nat_le, nat_lt, if◌then◌else◌, slice_index, length, take, drop, IfOk};
+
+use std::alloc::{AllocError, Allocator, Global};
+use std::marker::Model;
+
+/// How many bytes a block has.
+pub const BLOCK: usize = 4096;
+
+/// As many bytes as a block has.
+#[derive(Debug, Drop)]
+pub struct Block<A: Allocator = Global> {
+    bytes: Vec<u8, A>,
+}
+
+impl<A: Allocator> Model for Block<A> {
+    ghost use Rattle.std.specs.Prelude.{List, ℕ, ◌≡◌, length};
+
+    ghost Value = { List ℕ };
+
+    ghost view = { λ b. b.bytes.items };
+
+    ghost invariant = { λ b. length b.bytes.items ≡ 4096 };
+}
+
+impl<A: Allocator> Block<A> {
+    /// A block of zeros. `Err`: there is no memory for it.
+    pub fn zeros(alloc: A) -> Result<Self, AllocError>
+        ensures { IfOk result (λ b. (k : ℕ) → slice_index b k ≡ 0) }
+    {
+        let mut bytes = Vec::with_capacity(alloc, BLOCK)?;
+        bytes.resize(BLOCK, 0)?;
+        Ok(Block { bytes })
+    }
+
+    /// Writes what of some data falls into the block. The block begins at `first`, and the data at `offset`.
+    pub fn write(&mut self, first: usize, offset: usize, more: &[u8])
+        requires few { offset + length more.now < 2 ^ 32 }
+        requires behind { first < offset + length more.now }
+        requires before { offset < first + 4096 }
+        ensures { (k : ℕ) → k < 4096 → slice_index self.new k ≡ (if nat_le offset (first + k) && nat_lt (first + k) (offset + length more.now) then slice_index more.now (first + k - offset) else slice_index self.old k) }
+    {
+        write_part(&mut self.bytes, first, offset, more);
+    }
+
+    /// Sets what stands from a place on to zeros.
+    pub fn clear_from(&mut self, at: usize)
+        requires { at ≤ 4096 }
+        ensures { (k : ℕ) → slice_index self.new k ≡ (if nat_lt k at then slice_index self.old k else 0) }
+    {
+        clear(&mut self.bytes, at, BLOCK);
+    }
+
+    /// Copies what of the block falls into a stretch. The block begins at `first`, and the stretch at `offset`.
+    pub fn read(&self, first: usize, offset: usize, buffer: &mut [u8])
+        requires fits { offset + length buffer.old < 2 ^ 64 }
+        requires behind { first < offset + length buffer.old }
+        requires before { offset < first + 4096 }
+        ensures len { length buffer.new ≡ length buffer.old }
+        ensures bytes { (k : ℕ) → slice_index buffer.new k ≡ (if (nat_le first (offset + k) && nat_lt (offset + k) (first + 4096)) && nat_lt k (length buffer.old) then slice_index self.now (offset + k - first) else slice_index buffer.old k) }
+    {
+        let from = first.saturating_sub(offset);
+        let start = offset.saturating_sub(first);
+        let end = (offset + buffer.len() - first).min(BLOCK);
+        overwrite(buffer, from, part(&self.bytes, start, end));
+    }
+}
+
+/// Sets what of a block that isn't there falls into a stretch to zeros.
+pub fn read_absent(first: usize, offset: usize, buffer: &mut [u8])
+    requires fits { offset + length buffer.old < 2 ^ 64 }
+    requires behind { first < offset + length buffer.old }
+    requires before { offset < first + 4096 }
+    ensures len { length buffer.new ≡ length buffer.old }
+    ensures bytes { (k : ℕ) → slice_index buffer.new k ≡ (if (nat_le first (offset + k) && nat_lt (offset + k) (first + 4096)) && nat_lt k (length buffer.old) then 0 else slice_index buffer.old k) }
+{
+    let from = first.saturating_sub(offset);
+    let start = offset.saturating_sub(first);
+    let end = (offset + buffer.len() - first).min(BLOCK);
+    clear(buffer, from, from + (end - start));
+}
+
+/// Writes data over what stands at a place.
+fn overwrite(bytes: &mut [u8], offset: usize, more: &[u8])
+    requires { offset + length more.now ≤ length bytes.old }
+    ensures len { length bytes.new ≡ length bytes.old }
+    ensures bytes { (k : ℕ) → slice_index bytes.new k ≡ (if nat_le offset k && nat_lt k (offset + length more.now) then slice_index more.now (k - offset) else slice_index bytes.old k) }
+{
+    bytes[offset..offset + more.len()].copy_from_slice(more);
+}
+
+/// Sets what stands from a place on, up to another one, to zeros.
+fn clear(bytes: &mut [u8], start: usize, end: usize)
+    requires order { start ≤ end }
+    requires inside { end ≤ length bytes.old }
+    ensures len { length bytes.new ≡ length bytes.old }
+    ensures bytes { (k : ℕ) → slice_index bytes.new k ≡ (if nat_le start k && nat_lt k end then 0 else slice_index bytes.old k) }
+{
+    bytes[start..end].fill(0);
+}
+
+/// What stands from a place on, up to another one.
+#[tactic(auto, using(crate::proofs::Placing::part_reads))]
+fn part(bytes: &[u8], start: usize, end: usize) -> &[u8]
+    requires order { start ≤ end }
+    requires inside { end ≤ length bytes.now }
+    ensures len { length result.now ≡ end - start }
+    ensures bytes { (k : ℕ) → k < end - start → slice_index result.now k ≡ slice_index bytes.now (start + k) }
+{
+    &bytes[start..end]
+}
+
+/// Writes what of some data falls into a block. The block begins at `first`, and the data at `offset`.
+fn write_part(bytes: &mut [u8], first: usize, offset: usize, more: &[u8])
+    requires whole { length bytes.old ≡ 4096 }
+    requires few { offset + length more.now < 2 ^ 32 }
+    requires behind { first < offset + length more.now }
+    requires before { offset < first + 4096 }
+    ensures len { length bytes.new ≡ length bytes.old }
+    ensures bytes { (k : ℕ) → k < 4096 → slice_index bytes.new k ≡ (if nat_le offset (first + k) && nat_lt (first + k) (offset + length more.now) then slice_index more.now (first + k - offset) else slice_index bytes.old k) }
+{
+    let start = offset.max(first);
+    let end = (offset + more.len()).min(first + BLOCK);
+    overwrite(
+        bytes,
+        start - first,
+        part(more, start - offset, end - offset),
+    );
+}

@@ -1,0 +1,240 @@
+//! The bytes of a file, in blocks by their number. A block that was never written is absent, and reads as zeros.
+ghost use Rattle.std.specs.Prelude.{◌≡◌, ◌+◌, ◌-◌, ◌*◌, ◌/◌, ◌%◌, ◌<◌, ◌≤◌, ◌^◌, ◌&&◌, ◌++◌, ◌==◌, ℕ, [], true, map, nat_le, nat_lt, if◌then◌else◌, slice_index, length, take, drop, IfOk, OnOk, OnErr, IsOk};
+ghost use Rattle.std.specs.List.{range_with_len};
+ghost use Rattle.node_tree.specs.Changes.{written, resized};
+ghost use Rattle.node_tree.specs.Blocks.{byte_at, is_held};
+
+use crate::block::{BLOCK, Block, read_absent};
+use std::alloc::{AllocError, Allocator, Global};
+use std::collections::BTreeMap;
+use std::marker::Model;
+
+/// The bytes of a file.
+#[derive(Debug, Drop)]
+pub struct Blocks<A: Allocator = Global> {
+    blocks: BTreeMap<usize, Block<A>, A>,
+    size: usize,
+}
+
+impl<A: Allocator> Model for Blocks<A> {
+    ghost use Rattle.std.specs.Prelude.{List, ℕ, ◌≡◌, ◌≤◌};
+    ghost use Rattle.node_tree.specs.Blocks.{bytes_in, byte_at};
+
+    ghost Value = { List ℕ };
+
+    ghost view = { λ b. bytes_in b.blocks.entries b.size };
+
+    ghost invariant = { λ b. (i : ℕ) → b.size ≤ i → byte_at b.blocks.entries i ≡ 0 };
+}
+
+/// Puts a block of zeros where there is none. `Err`: there is no memory for it.
+fn put_zeros<A: Allocator + Copy>(
+    blocks: &mut BTreeMap<usize, Block<A>, A>,
+    alloc: A,
+    number: usize,
+) -> Result<(), AllocError>
+    ensures bytes { (i : ℕ) → byte_at blocks.new.entries i ≡ byte_at blocks.old.entries i }
+    ensures there { OnOk result (is_held blocks.new.entries number ≡ true) }
+    ensures kept { (k : ℕ) → is_held blocks.old.entries k ≡ true → is_held blocks.new.entries k ≡ true }
+{
+    if blocks.contains_key(&number) {
+        return Ok(());
+    }
+    let block = Block::zeros(alloc)?;
+    blocks.insert(number, block)?;
+    Ok(())
+}
+
+/// Puts blocks of zeros where there are none, which changes no byte. `Err`: there is no memory for all of them.
+fn put_all_zeros<A: Allocator + Copy>(
+    blocks: &mut BTreeMap<usize, Block<A>, A>,
+    alloc: A,
+    from: usize,
+    to: usize,
+) -> Result<(), AllocError>
+    ensures bytes { (i : ℕ) → byte_at blocks.new.entries i ≡ byte_at blocks.old.entries i }
+    ensures there { OnOk result ((k : ℕ) → from ≤ k → k < to → is_held blocks.new.entries k ≡ true) }
+{
+    for number in from..to {
+        put_zeros(blocks, alloc, number)?;
+    }
+    Ok(())
+}
+
+/// Takes blocks away: their bytes are zeros then.
+fn remove_all<A: Allocator>(blocks: &mut BTreeMap<usize, Block<A>, A>, from: usize, to: usize)
+    requires { from ≤ to }
+    ensures { (i : ℕ) → byte_at blocks.new.entries i ≡ (if nat_le from (i / 4096) && nat_lt (i / 4096) to then 0 else byte_at blocks.old.entries i) }
+{
+    for number in from..to {
+        blocks.remove(&number);
+    }
+}
+
+/// Sets what a block has from a place of the file on to zeros.
+fn clear_behind<A: Allocator>(blocks: &mut BTreeMap<usize, Block<A>, A>, at: usize)
+    ensures { (i : ℕ) → byte_at blocks.new.entries i ≡ (if (i / 4096 == at / 4096) && nat_le at i then 0 else byte_at blocks.old.entries i) }
+{
+    if let Some(block) = blocks.get_mut(&(at / BLOCK)) {
+        block.clear_from(at % BLOCK);
+    }
+}
+
+/// Takes away what stands from a size on, up to another one: whole blocks go, and the rest of the last one becomes zeros.
+fn cut<A: Allocator>(blocks: &mut BTreeMap<usize, Block<A>, A>, held: usize, size: usize)
+    requires { (i : ℕ) → held ≤ i → byte_at blocks.old.entries i ≡ 0 }
+    ensures { (i : ℕ) → byte_at blocks.new.entries i ≡ (if nat_lt i size then byte_at blocks.old.entries i else 0) }
+{
+    if held <= size {
+        return;
+    }
+    remove_all(blocks, size.div_ceil(BLOCK), held.div_ceil(BLOCK));
+    clear_behind(blocks, size);
+}
+
+/// Writes what of some data falls into a block that is there.
+fn write_block<A: Allocator>(
+    blocks: &mut BTreeMap<usize, Block<A>, A>,
+    number: usize,
+    offset: usize,
+    more: &[u8],
+)
+    requires few { offset + length more.now < 2 ^ 32 }
+    requires behind { number * 4096 < offset + length more.now }
+    requires before { offset < number * 4096 + 4096 }
+    requires there { is_held blocks.old.entries number ≡ true }
+    ensures bytes { (i : ℕ) → byte_at blocks.new.entries i ≡ (if (i / 4096 == number) && (nat_le offset i && nat_lt i (offset + length more.now)) then slice_index more.now (i - offset) else byte_at blocks.old.entries i) }
+    ensures kept { (k : ℕ) → is_held blocks.old.entries k ≡ true → is_held blocks.new.entries k ≡ true }
+{
+    if let Some(block) = blocks.get_mut(&number) {
+        block.write(number * BLOCK, offset, more);
+    }
+}
+
+/// Writes data into blocks that are there.
+fn write_blocks<A: Allocator>(
+    blocks: &mut BTreeMap<usize, Block<A>, A>,
+    offset: usize,
+    more: &[u8],
+    from: usize,
+    to: usize,
+)
+    requires few { offset + length more.now < 2 ^ 32 }
+    requires from { from ≡ offset / 4096 }
+    requires to { to ≡ (offset + length more.now - 1) / 4096 + 1 }
+    requires some { 0 < length more.now }
+    requires there { (k : ℕ) → from ≤ k → k < to → is_held blocks.old.entries k ≡ true }
+    ensures { (i : ℕ) → byte_at blocks.new.entries i ≡ (if nat_le offset i && nat_lt i (offset + length more.now) then slice_index more.now (i - offset) else byte_at blocks.old.entries i) }
+{
+    for number in from..to {
+        write_block(blocks, number, offset, more);
+    }
+}
+
+/// Copies what of a block falls into a stretch of the file that a buffer stands for.
+fn read_block<A: Allocator>(
+    blocks: &BTreeMap<usize, Block<A>, A>,
+    number: usize,
+    offset: usize,
+    buffer: &mut [u8],
+)
+    requires fits { offset + length buffer.old < 2 ^ 64 }
+    requires behind { number * 4096 < offset + length buffer.old }
+    requires before { offset < number * 4096 + 4096 }
+    ensures len { length buffer.new ≡ length buffer.old }
+    ensures bytes { (k : ℕ) → slice_index buffer.new k ≡ (if ((offset + k) / 4096 == number) && nat_lt k (length buffer.old) then byte_at blocks.now.entries (offset + k) else slice_index buffer.old k) }
+{
+    match blocks.get(&number) {
+        Some(block) => block.read(number * BLOCK, offset, buffer),
+        None => read_absent(number * BLOCK, offset, buffer),
+    }
+}
+
+/// Copies a stretch of the file.
+fn read_blocks<A: Allocator>(
+    blocks: &BTreeMap<usize, Block<A>, A>,
+    offset: usize,
+    buffer: &mut [u8],
+)
+    requires fits { offset + length buffer.old < 2 ^ 64 }
+    requires some { 0 < length buffer.old }
+    ensures { buffer.new ≡ map (byte_at blocks.now.entries) (range_with_len offset (length buffer.old)) }
+{
+    for number in offset / BLOCK..(offset + buffer.len() - 1) / BLOCK + 1 {
+        read_block(blocks, number, offset, buffer);
+    }
+}
+
+impl<A: Allocator> Blocks<A> {
+    /// How many bytes there are.
+    pub fn len(&self) -> usize
+        ensures { result ≡ length self.now }
+    {
+        self.size
+    }
+
+    /// Sets the size: cuts, or adds zeros. It takes no memory.
+    pub fn resize(&mut self, size: usize)
+        ensures { self.new ≡ resized self.old size }
+    {
+        cut(&mut self.blocks, self.size, size);
+        self.size = size;
+    }
+
+    /// Copies what stands at an offset into a buffer, as far as both go, and answers how many bytes that are.
+    pub fn read(&self, offset: usize, buffer: &mut [u8]) -> usize
+        ensures count { result ≡ length (take (length buffer.old) (drop offset self.now)) }
+        ensures copied { buffer.new ≡ take (length buffer.old) (drop offset self.now) ++ drop result buffer.old }
+    {
+        let count = self.size.saturating_sub(offset).min(buffer.len());
+        if count > 0 {
+            read_blocks(&self.blocks, offset, &mut buffer[..count]);
+        }
+        count
+    }
+}
+
+impl<A: Allocator + Copy> Blocks<A> {
+    /// A file of no bytes.
+    pub fn new(alloc: A) -> Self
+        ensures { result ≡ [] }
+    {
+        Blocks {
+            blocks: BTreeMap::new(alloc),
+            size: 0,
+        }
+    }
+
+    /// A file of these bytes. `Err`: there is no memory for it.
+    pub fn from_slice(alloc: A, bytes: &[u8]) -> Result<Self, AllocError>
+        requires { length bytes.now < 2 ^ 32 }
+        ensures { IfOk result (λ blocks. blocks ≡ bytes.now) }
+    {
+        let mut blocks = Blocks::new(alloc);
+        blocks.write(alloc, 0, bytes)?;
+        Ok(blocks)
+    }
+
+    /// Writes data at an offset, and zeros between the end and it. `Err`: there is no memory, and nothing has changed.
+    pub fn write(&mut self, alloc: A, offset: usize, more: &[u8]) -> Result<(), AllocError>
+        requires { offset + length more.now < 2 ^ 32 }
+        ensures ok { OnOk result (self.new ≡ written self.old offset more.now) }
+        ensures err { OnErr result (self.new ≡ self.old) }
+    {
+        if more.is_empty() {
+            self.size = self.size.max(offset);
+            return Ok(());
+        }
+        let end = offset + more.len();
+        let from = offset / BLOCK;
+        let to = (end - 1) / BLOCK + 1;
+        if put_all_zeros(&mut self.blocks, alloc, from, to).is_err() {
+            let reached = self.size.max(to * BLOCK);
+            cut(&mut self.blocks, reached, self.size);
+            return Err(AllocError);
+        }
+        write_blocks(&mut self.blocks, offset, more, from, to);
+        self.size = self.size.max(end);
+        Ok(())
+    }
+}

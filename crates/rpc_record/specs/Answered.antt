@@ -1,0 +1,62 @@
+-- What a record answers to a call (RFC 5531, section 9): the results, or why there are none.
+use Rattle.std.specs.Prelude.{ℕ, List, [], ◌∷◌, Result, Ok, Err, not, ◌==◌, if◌then◌else◌}
+use Rattle.std.proofs.Common.{inl, inr}
+use Rattle.xdr_wire.specs.Xdr.{Xdr, Value, uint, union, arm, no_more, fields}
+use Rattle.xdr_wire.specs.Reading.{Read, read_at}
+use Rattle.rpc_record.specs.Reply.{accept_data, accepted_reply, rejected_reply}
+use Rattle.rpc_record.specs.declared.answered.ReplyFault.{ReplyFault}
+use Rattle.rpc_record.specs.declared.answered.ReplyFault.TheVariants.{Header, Another, ProgUnavail, ProgMismatch, ProcUnavail, GarbageArgs, SystemErr, RpcMismatch, AuthError}
+
+-- rpc_msg of a reply up to the type of the message: the transaction and that type
+abbrev pub beginning : Xdr
+beginning = fields (uint ∷ uint ∷ [])
+
+-- reply_body: MSG_ACCEPTED or MSG_DENIED
+abbrev pub reply_body : Xdr
+reply_body = union (arm 0 accepted_reply (arm 1 rejected_reply no_more))
+
+abbrev pub ReplyResult : Type 0
+ReplyResult = Result (List ℕ) ReplyFault
+
+-- nothing stands behind a reply that has no results
+abbrev pub without_results : ReplyFault → List ℕ → ReplyResult
+without_results fault [] = Err fault
+without_results fault (b ∷ rest) = Err Header
+
+-- how an accepted call ended: behind SUCCESS stand the results
+abbrev pub accepted_as : Value accept_data → List ℕ → ReplyResult
+accepted_as (inl done) rest = Ok rest
+accepted_as (inr (inl done)) rest = without_results ProgUnavail rest
+accepted_as (inr (inr (inl versions))) rest = without_results (ProgMismatch versions.0 versions.1) rest
+accepted_as (inr (inr (inr (inl done)))) rest = without_results ProcUnavail rest
+accepted_as (inr (inr (inr (inr (inl done))))) rest = without_results GarbageArgs rest
+accepted_as (inr (inr (inr (inr (inr (inl done)))))) rest = without_results SystemErr rest
+accepted_as (inr (inr (inr (inr (inr (inr v)))))) rest = absurd v
+
+abbrev pub denied_as : Value rejected_reply → List ℕ → ReplyResult
+denied_as (inl versions) rest = without_results (RpcMismatch versions.0 versions.1) rest
+denied_as (inr (inl why)) rest = without_results (AuthError why) rest
+denied_as (inr (inr v)) rest = absurd v
+
+-- what the body of a reply says, whose verifier may be any
+abbrev pub ended : Value reply_body → List ℕ → ReplyResult
+ended (inl accepted) rest = accepted_as accepted.1 rest
+ended (inr (inl denied)) rest = denied_as denied rest
+ended (inr (inr v)) rest = absurd v
+
+-- the body can be read, or the record is no reply
+unfoldable pub body_says : Read (Value reply_body) → ReplyResult
+body_says (Ok (body, rest)) = ended body rest
+body_says (Err e) = Err Header
+
+-- The beginning can be read and is a reply's (1), or the record is no reply. It is to the transaction that is asked for.
+abbrev pub begun : ℕ → Read (Value beginning) → ReplyResult
+begun xid (Ok ((told, kind), rest)) =
+    if not (kind == 1) then Err Header
+    else if not (told == xid) then Err (Another told)
+    else body_says (read_at reply_body rest)
+begun xid (Err e) = Err Header
+
+-- what a record answers to the call of this transaction
+abbrev pub answered : ℕ → List ℕ → ReplyResult
+answered xid bytes = begun xid (read_at beginning bytes)

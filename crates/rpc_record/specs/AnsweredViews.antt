@@ -1,0 +1,22 @@
+-- What `read_reply` gives, without where the bytes lie; and how a client reads what a server replies.
+use Rattle.std.specs.Prelude.{ℕ, List, Result, Ok, Err}
+use Rattle.rpc_record.specs.declared.answered.ReplyFault.{ReplyFault}
+use Rattle.rpc_record.specs.declared.answered.ReplyFault.TheVariants.{ProgUnavail, ProgMismatch, ProcUnavail, GarbageArgs, RpcMismatch, AuthError}
+use Rattle.rpc_record.specs.declared.reply.Reply.{Reply}
+use Rattle.rpc_record.specs.declared.reply.Reply.TheVariants.{Success, ProgUnavail as Unavailable, ProgMismatch as Mismatch, ProcUnavail as NoProcedure, GarbageArgs as Garbage, RpcMismatch as NotSpoken, AuthError as NotTaken}
+use Rattle.rpc_record.specs.Reply.{auth_stat}
+use Rattle.rpc_record.specs.Answered.{ReplyResult, without_results}
+
+abbrev pub results : {X : Type 0} → (X → List ℕ) → Result X ReplyFault → ReplyResult
+results bytes (Ok lent) = Ok (bytes lent)
+results bytes (Err fault) = Err fault
+
+-- A reply that this server writes, with these bytes behind it: the results, or the cause where there are none.
+abbrev pub read_as : Reply → List ℕ → ReplyResult
+read_as Success found = Ok found
+read_as Unavailable found = without_results ProgUnavail found
+read_as Mismatch found = without_results (ProgMismatch 4 4) found
+read_as NoProcedure found = without_results ProcUnavail found
+read_as Garbage found = without_results GarbageArgs found
+read_as NotSpoken found = without_results (RpcMismatch 2 2) found
+read_as (NotTaken why) found = without_results (AuthError (auth_stat why)) found
