@@ -12,6 +12,7 @@ pub mod OpenFiles
 pub mod Running
 pub mod Saying
 pub mod Seen
+pub mod Setting
 pub mod Texts
 pub mod Writing
 pub mod Showing

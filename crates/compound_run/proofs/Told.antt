@@ -5,7 +5,7 @@ use Rattle.std.specs.Cmp.Lexicographic.{pointwise}
 use Rattle.xdr_wire.specs.Xdr.{Value}
 use Rattle.nfs_types.specs.Given.{given_set}
 use Rattle.nfs_types.specs.declared.status.Status.TheVariants as statuses
-use Rattle.nfs_ops.specs.Forms.{close_args, commit_args, verify_args, nverify_args, read_args, write_args, getattr_size}
+use Rattle.nfs_ops.specs.Forms.{close_args, commit_args, verify_args, nverify_args, read_args, setattr_args, write_args, getattr_size}
 use Rattle.nfs_ops.specs.Operations.{Known}
 use Rattle.nfs_ops.specs.Parts.{set_of, values_of, read_offset, read_count, read_gives}
 use Rattle.nfs_ops.specs.declared.op_kind.OpKind.TheVariants as kinds
@@ -20,6 +20,7 @@ use Rattle.compound_run.specs.Meaning.{here}
 use Rattle.compound_run.specs.Getattr.{told, told_size}
 use Rattle.compound_run.specs.Read.{most_of}
 use Rattle.compound_run.specs.Operations.{meaning}
+use Rattle.compound_run.specs.Setattr.{has_counts}
 use Rattle.compound_run.specs.Values.{values_at}
 use Rattle.compound_run.specs.Verify.{is_same}
 use Rattle.compound_run.specs.Disclosure.{DisclosesNothing}
@@ -143,3 +144,10 @@ write_seen c h v w = (refl, λ _. (refl, λ _. (refl, λ _. (refl, λ _. (refl, 
 
 pub write_discloses_nothing : (c : Context) (h : FileHandles) (v : Value write_args) → DisclosesNothing (meaning c h (Known kinds.Write v))
 write_discloses_nothing c h v = discloses_nothing (meaning c h (Known kinds.Write v)) (write_seen c h v)
+
+setattr_seen : (c : Context) (h : FileHandles) (v : Value setattr_args) → IsSeen (meaning c h (Known kinds.SetAttr v))
+unfolding has_counts
+setattr_seen c h v w = (refl, λ _. (refl, λ _. (refl, λ _. (refl, λ _. (refl, λ _. (refl, λ _. (refl, λ _. (refl, λ _. refl))))))))
+
+pub setattr_discloses_nothing : (c : Context) (h : FileHandles) (v : Value setattr_args) → DisclosesNothing (meaning c h (Known kinds.SetAttr v))
+setattr_discloses_nothing c h v = discloses_nothing (meaning c h (Known kinds.SetAttr v)) (setattr_seen c h v)

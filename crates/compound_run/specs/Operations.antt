@@ -30,6 +30,7 @@ use Rattle.compound_run.specs.Remove.{remove}
 use Rattle.compound_run.specs.Rename.{rename}
 use Rattle.compound_run.specs.Restorefh.{restorefh}
 use Rattle.compound_run.specs.Savefh.{savefh}
+use Rattle.compound_run.specs.Setattr.{setattr}
 use Rattle.compound_run.specs.Verify.{verify}
 use Rattle.compound_run.specs.Write.{write}
 
@@ -78,6 +79,7 @@ is_run (Known kinds.Remove v) = true
 is_run (Known kinds.Rename v) = true
 is_run (Known kinds.RestoreFh v) = true
 is_run (Known kinds.SaveFh v) = true
+is_run (Known kinds.SetAttr v) = true
 is_run (Known kinds.Verify v) = true
 is_run (Known kinds.Write v) = true
 is_run _ = false
@@ -122,6 +124,7 @@ body c h (Known kinds.Remove v) = remove v c h
 body c h (Known kinds.Rename v) = rename v c h
 body c h (Known kinds.RestoreFh v) = restorefh c h
 body c h (Known kinds.SaveFh v) = savefh c h
+body c h (Known kinds.SetAttr v) = setattr v c h
 body c h (Known kinds.Verify v) = verify v c h
 body c h (Known kinds.Write v) = write v c h
 body c h (Known k v) = refusing c h (row k).number statuses.NotSupp tt
@@ -138,7 +141,7 @@ meaning c h op = entered (entry_fault c op) (entry_may c op) (body c h op)
 
 -- ---- memory
 
--- Of those that are built CREATE, LINK, NVERIFY, RENAME, VERIFY and WRITE take memory, which may be refused.
+-- Of those that are built CREATE, LINK, NVERIFY, RENAME, SETATTR, VERIFY and WRITE take memory, which may be refused.
 abbrev pub takes_memory : Operation → Bool
 takes_memory (Known k v) = (row k).delays && is_run (Known k v)
 takes_memory _ = false

@@ -4,7 +4,7 @@ ghost use Rattle.rpc_record.specs.Identity.{Identity};
 ghost use Rattle.nfs_types.specs.declared.status.Status.{Status};
 ghost use Rattle.nfs_types.specs.declared.status.Status.TheVariants as statuses;
 ghost use Rattle.xdr_wire.specs.Xdr.{Value};
-ghost use Rattle.nfs_ops.specs.Forms.{close_args, commit_args, nverify_args, read_args, verify_args, write_args};
+ghost use Rattle.nfs_ops.specs.Forms.{close_args, commit_args, nverify_args, read_args, setattr_args, verify_args, write_args};
 ghost use Rattle.nfs_ops.specs.Operations.{Operation, Known};
 ghost use Rattle.nfs_ops.specs.declared.op_kind.OpKind.TheVariants as kinds;
 ghost use Rattle.nfs_ops.specs.Results.{Outcome};
@@ -42,7 +42,7 @@ pub fn access_is_exact()
         (row : IsRefusedByRow m.caller (whole r) m.questions) × EndsInRefusal m.caller m.number (judged_of r.world) (row.demands (whole r)) (traced m r) }
 {}
 
-/// An operation that takes no memory never answers DELAY: all but CREATE, LINK, NVERIFY, RENAME, VERIFY and WRITE. Nor does one that lacks its place or room.
+/// An operation that takes no memory never answers DELAY: all but CREATE, LINK, NVERIFY, RENAME, SETATTR, VERIFY and WRITE. Nor does one that lacks its place or room.
 pub fn others_never_delay()
     ensures { (c : Context) (op : Operation) (old new : Point) (result : Result Outcome Status) → may_delay c op ≡ false → Steps c op old result new → result ≢ Err statuses.Delay }
 {}
@@ -80,6 +80,11 @@ pub fn nverify_discloses_nothing()
 /// The same of READ.
 pub fn read_discloses_nothing()
     ensures { (c : Context) (h : FileHandles) (v : Value read_args) → DisclosesNothing (meaning c h (Known kinds.Read v)) }
+{}
+
+/// The same of SETATTR.
+pub fn setattr_discloses_nothing()
+    ensures { (c : Context) (h : FileHandles) (v : Value setattr_args) → DisclosesNothing (meaning c h (Known kinds.SetAttr v)) }
 {}
 
 /// The same of VERIFY.

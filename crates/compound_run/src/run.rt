@@ -59,6 +59,7 @@ fn is_run(op: &Op<'_>) -> bool
             | Op::Rename(_)
             | Op::RestoreFh
             | Op::SaveFh
+            | Op::SetAttr(_)
             | Op::Verify(_)
             | Op::Write(_)
     )
@@ -116,13 +117,13 @@ impl<A: Allocator + Copy> Export<A> {
             Op::Rename(args) => self.rename(context, *handles, op, args, out),
             Op::RestoreFh => self.restorefh(context, handles, out),
             Op::SaveFh => self.savefh(context, handles, out),
+            Op::SetAttr(args) => self.setattr(context, *handles, op, args, out),
             Op::Verify(args) => self.verify(context, *handles, op, &args.attributes, out),
             Op::Write(args) => self.write(context, *handles, op, args, out),
             Op::Illegal => Err(Status::OpIllegal),
             Op::Bad(_) => Err(Status::BadXdr),
             Op::Open(_)
             | Op::ReadDir(_)
-            | Op::SetAttr(_)
             | Op::ExchangeId(_)
             | Op::CreateSession(_)
             | Op::DestroySession(_)
