@@ -3,9 +3,11 @@
 #![tactic(auto)]
 
 #[cfg(test)]
-mod files;
+mod data;
 #[cfg(test)]
 mod heads;
+#[cfg(test)]
+mod judged;
 #[cfg(test)]
 mod limits;
 #[cfg(test)]
@@ -23,10 +25,14 @@ mod remembered;
 #[cfg(test)]
 mod removals;
 #[cfg(test)]
+mod rooms;
+#[cfg(test)]
 mod script;
 #[cfg(test)]
 mod servers;
 #[cfg(test)]
 mod spelling;
+#[cfg(test)]
+mod told;
 #[cfg(test)]
 mod trees;

@@ -3,7 +3,7 @@
 use crate::pictures::tree_text;
 use crate::servers::{BOB, server_of};
 use crate::spelling::call_of;
-use crate::trees::root;
+use crate::trees::one_file;
 use acl_list::{Entry, EntryKind, Who};
 use compound_run::{Args, MAX_RESULTS, RunEnd, Server};
 use linked_list_allocator::LocalHeap;
@@ -17,12 +17,24 @@ use who_book::Book;
 use xdr_wire::Writer;
 
 /// Calls, and whether their last operation may want memory. With ample memory each is OK.
-static CALLS: [(&str, bool); 12] = [
+static CALLS: [(&str, bool); 18] = [
     ("PUTROOTFH CREATE 2 'directory 0 0", true),
-    ("PUTROOTFH CREATE 5 ~100 'link 0 0", true),
+    ("PUTROOTFH CREATE 5 ~10 'link 0 0", true),
     ("PUTROOTFH LOOKUP 'link SAVEFH PUTROOTFH LINK ~ff", true),
     ("PUTROOTFH SAVEFH LOOKUP 'directory RENAME 'link ~80", true),
     ("PUTROOTFH CREATE 2 'many #3b", true),
+    ("PUTROOTFH LOOKUP 'f WRITE anon ^0 0 ~40", true),
+    (
+        "PUTROOTFH LOOKUP 'f VERIFY +12 ( 2 2 30 47 'EVERYONE@ 0 0 1f07ff 'EVERYONE@ )",
+        true,
+    ),
+    ("PUTROOTFH LOOKUP 'f NVERIFY +12 ( ~400 )", true),
+    ("PUTROOTFH LOOKUP 'f READ anon ^0 40", false),
+    (
+        "PUTROOTFH LOOKUP 'f GETATTR 3 ffffffff ffffffff ffffffff",
+        false,
+    ),
+    ("PUTROOTFH LOOKUP 'f COMMIT ^0 0", false),
     ("PUTROOTFH LOOKUP 'directory LOOKUPP", false),
     ("PUTROOTFH LOOKUP 'directory LOOKUP ~80 READLINK", false),
     ("PUTROOTFH LOOKUP 'directory LOOKUP ~80 GETFH", false),
@@ -40,7 +52,7 @@ const DELAY: [u8; 4] = [0, 0, 0x27, 0x18];
 /// What came of calls: whether one of each was delayed, how many since the heap is this one, and how many heaps had none.
 #[derive(Clone, Copy, Debug)]
 struct Seen {
-    delayed: [bool; 12],
+    delayed: [bool; 18],
     delays: u32,
     ample: u32,
 }
@@ -75,14 +87,14 @@ fn entry(kind: EntryKind, flags: u32, mask: u32) -> Entry {
     }
 }
 
-/// A server over this heap, with room for results. What changes its root is told. `None`: the heap is too small.
+/// A server over this heap, with room for results: of a root and a file `f`, where what changes and reads them is told. `None`: the heap is too small.
 fn build<'a>(alloc: Global, heap: &'a LocalHeap, hasher: RandomState) -> Option<Site<'a>> {
     let list = [
         entry(EntryKind::Audit, 0x30, 0x47),
         entry(EntryKind::Allow, 0, 0x1f_07ff),
     ];
     let out = Writer::new(heap, MAX_RESULTS).ok()?;
-    let tree = root(heap, &list).ok()?;
+    let tree = one_file(heap, &list).ok()?;
     let server = server_of(heap, Book::default(alloc), tree, hasher).ok()?;
     Some(Site { server, out })
 }
@@ -203,7 +215,7 @@ fn attempt(
 #[test]
 fn refused_growth_is_told(rt: HostRuntime) -> Result<(), Fail> {
     let mut seen = Seen {
-        delayed: [false; 12],
+        delayed: [false; 18],
         delays: 0,
         ample: 0,
     };
@@ -227,7 +239,8 @@ fn refused_growth_is_told(rt: HostRuntime) -> Result<(), Fail> {
     assert_eq!(rt;
         delayed,
         [
-            true, true, true, true, true, false, false, false, false, false, false, false
+            true, true, true, true, true, true, true, true, false, false, false, false, false,
+            false, false, false, false, false
         ]
     );
     assert!(rt; seen.ample > 0);

@@ -95,7 +95,7 @@ static RIGHTS: [Row; 10] = [
 ];
 
 /// What is read, and what isn't built or needs a session.
-static READ: [Row; 25] = [
+static READ: [Row; 24] = [
     (BOB, "PUTROOTFH ACCESS", "badxdr PUTROOTFH ok ACCESS badxdr"),
     (BOB, "PUTFH ~81", "badxdr PUTFH badxdr"),
     (BOB, "PUTFH 4", "badxdr PUTFH badxdr"),
@@ -112,11 +112,6 @@ static READ: [Row; 25] = [
         BOB,
         "CREATE 2 'x 9 0 0 0 0 0 0 0 0 0 0",
         "badxdr CREATE badxdr",
-    ),
-    (
-        BOB,
-        "PUTROOTFH GETATTR 1 2",
-        "ok PUTROOTFH ok GETATTR ok 1 2 4 2",
     ),
     (BOB, "LOCK", "notsupp LOCK notsupp"),
     (

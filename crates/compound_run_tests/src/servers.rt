@@ -131,6 +131,22 @@ pub fn play(rt: &impl Abort, alloc: Global, server: &mut Server, rows: &[Row]) -
     Ok(())
 }
 
+/// Sees that bob's call is answered so, at second 0.
+pub fn see_text(
+    rt: &impl Abort,
+    alloc: Global,
+    server: &mut Server,
+    call: &str,
+    answer: &str,
+) -> Result<(), Fail> {
+    let bytes = call_of(alloc, call)?;
+    let wanted = answer_of(alloc, answer)?;
+    let given = run(alloc, server, BOB, 0, &bytes)?;
+    let given = given.as_ref().map(|given| given.as_slice());
+    see_bytes(rt, given, &wanted, 0, call);
+    Ok(())
+}
+
 /// Sees that the trail has these lines, and has had no others.
 pub fn see_trail(
     rt: &impl Abort,

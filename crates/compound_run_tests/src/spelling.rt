@@ -8,13 +8,18 @@
 //! | `~n` | the same of so many letters `a` |
 //! | `@n` | the filehandle of an object |
 //! | `a>b` | a directory's change before and after |
+//! | `^n` | a number of 8 bytes |
+//! | `+a+b` | the bitmap of these attributes, whose numbers are decimal |
 //! | `#n` | attributes: a list of so many entries that allow user 5 to read |
+//! | `*n` | such entries |
+//! | `( words )` | the bytes of words with their length |
+//! | `anon`, `bypass`, `closed` | the special stateids, and that of an open that has ended |
 
 use std::alloc::Global;
 use std::test::Fail;
 
 /// Operations (RFC 8881, section 18).
-static OPERATIONS: [(&str, u32); 30] = [
+static OPERATIONS: [(&str, u32); 31] = [
     ("ACCESS", 3),
     ("CLOSE", 4),
     ("COMMIT", 5),
@@ -36,6 +41,7 @@ static OPERATIONS: [(&str, u32); 30] = [
     ("RENAME", 29),
     ("RESTOREFH", 31),
     ("SAVEFH", 32),
+    ("SETATTR", 34),
     ("VERIFY", 37),
     ("WRITE", 38),
     ("EXCHANGE_ID", 42),
@@ -48,7 +54,7 @@ static OPERATIONS: [(&str, u32); 30] = [
 ];
 
 /// Statuses (RFC 8881, section 15.1).
-static STATUSES: [(&str, u32); 31] = [
+static STATUSES: [(&str, u32); 32] = [
     ("ok", 0),
     ("perm", 1),
     ("noent", 2),
@@ -78,9 +84,26 @@ static STATUSES: [(&str, u32); 31] = [
     ("badchar", 10040),
     ("badname", 10041),
     ("illegal", 10044),
+    ("reptoobig", 10066),
     ("toomanyops", 10070),
     ("wrongtype", 10083),
 ];
+
+/// Stateids (RFC 8881, sections 8.2.3 and 18.2).
+static STATEIDS: [(&str, [u32; 4]); 3] = [
+    ("anon", [0, 0, 0, 0]),
+    ("bypass", [0xffff_ffff; 4]),
+    ("closed", [0xffff_ffff, 0, 0, 0]),
+];
+
+fn stateid_of(word: &str) -> Option<[u32; 4]> {
+    for (name, stateid) in &STATEIDS {
+        if *name == word {
+            return Some(*stateid);
+        }
+    }
+    None
+}
 
 fn number_of(names: &[(&str, u32)], word: &str) -> Option<u32> {
     for (name, number) in names {
@@ -126,13 +149,72 @@ fn put_letters(out: &mut Vec<u8>, count: u32) -> Result<(), Fail> {
     Ok(())
 }
 
-fn put_list(out: &mut Vec<u8>, count: u32) -> Result<(), Fail> {
-    let bytes = count.saturating_mul(20).saturating_add(4);
-    put_all(out, &[1, 0x1000, bytes, count])?;
+fn put_entries(out: &mut Vec<u8>, count: u32) -> Result<(), Fail> {
     for _ in 0..count {
         put_all(out, &[0, 0, 1, 1, 0x3500_0000])?;
     }
     Ok(())
+}
+
+fn put_list(out: &mut Vec<u8>, count: u32) -> Result<(), Fail> {
+    let bytes = count.saturating_mul(20).saturating_add(4);
+    put_all(out, &[1, 0x1000, bytes, count])?;
+    put_entries(out, count)
+}
+
+fn put_long(out: &mut Vec<u8>, digits: &str) -> Result<(), Fail> {
+    let number = u64::from_str_radix(digits, 16)?;
+    out.extend_from_slice(&number.to_be_bytes())?;
+    Ok(())
+}
+
+/// The words of a bitmap of attributes below 96.
+fn bits_of(numbers: &str) -> Result<[u32; 3], Fail> {
+    let mut bits = [0u32; 3];
+    for digits in numbers.split('+') {
+        let number: u32 = digits.parse()?;
+        if let Some(word) = bits.get_mut((number / 32) as usize) {
+            *word |= 1 << (number % 32);
+        }
+    }
+    Ok(bits)
+}
+
+/// Puts a bitmap without trailing words of zero.
+fn put_bits(out: &mut Vec<u8>, numbers: &str) -> Result<(), Fail> {
+    match bits_of(numbers)? {
+        [a, 0, 0] => put_all(out, &[1, a]),
+        [a, b, 0] => put_all(out, &[2, a, b]),
+        [a, b, c] => put_all(out, &[3, a, b, c]),
+    }
+}
+
+/// Sets the length that stands before what follows it.
+fn close(out: &mut Vec<u8>, start: usize) -> Result<(), Fail> {
+    let len = out.len().saturating_sub(start).saturating_sub(4);
+    let bytes = u32::try_from(len)?.to_be_bytes();
+    for (index, byte) in bytes.iter().enumerate() {
+        if let Some(place) = out.get_mut(start.saturating_add(index)) {
+            *place = *byte;
+        }
+    }
+    Ok(())
+}
+
+/// Puts the bytes of a word that stands for attributes. `false`: it is another.
+fn put_attributes(out: &mut Vec<u8>, word: &str) -> Result<bool, Fail> {
+    if let Some(count) = word.strip_prefix('#') {
+        put_list(out, hex(count)?)?;
+    } else if let Some(count) = word.strip_prefix('*') {
+        put_entries(out, hex(count)?)?;
+    } else if let Some(numbers) = word.strip_prefix('+') {
+        put_bits(out, numbers)?;
+    } else if let Some(digits) = word.strip_prefix('^') {
+        put_long(out, digits)?;
+    } else {
+        return Ok(false);
+    }
+    Ok(true)
 }
 
 /// Puts the bytes of a word.
@@ -143,14 +225,17 @@ fn put_word(out: &mut Vec<u8>, word: &str) -> Result<(), Fail> {
     if let Some(count) = word.strip_prefix('~') {
         return put_letters(out, hex(count)?);
     }
-    if let Some(count) = word.strip_prefix('#') {
-        return put_list(out, hex(count)?);
+    if put_attributes(out, word)? {
+        return Ok(());
     }
     if let Some(object) = word.strip_prefix('@') {
         return put_all(out, &[16, 0, 0, 0, hex(object)?]);
     }
     if let Some((before, after)) = word.split_once('>') {
         return put_all(out, &[1, 0, hex(before)?, 0, hex(after)?]);
+    }
+    if let Some(stateid) = stateid_of(word) {
+        return put_all(out, &stateid);
     }
     if let Some(number) = number_of(&OPERATIONS, word).or(number_of(&STATUSES, word)) {
         return put(out, number);
@@ -171,8 +256,16 @@ fn count_of(words: &str) -> u32 {
 
 /// Puts the bytes of words.
 pub fn spell(out: &mut Vec<u8>, words: &str) -> Result<(), Fail> {
+    let mut start = 0usize;
     for word in words.split_whitespace() {
-        put_word(out, word)?;
+        match word {
+            "(" => {
+                start = out.len();
+                put(out, 0)?;
+            }
+            ")" => close(out, start)?,
+            _ => put_word(out, word)?,
+        }
     }
     Ok(())
 }

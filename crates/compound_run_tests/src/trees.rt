@@ -62,7 +62,7 @@ fn list_of(alloc: Global, words: &str) -> Result<AclList, Fail> {
 pub const ALL: &str = "A:0:1f07ff:EVERYONE@";
 
 /// The next tick.
-fn now(tree: &Tree) -> Option<At>
+fn now<A: Allocator + Copy>(tree: &Tree<A>) -> Option<At>
     ensures { IfSome result (λ at. IsTick tree.now at.tick) }
 {
     let tick = tree.next_tick();
@@ -75,14 +75,14 @@ fn now(tree: &Tree) -> Option<At>
     })
 }
 
-fn kind(tree: &Tree, number: u64) -> Option<Kind>
+fn kind<A: Allocator + Copy>(tree: &Tree<A>, number: u64) -> Option<Kind>
     ensures { result ≡ kind_of tree.now number }
 {
     tree.object(number).map(|node| node.kind())
 }
 
 /// A root with this list, of owner 0 and group 0.
-pub fn root<A: Allocator + Copy>(alloc: A, list: &[Entry]) -> Result<Tree<A>, TreeFault> {
+fn root<A: Allocator + Copy>(alloc: A, list: &[Entry]) -> Result<Tree<A>, TreeFault> {
     let list = AclList::from_slice(alloc, list)?;
     if !is_bounded(&list) {
         return Err(TreeFault::NoSpc);
@@ -121,6 +121,39 @@ pub fn add(
         high: 0,
     };
     Ok(tree.add(directory, name, new, at)?)
+}
+
+/// Adds the file `f` of owner 0 and group 0 with this list, without bytes, to the root.
+fn add_file<A: Allocator + Copy>(
+    alloc: A,
+    tree: &mut Tree<A>,
+    list: &[Entry],
+) -> Result<(), TreeFault> {
+    let list = AclList::from_slice(alloc, list)?;
+    let root = tree.root();
+    let (Some(at), Some(Kind::Directory)) = (now(tree), kind(tree, root)) else {
+        return Err(TreeFault::NoEnt);
+    };
+    if !is_bounded(&list) {
+        return Err(TreeFault::NoSpc);
+    }
+    let new = NewObject {
+        kind: Kind::File,
+        bytes: Vec::new(alloc),
+        owner: 0,
+        group: 0,
+        list,
+        high: 0,
+    };
+    tree.add(root, b"f", new, at)?;
+    Ok(())
+}
+
+/// A root and the file `f` in it, both with this list.
+pub fn one_file<A: Allocator + Copy>(alloc: A, list: &[Entry]) -> Result<Tree<A>, TreeFault> {
+    let mut tree = root(alloc, list)?;
+    add_file(alloc, &mut tree, list)?;
+    Ok(tree)
 }
 
 /// Gives a link a name more in the root.

@@ -79,12 +79,12 @@ fn see_in_room(
     room: usize,
 ) -> Result<(), Fail> {
     let (is_written, left, written) = written_in(alloc, groups, room)?;
-    assert_eq!(rt; is_written, room >= bytes.len(), "{groups:?} in {room}");
+    assert_eq!(rt; is_written, room >= bytes.len(), "in {room}");
     if is_written {
-        assert_eq!(rt; written.as_slice(), bytes, "{groups:?} in {room}");
+        assert_eq!(rt; written.as_slice(), bytes, "in {room}");
     } else {
-        assert_eq!(rt; left, room, "{groups:?} in {room}");
-        assert_eq!(rt; written.len(), 0, "{groups:?} in {room}");
+        assert_eq!(rt; left, room, "in {room}");
+        assert_eq!(rt; written.len(), 0, "in {room}");
     }
     Ok(())
 }
