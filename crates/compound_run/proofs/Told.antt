@@ -1,13 +1,16 @@
 -- Operations on one object tell a caller nothing but what the caller may see.
 use Rattle.std.proofs.Common.{◌≡◌, ℕ, List, refl, ap}
-use Rattle.std.specs.Prelude.{◌+◌, nat_le, not, nat_eq, length, take, drop}
+use Rattle.std.specs.Prelude.{◌+◌, nat_le, not, nat_eq, length, take, drop, Option, Some, None}
 use Rattle.std.specs.Cmp.Lexicographic.{pointwise}
 use Rattle.xdr_wire.specs.Xdr.{Value}
+use Rattle.rpc_record.specs.Identity.{Identity}
+use Rattle.nfs_types.specs.Forms.{stateid}
 use Rattle.nfs_types.specs.Given.{given_set}
+use Rattle.nfs_types.specs.Sent.{Wanted}
 use Rattle.nfs_types.specs.declared.status.Status.TheVariants as statuses
 use Rattle.nfs_ops.specs.Forms.{close_args, commit_args, verify_args, nverify_args, read_args, setattr_args, write_args, getattr_size}
 use Rattle.nfs_ops.specs.Operations.{Known}
-use Rattle.nfs_ops.specs.Parts.{set_of, values_of, read_offset, read_count, read_gives}
+use Rattle.nfs_ops.specs.Parts.{set_of, values_of, set_stateid, read_offset, read_count, read_gives}
 use Rattle.nfs_ops.specs.declared.op_kind.OpKind.TheVariants as kinds
 use Rattle.nfs_ops.specs.Results.{Done}
 use Rattle.acl_list.specs.declared.mask.TheConstants.{READ_DATA}
@@ -20,7 +23,7 @@ use Rattle.compound_run.specs.Meaning.{here}
 use Rattle.compound_run.specs.Getattr.{told, told_size}
 use Rattle.compound_run.specs.Read.{most_of}
 use Rattle.compound_run.specs.Operations.{meaning}
-use Rattle.compound_run.specs.Setattr.{has_counts}
+use Rattle.compound_run.specs.Setattr.{has_counts, size_fault, wanted_on}
 use Rattle.compound_run.specs.Values.{values_at}
 use Rattle.compound_run.specs.Verify.{is_same}
 use Rattle.compound_run.specs.Disclosure.{DisclosesNothing}
@@ -145,9 +148,31 @@ write_seen c h v w = (refl, λ _. (refl, λ _. (refl, λ _. (refl, λ _. (refl, 
 pub write_discloses_nothing : (c : Context) (h : FileHandles) (v : Value write_args) → DisclosesNothing (meaning c h (Known kinds.Write v))
 write_discloses_nothing c h v = discloses_nothing (meaning c h (Known kinds.Write v)) (write_seen c h v)
 
-setattr_seen : (c : Context) (h : FileHandles) (v : Value setattr_args) → IsSeen (meaning c h (Known kinds.SetAttr v))
+size_seen : (w : Realm) (c : Context) (number : ℕ) (id : Value stateid) (size : Option ℕ) → size_fault size c number id (whole w) ≡ size_fault size c number id (view w c.caller)
+size_seen w c number id None = refl
+size_seen w c number id (Some size) = refl
+
+counts_seen : (w : Realm) (caller : Identity) (wanted : Wanted) → has_counts wanted (whole w) ≡ has_counts wanted (view w caller)
 unfolding has_counts
-setattr_seen c h v w = (refl, λ _. (refl, λ _. (refl, λ _. (refl, λ _. (refl, λ _. (refl, λ _. (refl, λ _. (refl, λ _. refl))))))))
+counts_seen w caller wanted = refl
+
+setattr_seen : (c : Context) (h : FileHandles) (v : Value setattr_args) → IsSeen (meaning c h (Known kinds.SetAttr v))
+setattr_seen c h v w = (
+  refl,
+  λ _. (
+    refl,
+    λ _. (
+      refl,
+      λ _. (
+        refl,
+        λ _. (
+          size_seen w c (here h) (set_stateid v) (wanted_on c v (here h) (whole w)).size,
+          λ _. (refl, λ _. (refl, λ _. (counts_seen w c.caller (wanted_on c v (here h) (whole w)), λ _. refl))),
+        ),
+      ),
+    ),
+  ),
+)
 
 pub setattr_discloses_nothing : (c : Context) (h : FileHandles) (v : Value setattr_args) → DisclosesNothing (meaning c h (Known kinds.SetAttr v))
 setattr_discloses_nothing c h v = discloses_nothing (meaning c h (Known kinds.SetAttr v)) (setattr_seen c h v)
