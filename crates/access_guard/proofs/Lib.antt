@@ -1,4 +1,5 @@
 pub mod Lines
+pub mod Bounds
 pub mod Telling
 pub mod Remembering
 pub mod Calls
