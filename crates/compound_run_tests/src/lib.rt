@@ -5,6 +5,8 @@
 #[cfg(test)]
 mod data;
 #[cfg(test)]
+mod governed;
+#[cfg(test)]
 mod heads;
 #[cfg(test)]
 mod judged;
@@ -30,6 +32,8 @@ mod rooms;
 mod script;
 #[cfg(test)]
 mod servers;
+#[cfg(test)]
+mod setting;
 #[cfg(test)]
 mod spelling;
 #[cfg(test)]

@@ -17,7 +17,7 @@ use who_book::Book;
 use xdr_wire::Writer;
 
 /// Calls, and whether their last operation may want memory. With ample memory each is OK.
-static CALLS: [(&str, bool); 18] = [
+static CALLS: [(&str, bool); 20] = [
     ("PUTROOTFH CREATE 2 'directory 0 0", true),
     ("PUTROOTFH CREATE 5 ~10 'link 0 0", true),
     ("PUTROOTFH LOOKUP 'link SAVEFH PUTROOTFH LINK ~ff", true),
@@ -35,6 +35,11 @@ static CALLS: [(&str, bool); 18] = [
         false,
     ),
     ("PUTROOTFH LOOKUP 'f COMMIT ^0 0", false),
+    (
+        "PUTROOTFH LOOKUP 'f SETATTR anon +4+12 ( ^1400 3b *3a 0 0 1f07ff 'EVERYONE@ )",
+        true,
+    ),
+    ("PUTROOTFH LOOKUP 'f SETATTR anon +33 ( 1ff )", true),
     ("PUTROOTFH LOOKUP 'directory LOOKUPP", false),
     ("PUTROOTFH LOOKUP 'directory LOOKUP ~80 READLINK", false),
     ("PUTROOTFH LOOKUP 'directory LOOKUP ~80 GETFH", false),
@@ -52,7 +57,7 @@ const DELAY: [u8; 4] = [0, 0, 0x27, 0x18];
 /// What came of calls: whether one of each was delayed, how many since the heap is this one, and how many heaps had none.
 #[derive(Clone, Copy, Debug)]
 struct Seen {
-    delayed: [bool; 18],
+    delayed: [bool; 20],
     delays: u32,
     ample: u32,
 }
@@ -215,7 +220,7 @@ fn attempt(
 #[test]
 fn refused_growth_is_told(rt: HostRuntime) -> Result<(), Fail> {
     let mut seen = Seen {
-        delayed: [false; 18],
+        delayed: [false; 20],
         delays: 0,
         ample: 0,
     };
@@ -239,8 +244,8 @@ fn refused_growth_is_told(rt: HostRuntime) -> Result<(), Fail> {
     assert_eq!(rt;
         delayed,
         [
-            true, true, true, true, true, true, true, true, false, false, false, false, false,
-            false, false, false, false, false
+            true, true, true, true, true, true, true, true, false, false, false, true, true, false,
+            false, false, false, false, false, false
         ]
     );
     assert!(rt; seen.ample > 0);

@@ -80,7 +80,7 @@ fn rooms() -> &'static [Row] {
 }
 
 /// The operations with their arguments.
-static OPERATIONS: [(&str, &str); 20] = [
+static OPERATIONS: [(&str, &str); 21] = [
     ("ACCESS", "3f"),
     ("CLOSE", "0 anon"),
     ("COMMIT", "^0 0"),
@@ -99,12 +99,18 @@ static OPERATIONS: [(&str, &str); 20] = [
     ("RENAME", "'x 'y"),
     ("RESTOREFH", ""),
     ("SAVEFH", ""),
+    ("SETATTR", "anon 0 0"),
     ("VERIFY", "0 0"),
     ("WRITE", "anon ^0 0 0"),
 ];
 
 fn operations() -> &'static [(&'static str, &'static str)] {
     &OPERATIONS
+}
+
+/// A refused SETATTR alone gives more than its status: the empty set.
+fn tail_of(operation: &str) -> &'static str {
+    if operation == "SETATTR" { "0" } else { "" }
 }
 
 /// Sees that an operation isn't run where 252 bytes are left.
@@ -114,11 +120,12 @@ fn see_operation(
     server: &mut Server,
     (operation, arguments): (&str, &str),
 ) -> Result<(), Fail> {
+    let tail = tail_of(operation);
     let call = format!(in alloc;
         "PUTFH @2 READ anon ^0 8000 READ anon ^0 7ea8 {operation} {arguments}"
     )?;
     let answer = format!(in alloc;
-        "reptoobig PUTFH ok READ ok 0 ~8000 READ ok 0 ~7ea8 {operation} reptoobig"
+        "reptoobig PUTFH ok READ ok 0 ~8000 READ ok 0 ~7ea8 {operation} reptoobig {tail}"
     )?;
     see_text(rt, alloc, server, call.as_str(), answer.as_str())
 }
