@@ -1,5 +1,5 @@
 -- SETATTR (RFC 8881, section 18.30): attributes of the current object are set, all of those that are sent or none.
-use Rattle.std.specs.Prelude.{ℕ, ◌+◌, ◌^◌, Bool, true, false, ◌&&◌, ◌||◌, nat_le, if◌then◌else◌, List, [], ◌∷◌, is_some, is_none, unwrap_or, Option, Some, None, Result}
+use Rattle.std.specs.Prelude.{ℕ, ◌+◌, ◌^◌, Bool, true, false, ◌&&◌, ◌||◌, nat_le, if◌then◌else◌, [], ◌∷◌, is_some, is_none, unwrap_or, Option, Some, None, Result}
 use Rattle.std.specs.Option.{option_map_or}
 use Rattle.xdr_wire.specs.Xdr.{Value}
 use Rattle.acl_list.specs.declared.entry.Kind.{Kind}
@@ -25,7 +25,7 @@ use Rattle.compound_run.specs.Context.{Context}
 use Rattle.compound_run.specs.Sight.{Sight, kind_at}
 use Rattle.compound_run.specs.Faults.{MayFault, fault_in, fault_in_may}
 use Rattle.compound_run.specs.ArgumentFaults.{wanted_may}
-use Rattle.compound_run.specs.Questions.{Question, Holds, Valid}
+use Rattle.compound_run.specs.Questions.{Holds, Valid}
 use Rattle.compound_run.specs.Stateids.{stateid_fault, stateid_may}
 use Rattle.compound_run.specs.Create.{wanted_in}
 use Rattle.compound_run.specs.Rows.{sized_row}
