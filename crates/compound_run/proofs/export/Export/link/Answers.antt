@@ -1,5 +1,5 @@
-use Rattle.std.proofs.Common.{rules, ◌≡◌, ◌≢◌, ◌<◌, ℕ, true, false, refl, sym, ap, subst}
-use Rattle.std.proofs.lemmas.Bool.{lt-ltb}
+use Rattle.std.proofs.Common.{rules, ◌≡◌, ◌≢◌, ◌<◌, ◌≤◌, ℕ, true, false, refl, sym, ap, subst}
+use Rattle.std.proofs.lemmas.Bool.{lt-ltb, le-ltb}
 use Rattle.std.specs.Prelude.{[], ◌∷◌, nat_lt, Option, Some, None}
 use Rattle.std.specs.Option.{option_map_or}
 use Rattle.acl_list.specs.declared.entry.Kind.{Kind}
@@ -43,3 +43,18 @@ returns g c =
     behind c.args.context.room (link c.args.name.now (context_of c.args.context) c.args.handles)
     (is_nameable c.in_ok-directory.directory ∷ []) c.args.self.now c.args.handles c.args.out.now lines c.grants_first.new.self _ _ _ _
     (search (rules, may_there, plain_there)) (search (rules, may_there, plain_there)) (search rules) c.name_linked.ensures
+
+pub returns-then-links-ge-MAX_LINKS : goal.returns-then-links-ge-MAX_LINKS
+returns-then-links-ge-MAX_LINKS g c =
+    let linked = c.in_ok-linked.linked in
+    let same : c.grants_first.new.self.tree.world ≡ c.args.self.now.tree.world = ap (λ e. e.tree.world) c.grants_first.ensures.state in
+    let here : MAX_LINKS ≤ link_count c.grants_first.new.self.tree.world.names linked = search rules in
+    let many = subst (λ (w : World). MAX_LINKS ≤ link_count w.names linked) same here in
+    let full = le-ltb (link_count c.args.self.now.tree.world.names linked) MAX_LINKS many in
+    let other : kind_of c.grants_first.new.self.tree.world linked ≢ Some Directory = search rules in
+    let plain = no_directory (kind_of c.args.self.now.tree.world linked) (subst (λ (w : World). kind_of w linked ≢ Some Directory) same other) in
+    let saved : c.args.handles.saved ≡ Some linked = search rules in
+    let there_is : there c.args.handles ≡ linked = ap number_in saved in
+    let full_there = subst (λ (n : ℕ). nat_lt (link_count c.args.self.now.tree.world.names n) MAX_LINKS ≡ false) (sym there_is) full in
+    let plain_there = subst (λ (n : ℕ). option_map_or is_directory (kind_of c.args.self.now.tree.world n) false ≡ false) (sym there_is) plain in
+    search (rules, full_there, plain_there)
