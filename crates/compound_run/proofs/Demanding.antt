@@ -48,9 +48,9 @@ asked_next {A} caller op demands old now i d tree inv is granted state few =
     let l = lines lists caller op d in
     let yes : is_granted (decision lists caller d) ≡ true = subst (λ (j : Lists). is_granted (decision j caller d) ≡ true) same granted in
     let told : tree ≡ record now.tree { log = held l now.tree.log } =
-        subst (λ (j : Lists). tree ≡ record now.tree { log = held (lines j caller op d) now.tree.log }) same state in
+    subst (λ (j : Lists). tree ≡ record now.tree { log = held (lines j caller op d) now.tree.log }) same state in
     let left : demand_lines lists caller op (drop i demands) ≡ l ++ demand_lines lists caller op rest =
-        ap (λ (ds : List (Option Demand)). demand_lines lists caller op ds) is ∙ ap (λ (b : Bool). l ++ (if b then demand_lines lists caller op rest else [])) yes in
+    ap (λ (ds : List (Option Demand)). demand_lines lists caller op ds) is ∙ ap (λ (b : Bool). l ++ (if b then demand_lines lists caller op rest else [])) yes in
     let size = few_lines d in
     let count : lists_in (drop i demands) ≡ lists_of d + lists_in rest = ap (λ (ds : List (Option Demand)). lists_in ds) is in
     record {

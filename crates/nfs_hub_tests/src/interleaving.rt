@@ -105,7 +105,11 @@ fn see_order(
     calls: &Calls<'_>,
     (first, second): (&[u8], &[u8]),
 ) {
-    let wanted = if d_first { (first, second) } else { (second, first) };
+    let wanted = if d_first {
+        (first, second)
+    } else {
+        (second, first)
+    };
     let told = are_answered(hub, order, calls, wanted);
     assert!(rt; told == Ok((true, true, true)), "{order}");
 }
