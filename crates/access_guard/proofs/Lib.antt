@@ -1,5 +1,4 @@
 pub mod Lines
-pub mod Bounds
 pub mod Telling
 pub mod Remembering
 pub mod Calls

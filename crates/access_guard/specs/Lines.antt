@@ -49,9 +49,12 @@ watch_line caller op object mask granted j (index, e) =
     })) (line_kind e.kind) None
 
 -- the lines of an object's entries, in the order of its list
+abbrev pub lines_of : Option Judged → Identity → ℕ → Bool → ℕ → ℕ → List Line
+lines_of o caller op granted object mask =
+    option_map_or (λ j. filter_map (watch_line caller op object mask granted j) (enumerate_from 0 j.list)) o []
+
 abbrev pub watch_lines : Lists → Identity → ℕ → Bool → ℕ → ℕ → List Line
-watch_lines lists caller op granted object mask =
-    option_map_or (λ j. filter_map (watch_line caller op object mask granted j) (enumerate_from 0 j.list)) (lists object) []
+watch_lines lists caller op granted object mask = lines_of (lists object) caller op granted object mask
 
 -- ---- the DENY line
 

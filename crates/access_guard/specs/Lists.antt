@@ -22,12 +22,18 @@ abbrev pub names : Judged → Identity → Who → Bool
 names j caller = is_true_for j.owner j.group caller
 
 -- what the list of an object answers to a mask: an object that isn't there grants nothing
+abbrev pub verdict_of : Option Judged → Identity → ℕ → Verdict
+verdict_of o caller mask = option_map_or (λ j. verdict (names j caller) j.list mask) o (Missing 0)
+
 abbrev pub verdict_at : Lists → Identity → ℕ → ℕ → Verdict
-verdict_at lists caller object mask = option_map_or (λ j. verdict (names j caller) j.list mask) (lists object) (Missing 0)
+verdict_at lists caller object mask = verdict_of (lists object) caller mask
 
 -- which entry of an object's list decides the bit of a place
+abbrev pub mention_of : Option Judged → Identity → ℕ → Mention
+mention_of o caller place = option_map_or (λ j. mentioned (mention (names j caller) j.list place)) o Unmentioned
+
 abbrev pub mention_at : Lists → Identity → ℕ → ℕ → Mention
-mention_at lists caller object place = option_map_or (λ j. mentioned (mention (names j caller) j.list place)) (lists object) Unmentioned
+mention_at lists caller object place = mention_of (lists object) caller place
 
 -- what the list of the object comes to for the caller
 abbrev pub sum_of : Judged → Identity → Summary
@@ -42,8 +48,11 @@ abbrev pub granted_at : Lists → Identity → ℕ → ℕ
 granted_at lists caller object = option_map_or (λ j. (sum_of j caller).granted) (lists object) 0
 
 -- how many entries an object's list has
+abbrev pub entries_of : Option Judged → ℕ
+entries_of o = option_map_or (λ j. length j.list) o 0
+
 abbrev pub entries_at : Lists → ℕ → ℕ
-entries_at lists object = option_map_or (λ j. length j.list) (lists object) 0
+entries_at lists object = entries_of (lists object)
 
 -- a list that comes to this grants each bit of the mask
 abbrev pub grants : Summary → ℕ → Bool

@@ -11,14 +11,16 @@ ghost use Rattle.access_guard.specs.Decisions.{decision, is_granted};
 ghost use Rattle.access_guard.specs.Lines.{lines, most_lines};
 ghost use Rattle.access_guard.specs.Log.{held, settled};
 ghost use Rattle.node_tree.specs.World.{World};
-ghost use Rattle.access_guard.specs.Memory.{Agrees, Decides, LooksUpAt};
+ghost use Rattle.access_guard.specs.Memory.{Agrees, Decides, LooksUpAt, walked};
 ghost use Rattle.access_guard.specs.State.{fresh};
 
-use crate::decision::Decision;
+use crate::deciding::{mention_of, parent_mask, removal, verdict_of};
+use crate::decision::{Decision, answer};
 use crate::line::Line;
 use crate::memory::{Key, Summaries};
-use crate::trail::{MOST_HELD, Trail};
+use crate::trail::{Asked, MOST_HELD, Trail};
 use access_rows::Demand;
+use acl_list::mask::{DELETE, DELETE_CHILD};
 use acl_list::{Caller, Summary};
 use node_tree::Tree;
 use std::alloc::{AllocError, Allocator, Global};
@@ -95,8 +97,95 @@ impl<A: Allocator + Copy> Guard<A> {
         if self.memory.tells(demand, tree, caller) {
             return Decision::Granted;
         }
-        self.memory.walk(demand, tree);
-        self.trail.decide(demand, tree, caller, op)
+        self.decide_by_lists(demand, tree, caller, op)
+    }
+
+    /// What the lists answer to a demand, which are walked and counted, with its lines.
+    fn decide_by_lists<B: Allocator + Copy>(
+        &mut self,
+        demand: Demand,
+        tree: &Tree<B>,
+        caller: &Caller,
+        op: u32,
+    ) -> Decision
+        requires { length self.old.log.held + most_lines demand ≤ MOST_HELD }
+        ensures decision { result ≡ decision (judged_of tree.now) caller.now demand }
+        ensures lines { self.new.log ≡ held (lines (judged_of tree.now) caller.now op demand) self.old.log }
+        ensures few { IsTrue (is_granted result) → length self.new.log.held + 1 ≤ length self.old.log.held + most_lines demand }
+        ensures counted { self.new.memory ≡ walked (judged_of tree.now) demand self.old.memory }
+    {
+        match demand {
+            Demand::Bits { object, mask } => self.decide_bits(object, mask, tree, caller, op),
+            Demand::Removal { parent, target } => {
+                self.decide_removal(parent, target, tree, caller, op)
+            }
+        }
+    }
+
+    fn decide_bits<B: Allocator + Copy>(
+        &mut self,
+        object: u64,
+        mask: u32,
+        tree: &Tree<B>,
+        caller: &Caller,
+        op: u32,
+    ) -> Decision
+        requires { length self.old.log.held + most_lines (Demand.Bits object mask) ≤ MOST_HELD }
+        ensures decision { result ≡ decision (judged_of tree.now) caller.now (Demand.Bits object mask) }
+        ensures lines { self.new.log ≡ held (lines (judged_of tree.now) caller.now op (Demand.Bits object mask)) self.old.log }
+        ensures few { IsTrue (is_granted result) → length self.new.log.held + 1 ≤ length self.old.log.held + most_lines (Demand.Bits object mask) }
+        ensures counted { self.new.memory ≡ walked (judged_of tree.now) (Demand.Bits object mask) self.old.memory }
+    {
+        let opened = self.memory.open(object, tree);
+        let decision = answer(object, mask, verdict_of(&opened, caller, mask));
+        let granted = decision.is_granted();
+        let of_object = Asked {
+            op,
+            object,
+            mask,
+            granted,
+        };
+        self.trail.watch(of_object, &opened, caller);
+        self.trail.deny(op, decision, caller);
+        decision
+    }
+
+    fn decide_removal<B: Allocator + Copy>(
+        &mut self,
+        parent: u64,
+        target: u64,
+        tree: &Tree<B>,
+        caller: &Caller,
+        op: u32,
+    ) -> Decision
+        requires { length self.old.log.held + most_lines (Demand.Removal parent target) ≤ MOST_HELD }
+        ensures decision { result ≡ decision (judged_of tree.now) caller.now (Demand.Removal parent target) }
+        ensures lines { self.new.log ≡ held (lines (judged_of tree.now) caller.now op (Demand.Removal parent target)) self.old.log }
+        ensures few { IsTrue (is_granted result) → length self.new.log.held + 1 ≤ length self.old.log.held + most_lines (Demand.Removal parent target) }
+        ensures counted { self.new.memory ≡ walked (judged_of tree.now) (Demand.Removal parent target) self.old.memory }
+    {
+        let opened_target = self.memory.open(target, tree);
+        let opened_parent = self.memory.open(parent, tree);
+        let on_target = mention_of(&opened_target, caller, DELETE);
+        let on_parent = mention_of(&opened_parent, caller, DELETE_CHILD);
+        let decision = removal(&opened_parent, caller, parent, target, on_target, on_parent);
+        let granted = decision.is_granted();
+        let of_target = Asked {
+            op,
+            object: target,
+            mask: DELETE,
+            granted,
+        };
+        let of_parent = Asked {
+            op,
+            object: parent,
+            mask: parent_mask(on_target, on_parent),
+            granted,
+        };
+        self.trail.watch(of_target, &opened_target, caller);
+        self.trail.watch(of_parent, &opened_parent, caller);
+        self.trail.deny(op, decision, caller);
+        decision
     }
 
     /// The bits that an object's list grants the caller, of all 32: none where there is no such object. No line is written. The

@@ -1,5 +1,5 @@
 //! What lists come to for those who asked, as far as it is remembered.
-ghost use Rattle.std.specs.Prelude.{◌≡◌, ◌<◌, ◌^◌, ℕ, [], length, Some, IfOk, IsTrue};
+ghost use Rattle.std.specs.Prelude.{◌≡◌, ◌<◌, ◌≤◌, ◌^◌, ℕ, [], length, Some, IfOk, IsTrue};
 ghost use Rattle.std.specs.Map.{lookup};
 ghost use Rattle.std.specs.Map.Iter.{ShowsInOrder, deref_pair};
 ghost use Rattle.std.specs.NonZero.{non_zero_usize_get};
@@ -7,12 +7,13 @@ ghost use Rattle.lru.specs.LruCache.{lru_cache, promoted};
 ghost use Rattle.acl_list.specs.declared.answer.Summary.{Summary};
 ghost use Rattle.node_tree.specs.Judged.{judged, judged_of};
 ghost use Rattle.access_guard.specs.Keys.{is_key};
-ghost use Rattle.access_guard.specs.Lists.{sum_of, sum_at};
+ghost use Rattle.access_guard.specs.Lists.{sum_of, sum_at, entries_of};
+ghost use Rattle.acl_shape.specs.declared.bounds.TheConstants.{MAX_ENTRIES};
 ghost use Rattle.access_guard.specs.Lists as lists;
 ghost use Rattle.access_guard.specs.Decisions.{decision};
 ghost use Rattle.access_guard.specs.Lines.{lines};
 ghost use Rattle.access_guard.specs.declared.decision.Decision.TheVariants.{Granted};
-ghost use Rattle.access_guard.specs.Memory.{Agrees, LooksUp, LooksUpAt, LooksUpFor, examined_more, key_of, is_told, walked};
+ghost use Rattle.access_guard.specs.Memory.{Agrees, LooksUp, LooksUpAt, LooksUpFor, examined_more, key_of, is_told};
 ghost use Rattle.access_guard.specs.Memory as specs;
 
 use access_rows::Demand;
@@ -70,6 +71,35 @@ impl Hash for Key {
         let Key { stamp, caller } = self;
         stamp.hash(state);
         caller.hash(state);
+    }
+}
+
+/// An object's list, if there is such an object, that a decision may walk. [`Summaries::open`] alone makes one, and counts its
+/// entries.
+#[derive(Drop)]
+pub(crate) struct Opened<'n, A: Allocator> {
+    node: Option<&'n Node<A>>,
+}
+
+impl<'n, A: Allocator> Model for Opened<'n, A> {
+    ghost use Rattle.std.specs.Prelude.{Option};
+    ghost use Rattle.std.specs.Option.{option_copied, option_map};
+    ghost use Rattle.node_tree.specs.Judged.{Judged, judged};
+
+    ghost Value = { Option Judged };
+
+    ghost view = { λ o. option_map judged (option_copied o.node) };
+}
+
+impl<'n, A: Allocator + Copy> Opened<'n, A> {
+    ghost use Rattle.std.specs.Option.{option_copied, option_map};
+    ghost use Rattle.node_tree.specs.Judged.{judged};
+
+    /// The object.
+    pub(crate) fn node(&self) -> Option<&'n Node<A>>
+        ensures { option_map judged (option_copied result) ≡ self.now }
+    {
+        self.node
     }
 }
 
@@ -193,25 +223,20 @@ impl<A: Allocator + Copy> Summaries<A> {
         }
     }
 
-    /// Counts the entries of the lists that a demand is about.
-    pub(crate) fn walk<B: Allocator + Copy>(&mut self, demand: Demand, tree: &Tree<B>)
-        ensures { self.new ≡ walked (judged_of tree.now) demand self.old }
+    /// Lends an object's list to a decision that walks it. Its entries are counted here, so that none is looked at uncounted.
+    pub(crate) fn open<'n, B: Allocator + Copy>(
+        &mut self,
+        object: u64,
+        tree: &'n Tree<B>,
+    ) -> Opened<'n, B>
+        ensures list { result ≡ judged_of tree.now object }
+        ensures short { entries_of result ≤ MAX_ENTRIES }
+        ensures counted { self.new ≡ examined_more (entries_of result) self.old }
     {
-        match demand {
-            Demand::Bits { object, .. } => self.examine(entries_at(tree, object)),
-            Demand::Removal { parent, target } => {
-                self.examine(entries_at(tree, target));
-                self.examine(entries_at(tree, parent));
-            }
-        }
+        let node = tree.object(object);
+        self.examine(node.map_or(0, |node| node.list().len()));
+        Opened { node }
     }
-}
-
-/// How many entries an object's list has.
-fn entries_at<B: Allocator + Copy>(tree: &Tree<B>, object: u64) -> usize
-    ensures { result ≡ lists.entries_at (judged_of tree.now) object }
-{
-    tree.object(object).map_or(0, |node| node.list().len())
 }
 
 /// Whether a list that comes to this grants each bit of the mask.

@@ -1,19 +1,21 @@
 //! The lines that a guard writes.
 ghost use Rattle.std.specs.Prelude.{◌≡◌, ◌+◌, ◌<◌, ◌≤◌, [], ◌∷◌, length, IfOk, IsTrue};
 ghost use Rattle.std.specs.Map.Iter.{ShowsInOrder, deref};
-ghost use Rattle.node_tree.specs.Judged.{judged, judged_of};
+ghost use Rattle.node_tree.specs.Judged.{judged};
+ghost use Rattle.access_guard.specs.Lists.{entries_of};
 ghost use Rattle.std.specs.List.{filter_map, enumerate_from};
 ghost use Rattle.access_guard.specs.Decisions.{is_granted};
-ghost use Rattle.access_guard.specs.Lines.{watch_line, watch_lines, deny_lines};
+ghost use Rattle.access_guard.specs.Lines.{watch_line, lines_of, deny_lines};
 ghost use Rattle.acl_shape.specs.declared.bounds.TheConstants.{MAX_ENTRIES};
 ghost use Rattle.access_guard.specs.Lines as specs;
 ghost use Rattle.access_guard.specs.Log.{held, settled};
 
 use crate::decision::{Cause, Decision};
 use crate::line::{Line, LineKind};
+use crate::memory::Opened;
 use acl_list::{Caller, Entry, EntryKind, watched_bits};
 use circular_buffer::{HeapCircularBuffer, Iter};
-use node_tree::{Node, Tree};
+use node_tree::Node;
 use std::alloc::{AllocError, Allocator};
 use std::marker::Model;
 
@@ -101,14 +103,15 @@ impl<A: Allocator + Copy> Trail<A> {
     pub(crate) fn watch<B: Allocator + Copy>(
         &mut self,
         asked: Asked,
-        tree: &Tree<B>,
+        opened: &Opened<'_, B>,
         caller: &Caller,
     )
-        requires { length self.old.held + MAX_ENTRIES ≤ MOST_HELD }
-        ensures lines { self.new ≡ held (watch_lines (judged_of tree.now) caller.now asked.op asked.granted asked.object asked.mask) self.old }
+        requires room { length self.old.held + MAX_ENTRIES ≤ MOST_HELD }
+        requires short { entries_of opened.now ≤ MAX_ENTRIES }
+        ensures lines { self.new ≡ held (lines_of opened.now caller.now asked.op asked.granted asked.object asked.mask) self.old }
         ensures few { length self.new.held ≤ length self.old.held + MAX_ENTRIES }
     {
-        if let Some(node) = tree.object(asked.object) {
+        if let Some(node) = opened.node() {
             self.watch_list(asked, node, caller);
         }
     }

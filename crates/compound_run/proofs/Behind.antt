@@ -65,3 +65,28 @@ row_refuses {A} room m demands others e handles before new refused is =
       within = tt;
       unwritten = refl;
     })
+
+-- ---- the same of one that takes no memory
+
+pub row_refuses_always : {A : Type 0} (room : ℕ) (m : Meaning) (demands : Sight → List (Option Demand)) (others : List Question) (e : Export A) (handles : FileHandles) (before : Buffer) (new : Export A) → m.questions ≡ Row demands ∷ others
+    → all_granted (judged_of e.tree.world) m.caller (demands (whole (realm_of e))) ≡ false
+    → new ≡ holding (demand_lines (judged_of e.tree.world) m.caller m.number (demands (whole (realm_of e)))) e
+    → GivesSo false room m waits e handles before (Err statuses.Access) new handles before
+row_refuses_always {A} room m demands others e handles before new asks refused is =
+    subst (λ (x : Export A). GivesSo false room m waits e handles before (Err statuses.Access) x handles before) (sym is)
+    (subst (λ (q : List Question). GivesSo false room (record m { questions = q }) waits e handles before (Err statuses.Access) (holding (demand_lines (judged_of e.tree.world) m.caller m.number (demands (whole (realm_of e)))) e) handles before) (sym asks) (record {
+      answered = record {
+        outcome = rw refused refl;
+        log = rw refused (ap (λ l. record e.tree.log { held = e.tree.log.held ++ l }) (sym (append-nil (demand_lines (judged_of e.tree.world) m.caller m.number (demands (whole (realm_of e)))))));
+        trail_stays = λ d. refl;
+        total_stays = λ d. refl;
+        realm = tt;
+        handles = tt;
+        realm_stays = refl;
+        handles_stay = refl;
+        capacity = refl;
+      };
+      written = tt;
+      within = tt;
+      unwritten = refl;
+    }))

@@ -17,3 +17,13 @@ pub mod Texts
 pub mod Writing
 pub mod Showing
 pub mod Told
+pub mod Listing
+pub mod ListingSeen
+pub mod Opening
+pub mod HandlesSeen
+pub mod NamesSeen
+pub mod OpenSeen
+pub mod EntriesExactly
+pub mod LivingOpens
+pub mod KeepingOpens
+pub mod RunningOpens

@@ -10,7 +10,7 @@ use Rattle.compound_run.specs.declared.export.Export.{Export}
 use Rattle.compound_run.specs.declared.filehandles.FileHandles.{FileHandles}
 use Rattle.compound_run.specs.Sight.{Sight, whole}
 use Rattle.compound_run.specs.Questions.{all_granted, demand_lines}
-use Rattle.compound_run.specs.Rows.{first_facts, sized_facts, second_facts}
+use Rattle.compound_run.specs.Rows.{first_facts, sized_facts, second_facts, opening_facts}
 use Rattle.compound_run.specs.Views.{holding, realm_of}
 
 -- all of what is served
@@ -39,3 +39,7 @@ sized_of e op h new_size = first_demands (op_view op) (sized_facts (sight_of e) 
 -- what it asks once its names are looked up
 abbrev pub second_of : {A : Type 0} → Export A → Op → FileHandles → Option ℕ → Option ℕ → Demands
 second_of e op h child replaced = second_demands (op_view op) (second_facts (sight_of e) h child replaced)
+
+-- the same of OPEN
+abbrev pub opening_of : {A : Type 0} → Export A → Op → FileHandles → Option ℕ → Option ℕ → Demands
+opening_of e op h child new_size = second_demands (op_view op) (opening_facts (sight_of e) h child new_size)

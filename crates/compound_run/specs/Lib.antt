@@ -23,11 +23,13 @@ pub mod Putfh
 pub mod Putrootfh
 pub mod Read
 pub mod Readlink
+pub mod Readdir
 pub mod Remove
 pub mod Rename
 pub mod Restorefh
 pub mod Savefh
 pub mod Setattr
+pub mod Open
 pub mod Verify
 pub mod Write
 pub mod Operations
@@ -40,5 +42,9 @@ pub mod Permits
 pub mod Asking
 pub mod Says
 pub mod Written
+pub mod Listed
+pub mod Opening
 pub mod Exact
 pub mod Disclosure
+pub mod EntriesExact
+pub mod LiveOpens

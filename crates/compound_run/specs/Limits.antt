@@ -36,3 +36,7 @@ REFUSAL_ROOM = 16
 -- of a file's bytes that a READ gives
 abbrev pub MAX_READ : ℕ
 MAX_READ = 32768
+
+-- how many files may be open at once
+abbrev pub MAX_OPENS : ℕ
+MAX_OPENS = 4096

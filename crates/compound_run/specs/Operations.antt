@@ -22,9 +22,11 @@ use Rattle.compound_run.specs.Link.{link}
 use Rattle.compound_run.specs.Lookup.{lookup}
 use Rattle.compound_run.specs.Lookupp.{lookupp}
 use Rattle.compound_run.specs.Nverify.{nverify}
+use Rattle.compound_run.specs.Open.{open_file}
 use Rattle.compound_run.specs.Putfh.{putfh}
 use Rattle.compound_run.specs.Putrootfh.{putrootfh}
 use Rattle.compound_run.specs.Read.{read}
+use Rattle.compound_run.specs.Readdir.{readdir}
 use Rattle.compound_run.specs.Readlink.{readlink}
 use Rattle.compound_run.specs.Remove.{remove}
 use Rattle.compound_run.specs.Rename.{rename}
@@ -71,9 +73,11 @@ is_run (Known kinds.Link v) = true
 is_run (Known kinds.Lookup v) = true
 is_run (Known kinds.LookupP v) = true
 is_run (Known kinds.NVerify v) = true
+is_run (Known kinds.Open v) = true
 is_run (Known kinds.PutFh v) = true
 is_run (Known kinds.PutRootFh v) = true
 is_run (Known kinds.Read v) = true
+is_run (Known kinds.ReadDir v) = true
 is_run (Known kinds.ReadLink v) = true
 is_run (Known kinds.Remove v) = true
 is_run (Known kinds.Rename v) = true
@@ -116,9 +120,11 @@ body c h (Known kinds.Link v) = link v c h
 body c h (Known kinds.Lookup v) = lookup v c h
 body c h (Known kinds.LookupP v) = lookupp c h
 body c h (Known kinds.NVerify v) = nverify v c h
+body c h (Known kinds.Open v) = open_file v c h
 body c h (Known kinds.PutFh v) = putfh v c h
 body c h (Known kinds.PutRootFh v) = putrootfh c h
 body c h (Known kinds.Read v) = read v c h
+body c h (Known kinds.ReadDir v) = readdir v c h
 body c h (Known kinds.ReadLink v) = readlink c h
 body c h (Known kinds.Remove v) = remove v c h
 body c h (Known kinds.Rename v) = rename v c h
@@ -141,7 +147,7 @@ meaning c h op = entered (entry_fault c op) (entry_may c op) (body c h op)
 
 -- ---- memory
 
--- Of those that are built CREATE, LINK, NVERIFY, RENAME, SETATTR, VERIFY and WRITE take memory, which may be refused.
+-- Of those that are built CREATE, LINK, NVERIFY, OPEN, RENAME, SETATTR, VERIFY and WRITE take memory, which may be refused.
 abbrev pub takes_memory : Operation → Bool
 takes_memory (Known k v) = (row k).delays && is_run (Known k v)
 takes_memory _ = false

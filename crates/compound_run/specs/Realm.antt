@@ -1,6 +1,6 @@
 -- What the operations of a COMPOUND look at and change.
-use Rattle.std.specs.Prelude.{ℕ, List, []}
-use Rattle.node_tree.specs.World.{World}
+use Rattle.std.specs.Prelude.{ℕ, ◌==◌, not, if◌then◌else◌, List, [], filter, is_some, Option, Some, None}
+use Rattle.node_tree.specs.World.{World, kind_of}
 use Rattle.session_slots.specs.Registry.{Registry, nobody}
 
 -- an open file (RFC 8881, section 18.16)
@@ -28,3 +28,15 @@ pub record Realm : Type 0 where
 -- a world in which no file was ever open, and no client ever known
 abbrev pub unopened : World → Realm
 unopened w = record { world = w; opens = []; next_open = 1; registry = nobody }
+
+-- ---- opens end with their object
+
+-- An object that has lost its last name is gone, and its opens with it: those that are left in such a world, where this object has lost a
+-- name.
+abbrev pub opens_left : World → Option ℕ → List Opened → List Opened
+opens_left w None opens = opens
+opens_left w (Some number) opens = if is_some (kind_of w number) then opens else filter (λ o. not (o.object == number)) opens
+
+-- the realm of a world in which an object has lost a name, if one has
+abbrev pub with_loss : World → Option ℕ → Realm → Realm
+with_loss w lost r = record r { world = w; opens = opens_left w lost r.opens }

@@ -1,4 +1,4 @@
--- REMOVE (RFC 8881, section 18.25): a name of the current directory goes, and with its last name the object.
+-- REMOVE (RFC 8881, section 18.25): a name of the current directory goes, and with its last name the object, with its opens.
 use Rattle.std.specs.Prelude.{ℕ, not, List, [], ◌∷◌, None}
 use Rattle.nfs_types.specs.declared.status.Status.TheVariants as statuses
 use Rattle.nfs_ops.specs.Operations.{Known}
@@ -7,11 +7,12 @@ use Rattle.nfs_ops.specs.Rows.{row}
 use Rattle.nfs_ops.specs.Results.{Done}
 use Rattle.node_tree.specs.Changes.{unlinked}
 use Rattle.compound_run.specs.declared.filehandles.FileHandles.{FileHandles}
+use Rattle.compound_run.specs.Realm.{with_loss}
 use Rattle.compound_run.specs.Context.{Context}
-use Rattle.compound_run.specs.Sight.{child}
+use Rattle.compound_run.specs.Sight.{child, whole}
 use Rattle.compound_run.specs.Questions.{Holds}
 use Rattle.compound_run.specs.Rows.{first_row, second_row}
-use Rattle.compound_run.specs.Meaning.{Meaning, at, in_world, changed, with_handle, here, number_in, is_directory, is_name, has_child, has_tick}
+use Rattle.compound_run.specs.Meaning.{Meaning, at, changed, with_handle, here, number_in, is_directory, is_name, has_child, has_tick}
 
 abbrev pub remove : List ℕ → Context → FileHandles → Meaning
 remove name c h = record {
@@ -27,6 +28,6 @@ remove name c h = record {
       ∷ has_tick
       ∷ []);
   answer = λ s. Done kinds.Remove (changed s (here h));
-  effect = in_world (λ w. unlinked w (here h) name (at c w));
+  effect = λ r. with_loss (unlinked r.world (here h) name (at c r.world)) (child (whole r) (here h) name) r;
   goes = λ s. h;
 }

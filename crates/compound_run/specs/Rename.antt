@@ -1,4 +1,5 @@
--- RENAME (RFC 8881, section 18.26): a child of the saved directory gets a new name in the current one, and what has that name loses it.
+-- RENAME (RFC 8881, section 18.26): a child of the saved directory gets a new name in the current one, and what has that name loses it;
+-- what has lost its last name goes, with its opens.
 use Rattle.std.specs.Prelude.{ℕ, Bool, not, if◌then◌else◌, List, [], ◌∷◌, Option}
 use Rattle.xdr_wire.specs.Xdr.{Value}
 use Rattle.nfs_types.specs.declared.status.Status.TheVariants as statuses
@@ -12,11 +13,12 @@ use Rattle.node_tree.specs.World.{is_one}
 use Rattle.node_tree.specs.Changes.{renamed}
 use Rattle.node_tree.specs.Refusals.{is_below, may_replace, may_move}
 use Rattle.compound_run.specs.declared.filehandles.FileHandles.{FileHandles}
+use Rattle.compound_run.specs.Realm.{with_loss}
 use Rattle.compound_run.specs.Context.{Context}
-use Rattle.compound_run.specs.Sight.{Sight, child}
+use Rattle.compound_run.specs.Sight.{Sight, child, whole}
 use Rattle.compound_run.specs.Questions.{Question, Holds, Suffices}
 use Rattle.compound_run.specs.Rows.{first_row, second_row}
-use Rattle.compound_run.specs.Meaning.{Meaning, at, in_world, changed, unchanged, with_handle, here, there, number_in, names_at, is_directory, is_name, has_child, has_space}
+use Rattle.compound_run.specs.Meaning.{Meaning, at, changed, unchanged, with_handle, here, there, number_in, names_at, is_directory, is_name, has_child, has_space}
 
 -- the child that gets another name, and what has that name
 abbrev pub moved : FileHandles → Value rename_args → Sight → Option ℕ
@@ -67,7 +69,7 @@ rename v c h = record {
       ∷ is_movable (there h) (here h) (new_name v)
       ∷ []));
   answer = λ s. Done kinds.Rename (changes h v s);
-  effect = in_world (λ w. renamed w (there h) (old_name v) (here h) (new_name v) (at c w));
+  effect = λ r. with_loss (renamed r.world (there h) (old_name v) (here h) (new_name v) (at c r.world)) (replaced h v (whole r)) r;
   goes = λ s. h;
 }
 

@@ -35,6 +35,10 @@ second_facts s h child replaced = record {
   new_size = None;
 }
 
+-- of OPEN: the file that is there, if one is, and the size that is to be set
+abbrev pub opening_facts : Sight → FileHandles → Option ℕ → Option ℕ → Second
+opening_facts s h file new_size = record (second_facts s h file None) { new_size = new_size }
+
 -- what an operation asks first, and what it asks once its names are looked up
 abbrev pub first_row : FileHandles → Operation → Question
 first_row h op = Row (λ s. first_demands op (first_facts s h))
@@ -44,6 +48,9 @@ sized_row h op new_size = Row (λ s. first_demands op (sized_facts s h (new_size
 
 abbrev pub second_row : FileHandles → Operation → (Sight → Option ℕ) → (Sight → Option ℕ) → Question
 second_row h op child replaced = Row (λ s. second_demands op (second_facts s h (child s) (replaced s)))
+
+abbrev pub opening_row : FileHandles → Operation → (Sight → Option ℕ) → Option ℕ → Question
+opening_row h op file new_size = Row (λ s. second_demands op (opening_facts s h (file s) new_size))
 
 -- the most lines of a first row that is granted
 abbrev pub MAX_FIRST_LINES : ℕ

@@ -3,7 +3,7 @@ ghost use Rattle.std.specs.Prelude.{◌≡◌, ◌+◌, ◌*◌, ◌<◌, ◌≤
 ghost use Rattle.acl_shape.specs.declared.bounds.TheConstants.{MAX_ENTRIES};
 ghost use Rattle.node_tree.specs.World.{bytes_of};
 ghost use Rattle.access_rows.specs.Rows.{lists_in};
-ghost use Rattle.compound_run.specs.Asking.{grants_all, asked, op_number, first_of, sized_of, second_of, sight_of};
+ghost use Rattle.compound_run.specs.Asking.{grants_all, asked, op_number, first_of, opening_of, sized_of, second_of, sight_of};
 ghost use Rattle.compound_run.specs.Rows as specs;
 
 use crate::export::Export;
@@ -98,8 +98,31 @@ impl<A: Allocator + Copy> Export<A> {
         self.grants(&second_demands(op, &facts), caller, op.number())
     }
 
+    /// The same of OPEN: the file that is there, if one is, and the size that is to be set.
+    pub fn grants_opening(
+        &mut self,
+        op: &Op<'_>,
+        handles: FileHandles,
+        caller: &Caller,
+        file: Option<u64>,
+        new_size: Option<u64>,
+    ) -> bool
+        requires { length self.old.tree.log.held ≤ specs.MAX_FIRST_LINES }
+        ensures answer { result ≡ grants_all self.old caller.now (opening_of self.old op.now handles file new_size) }
+        ensures state { self.new ≡ asked self.old caller.now (op_number op.now) (opening_of self.old op.now handles file new_size) }
+    {
+        let facts = Second {
+            current: self.object(handles.current),
+            saved: self.object(handles.saved),
+            child: self.object(file),
+            replaced: None,
+            new_size,
+        };
+        self.grants(&second_demands(op, &facts), caller, op.number())
+    }
+
     /// Whether the lists grant the demands, each where there is one; none is asked behind one that is refused. Their lines are held.
-    fn grants(&mut self, demands: &[Option<Demand>], caller: &Caller, op: u32) -> bool
+    pub fn grants(&mut self, demands: &[Option<Demand>], caller: &Caller, op: u32) -> bool
         requires { length self.old.tree.log.held + MAX_ENTRIES * lists_in demands.now < MOST_HELD }
         ensures answer { result ≡ grants_all self.old caller.now demands.now }
         ensures state { self.new ≡ asked self.old caller.now op demands.now }

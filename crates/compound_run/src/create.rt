@@ -70,7 +70,7 @@ fn check_text(draft: Draft<'_>) -> Result<(), Status>
 }
 
 /// Whether the owner that is wanted is the caller, and the group one of the caller's.
-fn is_own<A: Allocator>(caller: &Caller, wanted: &Attrs<A>) -> bool
+pub(crate) fn is_own<A: Allocator>(caller: &Caller, wanted: &Attrs<A>) -> bool
     ensures { result ≡ specs.is_own caller.now (wanted_view wanted.now) }
 {
     let owner = match wanted.owner {
@@ -97,7 +97,7 @@ impl<A: Allocator + Copy> Export<A> {
     }
 
     /// What is to be added to a directory.
-    fn new_object(
+    pub fn new_object(
         &self,
         directory: u64,
         draft: Draft<'_>,

@@ -11,6 +11,7 @@ ghost use Rattle.compound_run.specs.Meaning.{names_at};
 ghost use Rattle.compound_run.specs.Create.{can_add};
 ghost use Rattle.compound_run.specs.Rename.{goes_below, can_replace, can_move};
 ghost use Rattle.compound_run.specs.Write.{fits};
+ghost use Rattle.compound_run.specs.Realm.{with_loss};
 ghost use Rattle.compound_run.specs.Views.{realm_of, with_world, is_inval, is_exist};
 
 use crate::opens::Open;
@@ -153,16 +154,19 @@ impl<A: Allocator + Copy> Export<A> {
             .map_err(status_of)
     }
 
-    /// Takes away the name of a child that holds nothing.
+    /// Takes away the name of a child that holds nothing. Where that was its last name its opens end.
     pub fn unlink(&mut self, directory: u64, name: &[u8], target: u64, at: At)
         requires tick { IsTick self.old.tree.world at.tick }
         requires child { child (whole (realm_of self.old)) directory name.now ≡ Some target }
         requires empty { has_entries self.old.tree.world.names target ≡ false }
-        ensures { self.new ≡ record self.old { tree = record self.old.tree { world = unlinked self.old.tree.world directory name.now at } } }
+        ensures realm { realm_of self.new ≡ with_loss (unlinked self.old.tree.world directory name.now at) (Some target) (realm_of self.old) }
+        ensures log { self.new.tree.log ≡ self.old.tree.log }
+        ensures capacity { self.new.tree.capacity ≡ self.old.tree.capacity }
     {
         if self.tree.unlink(directory, name, at).is_err() {
             unreachable!();
         }
+        self.end_opens(target);
     }
 
     /// Whether a child that gets another name, which isn't its own, would come to lie below itself.
@@ -187,7 +191,7 @@ impl<A: Allocator + Copy> Export<A> {
     }
 
     /// Gives a child another name that it may have. `NoSpc`: there is no space for it. `Delay`: there is no memory for it.
-    pub fn rename_child(
+    fn move_name(
         &mut self,
         from: u64,
         old: &[u8],
@@ -209,5 +213,37 @@ impl<A: Allocator + Copy> Export<A> {
         ensures err { OnErr result (self.new ≡ self.old) }
     {
         self.tree.rename(from, old, to, new, at).map_err(status_of)
+    }
+
+    /// The same, with the end of the opens of what had that name, where that was its last one.
+    pub fn rename_child(
+        &mut self,
+        from: u64,
+        old: &[u8],
+        to: u64,
+        new: &[u8],
+        moved: (u64, Option<u64>),
+        at: At,
+    ) -> Result<(), Status>
+        requires tick { IsTick self.old.tree.world at.tick }
+        requires live { kind_of self.old.tree.world to ≡ Some Kind.Directory }
+        requires short { length new.now ≤ 255 }
+        requires child { child (whole (realm_of self.old)) from old.now ≡ Some moved.0 }
+        requires other { is_one (Some moved.0) (child (whole (realm_of self.old)) to new.now) ≡ false }
+        requires above { goes_below (whole (realm_of self.old)) moved.0 to ≡ false }
+        requires may { can_replace (whole (realm_of self.old)) moved.0 (child (whole (realm_of self.old)) to new.now) ≡ true }
+        ensures full { can_move (whole (realm_of self.old)) from to (child (whole (realm_of self.old)) to new.now) ≡ false → result ≡ Err Status.NoSpc }
+        ensures space { can_move (whole (realm_of self.old)) from to (child (whole (realm_of self.old)) to new.now) ≡ true → IsOkUnless result Status.Delay }
+        ensures ok { OnOk result (realm_of self.new ≡ with_loss (renamed self.old.tree.world from old.now to new.now at) moved.1 (realm_of self.old)) }
+        ensures err { OnErr result (self.new ≡ self.old) }
+        ensures log { self.new.tree.log ≡ self.old.tree.log }
+        ensures capacity { self.new.tree.capacity ≡ self.old.tree.capacity }
+    {
+        let (moved, replaced) = moved;
+        self.move_name(from, old, to, new, moved, at)?;
+        if let Some(replaced) = replaced {
+            self.end_opens(replaced);
+        }
+        Ok(())
     }
 }

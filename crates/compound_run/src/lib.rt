@@ -20,10 +20,12 @@ mod link;
 mod lookup;
 mod lookupp;
 mod nverify;
+mod open;
 mod opens;
 mod putfh;
 mod putrootfh;
 mod read;
+mod readdir;
 mod readlink;
 mod remove;
 mod rename;
@@ -33,6 +35,7 @@ mod run;
 mod savefh;
 mod server;
 mod setattr;
+mod sets;
 mod stateids;
 mod values;
 mod verify;
@@ -41,8 +44,8 @@ mod write;
 pub use laws::{
     access_is_exact, close_discloses_nothing, commit_discloses_nothing, getattr_discloses_nothing,
     lookup_discloses_nothing, nverify_discloses_nothing, ok_is_exact, others_never_delay,
-    read_discloses_nothing, remove_discloses_nothing, rows_decide, verify_discloses_nothing,
-    write_discloses_nothing,
+    read_discloses_nothing, readdir_discloses_nothing, remove_discloses_nothing, rows_decide,
+    setattr_discloses_nothing, verify_discloses_nothing, write_discloses_nothing,
 };
 pub use limits::{MAX_REPLY, MAX_RESULTS};
 pub use opens::Open;

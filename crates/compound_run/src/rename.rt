@@ -27,7 +27,7 @@ impl<A: Allocator + Copy> Export<A> {
         handles: FileHandles,
         source: (u64, u64),
         target: (u64, u64),
-        moved: u64,
+        moved: (u64, Option<u64>),
         args: &RenameArgs<'_>,
         out: &mut Writer<A>,
     ) -> Result<(), Status>
@@ -37,16 +37,18 @@ impl<A: Allocator + Copy> Export<A> {
         requires from_change { directory_change self.old.tree.world source.0 ≡ source.1 }
         requires to_change { directory_change self.old.tree.world target.0 ≡ target.1 }
         requires short { length args.now.new.bytes.now ≤ 255 }
-        requires child { child (whole (realm_of self.old)) source.0 args.now.old.bytes.now ≡ Some moved }
-        requires other { is_one (Some moved) (child (whole (realm_of self.old)) target.0 args.now.new.bytes.now) ≡ false }
-        requires above { goes_below (whole (realm_of self.old)) moved target.0 ≡ false }
-        requires may { can_replace (whole (realm_of self.old)) moved (child (whole (realm_of self.old)) target.0 args.now.new.bytes.now) ≡ true }
+        requires child { child (whole (realm_of self.old)) source.0 args.now.old.bytes.now ≡ Some moved.0 }
+        requires replaced { child (whole (realm_of self.old)) target.0 args.now.new.bytes.now ≡ moved.1 }
+        requires other { is_one (Some moved.0) (child (whole (realm_of self.old)) target.0 args.now.new.bytes.now) ≡ false }
+        requires above { goes_below (whole (realm_of self.old)) moved.0 target.0 ≡ false }
+        requires may { can_replace (whole (realm_of self.old)) moved.0 (child (whole (realm_of self.old)) target.0 args.now.new.bytes.now) ≡ true }
         requires room { HasRoom context out.old }
         ensures { GivesOrDelays context.entry (moving (rename_args_value args.now) source.0 target.0) self.old handles out.old result self.new handles out.new }
     {
         let ((from, from_before), (to, to_before)) = (source, target);
         let at = self.tick(context.now).ok_or(Status::NoSpc)?;
-        self.rename_child(from, args.old.bytes, to, args.new.bytes, moved, at)?;
+        let (old, new) = (args.old.bytes, args.new.bytes);
+        self.rename_child(from, old, to, new, moved, at)?;
         let source = ChangeInfo {
             before: from_before,
             after: at.tick,
@@ -119,7 +121,7 @@ impl<A: Allocator + Copy> Export<A> {
             handles,
             (from, from_before),
             (to, to_before),
-            child,
+            (child, target),
             args,
             out,
         )

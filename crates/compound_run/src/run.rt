@@ -51,9 +51,11 @@ fn is_run(op: &Op<'_>) -> bool
             | Op::Lookup(_)
             | Op::LookupP
             | Op::NVerify(_)
+            | Op::Open(_)
             | Op::PutFh(_)
             | Op::PutRootFh
             | Op::Read(_)
+            | Op::ReadDir(_)
             | Op::ReadLink
             | Op::Remove(_)
             | Op::Rename(_)
@@ -109,9 +111,11 @@ impl<A: Allocator + Copy> Export<A> {
             Op::Lookup(args) => self.lookup(context, handles, op, args.name.bytes, out),
             Op::LookupP => self.lookupp(context, handles, op, out),
             Op::NVerify(args) => self.nverify(context, *handles, op, &args.attributes, out),
+            Op::Open(args) => self.open(context, handles, op, args, out),
             Op::PutFh(args) => self.putfh(context, handles, &args.handle, out),
             Op::PutRootFh => self.putrootfh(context, handles, out),
             Op::Read(args) => self.read(context, *handles, op, args, out),
+            Op::ReadDir(args) => self.readdir(context, *handles, op, args, out),
             Op::ReadLink => self.readlink(context, *handles, op, out),
             Op::Remove(args) => self.remove(context, *handles, op, args.name.bytes, out),
             Op::Rename(args) => self.rename(context, *handles, op, args, out),
@@ -122,9 +126,7 @@ impl<A: Allocator + Copy> Export<A> {
             Op::Write(args) => self.write(context, *handles, op, args, out),
             Op::Illegal => Err(Status::OpIllegal),
             Op::Bad(_) => Err(Status::BadXdr),
-            Op::Open(_)
-            | Op::ReadDir(_)
-            | Op::ExchangeId(_)
+            Op::ExchangeId(_)
             | Op::CreateSession(_)
             | Op::DestroySession(_)
             | Op::Sequence(_)

@@ -88,8 +88,8 @@ impl<A: Allocator + Copy> Server<A> {
     /// isn't OK. Its results are put behind what `out` holds, at most [`MAX_RESULTS`] bytes, for which there has to be room.
     ///
     /// Another minor version than 1 answers MINOR_VERS_MISMATCH, and more than 16 operations TOO_MANY_OPS, with no results. The
-    /// operations of sessions, and those that aren't built, answer NOTSUPP. CREATE, LINK, NVERIFY, RENAME, VERIFY and WRITE answer DELAY
-    /// where memory is refused, and then nothing changes; no other takes memory that it needs.
+    /// operations of sessions, and those that aren't built, answer NOTSUPP. CREATE, LINK, NVERIFY, OPEN, RENAME, SETATTR, VERIFY and
+    /// WRITE answer DELAY where memory is refused, and then nothing changes; no other takes memory that it needs.
     #[tactic(auto, unfolding(crate::specs::State::fate))]
     pub fn run_bare(
         &mut self,
@@ -133,7 +133,7 @@ impl<A: Allocator + Copy> Server<A> {
         self.export.tree.guard()
     }
 
-    /// The files that are open, by their numbers. Nothing opens a file yet.
+    /// The files that are open, by their numbers.
     pub fn opens(&self) -> &[Open<A>]
         ensures { opens_view result.now ≡ self.now.realm.opens }
     {

@@ -69,7 +69,7 @@ fn stamps<A: Allocator>(wanted: &Attrs<A>) -> u64
 }
 
 /// Whether a size is within the limit of a file.
-fn size_fits(size: Option<u64>) -> bool
+pub(crate) fn size_fits(size: Option<u64>) -> bool
     ensures { result ≡ size_fits size }
 {
     match size {

@@ -4,6 +4,7 @@ ghost use Rattle.acl_shape.specs.Inherited.{is_directory};
 ghost use Rattle.compound_run.specs.Asking.{sight_of};
 ghost use Rattle.compound_run.specs.Says.{Says};
 ghost use Rattle.compound_run.specs.Values.{links_at};
+ghost use Rattle.node_tree.specs.Sound.{IsSound};
 ghost use Rattle.node_tree.specs.World.{is_directory_in};
 
 use crate::export::Export;
@@ -36,6 +37,7 @@ impl<A: Allocator + Copy> Export<A> {
     pub fn facts(&self, number: u64, error: Status) -> Option<ObjectFacts<'_>>
         ensures says { IfSome result (Says (sight_of self.now) number error) }
         ensures there { is_some result ≡ is_some ((sight_of self.now).kinds number) }
+        ensures sound { IsSound self.now.tree.world }
     {
         let node = self.tree.object(number)?;
         let links = self.links_told(number, node.is_directory());

@@ -5,6 +5,8 @@
 #[cfg(test)]
 mod data;
 #[cfg(test)]
+mod files;
+#[cfg(test)]
 mod governed;
 #[cfg(test)]
 mod heads;

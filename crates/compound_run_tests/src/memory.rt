@@ -236,7 +236,7 @@ fn refused_growth_is_told(rt: HostRuntime) -> Result<(), Fail> {
             &rt,
             rt.alloc(),
             RandomState::new(&rt)?,
-            least.saturating_sub(4096).saturating_add(step * 32),
+            least.saturating_sub(4096).saturating_add(step * 64),
             &mut seen,
         )?;
     }

@@ -117,7 +117,7 @@ static READ: [Row; 24] = [
     (
         BOB,
         "PUTROOTFH READDIR 0 0 0 0 1000 1000 0",
-        "notsupp PUTROOTFH ok READDIR notsupp",
+        "ok PUTROOTFH ok READDIR ok 0 0 1 ^3 'notes 0 0 1 ^4 'pub 0 0 0 1",
     ),
     (BOB, "OPEN 0 1 0 0 0 'o 1 2", "notsupp OPEN notsupp"),
     (BOB, "OPEN 0 1 0 0 0 ~401 1 2", "badxdr OPEN badxdr"),

@@ -54,7 +54,7 @@ static OPERATIONS: [(&str, u32); 31] = [
 ];
 
 /// Statuses (RFC 8881, section 15.1).
-static STATUSES: [(&str, u32); 32] = [
+static STATUSES: [(&str, u32); 36] = [
     ("ok", 0),
     ("perm", 1),
     ("noent", 2),
@@ -71,15 +71,19 @@ static STATUSES: [(&str, u32); 32] = [
     ("stale", 70),
     ("badhandle", 10001),
     ("notsupp", 10004),
+    ("badcookie", 10003),
+    ("toosmall", 10005),
     ("badtype", 10007),
     ("same", 10009),
     ("nofilehandle", 10020),
     ("minorvers", 10021),
+    ("oldstateid", 10024),
     ("badstateid", 10025),
     ("notsame", 10027),
     ("symlink", 10029),
     ("attrnotsupp", 10032),
     ("badxdr", 10036),
+    ("openmode", 10038),
     ("badowner", 10039),
     ("badchar", 10040),
     ("badname", 10041),

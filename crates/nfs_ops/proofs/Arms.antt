@@ -1,5 +1,5 @@
 -- What the arms give that read an operation by its kind, or a result.
-use Rattle.std.proofs.Common.{◌≡◌, ◌∙◌, ℕ, Bool, List, [], cond, Result, Ok, Err, refl, sym, ap}
+use Rattle.std.proofs.Common.{◌≡◌, ◌∙◌, ℕ, List, [], cond, Result, Ok, Err, sym, ap}
 use Rattle.std.specs.Prelude.{IsErrAnd}
 use Rattle.std.proofs.lemmas.Result.{err_from_is_err_and}
 use Rattle.xdr_wire.specs.Xdr.{Xdr, Value}
@@ -7,9 +7,8 @@ use Rattle.xdr_wire.specs.Reading.{◌>>=◌, Read as ReadOf, Gives}
 use Rattle.xdr_wire.specs.declared.fault.XdrFault.{XdrFault}
 use Rattle.nfs_ops.specs.Rows.{row}
 use Rattle.nfs_ops.specs.Operations.{Operation, Unsupported, any_stands, supported}
-use Rattle.nfs_ops.specs.OpViews.{op_view}
+use Rattle.nfs_ops.specs.Views.{op_view, read_view}
 use Rattle.nfs_ops.specs.Results.{Outcome, Done}
-use Rattle.nfs_ops.specs.ResultViews.{read_view}
 use Rattle.nfs_ops.specs.declared.op.Op.{Op}
 use Rattle.nfs_ops.specs.declared.op_kind.OpKind.{OpKind}
 use Rattle.nfs_ops.specs.declared.op_result.OpResult.{OpResult}

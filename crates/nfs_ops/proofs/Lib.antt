@@ -1,6 +1,5 @@
 mod Numbers
 pub mod Arms
-pub mod Bounds
 pub mod Fillings
 pub mod Listings
 pub mod Founds

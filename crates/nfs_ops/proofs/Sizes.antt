@@ -1,4 +1,4 @@
--- How many bytes a result takes at most.
+-- How many bytes a result takes at most: its greatest size bounds each of its spellings.
 use Rattle.std.proofs.Common.{◌≡◌, refl, ap, ◌∙◌, ℕ, ◌+◌, ◌*◌, ◌≤◌, List, [], ◌∷◌, length, Option, Some, None, Result, Ok, Err, replicate, inl, inr, IsTrue, is_ok, arith, true, false, cond, ◌==◌}
 use Rattle.std.specs.Int.{w32, to_be_bytes}
 use Rattle.std.specs.List.{flat_map, sum_by}
@@ -12,11 +12,12 @@ use Rattle.nfs_types.specs.Forms.{trimmed, front_word, stateid, bitmap, attribut
 use Rattle.nfs_types.specs.Views.{handle_value}
 use Rattle.nfs_types.specs.declared.handle.Handle.{Handle}
 use Rattle.nfs_types.specs.declared.handle.Handle.TheVariants.{Sent, Object}
-use Rattle.nfs_ops.specs.Forms.{with_padding, always, zeros, bytes, change_info, channel, entry, size_of_entry, close_result, create_result, getattr_result, getfh_result, open_result, read_result, readdir_result, readlink_result, rename_result, setattr_result, write_result, exchange_id_result, create_session_result, sequence_result}
-use Rattle.nfs_ops.specs.Items.{done, item_spelling}
+use Rattle.nfs_ops.specs.Forms.{with_padding, change_size, setattr_refused_size, always, zeros, bytes, change_info, channel, entry, size_of_entry, close_result, create_result, getattr_result, getfh_result, open_result, read_result, readdir_result, readlink_result, rename_result, setattr_result, write_result, exchange_id_result, create_session_result, sequence_result}
+use Rattle.nfs_ops.specs.Items.{done, ItemHasSpelling, item_spelling}
+use Rattle.nfs_ops.specs.Results.{Outcome, Done, Refused, SetAttrRefused, outcome_item, most, carries_bytes, is_change, is_refusal}
 use Rattle.nfs_ops.specs.Rows.{row}
 use Rattle.nfs_ops.specs.declared.op_kind.OpKind.{OpKind}
-use Rattle.nfs_ops.specs.declared.op_kind.OpKind.TheVariants.{Close, Create, GetAttr, GetFh, Open, Read, ReadDir, ReadLink, Rename, SetAttr, Write, ExchangeId, CreateSession, Sequence}
+use Rattle.nfs_ops.specs.declared.op_kind.OpKind.TheVariants.{Access, Close, Commit, Create, GetAttr, GetFh, Link, Open, Read, ReadDir, ReadLink, Remove, Rename, SetAttr, Write, ExchangeId, CreateSession, Sequence}
 
 -- what is at most n bytes long is written where there is room for n
 pub fits : {E : Type 0} (old new : Buffer) (item : List ℕ) (r : Result (Unit {0}) E) (n : ℕ) → Puts old new item r → length item ≤ n → n ≤ old.room → IsTrue (is_ok r)
@@ -168,3 +169,46 @@ create_session_short v whole fore back =
 
 pub sequence_short : (v : Value sequence_result) → length v.0 ≡ 16 → size Sequence v ≤ 44
 sequence_short v whole = omega (arith, two (fixed 16) (fields (uint ∷ uint ∷ uint ∷ uint ∷ always 0 ∷ [])) v, padded_is v.0, whole, always_is 0 v.1.1.1.1.1)
+
+-- ---- all results
+
+pub bounded : (o : Outcome) → ItemHasSpelling (outcome_item o) → length (item_spelling (outcome_item o)) ≤ most o
+bounded (Done Access v) h = omega arith
+bounded (Done Close v) h = close_short v h.1.1.1
+bounded (Done Commit v) h = omega (arith, zeros_is v)
+bounded (Done Create v) h = create_short v h.1.1.1.0
+bounded (Done GetAttr v) h = getattr_short v
+bounded (Done GetFh v) h = getfh_short v h.1.1.0
+bounded (Done Link v) h = omega (arith, change_info_is v)
+bounded (Done Open v) h = open_short v h.1.1.0.1 h.1.1.1.1.1.0.0
+bounded (Done Read v) h = read_short v
+bounded (Done ReadDir v) h = readdir_short v
+bounded (Done ReadLink v) h = readlink_short v
+bounded (Done Remove v) h = omega (arith, change_info_is v)
+bounded (Done Rename v) h = rename_short v
+bounded (Done SetAttr v) h = setattr_short v h.1.1.0
+bounded (Done Write v) h = write_short v
+bounded (Done ExchangeId v) h = exchange_id_short v h.1.1.1.1.1.1.1.0.0 h.1.1.1.1.1.1.1.1.0.0
+bounded (Done CreateSession v) h = create_session_short v h.1.1.0 h.1.1.1.1.1.0.1.1.1.1.1.1.0 h.1.1.1.1.1.1.1.1.1.1.1.1.0
+bounded (Done Sequence v) h = sequence_short v h.1.1.0
+bounded _ h = omega arith
+
+pub carried_is : (o : Outcome) → carries_bytes o ≡ true → length (item_spelling (outcome_item o)) ≡ most o
+carried_is (Done GetAttr v) e = getattr_is v
+carried_is (Done Read v) e = read_is v
+carried_is (Done ReadDir v) e = readdir_is v
+carried_is (Done ReadLink v) e = readlink_is v
+carried_is _ e = absurd cc
+
+-- what carries bytes changes nothing, and no other result is as long
+pub change_short : (o : Outcome) → is_change o ≡ true → most o ≤ change_size
+change_short (Done GetAttr v) e = absurd cc
+change_short (Done Read v) e = absurd cc
+change_short (Done ReadDir v) e = absurd cc
+change_short (Done ReadLink v) e = absurd cc
+change_short _ e = omega arith
+
+pub refusal_short : (o : Outcome) → is_refusal o ≡ true → most o ≤ setattr_refused_size
+refusal_short (Refused n status) e = omega arith
+refusal_short (SetAttrRefused status) e = omega arith
+refusal_short (Done k v) e = absurd cc

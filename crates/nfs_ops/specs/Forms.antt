@@ -1,6 +1,6 @@
--- The XDR types of each operation's arguments and of its result, in the order of the standard (RFC 8881, section 18; RFC
--- 5662). A result stands behind the number and the status, where the status is OK.
-use Rattle.std.specs.Prelude.{ℕ, ◌+◌, ◌*◌, List, [], ◌∷◌, length, map}
+-- The XDR types of each operation's arguments and of its result, with the names of their parts and of the arms of their unions, in
+-- the order of the standard (RFC 8881, section 18; RFC 5662). A result stands behind the number and the status, where the status is OK.
+use Rattle.std.specs.Prelude.{ℕ, Bool, ◌+◌, ◌*◌, List, [], ◌∷◌, length, map}
 use Rattle.std.proofs.Common.{inl, inr}
 use Rattle.std.specs.List.{sum_by}
 use Rattle.xdr_wire.specs.Xdr.{Xdr, Value, padding, void, uint, hyper, boolean, fixed, opaque, array, chain, union, arm, no_more, fields}
@@ -22,6 +22,13 @@ zeros = fields (always 0 ∷ always 0 ∷ [])
 abbrev pub change_info : Xdr
 change_info = fields (always 1 ∷ hyper ∷ hyper ∷ [])
 
+-- attributes with their values (fattr4): which ones, and the values one behind the other
+abbrev pub set_of : Value attributes → List ℕ
+set_of v = v.0
+
+abbrev pub values_of : Value attributes → List ℕ
+values_of v = v.1
+
 -- how many bytes so many take with the zero bytes behind them
 abbrev pub with_padding : ℕ → ℕ
 with_padding n = n + padding n
@@ -34,7 +41,7 @@ plain_size = 8
 abbrev pub change_size : ℕ
 change_size = 256
 
--- 3 ACCESS (18.1): the rights asked; those of them that have a meaning, and those granted
+-- ACCESS (18.1): the rights asked; those of them that have a meaning, and those granted
 abbrev pub access_args : Xdr
 access_args = uint
 
@@ -44,7 +51,7 @@ access_result = fields (uint ∷ uint ∷ [])
 abbrev pub access_size : ℕ
 access_size = 16
 
--- 4 CLOSE (18.2): a number that is ignored, the open; what the open has become
+-- CLOSE (18.2): a number that is ignored, the open; what the open has become
 abbrev pub close_args : Xdr
 close_args = fields (uint ∷ stateid ∷ [])
 
@@ -54,7 +61,10 @@ close_result = stateid
 abbrev pub close_size : ℕ
 close_size = 24
 
--- 5 COMMIT (18.3): offset, count; a verifier
+abbrev pub closed_stateid : Value close_args → Value stateid
+closed_stateid v = v.1
+
+-- COMMIT (18.3): offset, count; a verifier
 abbrev pub commit_args : Xdr
 commit_args = fields (hyper ∷ uint ∷ [])
 
@@ -63,6 +73,12 @@ commit_result = zeros
 
 abbrev pub commit_size : ℕ
 commit_size = 16
+
+abbrev pub committed_offset : Value commit_args → ℕ
+committed_offset v = v.0
+
+abbrev pub committed_count : Value commit_args → ℕ
+committed_count v = v.1
 
 -- specdata4: the two numbers of a device
 abbrev pub device : Xdr
@@ -73,7 +89,7 @@ device = fields (uint ∷ uint ∷ [])
 abbrev pub create_type : Xdr
 create_type = union (arm 1 void (arm 2 void (arm 3 device (arm 4 device (arm 5 bytes (arm 6 void (arm 7 void (arm 8 void (arm 9 void no_more)))))))))
 
--- 6 CREATE (18.4): type, name, attributes; the directory's change, the attributes that were set
+-- CREATE (18.4): type, name, attributes; the directory's change, the attributes that were set
 abbrev pub create_args : Xdr
 create_args = fields (create_type ∷ bytes ∷ attributes ∷ [])
 
@@ -89,7 +105,40 @@ create_size = 64
 abbrev pub create_result_normal : Value create_result → Value create_result
 create_result_normal v = (v.0, trimmed v.1)
 
--- 9 GETATTR (18.7): the attributes asked; their values
+-- createtype4
+pub data Created : Type 0 where
+  File : Created
+  Directory : Created
+  Block : Value device → Created
+  Character : Value device → Created
+  Link : List ℕ → Created
+  Socket : Created
+  Fifo : Created
+  AttributeDirectory : Created
+  NamedAttribute : Created
+
+abbrev pub created : Value create_type → Created
+created (inl file) = File
+created (inr (inl directory)) = Directory
+created (inr (inr (inl numbers))) = Block numbers
+created (inr (inr (inr (inl numbers)))) = Character numbers
+created (inr (inr (inr (inr (inl text))))) = Link text
+created (inr (inr (inr (inr (inr (inl socket)))))) = Socket
+created (inr (inr (inr (inr (inr (inr (inl fifo))))))) = Fifo
+created (inr (inr (inr (inr (inr (inr (inr (inl directory)))))))) = AttributeDirectory
+created (inr (inr (inr (inr (inr (inr (inr (inr (inl attribute))))))))) = NamedAttribute
+created (inr (inr (inr (inr (inr (inr (inr (inr (inr more))))))))) = elim more [ ]
+
+abbrev pub created_type : Value create_args → Created
+created_type v = created v.0
+
+abbrev pub created_name : Value create_args → List ℕ
+created_name v = v.1.0
+
+abbrev pub created_attributes : Value create_args → Value attributes
+created_attributes v = v.1.1
+
+-- GETATTR (18.7): the attributes asked; their values
 abbrev pub getattr_args : Xdr
 getattr_args = bitmap
 
@@ -100,14 +149,14 @@ getattr_result = attributes
 abbrev pub getattr_size : ℕ → ℕ → ℕ
 getattr_size words values = 16 + 4 * words + with_padding values
 
--- 10 GETFH (18.8): nothing; the filehandle
+-- GETFH (18.8): nothing; the filehandle
 abbrev pub getfh_result : Xdr
 getfh_result = handle
 
 abbrev pub getfh_size : ℕ
 getfh_size = 140
 
--- 11 LINK (18.9): the new name; the directory's change
+-- LINK (18.9): the new name; the directory's change
 abbrev pub link_args : Xdr
 link_args = bytes
 
@@ -117,13 +166,13 @@ link_result = change_info
 abbrev pub link_size : ℕ
 link_size = 28
 
--- 15 LOOKUP (18.13): the name
+-- LOOKUP (18.13): the name
 abbrev pub lookup_args : Xdr
 lookup_args = bytes
 
--- 16 LOOKUPP (18.14): nothing; nothing
+-- LOOKUPP (18.14): nothing; nothing
 
--- 17 NVERIFY (18.15): the attributes that are to differ
+-- NVERIFY (18.15): the attributes that are to differ
 abbrev pub nverify_args : Xdr
 nverify_args = attributes
 
@@ -143,7 +192,7 @@ open_how_normal (inr (inr v)) = elim v [ ]
 abbrev pub open_claim : Xdr
 open_claim = union (arm 0 bytes (arm 4 void no_more))
 
--- 18 OPEN (18.16): a number that is ignored, access, deny, client, owner, how, claim; stateid, the directory's change, no
+-- OPEN (18.16): a number that is ignored, access, deny, client, owner, how, claim; stateid, the directory's change, no
 -- flags, the attributes that were set, no delegation
 abbrev pub open_args : Xdr
 open_args = fields (uint ∷ uint ∷ uint ∷ hyper ∷ opaque 1024 ∷ open_how ∷ open_claim ∷ [])
@@ -174,13 +223,54 @@ other_claim = union (arm 1 void (arm 2 void (arm 3 void (arm 5 void (arm 6 void 
 abbrev pub open_by_other_claim : Xdr
 open_by_other_claim = fields (uint ∷ uint ∷ uint ∷ hyper ∷ opaque 1024 ∷ open_how ∷ other_claim ∷ [])
 
--- 22 PUTFH (18.19): the filehandle
+-- openflag4 and createhow4
+pub data How : Type 0 where
+  NoCreate : How
+  Unchecked : Value attributes → How
+  Guarded : Value attributes → How
+
+abbrev pub how : Value open_how → How
+how (inl plain) = NoCreate
+how (inr (inl (inl set))) = Unchecked set
+how (inr (inl (inr (inl set)))) = Guarded set
+how (inr (inl (inr (inr more)))) = elim more [ ]
+how (inr (inr more)) = elim more [ ]
+
+-- open_claim4
+pub data Claim : Type 0 where
+  ByName : List ℕ → Claim
+  ByHandle : Claim
+
+abbrev pub claim : Value open_claim → Claim
+claim (inl name) = ByName name
+claim (inr (inl current)) = ByHandle
+claim (inr (inr more)) = elim more [ ]
+
+abbrev pub open_access : Value open_args → ℕ
+open_access v = v.1.0
+
+abbrev pub open_deny : Value open_args → ℕ
+open_deny v = v.1.1.0
+
+abbrev pub open_client : Value open_args → ℕ
+open_client v = v.1.1.1.0
+
+abbrev pub open_owner : Value open_args → List ℕ
+open_owner v = v.1.1.1.1.0
+
+abbrev pub how_of : Value open_args → How
+how_of v = how v.1.1.1.1.1.0
+
+abbrev pub claim_of : Value open_args → Claim
+claim_of v = claim v.1.1.1.1.1.1
+
+-- PUTFH (18.19): the filehandle
 abbrev pub putfh_args : Xdr
 putfh_args = handle
 
--- 24 PUTROOTFH (18.21): nothing; nothing
+-- PUTROOTFH (18.21): nothing; nothing
 
--- 25 READ (18.22): stateid, offset, count; whether the end was reached, the bytes
+-- READ (18.22): stateid, offset, count; whether the end was reached, the bytes
 abbrev pub read_args : Xdr
 read_args = fields (stateid ∷ hyper ∷ uint ∷ [])
 
@@ -191,7 +281,20 @@ read_result = fields (boolean ∷ opaque 32768 ∷ [])
 abbrev pub read_size : ℕ → ℕ
 read_size count = 16 + with_padding count
 
--- 26 READDIR (18.23): cookie, a verifier and a count that are ignored, the most bytes, the attributes asked; a verifier,
+abbrev pub read_stateid : Value read_args → Value stateid
+read_stateid v = v.0
+
+abbrev pub read_offset : Value read_args → ℕ
+read_offset v = v.1.0
+
+abbrev pub read_count : Value read_args → ℕ
+read_count v = v.1.1
+
+-- whether the end was reached, and the bytes
+abbrev pub read_gives : Bool → List ℕ → Value read_result
+read_gives eof item = (eof, item)
+
+-- READDIR (18.23): cookie, a verifier and a count that are ignored, the most bytes, the attributes asked; a verifier,
 -- the entries, whether the end was reached
 abbrev pub readdir_args : Xdr
 readdir_args = fields (hyper ∷ fixed 8 ∷ uint ∷ uint ∷ bitmap ∷ [])
@@ -223,7 +326,26 @@ size_of_entry e = entry_size (length e.1.0) (length e.1.1.0) (length e.1.1.1)
 abbrev pub readdir_size : List (Value entry) → ℕ
 readdir_size entries = 24 + sum_by size_of_entry entries
 
--- 27 READLINK (18.24): nothing; the link's text
+abbrev pub listed_behind : Value readdir_args → ℕ
+listed_behind v = v.0
+
+abbrev pub listed_at_most : Value readdir_args → ℕ
+listed_at_most v = v.1.1.1.0
+
+abbrev pub listed_attributes : Value readdir_args → List ℕ
+listed_attributes v = v.1.1.1.1
+
+-- entry4
+abbrev pub entry_cookie : Value entry → ℕ
+entry_cookie e = e.0
+
+abbrev pub entry_name : Value entry → List ℕ
+entry_name e = e.1.0
+
+abbrev pub entry_attributes : Value entry → Value attributes
+entry_attributes e = e.1.1
+
+-- READLINK (18.24): nothing; the link's text
 abbrev pub readlink_result : Xdr
 readlink_result = opaque 1024
 
@@ -231,7 +353,7 @@ readlink_result = opaque 1024
 abbrev pub readlink_size : ℕ → ℕ
 readlink_size text = 12 + with_padding text
 
--- 28 REMOVE (18.25): the name; the directory's change
+-- REMOVE (18.25): the name; the directory's change
 abbrev pub remove_args : Xdr
 remove_args = bytes
 
@@ -241,7 +363,7 @@ remove_result = change_info
 abbrev pub remove_size : ℕ
 remove_size = 28
 
--- 29 RENAME (18.26): the old name, the new one; the changes of the source's directory and of the target's
+-- RENAME (18.26): the old name, the new one; the changes of the source's directory and of the target's
 abbrev pub rename_args : Xdr
 rename_args = fields (bytes ∷ bytes ∷ [])
 
@@ -251,11 +373,17 @@ rename_result = fields (change_info ∷ change_info ∷ [])
 abbrev pub rename_size : ℕ
 rename_size = 48
 
--- 31 RESTOREFH (18.27): nothing; nothing
+abbrev pub old_name : Value rename_args → List ℕ
+old_name v = v.0
 
--- 32 SAVEFH (18.28): nothing; nothing
+abbrev pub new_name : Value rename_args → List ℕ
+new_name v = v.1
 
--- 34 SETATTR (18.30): stateid, attributes; the attributes that were set, which stand there after a refusal too
+-- RESTOREFH (18.27): nothing; nothing
+
+-- SAVEFH (18.28): nothing; nothing
+
+-- SETATTR (18.30): stateid, attributes; the attributes that were set, which stand there after a refusal too
 abbrev pub setattr_args : Xdr
 setattr_args = fields (stateid ∷ attributes ∷ [])
 
@@ -271,7 +399,13 @@ setattr_size = 44
 abbrev pub setattr_refused_size : ℕ
 setattr_refused_size = 12
 
--- 37 VERIFY (18.31): the attributes that are to be the same
+abbrev pub set_stateid : Value setattr_args → Value stateid
+set_stateid v = v.0
+
+abbrev pub set_attributes : Value setattr_args → Value attributes
+set_attributes v = v.1
+
+-- VERIFY (18.31): the attributes that are to be the same
 abbrev pub verify_args : Xdr
 verify_args = attributes
 
@@ -279,7 +413,7 @@ verify_args = attributes
 abbrev pub stable_how : Xdr
 stable_how = union (arm 0 void (arm 1 void (arm 2 void no_more)))
 
--- 38 WRITE (18.32): stateid, offset, how far it is to reach, the bytes; how many, how far they have reached, a verifier
+-- WRITE (18.32): stateid, offset, how far it is to reach, the bytes; how many, how far they have reached, a verifier
 abbrev pub write_args : Xdr
 write_args = fields (stateid ∷ hyper ∷ stable_how ∷ bytes ∷ [])
 
@@ -289,11 +423,35 @@ write_result = fields (uint ∷ always 2 ∷ zeros ∷ [])
 abbrev pub write_size : ℕ
 write_size = 24
 
+-- stable_how4
+pub data Reach : Type 0 where
+  Unstable : Reach
+  DataOnly : Reach
+  FileToo : Reach
+
+abbrev pub reach : Value stable_how → Reach
+reach (inl memory) = Unstable
+reach (inr (inl content)) = DataOnly
+reach (inr (inr (inl file))) = FileToo
+reach (inr (inr (inr more))) = elim more [ ]
+
+abbrev pub write_stateid : Value write_args → Value stateid
+write_stateid v = v.0
+
+abbrev pub write_offset : Value write_args → ℕ
+write_offset v = v.1.0
+
+abbrev pub write_reach : Value write_args → Reach
+write_reach v = reach v.1.1.0
+
+abbrev pub written_bytes : Value write_args → List ℕ
+written_bytes v = v.1.1.1
+
 -- nfs_impl_id4: domain, name, a moment of any nanoseconds
 abbrev pub implementation : Xdr
 implementation = fields (bytes ∷ bytes ∷ time ∷ [])
 
--- 42 EXCHANGE_ID (18.35): verifier, owner, flags, no protection, who made the client; client, sequence, flags, no
+-- EXCHANGE_ID (18.35): verifier, owner, flags, no protection, who made the client; client, sequence, flags, no
 -- protection, the server's number and name, its scope, nobody
 abbrev pub exchange_id_args : Xdr
 exchange_id_args = fields (fixed 8 ∷ opaque 1024 ∷ uint ∷ always 0 ∷ array 1 implementation ∷ [])
@@ -312,6 +470,15 @@ protection = union (arm 1 void (arm 2 void no_more))
 abbrev pub exchange_id_protected : Xdr
 exchange_id_protected = fields (fixed 8 ∷ opaque 1024 ∷ uint ∷ protection ∷ [])
 
+abbrev pub client_verifier : Value exchange_id_args → List ℕ
+client_verifier v = v.0
+
+abbrev pub client_owner : Value exchange_id_args → List ℕ
+client_owner v = v.1.0
+
+abbrev pub exchange_id_flags : Value exchange_id_args → ℕ
+exchange_id_flags v = v.1.1.0
+
 -- channel_attrs4: padding, sizes of request, reply and kept reply, operations, slots, RDMA
 abbrev pub channel : Xdr
 channel = fields (uint ∷ uint ∷ uint ∷ uint ∷ uint ∷ uint ∷ array 1 uint ∷ [])
@@ -328,7 +495,7 @@ gss_handles = fields (uint ∷ bytes ∷ bytes ∷ [])
 abbrev pub callback_security : Xdr
 callback_security = union (arm 0 void (arm 1 authsys (arm 6 gss_handles no_more)))
 
--- 43 CREATE_SESSION (18.36): client, sequence, flags, the two channels, program and credentials of callbacks; session,
+-- CREATE_SESSION (18.36): client, sequence, flags, the two channels, program and credentials of callbacks; session,
 -- sequence, flags, the two channels
 abbrev pub create_session_args : Xdr
 create_session_args = fields (hyper ∷ uint ∷ uint ∷ channel ∷ channel ∷ uint ∷ array 8 callback_security ∷ [])
@@ -339,11 +506,42 @@ create_session_result = fields (fixed 16 ∷ uint ∷ uint ∷ channel ∷ chann
 abbrev pub create_session_size : ℕ
 create_session_size = 96
 
--- 44 DESTROY_SESSION (18.37): the session
+abbrev pub session_client : Value create_session_args → ℕ
+session_client v = v.0
+
+abbrev pub session_sequence : Value create_session_args → ℕ
+session_sequence v = v.1.0
+
+abbrev pub session_flags : Value create_session_args → ℕ
+session_flags v = v.1.1.0
+
+abbrev pub fore_channel : Value create_session_args → Value channel
+fore_channel v = v.1.1.1.0
+
+abbrev pub back_channel : Value create_session_args → Value channel
+back_channel v = v.1.1.1.1.0
+
+-- channel_attrs4
+abbrev pub request_size : Value channel → ℕ
+request_size c = c.1.0
+
+abbrev pub reply_size : Value channel → ℕ
+reply_size c = c.1.1.0
+
+abbrev pub cached_size : Value channel → ℕ
+cached_size c = c.1.1.1.0
+
+abbrev pub operations : Value channel → ℕ
+operations c = c.1.1.1.1.0
+
+abbrev pub slots : Value channel → ℕ
+slots c = c.1.1.1.1.1.0
+
+-- DESTROY_SESSION (18.37): the session
 abbrev pub destroy_session_args : Xdr
 destroy_session_args = fixed 16
 
--- 53 SEQUENCE (18.46): session, number, slot, highest slot, whether the reply is to be kept; session, number, slot,
+-- SEQUENCE (18.46): session, number, slot, highest slot, whether the reply is to be kept; session, number, slot,
 -- highest slot, highest slot that is to come, no flags
 abbrev pub sequence_args : Xdr
 sequence_args = fields (fixed 16 ∷ uint ∷ uint ∷ uint ∷ boolean ∷ [])
@@ -354,10 +552,26 @@ sequence_result = fields (fixed 16 ∷ uint ∷ uint ∷ uint ∷ uint ∷ alway
 abbrev pub sequence_size : ℕ
 sequence_size = 44
 
--- 57 DESTROY_CLIENTID (18.50): the client
+abbrev pub sequence_session : Value sequence_args → List ℕ
+sequence_session v = v.0
+
+abbrev pub sequence_number : Value sequence_args → ℕ
+sequence_number v = v.1.0
+
+abbrev pub sequence_slot : Value sequence_args → ℕ
+sequence_slot v = v.1.1.0
+
+abbrev pub highest_slot : Value sequence_args → ℕ
+highest_slot v = v.1.1.1.0
+
+-- sa_cachethis
+abbrev pub keeps_reply : Value sequence_args → Bool
+keeps_reply v = v.1.1.1.1
+
+-- DESTROY_CLIENTID (18.50): the client
 abbrev pub destroy_clientid_args : Xdr
 destroy_clientid_args = hyper
 
--- 58 RECLAIM_COMPLETE (18.51): whether for one file system
+-- RECLAIM_COMPLETE (18.51): whether for one file system
 abbrev pub reclaim_complete_args : Xdr
 reclaim_complete_args = boolean

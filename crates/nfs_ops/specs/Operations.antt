@@ -1,4 +1,5 @@
--- An operation with its arguments as it stands in a COMPOUND, and how the next one is read (RFC 8881, sections 16.2 and 18).
+-- An operation with its arguments as it stands in a COMPOUND, and how the next one is read (RFC 8881, sections 16.2 and 18). That
+-- each step of reading has a name, and another for how it goes on (`.._from`, `or_bad`), is for the prover alone.
 use Rattle.std.specs.Prelude.{ℕ, Bool, true, false, ◌&&◌, ◌||◌, nat_le, if◌then◌else◌, List, [], ◌∷◌, Option, Some, None, Ok, Err, is_ok}
 use Rattle.xdr_wire.specs.Xdr.{Xdr, Value, uint}
 use Rattle.xdr_wire.specs.Reading.{Read as ReadOf, read_at}

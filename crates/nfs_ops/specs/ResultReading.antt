@@ -10,7 +10,7 @@ use Rattle.nfs_ops.specs.Results.{Outcome, Done, Refused, SetAttrRefused}
 use Rattle.nfs_ops.specs.declared.op_kind.OpKind.{OpKind}
 use Rattle.nfs_ops.specs.declared.op_kind.OpKind.TheVariants.{SetAttr}
 
--- the statuses below 100 that aren't OK
+-- The statuses that aren't OK stand in three groups for the prover alone: those below 100
 abbrev pub file_refusal : ℕ → Option ℕ
 file_refusal s =
     if s == 1 then Some 1
@@ -28,7 +28,7 @@ file_refusal s =
     else if s == 70 then Some 70
     else None
 
--- the statuses up to 10033 that aren't OK
+-- those up to 10033
 abbrev pub state_refusal : ℕ → Option ℕ
 state_refusal s =
     if s == 10001 then Some 10001
@@ -50,7 +50,7 @@ state_refusal s =
     else if s == 10032 then Some 10032
     else None
 
--- the statuses from 10034 on that aren't OK
+-- those from 10034 on
 abbrev pub session_refusal : ℕ → Option ℕ
 session_refusal s =
     if s == 10036 then Some 10036

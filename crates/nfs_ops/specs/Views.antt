@@ -1,15 +1,23 @@
--- What each Rust value spells: the value of its form.
-use Rattle.std.specs.Prelude.{Some, None}
+-- What each Rust value spells, without where it lies in memory: the value of its form.
+use Rattle.std.specs.Prelude.{ℕ, List, Some, None}
 use Rattle.std.proofs.Common.{inl, inr}
 use Rattle.xdr_wire.specs.Xdr.{Value}
 use Rattle.xdr_wire.specs.Wire.{at_most_one, array_values, chain_values}
+use Rattle.nfs_types.specs.Status.{number_of}
 use Rattle.nfs_types.specs.Views.{handle_value, stateid_value, bitmap_value, attributes_value}
 use Rattle.nfs_ops.specs.Forms.{zeros, change_info, create_type, open_how, open_claim, entry, entry_normal, stable_how, implementation, channel, callback_security, access_args, access_result, close_args, close_result, commit_args, create_args, create_result, getattr_args, getattr_result, getfh_result, link_args, link_result, lookup_args, nverify_args, open_args, open_result, putfh_args, read_args, read_result, readdir_args, readdir_result, readlink_result, remove_args, remove_result, rename_args, rename_result, setattr_args, setattr_result, verify_args, write_args, write_result, exchange_id_args, exchange_id_result, create_session_args, create_session_result, destroy_session_args, sequence_args, sequence_result, destroy_clientid_args, reclaim_complete_args}
+use Rattle.nfs_ops.specs.Operations.{Operation, Known, Unsupported, Illegal, Bad}
+use Rattle.nfs_ops.specs.Results.{Outcome, Done, refused, refusal}
+use Rattle.nfs_ops.specs.declared.op.Op.{Op}
+use Rattle.nfs_ops.specs.declared.op.Op.TheVariants as ops
+use Rattle.nfs_ops.specs.declared.op_kind.OpKind.TheVariants as kinds
+use Rattle.nfs_ops.specs.declared.op_result.OpResult.{OpResult}
+use Rattle.nfs_ops.specs.declared.op_result.OpResult.TheVariants as results
 use Rattle.nfs_ops.specs.declared.change_info.ChangeInfo.{ChangeInfo}
 use Rattle.nfs_ops.specs.declared.channel.Channel.{Channel}
 use Rattle.nfs_ops.specs.declared.implementation.Implementation.{Implementation}
 use Rattle.nfs_ops.specs.declared.create.CreateType.{CreateType}
-use Rattle.nfs_ops.specs.declared.create.CreateType.TheVariants as kinds
+use Rattle.nfs_ops.specs.declared.create.CreateType.TheVariants as types
 use Rattle.nfs_ops.specs.declared.open.OpenHow.{OpenHow}
 use Rattle.nfs_ops.specs.declared.open.OpenHow.TheVariants as ways
 use Rattle.nfs_ops.specs.declared.open.OpenClaim.{OpenClaim}
@@ -64,15 +72,15 @@ abbrev pub change_info_value : ChangeInfo → Value change_info
 change_info_value c = (inl tt, (c.before, c.after))
 
 abbrev pub create_type_value : CreateType → Value create_type
-create_type_value kinds.File = inl tt
-create_type_value kinds.Directory = inr (inl tt)
-create_type_value (kinds.Block device) = inr (inr (inl device))
-create_type_value (kinds.Character device) = inr (inr (inr (inl device)))
-create_type_value (kinds.Link text) = inr (inr (inr (inr (inl text.bytes.now))))
-create_type_value kinds.Socket = inr (inr (inr (inr (inr (inl tt)))))
-create_type_value kinds.Fifo = inr (inr (inr (inr (inr (inr (inl tt))))))
-create_type_value kinds.AttributeDirectory = inr (inr (inr (inr (inr (inr (inr (inl tt)))))))
-create_type_value kinds.NamedAttribute = inr (inr (inr (inr (inr (inr (inr (inr (inl tt))))))))
+create_type_value types.File = inl tt
+create_type_value types.Directory = inr (inl tt)
+create_type_value (types.Block device) = inr (inr (inl device))
+create_type_value (types.Character device) = inr (inr (inr (inl device)))
+create_type_value (types.Link text) = inr (inr (inr (inr (inl text.bytes.now))))
+create_type_value types.Socket = inr (inr (inr (inr (inr (inl tt)))))
+create_type_value types.Fifo = inr (inr (inr (inr (inr (inr (inl tt))))))
+create_type_value types.AttributeDirectory = inr (inr (inr (inr (inr (inr (inr (inl tt)))))))
+create_type_value types.NamedAttribute = inr (inr (inr (inr (inr (inr (inr (inr (inl tt))))))))
 
 abbrev pub open_how_value : OpenHow → Value open_how
 open_how_value ways.NoCreate = inl tt
@@ -213,3 +221,80 @@ destroy_clientid_args_value a = a.client
 
 abbrev pub reclaim_complete_args_value : ReclaimCompleteArgs → Value reclaim_complete_args
 reclaim_complete_args_value a = a.one_fs
+
+-- what an operation says
+abbrev pub op_view : Op → Operation
+op_view (ops.Access a) = Known kinds.Access (access_args_value a)
+op_view (ops.Close a) = Known kinds.Close (close_args_value a)
+op_view (ops.Commit a) = Known kinds.Commit (commit_args_value a)
+op_view (ops.Create a) = Known kinds.Create (create_args_value a)
+op_view (ops.GetAttr a) = Known kinds.GetAttr (getattr_args_value a)
+op_view ops.GetFh = Known kinds.GetFh tt
+op_view (ops.Link a) = Known kinds.Link (link_args_value a)
+op_view (ops.Lookup a) = Known kinds.Lookup (lookup_args_value a)
+op_view ops.LookupP = Known kinds.LookupP tt
+op_view (ops.NVerify a) = Known kinds.NVerify (nverify_args_value a)
+op_view (ops.Open a) = Known kinds.Open (open_args_value a)
+op_view (ops.PutFh a) = Known kinds.PutFh (putfh_args_value a)
+op_view ops.PutRootFh = Known kinds.PutRootFh tt
+op_view (ops.Read a) = Known kinds.Read (read_args_value a)
+op_view (ops.ReadDir a) = Known kinds.ReadDir (readdir_args_value a)
+op_view ops.ReadLink = Known kinds.ReadLink tt
+op_view (ops.Remove a) = Known kinds.Remove (remove_args_value a)
+op_view (ops.Rename a) = Known kinds.Rename (rename_args_value a)
+op_view ops.RestoreFh = Known kinds.RestoreFh tt
+op_view ops.SaveFh = Known kinds.SaveFh tt
+op_view (ops.SetAttr a) = Known kinds.SetAttr (setattr_args_value a)
+op_view (ops.Verify a) = Known kinds.Verify (verify_args_value a)
+op_view (ops.Write a) = Known kinds.Write (write_args_value a)
+op_view (ops.ExchangeId a) = Known kinds.ExchangeId (exchange_id_args_value a)
+op_view (ops.CreateSession a) = Known kinds.CreateSession (create_session_args_value a)
+op_view (ops.DestroySession a) = Known kinds.DestroySession (destroy_session_args_value a)
+op_view (ops.Sequence a) = Known kinds.Sequence (sequence_args_value a)
+op_view (ops.DestroyClientId a) = Known kinds.DestroyClientId (destroy_clientid_args_value a)
+op_view (ops.ReclaimComplete a) = Known kinds.ReclaimComplete (reclaim_complete_args_value a)
+op_view (ops.Unsupported n) = Unsupported n
+op_view ops.Illegal = Illegal
+op_view (ops.Bad n) = Bad n
+
+-- an operation that was read, and the bytes behind it
+abbrev pub after : Op → List ℕ → Operation × List ℕ
+after op rest = (op_view op, rest)
+
+-- A result as it is written: a refusal isn't OK there either.
+abbrev pub result_view : OpResult → Outcome
+result_view (results.Access r) = Done kinds.Access (access_result_value r)
+result_view (results.Close r) = Done kinds.Close (close_result_value r)
+result_view results.Commit = Done kinds.Commit zeros_value
+result_view (results.Create r) = Done kinds.Create (create_result_value r)
+result_view (results.GetAttr r) = Done kinds.GetAttr (getattr_result_value r)
+result_view (results.GetFh r) = Done kinds.GetFh (getfh_result_value r)
+result_view (results.Link r) = Done kinds.Link (link_result_value r)
+result_view results.Lookup = Done kinds.Lookup tt
+result_view results.LookupP = Done kinds.LookupP tt
+result_view results.NVerify = Done kinds.NVerify tt
+result_view (results.Open r) = Done kinds.Open (open_result_value r)
+result_view results.PutFh = Done kinds.PutFh tt
+result_view results.PutRootFh = Done kinds.PutRootFh tt
+result_view (results.Read r) = Done kinds.Read (read_result_value r)
+result_view (results.ReadDir r) = Done kinds.ReadDir (readdir_result_value r)
+result_view (results.ReadLink r) = Done kinds.ReadLink (readlink_result_value r)
+result_view (results.Remove r) = Done kinds.Remove (remove_result_value r)
+result_view (results.Rename r) = Done kinds.Rename (rename_result_value r)
+result_view results.RestoreFh = Done kinds.RestoreFh tt
+result_view results.SaveFh = Done kinds.SaveFh tt
+result_view (results.SetAttr r) = Done kinds.SetAttr (setattr_result_value r)
+result_view results.Verify = Done kinds.Verify tt
+result_view (results.Write r) = Done kinds.Write (write_result_value r)
+result_view (results.ExchangeId r) = Done kinds.ExchangeId (exchange_id_result_value r)
+result_view (results.CreateSession r) = Done kinds.CreateSession (create_session_result_value r)
+result_view results.DestroySession = Done kinds.DestroySession tt
+result_view (results.Sequence r) = Done kinds.Sequence (sequence_result_value r)
+result_view results.DestroyClientId = Done kinds.DestroyClientId tt
+result_view results.ReclaimComplete = Done kinds.ReclaimComplete tt
+result_view (results.Refused n status) = refused n (refusal status)
+
+-- A result as it was read: of a refusal the very number of its status, and so never that of OK.
+abbrev pub read_view : OpResult → Outcome
+read_view (results.Refused n status) = refused n (number_of status)
+read_view r = result_view r

@@ -53,7 +53,7 @@ pub fn sizes_of_carried_bytes_are_exact()
     ensures { (o : Outcome) → carries_bytes o ≡ true → length (item_spelling (outcome_item o)) ≡ most o }
 {}
 
-/// The result of a CREATE, LINK, OPEN, REMOVE, RENAME, SETATTR or WRITE that is OK has at most 256 bytes.
+/// The result of an operation that can change the tree, and is OK, has at most 256 bytes.
 pub fn changes_are_short()
     ensures { (o : Outcome) → is_change o ≡ true → most o ≤ change_size }
 {}

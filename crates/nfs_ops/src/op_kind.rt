@@ -3,75 +3,136 @@ ghost use Rattle.std.specs.Option.{option_copied};
 ghost use Rattle.nfs_ops.specs.Names as names;
 ghost use Rattle.nfs_ops.specs.Rows.{kind_at};
 
-use crate::{
-    OP_ACCESS, OP_CLOSE, OP_COMMIT, OP_CREATE, OP_CREATE_SESSION, OP_DESTROY_CLIENTID,
-    OP_DESTROY_SESSION, OP_EXCHANGE_ID, OP_GETATTR, OP_GETFH, OP_LINK, OP_LOOKUP, OP_LOOKUPP,
-    OP_NVERIFY, OP_OPEN, OP_PUTFH, OP_PUTROOTFH, OP_READ, OP_READDIR, OP_READLINK,
-    OP_RECLAIM_COMPLETE, OP_REMOVE, OP_RENAME, OP_RESTOREFH, OP_SAVEFH, OP_SEQUENCE, OP_SETATTR,
-    OP_VERIFY, OP_WRITE,
-};
-
 /// The operations that this server has, without their arguments (RFC 8881, section 18).
 #[derive(Clone, Copy, Debug, PartialEq, Eq)]
 pub enum OpKind {
-    /// ACCESS (3).
+    /// ACCESS.
     Access,
-    /// CLOSE (4).
+    /// CLOSE.
     Close,
-    /// COMMIT (5).
+    /// COMMIT.
     Commit,
-    /// CREATE (6).
+    /// CREATE.
     Create,
-    /// GETATTR (9).
+    /// GETATTR.
     GetAttr,
-    /// GETFH (10).
+    /// GETFH.
     GetFh,
-    /// LINK (11).
+    /// LINK.
     Link,
-    /// LOOKUP (15).
+    /// LOOKUP.
     Lookup,
-    /// LOOKUPP (16).
+    /// LOOKUPP.
     LookupP,
-    /// NVERIFY (17).
+    /// NVERIFY.
     NVerify,
-    /// OPEN (18).
+    /// OPEN.
     Open,
-    /// PUTFH (22).
+    /// PUTFH.
     PutFh,
-    /// PUTROOTFH (24).
+    /// PUTROOTFH.
     PutRootFh,
-    /// READ (25).
+    /// READ.
     Read,
-    /// READDIR (26).
+    /// READDIR.
     ReadDir,
-    /// READLINK (27).
+    /// READLINK.
     ReadLink,
-    /// REMOVE (28).
+    /// REMOVE.
     Remove,
-    /// RENAME (29).
+    /// RENAME.
     Rename,
-    /// RESTOREFH (31).
+    /// RESTOREFH.
     RestoreFh,
-    /// SAVEFH (32).
+    /// SAVEFH.
     SaveFh,
-    /// SETATTR (34).
+    /// SETATTR.
     SetAttr,
-    /// VERIFY (37).
+    /// VERIFY.
     Verify,
-    /// WRITE (38).
+    /// WRITE.
     Write,
-    /// EXCHANGE_ID (42).
+    /// EXCHANGE_ID.
     ExchangeId,
-    /// CREATE_SESSION (43).
+    /// CREATE_SESSION.
     CreateSession,
-    /// DESTROY_SESSION (44).
+    /// DESTROY_SESSION.
     DestroySession,
-    /// SEQUENCE (53).
+    /// SEQUENCE.
     Sequence,
-    /// DESTROY_CLIENTID (57).
+    /// DESTROY_CLIENTID.
     DestroyClientId,
-    /// RECLAIM_COMPLETE (58).
+    /// RECLAIM_COMPLETE.
     ReclaimComplete,
+}
+
+/// The table of the operations, a row each: its variant, with its arguments if it takes any, its number, its name, and what it gives if
+/// that is anything. Hands all rows to the macro `$by`, behind what stands there for it.
+macro_rules! rows {
+    ($by:ident $(, $with:expr)*) => {
+        $by! {
+            $($with),*;
+            Access(arguments) OP_ACCESS b"ACCESS" (given),
+            Close(arguments) OP_CLOSE b"CLOSE" (given),
+            Commit(arguments) OP_COMMIT b"COMMIT",
+            Create(arguments) OP_CREATE b"CREATE" (given),
+            GetAttr(arguments) OP_GETATTR b"GETATTR" (given),
+            GetFh OP_GETFH b"GETFH" (given),
+            Link(arguments) OP_LINK b"LINK" (given),
+            Lookup(arguments) OP_LOOKUP b"LOOKUP",
+            LookupP OP_LOOKUPP b"LOOKUPP",
+            NVerify(arguments) OP_NVERIFY b"NVERIFY",
+            Open(arguments) OP_OPEN b"OPEN" (given),
+            PutFh(arguments) OP_PUTFH b"PUTFH",
+            PutRootFh OP_PUTROOTFH b"PUTROOTFH",
+            Read(arguments) OP_READ b"READ" (given),
+            ReadDir(arguments) OP_READDIR b"READDIR" (given),
+            ReadLink OP_READLINK b"READLINK" (given),
+            Remove(arguments) OP_REMOVE b"REMOVE" (given),
+            Rename(arguments) OP_RENAME b"RENAME" (given),
+            RestoreFh OP_RESTOREFH b"RESTOREFH",
+            SaveFh OP_SAVEFH b"SAVEFH",
+            SetAttr(arguments) OP_SETATTR b"SETATTR" (given),
+            Verify(arguments) OP_VERIFY b"VERIFY",
+            Write(arguments) OP_WRITE b"WRITE" (given),
+            ExchangeId(arguments) OP_EXCHANGE_ID b"EXCHANGE_ID" (given),
+            CreateSession(arguments) OP_CREATE_SESSION b"CREATE_SESSION" (given),
+            DestroySession(arguments) OP_DESTROY_SESSION b"DESTROY_SESSION",
+            Sequence(arguments) OP_SEQUENCE b"SEQUENCE" (given),
+            DestroyClientId(arguments) OP_DESTROY_CLIENTID b"DESTROY_CLIENTID",
+            ReclaimComplete(arguments) OP_RECLAIM_COMPLETE b"RECLAIM_COMPLETE",
+        }
+    };
+}
+
+pub(crate) use rows;
+
+/// The number in the row of a kind.
+macro_rules! number {
+    ($kind:expr; $($row:ident $(($arguments:ident))? $number:ident $name:literal $(($given:ident))?,)*) => {
+        match $kind {
+            $(OpKind::$row => $crate::$number,)*
+        }
+    };
+}
+
+/// The kind in the row of a number, if there is one.
+macro_rules! kind {
+    ($of:expr; $($row:ident $(($arguments:ident))? $number:ident $name:literal $(($given:ident))?,)*) => {
+        match $of {
+            $($crate::$number => Some(OpKind::$row),)*
+            _ => None,
+        }
+    };
+}
+
+/// The name in the row of a kind.
+macro_rules! name {
+    ($kind:expr; $($row:ident $(($arguments:ident))? $number:ident $name:literal $(($given:ident))?,)*) => {
+        match $kind {
+            $(OpKind::$row => $name,)*
+        }
+    };
 }
 
 impl OpKind {
@@ -81,37 +142,7 @@ impl OpKind {
     pub fn number(self) -> u32
         ensures { result ≡ (row self).number }
     {
-        match self {
-            OpKind::Access => OP_ACCESS,
-            OpKind::Close => OP_CLOSE,
-            OpKind::Commit => OP_COMMIT,
-            OpKind::Create => OP_CREATE,
-            OpKind::GetAttr => OP_GETATTR,
-            OpKind::GetFh => OP_GETFH,
-            OpKind::Link => OP_LINK,
-            OpKind::Lookup => OP_LOOKUP,
-            OpKind::LookupP => OP_LOOKUPP,
-            OpKind::NVerify => OP_NVERIFY,
-            OpKind::Open => OP_OPEN,
-            OpKind::PutFh => OP_PUTFH,
-            OpKind::PutRootFh => OP_PUTROOTFH,
-            OpKind::Read => OP_READ,
-            OpKind::ReadDir => OP_READDIR,
-            OpKind::ReadLink => OP_READLINK,
-            OpKind::Remove => OP_REMOVE,
-            OpKind::Rename => OP_RENAME,
-            OpKind::RestoreFh => OP_RESTOREFH,
-            OpKind::SaveFh => OP_SAVEFH,
-            OpKind::SetAttr => OP_SETATTR,
-            OpKind::Verify => OP_VERIFY,
-            OpKind::Write => OP_WRITE,
-            OpKind::ExchangeId => OP_EXCHANGE_ID,
-            OpKind::CreateSession => OP_CREATE_SESSION,
-            OpKind::DestroySession => OP_DESTROY_SESSION,
-            OpKind::Sequence => OP_SEQUENCE,
-            OpKind::DestroyClientId => OP_DESTROY_CLIENTID,
-            OpKind::ReclaimComplete => OP_RECLAIM_COMPLETE,
-        }
+        rows!(number, self)
     }
 
     /// The operation of a number, if this server has one.
@@ -119,38 +150,7 @@ impl OpKind {
     pub fn of_number(number: u32) -> Option<OpKind>
         ensures { result ≡ kind_at number }
     {
-        match number {
-            OP_ACCESS => Some(OpKind::Access),
-            OP_CLOSE => Some(OpKind::Close),
-            OP_COMMIT => Some(OpKind::Commit),
-            OP_CREATE => Some(OpKind::Create),
-            OP_GETATTR => Some(OpKind::GetAttr),
-            OP_GETFH => Some(OpKind::GetFh),
-            OP_LINK => Some(OpKind::Link),
-            OP_LOOKUP => Some(OpKind::Lookup),
-            OP_LOOKUPP => Some(OpKind::LookupP),
-            OP_NVERIFY => Some(OpKind::NVerify),
-            OP_OPEN => Some(OpKind::Open),
-            OP_PUTFH => Some(OpKind::PutFh),
-            OP_PUTROOTFH => Some(OpKind::PutRootFh),
-            OP_READ => Some(OpKind::Read),
-            OP_READDIR => Some(OpKind::ReadDir),
-            OP_READLINK => Some(OpKind::ReadLink),
-            OP_REMOVE => Some(OpKind::Remove),
-            OP_RENAME => Some(OpKind::Rename),
-            OP_RESTOREFH => Some(OpKind::RestoreFh),
-            OP_SAVEFH => Some(OpKind::SaveFh),
-            OP_SETATTR => Some(OpKind::SetAttr),
-            OP_VERIFY => Some(OpKind::Verify),
-            OP_WRITE => Some(OpKind::Write),
-            OP_EXCHANGE_ID => Some(OpKind::ExchangeId),
-            OP_CREATE_SESSION => Some(OpKind::CreateSession),
-            OP_DESTROY_SESSION => Some(OpKind::DestroySession),
-            OP_SEQUENCE => Some(OpKind::Sequence),
-            OP_DESTROY_CLIENTID => Some(OpKind::DestroyClientId),
-            OP_RECLAIM_COMPLETE => Some(OpKind::ReclaimComplete),
-            _ => None,
-        }
+        rows!(kind, number)
     }
 
     /// Its name, in capitals and without the standard's `OP_`: ASCII, at most 20 bytes.
@@ -158,37 +158,7 @@ impl OpKind {
         ensures name { result.now ≡ (row self).name }
         ensures short { length result.now ≤ 20 }
     {
-        match self {
-            OpKind::Access => b"ACCESS",
-            OpKind::Close => b"CLOSE",
-            OpKind::Commit => b"COMMIT",
-            OpKind::Create => b"CREATE",
-            OpKind::GetAttr => b"GETATTR",
-            OpKind::GetFh => b"GETFH",
-            OpKind::Link => b"LINK",
-            OpKind::Lookup => b"LOOKUP",
-            OpKind::LookupP => b"LOOKUPP",
-            OpKind::NVerify => b"NVERIFY",
-            OpKind::Open => b"OPEN",
-            OpKind::PutFh => b"PUTFH",
-            OpKind::PutRootFh => b"PUTROOTFH",
-            OpKind::Read => b"READ",
-            OpKind::ReadDir => b"READDIR",
-            OpKind::ReadLink => b"READLINK",
-            OpKind::Remove => b"REMOVE",
-            OpKind::Rename => b"RENAME",
-            OpKind::RestoreFh => b"RESTOREFH",
-            OpKind::SaveFh => b"SAVEFH",
-            OpKind::SetAttr => b"SETATTR",
-            OpKind::Verify => b"VERIFY",
-            OpKind::Write => b"WRITE",
-            OpKind::ExchangeId => b"EXCHANGE_ID",
-            OpKind::CreateSession => b"CREATE_SESSION",
-            OpKind::DestroySession => b"DESTROY_SESSION",
-            OpKind::Sequence => b"SEQUENCE",
-            OpKind::DestroyClientId => b"DESTROY_CLIENTID",
-            OpKind::ReclaimComplete => b"RECLAIM_COMPLETE",
-        }
+        rows!(name, self)
     }
 }
 

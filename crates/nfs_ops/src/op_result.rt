@@ -21,63 +21,63 @@ use nfs_types::Status;
 /// The result of an operation (RFC 8881, sections 16.2 and 18).
 #[derive(Drop)]
 pub enum OpResult<'a> {
-    /// ACCESS (3).
+    /// ACCESS.
     Access(AccessResult),
-    /// CLOSE (4).
+    /// CLOSE.
     Close(CloseResult),
-    /// COMMIT (5).
+    /// COMMIT.
     Commit,
-    /// CREATE (6).
+    /// CREATE.
     Create(CreateResult),
-    /// GETATTR (9).
+    /// GETATTR.
     GetAttr(GetAttrResult<'a>),
-    /// GETFH (10).
+    /// GETFH.
     GetFh(GetFhResult<'a>),
-    /// LINK (11).
+    /// LINK.
     Link(LinkResult),
-    /// LOOKUP (15).
+    /// LOOKUP.
     Lookup,
-    /// LOOKUPP (16).
+    /// LOOKUPP.
     LookupP,
-    /// NVERIFY (17).
+    /// NVERIFY.
     NVerify,
-    /// OPEN (18).
+    /// OPEN.
     Open(OpenResult),
-    /// PUTFH (22).
+    /// PUTFH.
     PutFh,
-    /// PUTROOTFH (24).
+    /// PUTROOTFH.
     PutRootFh,
-    /// READ (25).
+    /// READ.
     Read(ReadResult<'a>),
-    /// READDIR (26).
+    /// READDIR.
     ReadDir(ReadDirResult<'a>),
-    /// READLINK (27).
+    /// READLINK.
     ReadLink(ReadLinkResult<'a>),
-    /// REMOVE (28).
+    /// REMOVE.
     Remove(RemoveResult),
-    /// RENAME (29).
+    /// RENAME.
     Rename(RenameResult),
-    /// RESTOREFH (31).
+    /// RESTOREFH.
     RestoreFh,
-    /// SAVEFH (32).
+    /// SAVEFH.
     SaveFh,
-    /// SETATTR (34).
+    /// SETATTR.
     SetAttr(SetAttrResult),
-    /// VERIFY (37).
+    /// VERIFY.
     Verify,
-    /// WRITE (38).
+    /// WRITE.
     Write(WriteResult),
-    /// EXCHANGE_ID (42).
+    /// EXCHANGE_ID.
     ExchangeId(ExchangeIdResult<'a>),
-    /// CREATE_SESSION (43).
+    /// CREATE_SESSION.
     CreateSession(CreateSessionResult),
-    /// DESTROY_SESSION (44).
+    /// DESTROY_SESSION.
     DestroySession,
-    /// SEQUENCE (53).
+    /// SEQUENCE.
     Sequence(SequenceResult),
-    /// DESTROY_CLIENTID (57).
+    /// DESTROY_CLIENTID.
     DestroyClientId,
-    /// RECLAIM_COMPLETE (58).
+    /// RECLAIM_COMPLETE.
     ReclaimComplete,
     /// The operation of this number has this status, and not OK.
     Refused(u32, Status),

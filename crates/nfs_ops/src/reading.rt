@@ -2,11 +2,11 @@ ghost use Rattle.std.specs.Prelude.{◌≡◌};
 ghost use Rattle.xdr_wire.specs.Reading.{Gives};
 ghost use Rattle.nfs_ops.specs.Operations.{next_at, arguments_at, arguments_of};
 ghost use Rattle.nfs_ops.specs.Operations as specs;
-ghost use Rattle.nfs_ops.specs.OpViews.{op_view, after};
+ghost use Rattle.nfs_ops.specs.Views.{op_view, after};
 ghost use Rattle.nfs_ops.specs.declared.op_kind.OpKind.TheVariants as kinds;
 
 use crate::op::{OP_ILLEGAL, Op};
-use crate::op_kind::OpKind;
+use crate::op_kind::{OpKind, rows};
 use crate::unsupported::{is_exchange_id_unsupported, is_open_unsupported};
 use crate::{OP_EXCHANGE_ID, OP_OPEN};
 use xdr_wire::{Reader, Wire, XdrFault};
@@ -45,41 +45,28 @@ fn no_operation<'a>(number: u32) -> Op<'a>
     }
 }
 
+/// Reads the arguments in a row, if there are any.
+macro_rules! arguments {
+    (Open arguments, $reader:expr) => { read_open($reader) };
+    (ExchangeId arguments, $reader:expr) => { read_exchange_id($reader) };
+    ($row:ident $arguments:ident, $reader:expr) => { Ok(Op::$row(Wire::read($reader)?)) };
+    ($row:ident, $reader:expr) => { Ok(Op::$row) };
+}
+
+/// Reads the arguments in the row of a kind.
+macro_rules! arguments_of {
+    ($kind:expr, $reader:expr; $($row:ident $(($arguments:ident))? $number:ident $name:literal $(($given:ident))?,)*) => {
+        match $kind {
+            $(OpKind::$row => arguments!($row $($arguments)?, $reader),)*
+        }
+    };
+}
+
 /// Reads the arguments of an operation.
 fn read_arguments<'a>(kind: OpKind, reader: &mut Reader<'a>) -> Result<Op<'a>, XdrFault>
     ensures { Gives op_view reader.old reader.new result (arguments_of kind reader.old) }
 {
-    match kind {
-        OpKind::Access => Ok(Op::Access(Wire::read(reader)?)),
-        OpKind::Close => Ok(Op::Close(Wire::read(reader)?)),
-        OpKind::Commit => Ok(Op::Commit(Wire::read(reader)?)),
-        OpKind::Create => Ok(Op::Create(Wire::read(reader)?)),
-        OpKind::GetAttr => Ok(Op::GetAttr(Wire::read(reader)?)),
-        OpKind::GetFh => Ok(Op::GetFh),
-        OpKind::Link => Ok(Op::Link(Wire::read(reader)?)),
-        OpKind::Lookup => Ok(Op::Lookup(Wire::read(reader)?)),
-        OpKind::LookupP => Ok(Op::LookupP),
-        OpKind::NVerify => Ok(Op::NVerify(Wire::read(reader)?)),
-        OpKind::Open => read_open(reader),
-        OpKind::PutFh => Ok(Op::PutFh(Wire::read(reader)?)),
-        OpKind::PutRootFh => Ok(Op::PutRootFh),
-        OpKind::Read => Ok(Op::Read(Wire::read(reader)?)),
-        OpKind::ReadDir => Ok(Op::ReadDir(Wire::read(reader)?)),
-        OpKind::ReadLink => Ok(Op::ReadLink),
-        OpKind::Remove => Ok(Op::Remove(Wire::read(reader)?)),
-        OpKind::Rename => Ok(Op::Rename(Wire::read(reader)?)),
-        OpKind::RestoreFh => Ok(Op::RestoreFh),
-        OpKind::SaveFh => Ok(Op::SaveFh),
-        OpKind::SetAttr => Ok(Op::SetAttr(Wire::read(reader)?)),
-        OpKind::Verify => Ok(Op::Verify(Wire::read(reader)?)),
-        OpKind::Write => Ok(Op::Write(Wire::read(reader)?)),
-        OpKind::ExchangeId => read_exchange_id(reader),
-        OpKind::CreateSession => Ok(Op::CreateSession(Wire::read(reader)?)),
-        OpKind::DestroySession => Ok(Op::DestroySession(Wire::read(reader)?)),
-        OpKind::Sequence => Ok(Op::Sequence(Wire::read(reader)?)),
-        OpKind::DestroyClientId => Ok(Op::DestroyClientId(Wire::read(reader)?)),
-        OpKind::ReclaimComplete => Ok(Op::ReclaimComplete(Wire::read(reader)?)),
-    }
+    rows!(arguments_of, kind, reader)
 }
 
 /// Reads the arguments of the operation of this number, if this server has it.

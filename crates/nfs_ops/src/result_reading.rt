@@ -3,11 +3,11 @@ ghost use Rattle.xdr_wire.specs.Reading.{Gives};
 ghost use Rattle.nfs_types.specs.Status.{number_of};
 ghost use Rattle.nfs_ops.specs.ResultReading.{result_at, done_at, done_of, refused_from, refused_at, refusal_at, behind_status};
 ghost use Rattle.nfs_ops.specs.ResultReading as specs;
-ghost use Rattle.nfs_ops.specs.ResultViews.{read_view};
+ghost use Rattle.nfs_ops.specs.Views.{read_view};
 
 use crate::OP_SETATTR;
 use crate::always::Zeros;
-use crate::op_kind::OpKind;
+use crate::op_kind::{OpKind, rows};
 use crate::op_result::OpResult;
 use nfs_types::{Bitmap, Status};
 use xdr_wire::{Reader, Wire, XdrFault};
@@ -102,44 +102,30 @@ fn refusal_of(number: u32) -> Option<Status>
     }
 }
 
+/// Reads what is given in a row, if that is anything. COMMIT gives a verifier that says nothing.
+macro_rules! given {
+    (Commit, $reader:expr) => {{
+        let Zeros = Wire::read($reader)?;
+        Ok(OpResult::Commit)
+    }};
+    ($row:ident $given:ident, $reader:expr) => { Ok(OpResult::$row(Wire::read($reader)?)) };
+    ($row:ident, $reader:expr) => { Ok(OpResult::$row) };
+}
+
+/// Reads what is given in the row of a kind.
+macro_rules! given_of {
+    ($kind:expr, $reader:expr; $($row:ident $(($arguments:ident))? $number:ident $name:literal $(($given:ident))?,)*) => {
+        match $kind {
+            $(OpKind::$row => given!($row $($given)?, $reader),)*
+        }
+    };
+}
+
 /// Reads what an operation gives.
 fn read_done<'a>(kind: OpKind, reader: &mut Reader<'a>) -> Result<OpResult<'a>, XdrFault>
     ensures { Gives read_view reader.old reader.new result (done_of kind reader.old) }
 {
-    match kind {
-        OpKind::Access => Ok(OpResult::Access(Wire::read(reader)?)),
-        OpKind::Close => Ok(OpResult::Close(Wire::read(reader)?)),
-        OpKind::Commit => {
-            let Zeros = Wire::read(reader)?;
-            Ok(OpResult::Commit)
-        }
-        OpKind::Create => Ok(OpResult::Create(Wire::read(reader)?)),
-        OpKind::GetAttr => Ok(OpResult::GetAttr(Wire::read(reader)?)),
-        OpKind::GetFh => Ok(OpResult::GetFh(Wire::read(reader)?)),
-        OpKind::Link => Ok(OpResult::Link(Wire::read(reader)?)),
-        OpKind::Lookup => Ok(OpResult::Lookup),
-        OpKind::LookupP => Ok(OpResult::LookupP),
-        OpKind::NVerify => Ok(OpResult::NVerify),
-        OpKind::Open => Ok(OpResult::Open(Wire::read(reader)?)),
-        OpKind::PutFh => Ok(OpResult::PutFh),
-        OpKind::PutRootFh => Ok(OpResult::PutRootFh),
-        OpKind::Read => Ok(OpResult::Read(Wire::read(reader)?)),
-        OpKind::ReadDir => Ok(OpResult::ReadDir(Wire::read(reader)?)),
-        OpKind::ReadLink => Ok(OpResult::ReadLink(Wire::read(reader)?)),
-        OpKind::Remove => Ok(OpResult::Remove(Wire::read(reader)?)),
-        OpKind::Rename => Ok(OpResult::Rename(Wire::read(reader)?)),
-        OpKind::RestoreFh => Ok(OpResult::RestoreFh),
-        OpKind::SaveFh => Ok(OpResult::SaveFh),
-        OpKind::SetAttr => Ok(OpResult::SetAttr(Wire::read(reader)?)),
-        OpKind::Verify => Ok(OpResult::Verify),
-        OpKind::Write => Ok(OpResult::Write(Wire::read(reader)?)),
-        OpKind::ExchangeId => Ok(OpResult::ExchangeId(Wire::read(reader)?)),
-        OpKind::CreateSession => Ok(OpResult::CreateSession(Wire::read(reader)?)),
-        OpKind::DestroySession => Ok(OpResult::DestroySession),
-        OpKind::Sequence => Ok(OpResult::Sequence(Wire::read(reader)?)),
-        OpKind::DestroyClientId => Ok(OpResult::DestroyClientId),
-        OpKind::ReclaimComplete => Ok(OpResult::ReclaimComplete),
-    }
+    rows!(given_of, kind, reader)
 }
 
 /// Reads what the operation of this number gives.

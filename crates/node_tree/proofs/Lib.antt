@@ -17,3 +17,7 @@ pub mod Below
 pub mod Placing
 pub mod Keys
 pub mod Indexing
+pub mod Counting
+pub mod Listed
+pub mod Keeping
+pub mod Places

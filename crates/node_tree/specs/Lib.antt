@@ -2,9 +2,12 @@ pub mod Limits
 pub mod World
 pub mod Ways
 pub mod Changes
+pub mod Places
+pub mod Lends
 pub mod Refusals
 pub mod Contents
 pub mod Blocks
+pub mod Groups
 pub mod Indexes
 pub mod Judged
 pub mod Sound

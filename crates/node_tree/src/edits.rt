@@ -1,114 +1,73 @@
-//! Edits of the objects and of the names.
-ghost use Rattle.std.specs.Prelude.{◌≡◌, ◌+◌, ◌<◌, ◌^◌, ◌==◌, if◌then◌else◌, length, find, OnOk, OnErr, Some};
+//! Edits of the objects.
+ghost use Rattle.std.specs.Prelude.{◌≡◌, ◌+◌, ◌<◌, ◌^◌, ◌==◌, if◌then◌else◌, length, OnOk, OnErr, Some};
 ghost use Rattle.std.specs.Option.{option_map, option_map_or};
 ghost use Rattle.std.specs.Map.{lookup};
 ghost use Rattle.std.specs.BTreeMap.{is_at};
 ghost use Rattle.std.specs.Ordering.{nat_cmp};
-ghost use Rattle.node_tree.specs.World.{has_name};
-ghost use Rattle.node_tree.specs.Changes.{changed, touched, retold, without, released, written, resized};
+ghost use Rattle.node_tree.specs.Changes.{changed, touched, retold, without, written, resized};
 
 use crate::at::At;
-use crate::entry::DirEntry;
-use crate::node::Node;
+use crate::node_table::NodeTable;
 use acl_list::{AclList, Kind};
 use std::alloc::{AllocError, Allocator};
-use std::collections::BTreeMap;
-
-// ---- names
-
-/// Whether an object has a name.
-pub fn has_name<A: Allocator>(names: &[DirEntry<A>], number: u64) -> bool
-    ensures { result ≡ has_name names.now number }
-{
-    names.iter().any(|entry| entry.child() == number)
-}
-
-/// The directory of the first name that an object has.
-pub fn directory_of<A: Allocator>(names: &[DirEntry<A>], number: u64) -> Option<u64>
-    ensures { result ≡ option_map (λ n. n.directory) (find (λ n. n.child == number) names.now) }
-{
-    names
-        .iter()
-        .find(|entry| entry.child() == number)
-        .map(|entry| entry.directory())
-}
-
-// ---- objects
 
 /// A change of bytes, of a size or of a directory's names.
-pub fn touch<A: Allocator>(objects: &mut BTreeMap<u64, Node<A>, A>, number: u64, at: At)
-    ensures { objects.new.entries ≡ changed number (touched at) objects.old.entries }
+pub fn touch<A: Allocator>(objects: &mut NodeTable<A>, number: u64, at: At)
+    ensures { objects.new ≡ changed number (touched at) objects.old }
 {
-    if let Some(node) = objects.get_mut(&number) {
+    if let Some(node) = objects.get_mut(number) {
         node.touch(at);
     }
 }
 
 /// A change of a list, an owner, a group or the number of names, or a move.
-pub fn retell<A: Allocator>(objects: &mut BTreeMap<u64, Node<A>, A>, number: u64, at: At)
-    ensures { objects.new.entries ≡ changed number (retold at) objects.old.entries }
+pub fn retell<A: Allocator>(objects: &mut NodeTable<A>, number: u64, at: At)
+    ensures { objects.new ≡ changed number (retold at) objects.old }
 {
-    if let Some(node) = objects.get_mut(&number) {
+    if let Some(node) = objects.get_mut(number) {
         node.retell(at);
     }
 }
 
 /// An object has lost a name. It stays by another one, or goes.
 #[tactic(auto, using(crate::proofs::Objects::removed, crate::proofs::Objects::without_none, std::proofs::lemmas::Map::Steps::set_value_same))]
-pub fn release<A: Allocator>(
-    objects: &mut BTreeMap<u64, Node<A>, A>,
-    number: u64,
-    stays: bool,
-    at: At,
-)
-    ensures { objects.new.entries ≡ (if stays then changed number (retold at) objects.old.entries else without number objects.old.entries) }
+pub fn release<A: Allocator>(objects: &mut NodeTable<A>, number: u64, stays: bool, at: At)
+    ensures { objects.new ≡ (if stays then changed number (retold at) objects.old else without number objects.old) }
 {
-    let Some(node) = objects.get_mut(&number) else {
+    let Some(node) = objects.get_mut(number) else {
         return;
     };
     if stays {
         node.retell(at);
     } else {
-        objects.remove(&number);
+        objects.remove(number);
     }
 }
 
-/// A child has another name, and a target that had that name has lost it. These names are left of the others.
+/// A child has another name, and a target that had that name has lost it. The target stays by another name, or goes.
 pub fn move_child<A: Allocator>(
-    objects: &mut BTreeMap<u64, Node<A>, A>,
-    names: &[DirEntry<A>],
+    objects: &mut NodeTable<A>,
     from: u64,
     to: u64,
     child: u64,
     target: Option<u64>,
+    stays: bool,
     at: At,
 )
-    ensures { objects.new.entries ≡ changed to (touched at) (changed from (touched at) (changed child (retold at) (option_map_or (λ t. released names.now t at objects.old.entries) target objects.old.entries))) }
+    ensures { objects.new ≡ changed to (touched at) (changed from (touched at) (changed child (retold at) (option_map_or (λ t. if stays then changed t (retold at) objects.old else without t objects.old) target objects.old))) }
 {
-    release_target(objects, target, names, at);
+    if let Some(target) = target {
+        release(objects, target, stays, at);
+    }
     retell(objects, child, at);
     touch(objects, from, at);
     touch(objects, to, at);
 }
 
-/// An object that may be there has lost a name.
-fn release_target<A: Allocator>(
-    objects: &mut BTreeMap<u64, Node<A>, A>,
-    target: Option<u64>,
-    names: &[DirEntry<A>],
-    at: At,
-)
-    ensures { objects.new.entries ≡ option_map_or (λ t. released names.now t at objects.old.entries) target objects.old.entries }
-{
-    if let Some(target) = target {
-        release(objects, target, has_name(names, target), at);
-    }
-}
-
 /// Writes data into a file. `Err`: there is no memory, and nothing has changed.
 #[tactic(auto, using(std::proofs::lemmas::Map::Steps::set_value_same))]
 pub fn write<A: Allocator + Copy>(
-    objects: &mut BTreeMap<u64, Node<A>, A>,
+    objects: &mut NodeTable<A>,
     alloc: A,
     number: u64,
     offset: usize,
@@ -116,59 +75,54 @@ pub fn write<A: Allocator + Copy>(
     at: At,
 ) -> Result<(), AllocError>
     requires few { offset + length more.now < 2 ^ 32 }
-    requires file { option_map (λ o. o.kind) (lookup (is_at (nat_cmp number)) objects.old.entries) ≡ Some Kind.File }
-    ensures ok { OnOk result (objects.new.entries ≡ changed number (λ o. touched at (record o { bytes = written o.bytes offset more.now })) objects.old.entries) }
-    ensures err { OnErr result (objects.new.entries ≡ objects.old.entries) }
+    requires file { option_map (λ o. o.kind) (lookup (is_at (nat_cmp number)) objects.old) ≡ Some Kind.File }
+    ensures ok { OnOk result (objects.new ≡ changed number (λ o. touched at (record o { bytes = written o.bytes offset more.now })) objects.old) }
+    ensures err { OnErr result (objects.new ≡ objects.old) }
 {
-    if let Some(node) = objects.get_mut(&number) {
+    if let Some(node) = objects.get_mut(number) {
         node.write(alloc, offset, more, at)?;
     }
     Ok(())
 }
 
 /// Sets the size of a file. It takes no memory.
-pub fn resize<A: Allocator>(
-    objects: &mut BTreeMap<u64, Node<A>, A>,
-    number: u64,
-    size: usize,
-    at: At,
-)
-    requires { option_map (λ o. o.kind) (lookup (is_at (nat_cmp number)) objects.old.entries) ≡ Some Kind.File }
-    ensures { objects.new.entries ≡ changed number (λ o. touched at (record o { bytes = resized o.bytes size })) objects.old.entries }
+pub fn resize<A: Allocator>(objects: &mut NodeTable<A>, number: u64, size: usize, at: At)
+    requires { option_map (λ o. o.kind) (lookup (is_at (nat_cmp number)) objects.old) ≡ Some Kind.File }
+    ensures { objects.new ≡ changed number (λ o. touched at (record o { bytes = resized o.bytes size })) objects.old }
 {
-    if let Some(node) = objects.get_mut(&number) {
+    if let Some(node) = objects.get_mut(number) {
         node.resize(size, at);
     }
 }
 
 /// Sets the list of an object.
 pub fn set_list<A: Allocator>(
-    objects: &mut BTreeMap<u64, Node<A>, A>,
+    objects: &mut NodeTable<A>,
     number: u64,
     list: AclList<A>,
     high: u32,
     stamp: u64,
     at: At,
 )
-    ensures { objects.new.entries ≡ changed number (λ o. retold at (record o { list = list; high = high; stamp = stamp })) objects.old.entries }
+    ensures { objects.new ≡ changed number (λ o. retold at (record o { list = list; high = high; stamp = stamp })) objects.old }
 {
-    if let Some(node) = objects.get_mut(&number) {
+    if let Some(node) = objects.get_mut(number) {
         node.set_list(list, high, stamp, at);
     }
 }
 
 /// Sets the owner and the group of an object.
 pub fn set_owner<A: Allocator>(
-    objects: &mut BTreeMap<u64, Node<A>, A>,
+    objects: &mut NodeTable<A>,
     number: u64,
     owner: u32,
     group: u32,
     stamp: u64,
     at: At,
 )
-    ensures { objects.new.entries ≡ changed number (λ o. retold at (record o { owner = owner; group = group; stamp = stamp })) objects.old.entries }
+    ensures { objects.new ≡ changed number (λ o. retold at (record o { owner = owner; group = group; stamp = stamp })) objects.old }
 {
-    if let Some(node) = objects.get_mut(&number) {
+    if let Some(node) = objects.get_mut(number) {
         node.set_owner(owner, group, stamp, at);
     }
 }

@@ -1,12 +1,13 @@
 //! The names of all directories, by rising cookie, with an index by directory and name.
-ghost use Rattle.std.specs.Prelude.{◌≡◌, ◌≤◌, ◌++◌, ◌∷◌, [], find, List, OnOk, OnErr, None};
-ghost use Rattle.std.specs.Vec.{vec_len, vec_capacity};
-ghost use Rattle.std.specs.Option.{option_map};
-ghost use Rattle.node_tree.specs.World.{Name, is_named};
+ghost use Rattle.std.specs.Prelude.{◌≡◌, ◌++◌, ◌∷◌, [], find, filter, not, nat_lt, nat_eq, ◌==◌, ◌&&◌, OnOk, OnErr, None};
+ghost use Rattle.std.specs.Option.{option_map, option_map_or, option_copied};
+ghost use Rattle.node_tree.specs.World.{is_named, link_count, has_name, name_count, has_entries};
 ghost use Rattle.node_tree.specs.Changes.{other_names};
+ghost use Rattle.node_tree.specs.Sound.{Rises};
 
 use crate::entry::DirEntry;
 use crate::name_index;
+use crate::name_list::NameList;
 use std::alloc::{AllocError, Allocator, Global};
 use std::collections::BTreeMap;
 use std::marker::Model;
@@ -14,94 +15,102 @@ use std::marker::Model;
 /// The names of all directories, by rising cookie.
 #[derive(Debug, Drop)]
 pub struct NameTable<A: Allocator = Global> {
-    list: Vec<DirEntry<A>, A>,
+    list: NameList<A>,
+    /// The cookie of each name, by directory.
     index: BTreeMap<u64, BTreeMap<Vec<u8, A>, u64, A>, A>,
 }
 
 impl<A: Allocator> Model for NameTable<A> {
     ghost use Rattle.std.specs.Prelude.{List};
     ghost use Rattle.node_tree.specs.World.{Name};
-    ghost use Rattle.node_tree.specs.Indexes.{IsIndexed};
+    ghost use Rattle.node_tree.specs.Indexes.{IsKept};
 
     ghost Value = { List Name };
 
-    ghost view = { λ n. n.list.items };
+    ghost view = { λ n. n.list };
 
-    ghost invariant = { λ n. IsIndexed n.index n.list.items };
+    ghost invariant = { λ n. IsKept n.index n.list };
 }
 
-/// Takes a name away.
-fn remove_name<A: Allocator>(names: &mut Vec<DirEntry<A>, A>, directory: u64, name: &[u8])
-    ensures names { names.new.items ≡ other_names directory name.now names.old.items }
-    ensures shorter { vec_len names.new ≤ vec_len names.old }
-    ensures room { vec_capacity names.new ≡ vec_capacity names.old }
+/// Takes the name of a cookie away, if there is one.
+fn remove_found<A: Allocator + Copy>(names: &mut NameList<A>, cookie: Option<u64>)
+    ensures { names.new ≡ option_map_or (λ k. filter (λ n. not (n.cookie == k)) names.old) cookie names.old }
 {
-    names.retain(|entry| !entry.is_named(directory, name));
+    if let Some(cookie) = cookie {
+        names.remove(cookie);
+    }
 }
 
-/// Takes two names away.
-fn remove_names<A: Allocator>(
-    names: &mut Vec<DirEntry<A>, A>,
-    from: u64,
-    old: &[u8],
-    to: u64,
-    new: &[u8],
-)
-    ensures names { names.new.items ≡ other_names to new.now (other_names from old.now names.old.items) }
-    ensures shorter { vec_len names.new ≤ vec_len names.old }
-    ensures room { vec_capacity names.new ≡ vec_capacity names.old }
-{
-    remove_name(names, from, old);
-    remove_name(names, to, new);
-}
-
+// Look-ups.
 impl<A: Allocator> NameTable<A> {
-    /// All names, by rising cookie.
-    pub fn as_slice(&self) -> &[DirEntry<A>]
-        ensures { result.now ≡ self.now }
-    {
-        self.list.as_slice()
-    }
-
-    /// All names but the last, by rising cookie.
-    pub fn but_last(&self) -> &[DirEntry<A>]
-        ensures { (names : List Name) (n : Name) → self.now ≡ names ++ n ∷ [] → result.now ≡ names }
-    {
-        let names = self.list.as_slice();
-        match names.len() {
-            0 => names,
-            len => &names[..len - 1],
-        }
-    }
-
     /// The child of a name in a directory.
     pub fn find(&self, directory: u64, name: &[u8]) -> Option<u64>
         ensures { result ≡ option_map (λ n. n.child) (find (is_named directory name.now) self.now) }
     {
-        name_index::find(&self.index, directory, name)
+        let Some(cookie) = name_index::find(&self.index, directory, name) else {
+            return None;
+        };
+        self.list.child(cookie)
     }
 
-    /// Takes a name away.
-    pub fn remove(&mut self, directory: u64, name: &[u8])
-        ensures { self.new ≡ other_names directory name.now self.old }
+    /// The next name of a directory, by rising cookie.
+    pub fn list_after(&self, directory: u64, cookie: u64) -> Option<&DirEntry<A>>
+        ensures { option_copied result ≡ find (λ n. (n.directory == directory) && nat_lt cookie n.cookie) self.now }
     {
-        name_index::take(&mut self.index, directory, name);
-        remove_name(&mut self.list, directory, name);
+        self.list.list_after(directory, cookie)
+    }
+
+    /// The directory of the first name that an object has.
+    pub fn directory_of(&self, number: u64) -> Option<u64>
+        ensures { result ≡ option_map (λ n. n.directory) (find (λ n. n.child == number) self.now) }
+    {
+        self.list.directory_of(number)
+    }
+
+    /// How many names an object has.
+    pub fn link_count(&self, number: u64) -> usize
+        ensures { result ≡ link_count self.now number }
+    {
+        self.list.link_count(number)
+    }
+
+    /// Whether an object has a name.
+    #[tactic(auto, using(crate::proofs::Counting::any_counted))]
+    pub fn has_name(&self, number: u64) -> bool
+        ensures { result ≡ has_name self.now number }
+    {
+        0 < self.link_count(number)
+    }
+
+    /// How many names a directory has.
+    pub fn name_count(&self, directory: u64) -> usize
+        ensures { result ≡ name_count self.now directory }
+    {
+        self.list.name_count(directory)
+    }
+
+    /// Whether a directory has names.
+    #[tactic(auto, using(crate::proofs::Names::names_counted, crate::proofs::Counting::any_counted))]
+    pub fn has_entries(&self, directory: u64) -> bool
+        ensures { result ≡ has_entries self.now directory }
+    {
+        0 < self.name_count(directory)
     }
 }
 
+// Changes.
 impl<A: Allocator + Copy> NameTable<A> {
     /// No names.
     pub fn new(alloc: A) -> Self
         ensures { result ≡ [] }
     {
         NameTable {
-            list: Vec::new(alloc),
+            list: NameList::new(alloc),
             index: BTreeMap::new(alloc),
         }
     }
 
-    /// A name more, which isn't there. `Err`: there is no memory for it, and nothing has changed.
+    /// A name more, which isn't there, with a cookie above all others. `Err`: there is no memory for it, and nothing has changed.
     pub fn push(
         &mut self,
         alloc: A,
@@ -110,20 +119,31 @@ impl<A: Allocator + Copy> NameTable<A> {
         name: &[u8],
         child: u64,
     ) -> Result<(), AllocError>
-        requires { option_map (λ n. n.child) (find (is_named directory name.now) self.old) ≡ None }
+        requires absent { option_map (λ n. n.child) (find (is_named directory name.now) self.old) ≡ None }
+        requires last { Rises (λ n. n.cookie) 3 self.old cookie }
         ensures ok { OnOk result (self.new ≡ self.old ++ record { cookie = cookie; directory = directory; name = name.now; child = child } ∷ []) }
         ensures err { OnErr result (self.new ≡ self.old) }
     {
         let key = Vec::from_slice(alloc, name)?;
         let name = Vec::from_slice(alloc, name)?;
-        self.list.reserve(1)?;
-        name_index::put(&mut self.index, alloc, directory, key, child)?;
-        self.list
-            .push_reserved(DirEntry::new(cookie, directory, name, child));
+        self.list.push(alloc, cookie, directory, name, child)?;
+        if let Err(refused) = name_index::put(&mut self.index, alloc, directory, key, cookie) {
+            self.list.remove(cookie);
+            return Err(refused);
+        }
         Ok(())
     }
 
-    /// Another name for a child in place of two, of which any may be absent. `Err`: there is no memory for it, and nothing has changed.
+    /// Takes a name away.
+    pub fn remove(&mut self, directory: u64, name: &[u8])
+        ensures { self.new ≡ other_names directory name.now self.old }
+    {
+        let cookie = name_index::take(&mut self.index, directory, name);
+        remove_found(&mut self.list, cookie);
+    }
+
+    /// Another name for a child in place of two, of which any may be absent, with a cookie above all others. `Err`: there is no
+    /// memory for it, and nothing has changed.
     pub fn replace(
         &mut self,
         alloc: A,
@@ -134,17 +154,23 @@ impl<A: Allocator + Copy> NameTable<A> {
         cookie: u64,
         child: u64,
     ) -> Result<(), AllocError>
+        requires { Rises (λ n. n.cookie) 3 self.old cookie }
         ensures ok { OnOk result (self.new ≡ other_names to new.now (other_names from old.now self.old) ++ record { cookie = cookie; directory = to; name = new.now; child = child } ∷ []) }
         ensures err { OnErr result (self.new ≡ self.old) }
     {
         let key = Vec::from_slice(alloc, new)?;
         let name = Vec::from_slice(alloc, new)?;
-        self.list.reserve(1)?;
-        name_index::put(&mut self.index, alloc, to, key, child)?;
-        name_index::take_other(&mut self.index, from, old, to, new);
-        remove_names(&mut self.list, from, old, to, new);
-        self.list
-            .push_reserved(DirEntry::new(cookie, to, name, child));
+        self.list.push(alloc, cookie, to, name, child)?;
+        let target = match name_index::put(&mut self.index, alloc, to, key, cookie) {
+            Ok(target) => target,
+            Err(refused) => {
+                self.list.remove(cookie);
+                return Err(refused);
+            }
+        };
+        let moved = name_index::take_other(&mut self.index, from, old, to, new);
+        remove_found(&mut self.list, moved);
+        remove_found(&mut self.list, target);
         Ok(())
     }
 }

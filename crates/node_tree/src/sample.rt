@@ -6,11 +6,11 @@ use crate::at::from_start;
 use crate::limits::ROOT;
 use crate::name_table::NameTable;
 use crate::node::{NewObject, Node};
+use crate::node_table::NodeTable;
 use crate::store::Store;
 use acl_list::{AclList, Kind};
 use acl_shape::set_mode;
 use std::alloc::{AllocError, Allocator};
-use std::collections::BTreeMap;
 
 /// The file of the sample. Its stamp and its last change are its number.
 fn file<A: Allocator + Copy>(alloc: A) -> Result<Node<A>, AllocError>
@@ -57,7 +57,7 @@ impl<A: Allocator + Copy> Store<A> {
     pub fn sample(alloc: A) -> Result<Self, AllocError>
         ensures { IfOk result (λ store. store ≡ sample) }
     {
-        let mut objects = BTreeMap::new(alloc);
+        let mut objects = NodeTable::new(alloc);
         objects.insert(ROOT, directory(alloc, ROOT, 0o755)?)?;
         objects.insert(2, file(alloc)?)?;
         objects.insert(3, directory(alloc, 3, 0o777)?)?;

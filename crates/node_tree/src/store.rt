@@ -1,24 +1,24 @@
-//! What a tree is kept in: objects in a map by number, names in one list by rising cookie. What it answers and does is right
+//! What a tree is kept in: objects in a map by number, names by rising cookie. What it answers and does is right
 //! whatever they are; whether they are a tree is for [`crate::Tree`] to see to.
-ghost use Rattle.std.specs.Prelude.{◌≡◌, ◌+◌, ◌-◌, ◌<◌, ◌≤◌, ◌^◌, ◌&&◌, ◌++◌, ℕ, nat_le, nat_lt, if◌then◌else◌, slice_index, length, drop, filter, not, None, OnOk, OnErr, IfOk, Some};
-ghost use Rattle.std.specs.Option.{option_copied};
+ghost use Rattle.std.specs.Prelude.{◌≡◌, ◌+◌, ◌-◌, ◌<◌, ◌≤◌, ◌^◌, ◌&&◌, ◌++◌, ℕ, nat_le, nat_lt, if◌then◌else◌, slice_index, length, drop, filter, not, None, OnOk, OnErr, IfOk, Some, false, ◌≢◌};
+ghost use Rattle.std.specs.Option.{option_copied, option_map_or};
 ghost use Rattle.node_tree.specs.World.{object, kind_of, bytes_at, child_named, name_after, is_named, is_directory_at, has_name, has_entries, name_count, link_count, parent_of};
 ghost use Rattle.node_tree.specs.Ways.{is_within};
 ghost use Rattle.node_tree.specs.Changes.{alone, made, changed, touched, retold, without, released, other_names, written, resized, with_new, with_link, without_name, with_move, with_bytes, with_size, with_list, with_owner};
-ghost use Rattle.node_tree.specs.Sound.{most_bytes};
+ghost use Rattle.node_tree.specs.Sound.{most_bytes, Rises};
 ghost use Rattle.node_tree.specs.Refusals.{add_refusal, link_refusal, has_left, has_room, has_object_room, may_link, may_name, may_add, is_below, may_replace, may_move, move_refusal, rename_refusal};
 
 use crate::at::At;
 use crate::edits;
-use crate::edits::{directory_of, has_name, move_child, release, retell, touch};
+use crate::edits::{move_child, release, retell, touch};
 use crate::entry::DirEntry;
 use crate::fault::TreeFault;
 use crate::limits::{MAX_LINKS, MAX_NAMES, MAX_OBJECTS, ROOT};
 use crate::name_table::NameTable;
 use crate::node::{NewObject, Node};
+use crate::node_table::NodeTable;
 use acl_list::{AclList, Kind};
 use std::alloc::{AllocError, Allocator, Global};
-use std::collections::BTreeMap;
 use std::marker::Model;
 
 /// No counter goes past it.
@@ -28,7 +28,7 @@ const END: u64 = 1 << 63;
 #[derive(Debug, Drop)]
 pub struct Store<A: Allocator = Global> {
     alloc: A,
-    objects: BTreeMap<u64, Node<A>, A>,
+    objects: NodeTable<A>,
     names: NameTable<A>,
     next_number: u64,
     next_tick: u64,
@@ -42,7 +42,7 @@ impl<A: Allocator> Model for Store<A> {
     ghost Value = { World };
 
     ghost view = { λ s. record {
-      objects = s.objects.entries;
+      objects = s.objects;
       names = s.names;
       next_number = s.next_number;
       next_tick = s.next_tick;
@@ -57,7 +57,7 @@ impl<A: Allocator + Copy> Store<A> {
     pub fn object(&self, number: u64) -> Option<&Node<A>>
         ensures { option_copied result ≡ object self.now number }
     {
-        self.objects.get(&number)
+        self.objects.get(number)
     }
 
     /// Whether the number is a directory's.
@@ -82,40 +82,28 @@ impl<A: Allocator + Copy> Store<A> {
     pub fn list_after(&self, directory: u64, cookie: u64) -> Option<&DirEntry<A>>
         ensures { option_copied result ≡ name_after self.now directory cookie }
     {
-        self.names.as_slice().iter().find(|entry| entry.directory() == directory
-            && cookie < entry.cookie())
+        self.names.list_after(directory, cookie)
     }
 
     /// Whether a directory has names.
     pub fn has_entries(&self, directory: u64) -> bool
         ensures { result ≡ has_entries self.now.names directory }
     {
-        self.names
-            .as_slice()
-            .iter()
-            .any(|entry| entry.directory() == directory)
+        self.names.has_entries(directory)
     }
 
     /// How many names a directory has.
     pub fn name_count(&self, directory: u64) -> usize
         ensures { result ≡ name_count self.now.names directory }
     {
-        self.names
-            .as_slice()
-            .iter()
-            .filter(|entry| entry.directory() == directory)
-            .count()
+        self.names.name_count(directory)
     }
 
     /// How many names an object has.
     pub fn link_count(&self, number: u64) -> usize
         ensures { result ≡ link_count self.now.names number }
     {
-        self.names
-            .as_slice()
-            .iter()
-            .filter(|entry| entry.child() == number)
-            .count()
+        self.names.link_count(number)
     }
 
     /// The directory that a directory has its name in.
@@ -125,7 +113,7 @@ impl<A: Allocator + Copy> Store<A> {
         if !self.is_directory(number) {
             return None;
         }
-        directory_of(self.names.as_slice(), number)
+        self.names.directory_of(number)
     }
 
     /// Whether an object is a directory or lies below it.
@@ -316,7 +304,7 @@ impl<A: Allocator + Copy> Store<A> {
     pub fn new(alloc: A, root: Node<A>) -> Result<Self, AllocError>
         ensures { IfOk result (λ store. store ≡ alone root) }
     {
-        let mut objects = BTreeMap::new(alloc);
+        let mut objects = NodeTable::new(alloc);
         objects.insert(ROOT, root)?;
         Ok(Store::from_start(alloc, objects, NameTable::new(alloc), 2, 3))
     }
@@ -324,12 +312,12 @@ impl<A: Allocator + Copy> Store<A> {
     /// What is there from the start. Its numbers, ticks and stamps go on from one number.
     pub fn from_start(
         alloc: A,
-        objects: BTreeMap<u64, Node<A>, A>,
+        objects: NodeTable<A>,
         names: NameTable<A>,
         next: u64,
         next_cookie: u64,
     ) -> Self
-        ensures { result ≡ record { objects = objects.entries; names = names; next_number = next; next_tick = next; next_stamp = next; next_cookie = next_cookie } }
+        ensures { result ≡ record { objects = objects; names = names; next_number = next; next_tick = next; next_stamp = next; next_cookie = next_cookie } }
     {
         Store {
             alloc,
@@ -356,6 +344,8 @@ impl<A: Allocator + Copy> Store<A> {
         requires cookies { self.old.next_cookie < 2 ^ 63 }
         requires bytes { length new.bytes.items ≤ most_bytes new.kind }
         requires absent { child_named self.old directory name.now ≡ None }
+        requires listed { Rises (λ n. n.cookie) 3 self.old.names self.old.next_cookie }
+        requires numbered { Rises (λ e. e.0) 1 self.old.objects self.old.next_number }
         ensures number { IfOk result (λ number. number ≡ self.old.next_number) }
         ensures ok { OnOk result (self.new ≡ with_new self.old directory name.now (made new self.old.next_stamp at) at) }
         ensures err { OnErr result (self.new ≡ self.old) }
@@ -387,6 +377,7 @@ impl<A: Allocator + Copy> Store<A> {
         requires ticks { at.tick < 2 ^ 63 }
         requires cookies { self.old.next_cookie < 2 ^ 63 }
         requires absent { child_named self.old directory name.now ≡ None }
+        requires listed { Rises (λ n. n.cookie) 3 self.old.names self.old.next_cookie }
         ensures ok { OnOk result (self.new ≡ with_link self.old directory name.now number at) }
         ensures err { OnErr result (self.new ≡ self.old) }
     {
@@ -405,13 +396,13 @@ impl<A: Allocator + Copy> Store<A> {
         ensures { self.new ≡ without_name self.old directory name.now child at }
     {
         self.names.remove(directory, name);
-        let stays = has_name(self.names.as_slice(), child);
+        let stays = self.names.has_name(child);
         release(&mut self.objects, child, stays, at);
         touch(&mut self.objects, directory, at);
         self.next_tick = at.tick + 1;
     }
 
-    /// Gives a child another name, and takes the one that it had. A target that had the new name loses it.
+    /// Gives a child another name, and takes the one that it had. A target that had the new name, another one, loses it.
     pub fn rename(
         &mut self,
         from: u64,
@@ -424,23 +415,28 @@ impl<A: Allocator + Copy> Store<A> {
     ) -> Result<(), AllocError>
         requires ticks { at.tick < 2 ^ 63 }
         requires cookies { self.old.next_cookie < 2 ^ 63 }
+        requires listed { Rises (λ n. n.cookie) 3 self.old.names self.old.next_cookie }
+        requires other { target ≢ Some child }
         ensures ok { OnOk result (self.new ≡ with_move self.old from old.now to new.now child target at) }
         ensures err { OnErr result (self.new ≡ self.old) }
     {
         self.names
             .replace(self.alloc, from, old, to, new, self.next_cookie, child)?;
-        move_child(
-            &mut self.objects,
-            self.names.but_last(),
-            from,
-            to,
-            child,
-            target,
-            at,
-        );
+        let stays = self.has_link(target);
+        move_child(&mut self.objects, from, to, child, target, stays, at);
         self.next_tick = at.tick + 1;
         self.next_cookie += 1;
         Ok(())
+    }
+
+    /// Whether an object that may be there has a name.
+    fn has_link(&self, number: Option<u64>) -> bool
+        ensures { result ≡ option_map_or (λ number. has_name self.now.names number) number false }
+    {
+        match number {
+            Some(number) => self.names.has_name(number),
+            None => false,
+        }
     }
 
     /// Copies the bytes of an object at an offset into a buffer, as far as both go, and answers how many.

@@ -4,7 +4,7 @@ use crate::acting::Outcome::{Done, Made, Refused};
 use crate::acting::{Outcome, after, set_list, set_owner, stamp, times};
 use crate::steps::Step::{Create, Link, Mkdir, Rename, Resize, Unlink, Write};
 use crate::steps::{Step, walk};
-use node_tree::TreeFault::{Exist, Inval, NoEnt, NotEmpty};
+use node_tree::TreeFault::{Exist, FBig, Inval, NoEnt, NotEmpty};
 use node_tree::{AclList, Tree};
 use std::alloc::Global;
 use std::process::Abort;
@@ -71,6 +71,46 @@ fn gaps_are_zeros(rt: HostRuntime) -> Result<(), Fail> {
     let mut tree = Tree::sample(rt.alloc())?;
     walk(&rt, rt.alloc(), &mut tree, GAPS)?;
     see_bytes(&rt, &tree, BYTES)
+}
+
+const OVER_A_BORDER: &[(Step, Outcome)] = &[
+    (Resize(2, 0), Done),
+    (Write(2, 0, b"a"), Done),
+    (Write(2, 4095, b"xy"), Done),
+];
+
+const GROWN_AGAIN: &[(Step, Outcome)] = &[
+    (Resize(2, 4096), Done),
+    (Resize(2, 4097), Done),
+    (Write(2, 1_048_575, b"z"), Done),
+    (Write(2, 1_048_576, b"z"), Refused(FBig)),
+];
+
+const GONE: &[(Step, Outcome)] = &[(Unlink(1, b"notes"), Done), (Create(1, b"notes"), Made(4))];
+
+/// Each byte of a file over the border of two blocks; what a cut took away is zero; the number of a file that has gone stays free.
+#[test]
+fn a_file_goes_over_a_border(rt: HostRuntime) -> Result<(), Fail> {
+    let mut tree = Tree::sample(rt.alloc())?;
+    walk(&rt, rt.alloc(), &mut tree, OVER_A_BORDER)?;
+    let mut bytes = [9u8; 4098];
+    assert_eq!(rt; tree.read(2, 0, &mut bytes), 4097);
+    for (place, byte) in bytes.iter().enumerate() {
+        let want = match place {
+            0 => b'a',
+            4095 => b'x',
+            4096 => b'y',
+            4097 => 9,
+            _ => 0,
+        };
+        assert_eq!(rt; *byte, want, "at {place}");
+    }
+    walk(&rt, rt.alloc(), &mut tree, GROWN_AGAIN)?;
+    see_bytes(&rt, &tree, &[(4095, 4, [b'x', 0, 0, 0])])?;
+    see_bytes(&rt, &tree, &[(1_048_574, 2, [0, b'z', 0, 0])])?;
+    walk(&rt, rt.alloc(), &mut tree, GONE)?;
+    assert!(rt; tree.object(2).is_none());
+    Ok(())
 }
 
 const LAST_NAMES: &[(Step, Outcome)] = &[

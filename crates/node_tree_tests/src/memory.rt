@@ -84,7 +84,7 @@ fn refused_growth_changes_nothing(rt: HostRuntime) -> Result<(), Fail> {
 }
 
 /// A heap in which the sample tree leaves room for one block more, and not for two.
-const ONE_BLOCK: usize = 11_000;
+const ONE_BLOCK: usize = 16_000;
 
 /// A file of 1,048,576 bytes takes one block for the only byte that was written. Two further blocks are refused, none for zeros.
 #[test]

@@ -7,4 +7,5 @@ pub mod Beginning
 pub mod Creations
 pub mod Keeping
 pub mod Orderly
+pub mod Staying
 pub mod Whole

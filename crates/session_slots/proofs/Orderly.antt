@@ -1,5 +1,5 @@
 -- Records and sessions stay orderly.
-use Rattle.std.proofs.Common.{◌≡◌, ◌≢◌, ◌⊎◌, inl, inr, ℕ, ◌+◌, ◌<◌, ◌==◌, ◌&&◌, ◌||◌, Bool, true, false, not, if◌then◌else◌, nat_eq, List, [], ◌∷◌, filter, find, Option, Some, None, Result, Ok, Err, refl, sym, ap, ◌∙◌, subst, arith, ◌≤◌, length, nat_le, lit≤, suc, nat_lt, min, max}
+use Rattle.std.proofs.Common.{◌≡◌, ◌≢◌, ◌⊎◌, inl, inr, ℕ, ◌+◌, ◌-◌, ◌<◌, ◌==◌, ◌&&◌, ◌||◌, Bool, true, false, not, if◌then◌else◌, nat_eq, List, [], ◌∷◌, filter, find, Option, Some, None, Result, Ok, Err, refl, sym, ap, ◌∙◌, subst, arith, ◌≤◌, length, nat_le, lit≤, suc, nat_lt, min, max}
 use Rattle.std.specs.Option.{option_map, IsSome, MatchOption}
 use Rattle.std.specs.Result.{OnOk, OnErr, IsOk}
 use Rattle.std.specs.Cmp.Lexicographic.{pointwise, same_text}
@@ -9,7 +9,7 @@ use Rattle.std.specs.Ordering.{nat_cmp}
 use Rattle.nfs_types.specs.declared.status.Status.{Status}
 use Rattle.nfs_types.specs.declared.status.Status.TheVariants as statuses
 use Rattle.std.proofs.lemmas.Bool.{leb-false}
-use Rattle.session_slots.specs.Limits.{MOST_CLIENTS, MOST_SESSIONS, MOST_SLOTS, MOST_BYTES, LEAST_REPLY, MOST_OPERATIONS, END}
+use Rattle.session_slots.specs.Limits.{MOST_CLIENTS, MOST_SESSIONS, MOST_SLOTS, MOST_BYTES, MOST_RESULTS, LEAST_REPLY, MOST_OPERATIONS, END}
 use Rattle.session_slots.specs.Counting.{due, last_number}
 use Rattle.session_slots.specs.declared.session.Channel.{Channel}
 use Rattle.session_slots.specs.declared.client.Created.{Created}
@@ -21,7 +21,7 @@ use Rattle.session_slots.specs.declared.exchanging.Exchanged.{Exchanged}
 use Rattle.session_slots.specs.declared.exchanging.Standing.{Standing}
 use Rattle.session_slots.specs.declared.exchanging.Standing.TheVariants as standings
 use Rattle.session_slots.specs.Slots.{finished}
-use Rattle.session_slots.specs.Registry.{Client, Session, Registry, nobody, client_at, is_confirmed_of, confirmed_entry, changed_client, without_record, without_sessions, new_session, with_session, with_place}
+use Rattle.session_slots.specs.Registry.{Client, Session, Registry, nobody, client_at, kept_size, most_kept, session_at, is_confirmed_of, confirmed_entry, changed_client, without_record, without_sessions, new_session, with_session, with_place}
 use Rattle.session_slots.specs.Orderly.{IsIn, IsWithin, IsOrderly}
 use Rattle.session_slots.specs.Sequencing.{Asked, grant_fault, begun_unless, session_begun, sequence_begun}
 use Rattle.session_slots.specs.Creating.{number_of, granted, refusing, created_of, accepts, with_refusal, is_other, other_record, with_creation, judged_due, judged_unless, judged_for, judged, MakesSession, CreatesBy, Creates, repeated, creation_fault}
@@ -507,3 +507,21 @@ created_for (Some c) r new a made is h o = created_unless (repeated c.created a.
 
 pub creates_orderly : (r new : Registry) (a : Create) (made : Made) → Creates r a made new → IsOrderly r → IsOrderly new
 creates_orderly r new a made h o = created_for (client_at r a.client) r new a made refl h o
+
+-- ---- results that are kept
+
+few_behind : (n : ℕ) → n ≤ MOST_BYTES → n - 24 ≤ MOST_RESULTS
+few_behind n h = omega (arith, h)
+
+kept_if : (r : Registry) (session : ℕ) (o : Option Session) → IsOrderly r → session_at r session ≡ o → most_kept o ≤ MOST_RESULTS
+kept_if r session None orderly is = lit≤ tt
+kept_if r session (Some s) orderly is = few_behind s.granted.reply_size (orderly.within (session, s) (lookup_in session r.sessions s is)).replies
+
+pub most_kept_few : (r : Registry) (session : ℕ) → IsOrderly r → most_kept (session_at r session) ≤ MOST_RESULTS
+most_kept_few r session orderly = kept_if r session (session_at r session) orderly refl
+
+few_of : (m n k : ℕ) → m ≤ n → n ≤ k → m ≤ k
+few_of m n k a b = omega (arith, a, b)
+
+pub kept_are_few : (r : Registry) (session n : ℕ) → IsOrderly r → n ≤ most_kept (session_at r session) → n ≤ MOST_RESULTS
+kept_are_few r session n orderly few = few_of n (most_kept (session_at r session)) MOST_RESULTS few (most_kept_few r session orderly)

@@ -6,7 +6,7 @@ use Rattle.std.proofs.lemmas.List.{length-replicate}
 use Rattle.std.proofs.lemmas.List.Elements.{All-set, All-get_or, All-replicate}
 use Rattle.session_slots.specs.declared.session.Channel.{Channel}
 use Rattle.session_slots.specs.Slots.{Call, Place, begun, finished}
-use Rattle.session_slots.specs.Registry.{changed_place, unused_places}
+use Rattle.session_slots.specs.Registry.{changed_place, kept_size, unused_places}
 use Rattle.session_slots.specs.Sequencing.{HasSlots}
 
 All-slice_get : (P : Place → Type 0) (slots : List Place) (i : ℕ) (p : Place) → slice_get slots i ≡ Some p → All P slots → P p
@@ -36,7 +36,7 @@ has_slots granted slot f slots arguments results h = record {
   count = changed_length slot f slots (slice_get slots slot) ∙ h.count;
   some = h.some;
   arguments = changed_all slot f slots (λ p. p.most_arguments) granted.request_size (slice_get slots slot) refl arguments h.arguments;
-  results = changed_all slot f slots (λ p. p.most_results) granted.reply_size (slice_get slots slot) refl results h.results;
+  results = changed_all slot f slots (λ p. p.most_results) (kept_size granted) (slice_get slots slot) refl results h.results;
 }
 
 pub begun_has_slots : (granted : Channel) (slot : ℕ) (call : Call) (slots : List Place) → HasSlots granted slots → HasSlots granted (changed_place slot (λ p. begun p call) slots)
@@ -52,14 +52,21 @@ room_at of slots slot n most (Some p) e h few = let is : of p ≡ most = All-sli
 pub has_room_for_arguments : (granted : Channel) (slots : List Place) (slot n : ℕ) → HasSlots granted slots → n ≤ granted.request_size → IfSome (slice_get slots slot) (λ p. n ≤ p.most_arguments)
 has_room_for_arguments granted slots slot n h few = room_at (λ p. p.most_arguments) slots slot n granted.request_size (slice_get slots slot) refl h.arguments few
 
-pub has_room_for_results : (granted : Channel) (slots : List Place) (slot n : ℕ) → HasSlots granted slots → n ≤ granted.reply_size → IfSome (slice_get slots slot) (λ p. n ≤ p.most_results)
-has_room_for_results granted slots slot n h few = room_at (λ p. p.most_results) slots slot n granted.reply_size (slice_get slots slot) refl h.results few
+pub has_room_for_results : (granted : Channel) (slots : List Place) (slot n : ℕ) → HasSlots granted slots → n ≤ kept_size granted → IfSome (slice_get slots slot) (λ p. n ≤ p.most_results)
+has_room_for_results granted slots slot n h few = room_at (λ p. p.most_results) slots slot n (kept_size granted) (slice_get slots slot) refl h.results few
 
-pub unused_has_slots : (granted : Channel) (count most_arguments most_results : ℕ) → count ≡ granted.slots → 1 ≤ granted.slots → most_arguments ≡ granted.request_size → most_results ≡ granted.reply_size →
+size_at : (slots : List Place) (slot most : ℕ) (o : Option Place) → slice_get slots slot ≡ o → All (λ p. p.most_results ≡ most) slots → IfSome o (λ p. p.most_results ≡ most)
+size_at slots slot most None e h = tt
+size_at slots slot most (Some p) e h = All-slice_get (λ p. p.most_results ≡ most) slots slot p e h
+
+pub has_size : (granted : Channel) (slots : List Place) (slot : ℕ) → HasSlots granted slots → IfSome (slice_get slots slot) (λ p. p.most_results ≡ kept_size granted)
+has_size granted slots slot h = size_at slots slot (kept_size granted) (slice_get slots slot) refl h.results
+
+pub unused_has_slots : (granted : Channel) (count most_arguments most_results : ℕ) → count ≡ granted.slots → 1 ≤ granted.slots → most_arguments ≡ granted.request_size → most_results ≡ kept_size granted →
     HasSlots granted (unused_places count most_arguments most_results)
 unused_has_slots granted count most_arguments most_results a s b c = record {
   count = length-replicate count _ ∙ a;
   some = s;
   arguments = All-replicate (λ p. p.most_arguments ≡ granted.request_size) count _ b;
-  results = All-replicate (λ p. p.most_results ≡ granted.reply_size) count _ c;
+  results = All-replicate (λ p. p.most_results ≡ kept_size granted) count _ c;
 }

@@ -21,6 +21,14 @@ MOST_BYTES = 65536
 abbrev pub LEAST_REPLY : ℕ
 LEAST_REPLY = 4096
 
+-- bytes of the header of a reply, which isn't kept
+abbrev pub REPLY_HEADER : ℕ
+REPLY_HEADER = 24
+
+-- bytes of results that are kept
+abbrev pub MOST_RESULTS : ℕ
+MOST_RESULTS = 65512
+
 -- operations of a COMPOUND
 abbrev pub MOST_OPERATIONS : ℕ
 MOST_OPERATIONS = 16

@@ -1,5 +1,5 @@
 -- Clients and their sessions, by number, and the slots of a session, by place (RFC 8881, sections 2.4 and 2.10).
-use Rattle.std.specs.Prelude.{ℕ, ◌==◌, ◌&&◌, Bool, not, nat_eq, List, [], filter, find, set, replicate, slice_get, Option, Some, None}
+use Rattle.std.specs.Prelude.{ℕ, ◌-◌, ◌==◌, ◌&&◌, Bool, not, nat_eq, List, [], filter, find, set, replicate, slice_get, Option, Some, None}
 use Rattle.std.specs.Option.{option_map_or, option_and_then}
 use Rattle.std.specs.Map.{lookup, set_value, values_of}
 use Rattle.std.specs.BTreeMap.{is_at}
@@ -7,6 +7,7 @@ use Rattle.std.specs.Ordering.{nat_cmp}
 use Rattle.std.specs.Cmp.Lexicographic.{pointwise}
 use Rattle.session_slots.specs.declared.session.Channel.{Channel}
 use Rattle.session_slots.specs.declared.client.Creation.{Creation}
+use Rattle.session_slots.specs.Limits.{REPLY_HEADER}
 use Rattle.session_slots.specs.Slots.{Place, results_of}
 
 pub record Session : Type 0 where
@@ -94,5 +95,14 @@ with_place slot f s = record s { slots = changed_place slot f s.slots }
 abbrev pub unused_places : ℕ → ℕ → ℕ → List Place
 unused_places count most_arguments most_results = replicate count (record { kept = None; most_arguments = most_arguments; most_results = most_results })
 
+-- how many bytes of results each slot of a session keeps: those of a reply behind its header
+abbrev pub kept_size : Channel → ℕ
+kept_size granted = granted.reply_size - REPLY_HEADER
+
+-- and the slots of a session that may not be there
+abbrev pub most_kept : Option Session → ℕ
+most_kept None = 0
+most_kept (Some s) = kept_size s.granted
+
 abbrev pub new_session : ℕ → Channel → Session
-new_session client granted = record { client = client; granted = granted; slots = unused_places granted.slots granted.request_size granted.reply_size }
+new_session client granted = record { client = client; granted = granted; slots = unused_places granted.slots granted.request_size (kept_size granted) }

@@ -9,7 +9,7 @@ use Rattle.session_slots.specs.declared.slot.Turn.{Turn}
 use Rattle.session_slots.specs.declared.slot.Turn.TheVariants as turns
 use Rattle.session_slots.specs.Limits.{MOST_BYTES, LEAST_REPLY}
 use Rattle.session_slots.specs.Slots.{Call, Place, turn_of, begun, BeginsByHistory, KeepsByHistory}
-use Rattle.session_slots.specs.Registry.{Session, Registry, session_at, place_at, client_at, with_session, with_place}
+use Rattle.session_slots.specs.Registry.{Session, Registry, kept_size, session_at, place_at, client_at, with_session, with_place}
 
 -- the arguments of SEQUENCE, and the call that it stands in
 pub record Asked : Type 0 where
@@ -67,12 +67,18 @@ sequence_begin r session a = begin_in (session_at r session) a
 abbrev pub sequence_begun : Registry → ℕ → Asked → Registry
 sequence_begun r session a = with_session session (λ s. session_begun s a) r
 
+-- what is said of a call that isn't new
+abbrev pub UnlessNew : Begin → Type 0 → Type 0
+UnlessNew (begins.New new) A = Unit {0}
+UnlessNew begins.Repeat A = A
+UnlessNew (begins.Refused status) A = A
+
 -- the slots of a session are as many as were granted, and have as much room
 pub record HasSlots (granted : Channel) (slots : List Place) : Type 0 where
   pub count : length slots ≡ granted.slots
   pub some : 1 ≤ granted.slots
   pub arguments : All (λ p. p.most_arguments ≡ granted.request_size) slots
-  pub results : All (λ p. p.most_results ≡ granted.reply_size) slots
+  pub results : All (λ p. p.most_results ≡ kept_size granted) slots
 
 -- the turn that an answer tells
 abbrev pub turn_told : Begin → Turn

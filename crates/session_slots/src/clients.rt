@@ -1,9 +1,10 @@
 //! Clients and their sessions, as a server calls them.
 ghost use Rattle.std.specs.Prelude.{◌≡◌, ◌≤◌, ◌<◌, length, Err, IfSome, IsOk, OnOk, OnErr, MatchOption};
 ghost use Rattle.std.specs.Option.{option_map};
+ghost use Rattle.session_slots.specs.Limits as limits;
 ghost use Rattle.session_slots.specs.Slots.{finished};
-ghost use Rattle.session_slots.specs.Registry.{nobody, session_at, results_at, confirmed_entry, with_session, with_place};
-ghost use Rattle.session_slots.specs.Sequencing.{sequence_begin, sequence_begun, SequencesByHistory, StandsIn, KeepsAt};
+ghost use Rattle.session_slots.specs.Registry.{nobody, session_at, results_at, kept_size, confirmed_entry, with_session, with_place};
+ghost use Rattle.session_slots.specs.Sequencing.{sequence_begin, sequence_begun, SequencesByHistory, StandsIn, UnlessNew, KeepsAt};
 ghost use Rattle.session_slots.specs.Creating.{Creates, CreatesAt};
 ghost use Rattle.session_slots.specs.Exchanging.{Exchanges};
 ghost use Rattle.session_slots.specs.Destroying.{destroy_session_refusal, without_session, destroy_client_refusal, without_client, reclaim_refusal, with_reclaimed};
@@ -99,30 +100,35 @@ impl<A: Allocator + Copy> Clients<A> {
         self.registry.reclaim_complete(client)
     }
 
-    /// SEQUENCE (RFC 8881, section 18.46): begins a call on a slot. A repeat gets [`Clients::results`]. It takes no memory.
-    #[tactic(auto, using(crate::proofs::Beginning::sequences_by_history))]
+    /// SEQUENCE (RFC 8881, section 18.46): begins a call on a slot. A repeat gets [`Clients::results`]. A call that isn't new changes
+    /// nothing. It takes no memory.
+    #[tactic(auto, using(crate::proofs::Beginning::sequences_by_history, crate::proofs::Staying::stays))]
     pub fn begin(&mut self, session: u64, asked: Sequence<'_>) -> Begin
         requires { length asked.arguments.now ≤ asked.record_len }
         ensures answer { result ≡ sequence_begin self.old session (asked_of asked.entry) }
         ensures begun { self.new ≡ sequence_begun self.old session (asked_of asked.entry) }
         ensures by_history { SequencesByHistory self.old self.new session (asked_of asked.entry) result }
         ensures stands { StandsIn self.new session asked.entry.slot result }
+        ensures stays { UnlessNew result (self.new ≡ self.old) }
     {
         self.registry.begin(session, asked)
     }
 
     /// The results that a slot keeps: none where it keeps no call, or isn't there. It takes no memory.
+    #[tactic(auto, using(crate::proofs::Orderly::kept_are_few))]
     pub fn results(&self, session: u64, slot: u32) -> &[u8]
-        ensures { result.now ≡ results_at self.now session slot }
+        ensures kept { result.now ≡ results_at self.now session slot }
+        ensures few { length result.now ≤ limits.MOST_RESULTS }
     {
         self.registry.results(session, slot)
     }
 
-    /// Keeps the results of the call that was begun last on a slot. It takes no memory.
+    /// Keeps the results of the call that was begun last on a slot: those of a reply of the granted size, behind its header of 24 bytes. It
+    /// takes no memory.
     #[tactic(auto, using(crate::proofs::Keeping::keeps_at_by_history))]
     pub fn keep(&mut self, session: u64, slot: u32, results: &[u8])
         requires slot { IfSome (session_at self.old session) (λ s. slot < s.granted.slots) }
-        requires few { IfSome (session_at self.old session) (λ s. length results.now ≤ s.granted.reply_size) }
+        requires few { IfSome (session_at self.old session) (λ s. length results.now ≤ kept_size s.granted) }
         ensures kept { self.new ≡ with_session session (with_place slot (λ p. finished p results.now)) self.old }
         ensures by_history { KeepsAt self.old self.new session slot results.now }
     {

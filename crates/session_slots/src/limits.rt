@@ -15,6 +15,12 @@ pub const MOST_BYTES: u32 = 65_536;
 /// The fewest bytes of a reply that a client may ask for.
 pub const LEAST_REPLY: u32 = 4096;
 
+/// The bytes of the header of a reply to a COMPOUND, which isn't kept.
+pub const REPLY_HEADER: usize = 24;
+
+/// The most bytes of results that are kept.
+pub const MOST_RESULTS: usize = 65_512;
+
 /// The most operations of a COMPOUND.
 pub const MOST_OPERATIONS: u32 = 16;
 

@@ -5,7 +5,7 @@
 ghost use Rattle.std.specs.Prelude.{◌≡◌, ◌≤◌, ◌<◌, length, IfSome};
 ghost use Rattle.std.specs.Option.{option_map};
 ghost use Rattle.session_slots.specs.Slots.{finished};
-ghost use Rattle.session_slots.specs.Registry.{nobody, session_at, results_at, confirmed_entry, with_session, with_place};
+ghost use Rattle.session_slots.specs.Registry.{nobody, session_at, results_at, kept_size, most_kept, confirmed_entry, with_session, with_place};
 ghost use Rattle.session_slots.specs.Sequencing.{sequence_begin, sequence_begun};
 ghost use Rattle.session_slots.specs.Views.{asked_of};
 
@@ -70,7 +70,8 @@ impl<A: Allocator + Copy> Registry<A> {
 
     /// The results that a slot keeps.
     pub fn results(&self, session: u64, slot: u32) -> &[u8]
-        ensures { result.now ≡ results_at self.now session slot }
+        ensures kept { result.now ≡ results_at self.now session slot }
+        ensures few { length result.now ≤ most_kept (session_at self.now session) }
     {
         match self.sessions.get(&session) {
             Some(session) => match session.slot(slot) {
@@ -84,7 +85,7 @@ impl<A: Allocator + Copy> Registry<A> {
     /// Keeps the results of the call that was begun last on a slot.
     pub fn keep(&mut self, session: u64, slot: u32, results: &[u8])
         requires slot { IfSome (session_at self.old session) (λ s. slot < s.granted.slots) }
-        requires few { IfSome (session_at self.old session) (λ s. length results.now ≤ s.granted.reply_size) }
+        requires few { IfSome (session_at self.old session) (λ s. length results.now ≤ kept_size s.granted) }
         ensures { self.new ≡ with_session session (with_place slot (λ p. finished p results.now)) self.old }
     {
         if let Some(session) = self.sessions.get_mut(&session) {

@@ -2,10 +2,11 @@
 ghost use Rattle.std.specs.Prelude.{◌≡◌, ◌≤◌, ◌<◌, length, slice_get, IfSome, IfOk};
 ghost use Rattle.std.specs.Option.{option_copied};
 ghost use Rattle.session_slots.specs.Slots.{begun, finished};
-ghost use Rattle.session_slots.specs.Registry.{changed_place, with_place, unused_places, new_session};
+ghost use Rattle.session_slots.specs.Registry.{changed_place, kept_size, with_place, unused_places, new_session};
 ghost use Rattle.session_slots.specs.Views.{asked_of, call_of};
 ghost use Rattle.session_slots.specs.Sequencing.{grant_fault, place_turn, begin_of, session_begin, session_begun};
 
+use crate::limits::REPLY_HEADER;
 use crate::slot::{Slot, Turn};
 use nfs_types::Status;
 use rpc_record::Caller;
@@ -154,7 +155,7 @@ impl<A: Allocator + Copy> Session<A> {
         ensures { IfOk result (λ session. session ≡ new_session client granted) }
     {
         let arguments = granted.request_size as usize;
-        let results = granted.reply_size as usize;
+        let results = (granted.reply_size as usize).saturating_sub(REPLY_HEADER);
         Ok(Session {
             client,
             granted,
@@ -170,8 +171,10 @@ impl<A: Allocator + Copy> Session<A> {
     }
 
     /// The slot of a number.
+    #[tactic(auto, using(crate::proofs::Places::has_size))]
     pub fn slot(&self, number: u32) -> Option<&Slot<A>>
-        ensures { option_copied result ≡ slice_get self.now.slots number }
+        ensures slot { option_copied result ≡ slice_get self.now.slots number }
+        ensures room { IfSome (slice_get self.now.slots number) (λ p. p.most_results ≡ kept_size self.now.granted) }
     {
         self.slots.get(number as usize)
     }
@@ -214,7 +217,7 @@ impl<A: Allocator + Copy> Session<A> {
     #[tactic(auto, using(crate::proofs::Places::finished_has_slots, crate::proofs::Places::has_room_for_results))]
     pub fn keep(&mut self, number: u32, results: &[u8])
         requires slot { number < self.old.granted.slots }
-        requires few { length results.now ≤ self.old.granted.reply_size }
+        requires few { length results.now ≤ kept_size self.old.granted }
         ensures { self.new ≡ with_place number (λ p. finished p results.now) self.old }
     {
         keep_at(&mut self.slots, number as usize, results);

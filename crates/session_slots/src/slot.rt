@@ -60,7 +60,7 @@ impl<A: Allocator> Model for Slot<A> {
       most_results = s.most_results;
     } };
 
-    ghost invariant = { λ s. (s.most_arguments ≤ vec_capacity s.arguments) × (s.most_results ≤ vec_capacity s.results) };
+    ghost invariant = { λ s. (s.most_arguments ≤ vec_capacity s.arguments) × (s.most_results ≤ vec_capacity s.results) × (vec_len s.results ≤ s.most_results) };
 }
 
 impl<A: Allocator + Copy> Slot<A> {
@@ -79,7 +79,8 @@ impl<A: Allocator + Copy> Slot<A> {
 
     /// The results that it keeps: none where it has accepted no call.
     pub fn results(&self) -> &[u8]
-        ensures { result.now ≡ results_of self.now.kept }
+        ensures kept { result.now ≡ results_of self.now.kept }
+        ensures few { length result.now ≤ self.now.most_results }
     {
         match &self.last {
             Some(_) => &self.results,

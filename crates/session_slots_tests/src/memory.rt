@@ -141,7 +141,7 @@ fn without_memory<'a>(
     heap: &'a LocalHeap,
 ) -> Result<(), AllocError> {
     let caller = Caller::new(1001, 100, &[]);
-    let results = [7u8; 4096];
+    let results = [7u8; 4072];
     let _taken = fill(heap, 0)?;
     for slot in 0..3u32 {
         let asked = call(slot, 1, b"arguments", &caller);

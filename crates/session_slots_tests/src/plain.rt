@@ -2,7 +2,9 @@
 
 use nfs_types::Status;
 use rpc_record::Caller;
-use session_slots::{Begin, Channel, Clients, Create, Exchange, Exchanged, Made, Sequence};
+use session_slots::{
+    Begin, Channel, Clients, Create, Exchange, Exchanged, Made, REPLY_HEADER, Sequence,
+};
 use std::alloc::Allocator;
 
 /// A channel of one slot and the smallest reply.
@@ -115,7 +117,7 @@ pub fn run<A: Allocator + Copy>(
     }
     match clients.begin(session, asked) {
         Begin::New(new) => {
-            if results.len() <= new.reply_size as usize {
+            if results.len() + REPLY_HEADER <= new.reply_size as usize {
                 clients.keep(session, asked.slot, results);
             }
             Begin::New(new)

@@ -193,7 +193,7 @@ fn a_repeat_behind_another_session(rt: HostRuntime) {
 #[test]
 fn the_longest_results_are_kept(rt: HostRuntime) -> Result<(), Fail> {
     let alice = Caller::new(1001, 100, &[]);
-    let results = vec![in rt.alloc(); 5u8; 4096]?;
+    let results = vec![in rt.alloc(); 5u8; 4072]?;
     let arguments = [9u8; 60];
     let mut clients = eight_slots(rt.alloc());
     assert_eq!(rt;

@@ -1,4 +1,4 @@
-use Rattle.nfs_ops.proofs.Bounds.{refusal_short}
+use Rattle.nfs_ops.proofs.Sizes.{refusal_short}
 use Rattle.nfs_ops.proofs.laws.refusals_are_short.Goals as goal
 
 pub returns : goal.returns

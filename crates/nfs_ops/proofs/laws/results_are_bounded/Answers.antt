@@ -1,4 +1,4 @@
-use Rattle.nfs_ops.proofs.Bounds.{bounded}
+use Rattle.nfs_ops.proofs.Sizes.{bounded}
 use Rattle.nfs_ops.proofs.laws.results_are_bounded.Goals as goal
 
 pub returns : goal.returns

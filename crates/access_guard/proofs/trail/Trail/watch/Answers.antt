@@ -1,13 +1,9 @@
-use Rattle.std.proofs.Common.{◌≤◌, length, arith}
-use Rattle.access_guard.proofs.Bounds.{short_list}
+use Rattle.std.proofs.Common.{◌≤◌, length, ap, arith}
+use Rattle.access_guard.specs.Lists.{entries_of}
 use Rattle.access_guard.proofs.trail.Trail.watch.Goals as goal
 
 pub watch_list-requires : goal.watch_list-requires
-watch_list-requires g c =
-    let short : length c.in-Some.node.now.list ≤ 64 = short_list c.args.tree.now c.in-Some.ensures.sound c.args.asked.object c.in-Some.node.now c.in-Some.ensures.value in
-    omega (arith, short, c.requires)
+watch_list-requires g c = omega (arith, ap entries_of c.in-Some.ensures, c.requires.room, c.requires.short)
 
 pub returns-in-Some-clause-few : goal.returns-in-Some-clause-few
-returns-in-Some-clause-few g c =
-    let short : length c.in-Some.node.now.list ≤ 64 = short_list c.args.tree.now c.in-Some.ensures.sound c.args.asked.object c.in-Some.node.now c.in-Some.ensures.value in
-    omega (arith, short, c.watch_list.ensures.few)
+returns-in-Some-clause-few g c = omega (arith, ap entries_of c.in-Some.ensures, c.requires.short, c.watch_list.ensures.few)

@@ -5,7 +5,7 @@ use Rattle.node_tree.proofs.tree.Tree.add.Goals as goal
 pub add-requires : goal.add-requires
 add-requires g c =
     let may = unrefused_add c.self.inside.store c.args.directory c.args.name.now c.in_default.ensures in
-    record { ticks = c.requires.tick.left; numbers = may.number; stamps = may.stamp; cookies = may.cookie; bytes = c.requires.bytes; absent = may.none }
+    record { ticks = c.requires.tick.left; numbers = may.number; stamps = may.stamp; cookies = may.cookie; bytes = c.requires.bytes; absent = may.none; listed = c.self.invariant.listed; numbered = c.self.invariant.numbered }
 
 pub invariant_of-self-2 : goal.invariant_of-self-2
 invariant_of-self-2 g c =

@@ -4,7 +4,7 @@ use Rattle.node_tree.proofs.tree.Tree.link.Goals as goal
 pub link-requires : goal.link-requires
 link-requires g c =
     let may = unrefused_link c.self.inside.store c.args.directory c.args.name.now c.args.number c.in_default.ensures in
-    record { ticks = c.requires.tick.left; cookies = may.cookie; absent = may.none }
+    record { ticks = c.requires.tick.left; cookies = may.cookie; absent = may.none; listed = c.self.invariant.listed }
 
 pub invariant_of-self-2 : goal.invariant_of-self-2
 invariant_of-self-2 g c =

@@ -3,7 +3,7 @@ use Rattle.node_tree.proofs.Moving.{IsSound-unrefused_move, KeepsJudged-with_mov
 use Rattle.node_tree.proofs.tree.Tree.rename.Goals as goal
 
 pub rename-requires : goal.rename-requires
-rename-requires g c = record { ticks = c.requires.tick.left; cookies = has_cookie c.self.inside.store c.self.invariant c.args.from c.args.to c.in-Some.child c.find-target.result (not_same c.find-target.result c.in-Some.child c.if-eq.ensures) c.in_default-move_fault.ensures }
+rename-requires g c = record { ticks = c.requires.tick.left; cookies = has_cookie c.self.inside.store c.self.invariant c.args.from c.args.to c.in-Some.child c.find-target.result (not_same c.find-target.result c.in-Some.child c.if-eq.ensures) c.in_default-move_fault.ensures; listed = c.self.invariant.listed; other = not_same c.find-target.result c.in-Some.child c.if-eq.ensures }
 
 pub invariant_of-self-2 : goal.invariant_of-self-2
 invariant_of-self-2 g c = rw c.in_ok-rename.ensures.ok

@@ -1,0 +1,52 @@
+-- What the code gives of the entries of a directory.
+use Rattle.std.specs.Prelude.{◌≡◌, ℕ, ◌&&◌, Bool, not, is_some, if◌then◌else◌, List, [], ◌∷◌, Option, Some, None, Result, Ok, Err, OnOk}
+use Rattle.xdr_wire.specs.Xdr.{Value}
+use Rattle.xdr_wire.specs.Buffer.{Buffer, Puts}
+use Rattle.xdr_wire.specs.declared.writer.Full.{Full}
+use Rattle.who_book.specs.Content.{Content}
+use Rattle.nfs_types.specs.Given.{given_set, given_values}
+use Rattle.nfs_types.specs.Views.{bitmap_value}
+use Rattle.nfs_types.specs.declared.facts.ObjectFacts.{ObjectFacts}
+use Rattle.nfs_ops.specs.Forms.{entry}
+use Rattle.nfs_ops.specs.Listing.{linked_bytes, IsSendable}
+use Rattle.nfs_types.specs.declared.bitmap.Bitmap.{Bitmap}
+use Rattle.nfs_types.specs.declared.status.Status.{Status}
+use Rattle.node_tree.specs.World.{Name}
+use Rattle.access_rows.specs.Rows.{Demands}
+use Rattle.access_rows.specs.declared.demand.Demand.{Demand}
+use Rattle.access_rows.specs.declared.facts.Object.{Object}
+use Rattle.compound_run.specs.Sight.{Sight}
+use Rattle.compound_run.specs.Rows.{object_of}
+use Rattle.compound_run.specs.Readdir.{names_above}
+
+-- the first of two demands that is refused, by whether READ_ATTRIBUTES and READ_ACL are granted
+abbrev pub refused_of : Bool → Bool → Demands → Option Demand
+refused_of attributes list [] = None
+refused_of attributes list (first ∷ []) = None
+refused_of attributes list (first ∷ second ∷ others) = if not attributes && is_some first then first else if list then None else second
+
+-- what is given of an entry's object, as the code holds it
+abbrev pub given_view : Result (Status × Bitmap) Demand → Result (Status × List ℕ) Demand
+given_view (Ok (error, set)) = Ok (error, bitmap_value set)
+given_view (Err d) = Err d
+
+-- the next entry of a directory above a cookie, if there is one: its own cookie, and its object
+pub record IsNext (s : Sight) (directory cookie : ℕ) (found : Option Name) (next : ℕ) (child : Object) : Type 0 where
+  pub name : Name
+  pub is : found ≡ Some name
+  pub by : next ≡ name.cookie
+  pub object : object_of s (Some name.child) ≡ Some child
+  pub above : names_above s directory cookie ≡ name ∷ names_above s directory next
+
+-- an entry that is written with what is said of its object
+abbrev pub written_entry : Content → ObjectFacts → Name → List ℕ → Value entry
+written_entry book facts n asked = (n.cookie, (n.name, (given_set asked, given_values book facts asked)))
+
+-- an entry behind its link
+unfoldable pub linked : Value entry → List ℕ
+linked e = linked_bytes e
+
+-- The entry is written behind its link, or there is no room for it, and nothing is.
+pub record PutsEntry (e : Value entry) (old new : Buffer) (result : Result (Unit {0}) Full) : Type 0 where
+  pub sendable : OnOk result (IsSendable e)
+  pub puts : Puts old new (linked e) result

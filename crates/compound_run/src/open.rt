@@ -1,0 +1,399 @@
+//! OPEN (RFC 8881, section 18.16).
+ghost use Rattle.std.specs.Prelude.{◌≡◌, ◌≤◌, [], ◌∷◌, if◌then◌else◌, length, true, false, Some, None, Err, IfOk, IfSome, IsOkUnless, IsSome, MatchResult, OnErr, OnOk, vec_len, vec_capacity};
+ghost use Rattle.std.specs.Option.{option_map};
+ghost use Rattle.acl_shape.specs.Bounds.{IsBounded};
+ghost use Rattle.nfs_ops.specs.OpViews.{op_view};
+ghost use Rattle.nfs_ops.specs.Operations.{Known};
+ghost use Rattle.nfs_types.specs.Views.{bitmap_value};
+ghost use Rattle.access_rows.specs.Rows as rows;
+ghost use Rattle.nfs_ops.specs.Parts as parts;
+ghost use Rattle.nfs_ops.specs.Parts.{ByName};
+ghost use Rattle.nfs_ops.specs.Views.{open_args_value, open_claim_value, open_how_value};
+ghost use Rattle.nfs_ops.specs.declared.op_kind.OpKind.TheVariants as kinds;
+ghost use Rattle.node_tree.specs.World.{object, kind_of};
+ghost use Rattle.compound_run.specs.Asking.{sight_of};
+ghost use Rattle.compound_run.specs.Create.{list_at};
+ghost use Rattle.compound_run.specs.Open as specs;
+ghost use Rattle.compound_run.specs.Open.{open_file, opening};
+ghost use Rattle.compound_run.specs.Opening.{HasPlace, IfByName, IsBefore, IsPlace, MakesFile};
+ghost use Rattle.compound_run.specs.Setattr as setting;
+ghost use Rattle.compound_run.specs.Sight.{child, directory_change, kind_at};
+ghost use Rattle.compound_run.specs.Views.{context_of, GivesOrDelays, HasRoom, realm_of, wanted_view, IsWanted};
+
+use crate::context::Context;
+use crate::create::{Draft, is_own};
+use crate::export::{Export, check};
+use crate::filehandles::FileHandles;
+use crate::opens::Place;
+use crate::results::put_result;
+use crate::setattr::size_fits;
+use crate::sets::size_alone;
+use nfs_ops::{ChangeInfo, Op, OpResult, OpenArgs, OpenClaim, OpenHow, OpenResult};
+use nfs_types::{Attrs, Bitmap, Status};
+use node_tree::{Kind, NewObject};
+use rpc_record::Caller;
+use std::alloc::{AllocError, Allocator};
+use xdr_wire::Writer;
+
+/// Whether a file may be made.
+fn is_creating(how: &OpenHow<'_>) -> bool
+    ensures { result ≡ rows.is_creating (parts.how (open_how_value how.now)) }
+{
+    !matches!(how, OpenHow::NoCreate)
+}
+
+/// Whether a file that is there is truncated, where this size is to be set.
+fn is_truncating(how: &OpenHow<'_>, size: Option<u64>) -> bool
+    ensures { result ≡ rows.is_truncating (parts.how (open_how_value how.now)) size }
+{
+    match how {
+        OpenHow::Unchecked(_) => size == Some(0),
+        OpenHow::NoCreate | OpenHow::Guarded(_) => false,
+    }
+}
+
+/// What it is opened for is neither missing nor unknown, it denies nothing, and its name is one; a file that has a filehandle is there
+/// already.
+fn check_arguments(args: &OpenArgs<'_>) -> Result<(), Status>
+    ensures fault { MatchResult result (λ done. specs.arguments_fault (open_args_value args.now) ≡ None) (λ status. specs.arguments_fault (open_args_value args.now) ≡ Some status) }
+    ensures short { OnOk result (length (specs.name_in (parts.claim (open_claim_value args.now.claim))) ≤ 255) }
+{
+    let access = args.access % 256;
+    if access != 1 && access != 2 && access != 3 {
+        return Err(Status::Inval);
+    }
+    if args.deny > 3 {
+        return Err(Status::Inval);
+    }
+    if args.deny != 0 {
+        return Err(Status::NotSupp);
+    }
+    match &args.claim {
+        OpenClaim::ByName(name) => check(name.bytes),
+        OpenClaim::ByHandle if is_creating(&args.how) => Err(Status::Inval),
+        OpenClaim::ByHandle => Ok(()),
+    }
+}
+
+/// By name the current object is a directory, by filehandle a file.
+fn check_current(claim: &OpenClaim<'_>, kind: Kind) -> Result<(), Status>
+    ensures { MatchResult result (λ done. specs.current_fault (parts.claim (open_claim_value claim.now)) kind ≡ None) (λ status. specs.current_fault (parts.claim (open_claim_value claim.now)) kind ≡ Some status) }
+{
+    match (claim, kind) {
+        (OpenClaim::ByName(_), Kind::Directory) | (OpenClaim::ByHandle, Kind::File) => Ok(()),
+        (OpenClaim::ByName(_), _) => Err(Status::NotDir),
+        (OpenClaim::ByHandle, Kind::Directory) => Err(Status::IsDir),
+        (OpenClaim::ByHandle, Kind::Link) => Err(Status::Symlink),
+    }
+}
+
+/// What isn't there is made where it may be; what is there is a file, and doesn't have to be made.
+fn check_found(how: &OpenHow<'_>, kind: Option<Kind>) -> Result<(), Status>
+    ensures { MatchResult result (λ done. specs.found_fault (parts.how (open_how_value how.now)) kind ≡ None) (λ status. specs.found_fault (parts.how (open_how_value how.now)) kind ≡ Some status) }
+{
+    let Some(kind) = kind else {
+        return if is_creating(how) {
+            Ok(())
+        } else {
+            Err(Status::NoEnt)
+        };
+    };
+    if matches!(how, OpenHow::Guarded(_)) {
+        return Err(Status::Exist);
+    }
+    match kind {
+        Kind::File => Ok(()),
+        Kind::Directory => Err(Status::IsDir),
+        Kind::Link => Err(Status::Symlink),
+    }
+}
+
+/// Which attributes are sent of a file that may be made.
+fn sent_set(how: &OpenHow<'_>) -> Bitmap
+    ensures { bitmap_value result ≡ specs.sent_set (parts.how (open_how_value how.now)) }
+{
+    match how {
+        OpenHow::NoCreate => Bitmap::empty(),
+        OpenHow::Unchecked(attributes) | OpenHow::Guarded(attributes) => attributes.set,
+    }
+}
+
+/// Which attributes are set on a file that is there.
+fn truncated_set(truncates: bool) -> Bitmap
+    ensures { bitmap_value result ≡ (if truncates then 16 ∷ [] else []) }
+{
+    if truncates {
+        size_alone()
+    } else {
+        Bitmap::empty()
+    }
+}
+
+impl<A: Allocator + Copy> Export<A> {
+    /// What the attributes set of a file that may be made. `Delay`: there is no memory for the list.
+    fn wanted_with(&self, context: Context<'_>, how: &OpenHow<'_>) -> Result<Attrs<A>, Status>
+        ensures wanted { IsWanted (specs.sent (context_of context.entry) (parts.how (open_how_value how.now))) result }
+        ensures bounded { IfOk result (λ wanted. IfSome wanted.list IsBounded) }
+    {
+        match how {
+            OpenHow::NoCreate => Ok(Attrs {
+                size: None,
+                list: None,
+                mode: None,
+                owner: None,
+                group: None,
+            }),
+            OpenHow::Unchecked(attributes) | OpenHow::Guarded(attributes) => {
+                self.wanted(context.book, Kind::File, attributes)
+            }
+        }
+    }
+
+    /// What is there, if anything is.
+    fn found(&self, handles: FileHandles, directory: u64, claim: &OpenClaim<'_>) -> Option<u64>
+        requires here { handles.current ≡ Some directory }
+        requires there { IsSome (object self.now.tree.world directory) }
+        ensures found { result ≡ specs.found_by (parts.claim (open_claim_value claim.now)) handles (sight_of self.now) }
+        ensures live { IfSome result (λ file. IsSome (object self.now.tree.world file)) }
+    {
+        match claim {
+            OpenClaim::ByName(name) => self.find(directory, name.bytes),
+            OpenClaim::ByHandle => Some(directory),
+        }
+    }
+
+    /// The kind of what is there.
+    fn kind_of(&self, file: Option<u64>) -> Option<Kind>
+        requires live { IfSome file (λ file. IsSome (object self.now.tree.world file)) }
+        ensures { result ≡ option_map (kind_at (sight_of self.now)) file }
+    {
+        let number = file?;
+        let Some(node) = self.tree.object(number) else {
+            unreachable!();
+        };
+        Some(node.kind())
+    }
+}
+
+impl<A: Allocator + Copy> Export<A> {
+    /// A file as it is to be made in a directory, of the size that is set, each byte of it zero.
+    fn new_file(
+        &self,
+        directory: u64,
+        wanted: Attrs<A>,
+        caller: &Caller,
+    ) -> Result<NewObject<A>, AllocError>
+        requires there { IsSome (object self.now.tree.world directory) }
+        requires bounded { IfSome wanted.list IsBounded }
+        requires fits { setting.size_fits wanted.size ≡ true }
+        ensures made { IfOk result (MakesFile caller.now (list_at self.now.tree.world directory) (wanted_view wanted)) }
+    {
+        let size = wanted.size.unwrap_or(0) as usize;
+        let draft = Draft {
+            kind: Kind::File,
+            text: &[],
+        };
+        let mut new = self.new_object(directory, draft, wanted, caller)?;
+        new.bytes.resize(size, 0)?;
+        Ok(new)
+    }
+
+    /// A file that isn't there is made in the current directory, and opened.
+    fn open_new(
+        &mut self,
+        context: Context<'_>,
+        handles: &mut FileHandles,
+        directory: (u64, u64),
+        name: &[u8],
+        wanted: Attrs<A>,
+        args: &OpenArgs<'_>,
+        out: &mut Writer<A>,
+    ) -> Result<(), Status>
+        requires here { handles.old.current ≡ Some directory.0 }
+        requires live { kind_of self.old.tree.world directory.0 ≡ Some Kind.Directory }
+        requires change { directory_change self.old.tree.world directory.0 ≡ directory.1 }
+        requires claim { parts.claim (open_claim_value args.now.claim) ≡ ByName name.now }
+        requires short { length name.now ≤ 255 }
+        requires free { child (sight_of self.old) directory.0 name.now ≡ None }
+        requires wanted { specs.wanted (context_of context) (open_args_value args.now) ≡ wanted_view wanted }
+        requires bounded { IfSome wanted.list IsBounded }
+        requires room { HasRoom context out.old }
+        ensures { GivesOrDelays context.entry (opening (open_args_value args.now)) self.old handles.old out.old result self.new handles.new out.new }
+    {
+        let (directory, before) = directory;
+        if !is_own(context.caller, &wanted) {
+            return Err(Status::Perm);
+        }
+        if !size_fits(wanted.size) {
+            return Err(Status::FBig);
+        }
+        let at = self.tick(context.now).ok_or(Status::NoSpc)?;
+        let place = self.place(context, args, None)?;
+        let Ok(new) = self.new_file(directory, wanted, context.caller) else {
+            return Err(Status::Delay);
+        };
+        let file = self.add(directory, name, new, at)?;
+        let stateid = self.put_open(context, args.access % 256, place, file);
+        handles.current = Some(file);
+        let change = ChangeInfo {
+            before,
+            after: at.tick,
+        };
+        let set = sent_set(&args.how);
+        put_result(
+            OpResult::Open(OpenResult {
+                stateid,
+                change,
+                set,
+            }),
+            out,
+        );
+        Ok(())
+    }
+
+    /// Makes a place for the open of a file, and truncates the file, if it is to be. `NoSpc`: there is no place, or no tick is left.
+    /// `Delay`: there is no memory for the place.
+    fn place_found(
+        &mut self,
+        context: Context<'_>,
+        args: &OpenArgs<'_>,
+        file: u64,
+        truncates: bool,
+    ) -> Result<Place<A>, Status>
+        requires file { kind_of self.old.tree.world file ≡ Some Kind.File }
+        requires truncates { specs.truncates (context_of context) (open_args_value args.now) ≡ truncates }
+        ensures full { specs.has_space_for (context_of context.entry) (open_args_value args.now) 0 (Some file) (sight_of self.old) ≡ false → result ≡ Err Status.NoSpc }
+        ensures space { specs.has_space_for (context_of context.entry) (open_args_value args.now) 0 (Some file) (sight_of self.old) ≡ true → IsOkUnless result Status.Delay }
+        ensures place { IfOk result (IsPlace args.now.owner.bytes.now (specs.joined (context_of context.entry) (open_args_value args.now) (Some file) (sight_of self.old).opens)) }
+        ensures room { IfOk result (HasPlace self.new.next_open (vec_len self.new.opens) (vec_capacity self.new.opens)) }
+        ensures ok { OnOk result (realm_of self.new ≡ record (realm_of self.old) { world = specs.file_in (context_of context.entry) (open_args_value args.now) 0 (Some file) self.old.tree.world }) }
+        ensures err { OnErr result (realm_of self.new ≡ realm_of self.old) }
+        ensures log { self.new.tree.log ≡ self.old.tree.log }
+        ensures capacity { self.new.tree.capacity ≡ self.old.tree.capacity }
+    {
+        if !truncates {
+            return self.place(context, args, Some(file));
+        }
+        let at = self.tick(context.now).ok_or(Status::NoSpc)?;
+        let place = self.place(context, args, Some(file))?;
+        if self.tree.resize(file, 0, at).is_err() {
+            unreachable!();
+        }
+        Ok(place)
+    }
+
+    /// A file that is there is truncated, if it is to be, and opened.
+    fn open_found(
+        &mut self,
+        context: Context<'_>,
+        handles: &mut FileHandles,
+        file: u64,
+        before: u64,
+        truncates: bool,
+        args: &OpenArgs<'_>,
+        out: &mut Writer<A>,
+    ) -> Result<(), Status>
+        requires found { specs.found (open_args_value args.now) handles.old (sight_of self.old) ≡ Some file }
+        requires file { kind_of self.old.tree.world file ≡ Some Kind.File }
+        requires change { IsBefore (parts.claim (open_claim_value args.now.claim)) (sight_of self.old) handles.old before }
+        requires truncates { specs.truncates (context_of context) (open_args_value args.now) ≡ truncates }
+        requires room { HasRoom context out.old }
+        ensures { GivesOrDelays context.entry (opening (open_args_value args.now)) self.old handles.old out.old result self.new handles.new out.new }
+    {
+        let place = self.place_found(context, args, file, truncates)?;
+        let stateid = self.put_open(context, args.access % 256, place, file);
+        handles.current = Some(file);
+        let change = ChangeInfo {
+            before,
+            after: before,
+        };
+        let set = truncated_set(truncates);
+        put_result(
+            OpResult::Open(OpenResult {
+                stateid,
+                change,
+                set,
+            }),
+            out,
+        );
+        Ok(())
+    }
+}
+
+impl<A: Allocator + Copy> Export<A> {
+    /// What is found is opened, or made.
+    fn open_at(
+        &mut self,
+        context: Context<'_>,
+        handles: &mut FileHandles,
+        current: (u64, u64),
+        found: Option<u64>,
+        wanted: Attrs<A>,
+        args: &OpenArgs<'_>,
+        out: &mut Writer<A>,
+    ) -> Result<(), Status>
+        requires here { handles.old.current ≡ Some current.0 }
+        requires change { IfByName (parts.claim (open_claim_value args.now.claim)) ((kind_of self.old.tree.world current.0 ≡ Some Kind.Directory) × (directory_change self.old.tree.world current.0 ≡ current.1)) }
+        requires found { specs.found (open_args_value args.now) handles.old (sight_of self.old) ≡ found }
+        requires file { IfSome found (λ file. kind_of self.old.tree.world file ≡ Some Kind.File) }
+        requires short { length (specs.name_in (parts.claim (open_claim_value args.now.claim))) ≤ 255 }
+        requires wanted { specs.wanted (context_of context) (open_args_value args.now) ≡ wanted_view wanted }
+        requires bounded { IfSome wanted.list IsBounded }
+        requires room { HasRoom context out.old }
+        ensures { GivesOrDelays context.entry (opening (open_args_value args.now)) self.old handles.old out.old result self.new handles.new out.new }
+    {
+        let truncates = is_truncating(&args.how, wanted.size);
+        match (found, &args.claim) {
+            (Some(file), OpenClaim::ByName(_)) => {
+                self.open_found(context, handles, file, current.1, truncates, args, out)
+            }
+            (Some(file), OpenClaim::ByHandle) => {
+                self.open_found(context, handles, file, 0, truncates, args, out)
+            }
+            (None, OpenClaim::ByName(name)) => {
+                self.open_new(context, handles, current, name.bytes, wanted, args, out)
+            }
+            (None, OpenClaim::ByHandle) => unreachable!(),
+        }
+    }
+
+    /// A file is opened, by its name in the current directory or by the current filehandle, and becomes current. One that isn't there may
+    /// be made, one that is there truncated. `Delay`: there is no memory for it, and nothing has changed.
+    pub fn open(
+        &mut self,
+        context: Context<'_>,
+        handles: &mut FileHandles,
+        op: &Op<'_>,
+        args: &OpenArgs<'_>,
+        out: &mut Writer<A>,
+    ) -> Result<(), Status>
+        requires op { op_view op.now ≡ Known kinds.Open (open_args_value args.now) }
+        requires settled { self.old.tree.log.held ≡ [] }
+        requires room { HasRoom context out.old }
+        ensures { GivesOrDelays context.entry (open_file (open_args_value args.now)) self.old handles.old out.old result self.new handles.new out.new }
+    {
+        let current = handles.current.ok_or(Status::NoFileHandle)?;
+        let node = self.tree.object(current).ok_or(Status::Stale)?;
+        check_current(&args.claim, node.kind())?;
+        let before = node.change();
+        check_arguments(args)?;
+        let wanted = self.wanted_with(context, &args.how)?;
+        if !self.grants_first(op, *handles, context.caller) {
+            return Err(Status::Access);
+        }
+        let found = self.found(*handles, current, &args.claim);
+        check_found(&args.how, self.kind_of(found))?;
+        if !self.grants_opening(op, *handles, context.caller, found, wanted.size) {
+            return Err(Status::Access);
+        }
+        self.open_at(
+            context,
+            handles,
+            (current, before),
+            found,
+            wanted,
+            args,
+            out,
+        )
+    }
+}

@@ -1,0 +1,291 @@
+//! READDIR (RFC 8881, section 18.23).
+ghost use Rattle.std.specs.Prelude.{◌≡◌, ◌≤◌, ◌==◌, [], length, bit_and, Some, None, Err, IfErr, IfSome, IsSome, OnOk};
+ghost use Rattle.nfs_types.specs.Views.{bitmap_value};
+ghost use Rattle.nfs_ops.specs.ListingSteps.{Lists};
+ghost use Rattle.nfs_ops.specs.OpViews.{op_view};
+ghost use Rattle.nfs_ops.specs.Operations.{Known};
+ghost use Rattle.nfs_ops.specs.Views.{readdir_args_value};
+ghost use Rattle.nfs_ops.specs.declared.op_kind.OpKind.TheVariants as kinds;
+ghost use Rattle.node_tree.specs.World.{Name, name_after};
+ghost use Rattle.node_tree.specs.Judged.{judged_of};
+ghost use Rattle.compound_run.specs.Asking.{sight_of};
+ghost use Rattle.compound_run.specs.Readdir as specs;
+ghost use Rattle.compound_run.specs.Readdir.{readdir, listing_of};
+ghost use Rattle.compound_run.specs.Rows.{MAX_FIRST_LINES};
+ghost use Rattle.compound_run.specs.Listed.{IsNext, PutsEntry, given_view, refused_of, written_entry};
+ghost use Rattle.compound_run.specs.Views.{context_of, Gives, HasRoom};
+
+use crate::context::Context;
+use crate::export::Export;
+use crate::filehandles::FileHandles;
+use crate::sets::spelled_set;
+use access_guard::Demand;
+use access_rows::{Object, entry_demands};
+use acl_list::mask;
+use nfs_ops::{
+    Bytes, Entries, GivenEntry, ListFault, Next, OP_READDIR, Op, ReadDirArgs, write_entry,
+    write_readdir,
+};
+use nfs_types::{Bitmap, GivenAttributes, ObjectFacts, Status};
+use node_tree::DirEntry;
+use rpc_record::Caller;
+use std::alloc::Allocator;
+use who_book::Book;
+use xdr_wire::{Full, Writer};
+
+/// The number of the attribute rdattr_error.
+const RDATTR_ERROR: u32 = 11;
+
+/// The supported attributes without acl, as a bitmap is spelled.
+const WITHOUT_LIST: &[u8] = b"\0\0\0\x03\xe8\x18\x2f\xff\0\xb0\0\x3a\0\0\x08\0";
+
+/// Those that READ_ATTRIBUTES doesn't govern.
+const UNGOVERNED: &[u8] = b"\0\0\0\x03\xe8\x18\x3f\xe7\0\x80\0\0\0\0\x08\0";
+
+/// These without acl.
+const UNGOVERNED_WITHOUT_LIST: &[u8] = b"\0\0\0\x03\xe8\x18\x2f\xe7\0\x80\0\0\0\0\x08\0";
+
+/// The supported attributes that are given of an object where READ_ATTRIBUTES and READ_ACL are granted, each or not.
+fn granted_set(attributes: bool, list: bool) -> Bitmap
+    ensures { bitmap_value result ≡ specs.granted_words attributes list }
+{
+    match (attributes, list) {
+        (true, true) => Bitmap::supported(),
+        (true, false) => spelled_set(WITHOUT_LIST),
+        (false, true) => spelled_set(UNGOVERNED),
+        (false, false) => spelled_set(UNGOVERNED_WITHOUT_LIST),
+    }
+}
+
+/// Whether all bits of the mask are granted.
+fn has_all(granted: u32, mask: u32) -> bool
+    ensures { result ≡ (bit_and mask granted == mask) }
+{
+    mask & granted == mask
+}
+
+/// The first of the two demands of an entry that is refused, where READ_ATTRIBUTES and READ_ACL are granted, each or not.
+fn first_refused(demands: &[Option<Demand>], attributes: bool, list: bool) -> Option<Demand>
+    requires { length demands.now ≡ 2 }
+    ensures { result ≡ refused_of attributes list demands.now }
+{
+    if !attributes && demands[0].is_some() {
+        return demands[0];
+    }
+    if !list {
+        return demands[1];
+    }
+    None
+}
+
+/// Writes an entry behind its link, with these attributes of its object. `Full` exactly where there is no room; then nothing is written.
+fn put_entry<'t, A: Allocator, B: Allocator>(
+    book: &'t Book,
+    facts: &'t ObjectFacts<'_>,
+    asked: Bitmap,
+    name: &'t DirEntry<A>,
+    out: &mut Writer<B>,
+) -> Result<(), Full>
+    requires short { length name.now.name ≤ 0xffff_ffff }
+    ensures { PutsEntry (written_entry book.now facts.now name.now (bitmap_value asked)) out.old out.new result }
+{
+    let attributes = GivenAttributes { book, facts, asked };
+    let bytes = Bytes { bytes: name.name() };
+    let given = GivenEntry {
+        cookie: name.cookie(),
+        name: bytes,
+        attributes,
+    };
+    write_entry(given, out)
+}
+
+impl<A: Allocator + Copy> Export<A> {
+    /// The next entry of a directory above a cookie: its cookie and its object. `None`: there is none.
+    fn next_child(&self, directory: u64, cookie: u64) -> Option<(u64, Object)>
+        ensures none { result ≡ None → specs.names_above (sight_of self.now) directory cookie ≡ [] }
+        ensures some { IfSome result (λ next. IsNext (sight_of self.now) directory cookie (name_after self.now.tree.world directory cookie) next.0 next.1) }
+    {
+        let name = self.tree.list_after(directory, cookie)?;
+        let number = name.child();
+        let Some(node) = self.tree.object(number) else {
+            unreachable!();
+        };
+        let object = Object {
+            number,
+            kind: node.kind(),
+        };
+        Some((name.cookie(), object))
+    }
+
+    /// What is given of an entry's object, with rdattr_error, or the demand that refuses the entry. It is looked up once what its list
+    /// grants.
+    fn judge(
+        &mut self,
+        caller: &Caller,
+        child: Object,
+        asked: &Bitmap,
+    ) -> Result<(Status, Bitmap), Demand>
+        ensures judged { given_view result ≡ specs.judgment_of (judged_of self.old.tree.world) caller.now (bitmap_value asked.now) child.number (Some child) }
+        ensures state { self.new ≡ self.old }
+    {
+        let granted = self.tree.grants(child.number, caller);
+        let attributes = has_all(granted, mask::READ_ATTRIBUTES);
+        let list = has_all(granted, mask::READ_ACL);
+        let demands = entry_demands(asked, Some(child));
+        let Some(demand) = first_refused(&demands, attributes, list) else {
+            return Ok((Status::Ok, *asked));
+        };
+        if !asked.has(RDATTR_ERROR) {
+            return Err(demand);
+        }
+        Ok((Status::Access, asked.common(&granted_set(attributes, list))))
+    }
+
+    /// Writes the next entry of a directory above a cookie behind its link, with these attributes of its object and this status as
+    /// rdattr_error. `Full` exactly where there is no room; then nothing is written.
+    fn put_next<B: Allocator>(
+        &self,
+        context: Context<'_>,
+        directory: u64,
+        cookie: u64,
+        given: (Status, Bitmap),
+        out: &mut Writer<B>,
+    ) -> Result<(), Full>
+        requires there { IsSome (name_after self.now.tree.world directory cookie) }
+        ensures { (n : Name) → name_after self.now.tree.world directory cookie ≡ Some n → PutsEntry (specs.entry_of (context_of context.entry) (sight_of self.now) n given.0 (bitmap_value given.1)) out.old out.new result }
+    {
+        let Some(name) = self.tree.list_after(directory, cookie) else {
+            unreachable!();
+        };
+        let (error, asked) = given;
+        let Some(facts) = self.facts(name.child(), error) else {
+            unreachable!();
+        };
+        put_entry(context.book, &facts, asked, name, out)
+    }
+}
+
+/// The entries of a directory above a cookie.
+#[derive(Drop)]
+struct Children<'t, A: Allocator + Copy> {
+    export: &'t mut Export<A>,
+    context: Context<'t>,
+    asked: Bitmap,
+    directory: u64,
+    cookie: u64,
+}
+
+impl<A: Allocator + Copy> Entries for Children<'_, A> {
+    ghost use Rattle.std.specs.Prelude.{ℕ};
+    ghost use Rattle.compound_run.specs.declared.export.Export as shape;
+    ghost use Rattle.compound_run.specs.Asking.{sight_of};
+    ghost use Rattle.compound_run.specs.Readdir.{judged_above};
+    ghost use Rattle.compound_run.specs.Views.{context_of};
+    ghost use Rattle.nfs_types.specs.Views.{bitmap_value};
+
+    type Refusal = Demand;
+
+    ghost left = { λ c. judged_above (context_of c.context) (bitmap_value c.asked) c.directory c.cookie (sight_of c.export.now) };
+
+    ghost Kept = { ℕ × shape.Export A };
+
+    ghost kept = { λ c. (c.export.ghost_name, c.export.now) };
+
+    fn write_next<B: Allocator>(&mut self, writer: &mut Writer<B>) -> Next<Demand> {
+        let next = self.export.next_child(self.directory, self.cookie);
+        let Some((cookie, child)) = next else {
+            return Next::End;
+        };
+        let given = match self.export.judge(self.context.caller, child, &self.asked) {
+            Ok(given) => given,
+            Err(demand) => return Next::Refused(demand),
+        };
+        let (directory, last) = (self.directory, self.cookie);
+        match self
+            .export
+            .put_next(self.context, directory, last, given, writer)
+        {
+            Ok(()) => {
+                self.cookie = cookie;
+                Next::Written
+            }
+            Err(_) => Next::Full,
+        }
+    }
+}
+
+impl<A: Allocator + Copy> Export<A> {
+    /// Writes the entries of a directory that are given; else nothing.
+    fn put_listing(
+        &mut self,
+        context: Context<'_>,
+        directory: u64,
+        args: &ReadDirArgs,
+        out: &mut Writer<A>,
+    ) -> Result<(), ListFault<Demand>>
+        requires room { HasRoom context out.old }
+        ensures ok { OnOk result (Lists (specs.listed (context_of context.entry) (readdir_args_value args.now) directory (sight_of self.old)) context.entry.room out.old out.new) }
+        ensures err { IfErr result (λ fault. (specs.listed (context_of context.entry) (readdir_args_value args.now) directory (sight_of self.old) ≡ Err fault) × (out.new ≡ out.old)) }
+        ensures state { self.new ≡ self.old }
+    {
+        let mut children = Children {
+            export: self,
+            context,
+            asked: args.asked,
+            directory,
+            cookie: args.cookie,
+        };
+        write_readdir(&mut children, args.maxcount, context.room, out)
+    }
+
+    /// The same, with the lines of the demand that refuses an entry.
+    fn list(
+        &mut self,
+        context: Context<'_>,
+        handles: FileHandles,
+        directory: u64,
+        args: &ReadDirArgs,
+        out: &mut Writer<A>,
+    ) -> Result<(), Status>
+        requires few { length self.old.tree.log.held ≤ MAX_FIRST_LINES }
+        requires room { HasRoom context out.old }
+        ensures { Gives context.entry (listing_of (readdir_args_value args.now) directory) self.old handles out.old result self.new handles out.new }
+    {
+        match self.put_listing(context, directory, args, out) {
+            Ok(()) => Ok(()),
+            Err(ListFault::Refused(demand)) => {
+                self.grants(&[Some(demand)], context.caller, OP_READDIR);
+                Err(Status::Access)
+            }
+            Err(ListFault::TooSmall) => Err(Status::TooSmall),
+        }
+    }
+
+    /// Entries of the current directory, as many as fit. It takes no memory.
+    pub fn readdir(
+        &mut self,
+        context: Context<'_>,
+        handles: FileHandles,
+        op: &Op<'_>,
+        args: &ReadDirArgs,
+        out: &mut Writer<A>,
+    ) -> Result<(), Status>
+        requires op { op_view op.now ≡ Known kinds.ReadDir (readdir_args_value args.now) }
+        requires settled { self.old.tree.log.held ≡ [] }
+        requires room { HasRoom context out.old }
+        ensures { Gives context.entry (readdir (readdir_args_value args.now)) self.old handles out.old result self.new handles out.new }
+    {
+        let directory = handles.current.ok_or(Status::NoFileHandle)?;
+        let node = self.tree.object(directory).ok_or(Status::Stale)?;
+        if !node.is_directory() {
+            return Err(Status::NotDir);
+        }
+        if args.cookie == 1 || args.cookie == 2 {
+            return Err(Status::BadCookie);
+        }
+        if !self.grants_first(op, handles, context.caller) {
+            return Err(Status::Access);
+        }
+        self.list(context, handles, directory, args, out)
+    }
+}

@@ -1,0 +1,171 @@
+//! OPEN, stateids of opens, CLOSE and READDIR, by hand.
+
+use crate::servers::{ALICE, BOB, Row, Sight, on_sample, play};
+use compound_run::Server;
+use std::alloc::Global;
+use std::hash::RandomState;
+use std::process::Abort;
+use std::test::Fail;
+
+/// `notes`, 2, is alice's, of mode 0640. Whoever opens it again joins the open, and its seqid rises; the open of a removed file ends.
+static OPENS: [Row; 20] = [
+    (
+        ALICE,
+        "PUTROOTFH OPEN 0 1 0 0 0 'o 0 0 'notes GETFH",
+        "ok PUTROOTFH ok OPEN ok 1 0 0 1 1>1 0 0 0 GETFH ok @2",
+    ),
+    (
+        ALICE,
+        "PUTROOTFH OPEN 0 2 0 0 0 'o 0 0 'notes",
+        "ok PUTROOTFH ok OPEN ok 2 0 0 1 1>1 0 0 0",
+    ),
+    (
+        ALICE,
+        "PUTFH @2 READ 1 0 0 1 ^0 10",
+        "oldstateid PUTFH ok READ oldstateid",
+    ),
+    (
+        ALICE,
+        "PUTFH @2 READ 3 0 0 1 ^0 10",
+        "badstateid PUTFH ok READ badstateid",
+    ),
+    (
+        ALICE,
+        "PUTFH @2 READ 0 0 0 1 ^0 10",
+        "ok PUTFH ok READ ok 1 'hi",
+    ),
+    (
+        ALICE,
+        "PUTROOTFH OPEN 0 2 0 0 0 'p 0 0 'notes",
+        "ok PUTROOTFH ok OPEN ok 1 0 0 2 1>1 0 0 0",
+    ),
+    (
+        ALICE,
+        "PUTFH @2 READ 0 0 0 2 ^0 10",
+        "openmode PUTFH ok READ openmode",
+    ),
+    (
+        ALICE,
+        "PUTFH @2 CLOSE 0 1 0 0 2",
+        "ok PUTFH ok CLOSE ok closed",
+    ),
+    (
+        ALICE,
+        "PUTFH @2 CLOSE 0 1 0 0 2",
+        "badstateid PUTFH ok CLOSE badstateid",
+    ),
+    (
+        ALICE,
+        "PUTFH @2 OPEN 0 1 0 0 0 'q 0 4 GETFH",
+        "ok PUTFH ok OPEN ok 1 0 0 3 0>0 0 0 0 GETFH ok @2",
+    ),
+    (
+        BOB,
+        "PUTFH @3 OPEN 0 3 0 0 0 'o 1 0 0 0 0 'new GETFH",
+        "ok PUTFH ok OPEN ok 1 0 0 4 3>4 0 0 0 GETFH ok @4",
+    ),
+    (
+        BOB,
+        "PUTFH @3 OPEN 0 2 0 0 0 'o 1 0 1 10 8 0 0 0 'new",
+        "ok PUTFH ok OPEN ok 2 0 0 4 4>4 0 1 10 0",
+    ),
+    (
+        BOB,
+        "PUTFH @3 OPEN 0 2 0 0 0 'o 1 1 0 0 0 'new",
+        "exist PUTFH ok OPEN exist",
+    ),
+    (
+        BOB,
+        "PUTFH @3 OPEN 0 2 0 0 0 'o 0 0 'none",
+        "noent PUTFH ok OPEN noent",
+    ),
+    (
+        BOB,
+        "PUTFH @3 OPEN 0 0 0 0 0 'o 0 0 'new",
+        "inval PUTFH ok OPEN inval",
+    ),
+    (
+        BOB,
+        "PUTFH @3 OPEN 0 1 1 0 0 'o 0 0 'new",
+        "notsupp PUTFH ok OPEN notsupp",
+    ),
+    (
+        BOB,
+        "PUTROOTFH OPEN 0 1 0 0 0 'o 0 0 'pub",
+        "isdir PUTROOTFH ok OPEN isdir",
+    ),
+    (
+        BOB,
+        "PUTFH @3 OPEN 0 1 0 0 0 'o 0 4",
+        "isdir PUTFH ok OPEN isdir",
+    ),
+    (BOB, "PUTFH @3 REMOVE 'new", "ok PUTFH ok REMOVE ok 4>6"),
+    (BOB, "PUTFH @4", "stale PUTFH stale"),
+];
+
+fn opens() -> &'static [Row] {
+    &OPENS
+}
+
+/// A listing of the one child `f` of `pub`, 3: 64 bytes behind the status with type, rdattr_error and mode.
+static LISTED: [Row; 6] = [
+    (
+        BOB,
+        "PUTFH @3 OPEN 0 2 0 0 0 'o 1 0 0 0 0 'f",
+        "ok PUTFH ok OPEN ok 1 0 0 5 6>7 0 0 0",
+    ),
+    (
+        BOB,
+        "PUTFH @3 READDIR ^0 0 0 0 40 2 802 2",
+        "ok PUTFH ok READDIR ok 0 0 1 ^6 'f 2 802 2 c 1 0 180 0 1",
+    ),
+    (
+        BOB,
+        "PUTFH @3 READDIR ^0 0 0 0 3f 2 802 2",
+        "toosmall PUTFH ok READDIR toosmall",
+    ),
+    (
+        BOB,
+        "PUTFH @3 READDIR ^6 0 0 0 40 2 802 2",
+        "ok PUTFH ok READDIR ok 0 0 0 1",
+    ),
+    (
+        BOB,
+        "PUTFH @3 READDIR ^1 0 0 0 40 2 802 2",
+        "badcookie PUTFH ok READDIR badcookie",
+    ),
+    (
+        BOB,
+        "PUTFH @2 READDIR ^0 0 0 0 40 0",
+        "notdir PUTFH ok READDIR notdir",
+    ),
+];
+
+fn listed() -> &'static [Row] {
+    &LISTED
+}
+
+/// The numbers of the files that are open, in order.
+fn see_opens(rt: &impl Abort, server: &Server, wanted: &[u64]) -> Result<(), Fail> {
+    assert_eq!(rt; server.opens().len(), wanted.len());
+    for (open, number) in server.opens().iter().zip(wanted) {
+        assert_eq!(rt; open.number, *number);
+    }
+    Ok(())
+}
+
+struct Files;
+
+impl Sight for Files {
+    fn see(rt: &impl Abort, alloc: Global, server: &mut Server) -> Result<(), Fail> {
+        play(rt, alloc, server, opens())?;
+        see_opens(rt, server, &[1, 3])?;
+        play(rt, alloc, server, listed())?;
+        see_opens(rt, server, &[1, 3, 5])
+    }
+}
+
+#[test]
+fn files_are_opened_and_listed(rt: HostRuntime) -> Result<(), Fail> {
+    on_sample::<Files>(&rt, rt.alloc(), RandomState::new(&rt)?)
+}

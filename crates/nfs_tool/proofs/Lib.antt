@@ -1,0 +1,12 @@
+pub mod Named
+pub mod Results
+pub mod Digits
+pub mod Streams
+pub mod Requests
+pub mod Commands
+pub mod Taken
+pub mod Opening
+pub mod GivenSets
+pub mod TextLines
+pub mod Pages
+pub mod Pieces

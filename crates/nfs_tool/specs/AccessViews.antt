@@ -1,0 +1,6 @@
+-- The rights, as they are told.
+use Rattle.std.specs.Prelude.{ℕ}
+use Rattle.nfs_ops.specs.declared.access.AccessResult.{AccessResult}
+
+abbrev pub rights_value : AccessResult → ℕ × ℕ
+rights_value r = (r.supported, r.granted)

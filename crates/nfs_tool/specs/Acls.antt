@@ -1,0 +1,105 @@
+-- getacl and setacl: an access control list as text.
+use Rattle.std.specs.Prelude.{◌≡◌, ℕ, nat_lt, ◌==◌, if◌then◌else◌, List, [], ◌∷◌, ◌++◌, map, Contains, Option, Some, None, option_and_then, option_map, Result, Ok, Err}
+use Rattle.acl_list.specs.declared.entry.EntryKind.{EntryKind}
+use Rattle.acl_list.specs.declared.entry.EntryKind.TheVariants.{Allow, Deny, Audit, Alarm}
+use Rattle.xdr_wire.specs.Xdr.{Value}
+use Rattle.xdr_wire.specs.declared.fault.XdrFault.{XdrFault}
+use Rattle.nfs_types.specs.Attributes.{ace}
+use Rattle.nfs_types.specs.Seen.{Seen, seen_of}
+use Rattle.nfs_types.specs.Sets.{has_number}
+use Rattle.nfs_ops.specs.Operations.{Operation, Known}
+use Rattle.nfs_ops.specs.Results.{Outcome, Done}
+use Rattle.nfs_ops.specs.declared.op_kind.OpKind.TheVariants as kinds
+use Rattle.nfs_tool.specs.Paths.{names_in}
+use Rattle.nfs_tool.specs.Entries.{EntryLine, entry_in, entry_text}
+use Rattle.nfs_tool.specs.Lines.{lines_of}
+use Rattle.nfs_tool.specs.Taking.{last_of}
+use Rattle.nfs_tool.specs.Commands.{sequence, walk}
+use Rattle.nfs_tool.specs.Setting.{set_attributes, of_entries}
+use Rattle.nfs_tool.specs.declared.client.Client.{Client}
+use Rattle.nfs_tool.specs.declared.fault.ToolFault.{ToolFault}
+use Rattle.nfs_tool.specs.declared.fault.ToolFault.TheVariants.{Path, Reply, Memory, Entry}
+
+-- ---- entries
+
+-- acetype4
+abbrev pub kind_number : EntryKind → ℕ
+kind_number Allow = 0
+kind_number Deny = 1
+kind_number Audit = 2
+kind_number Alarm = 3
+
+abbrev pub kind_numbered : ℕ → Option EntryKind
+kind_numbered n = if n == 0 then Some Allow else if n == 1 then Some Deny else if n == 2 then Some Audit else if n == 3 then Some Alarm else None
+
+-- nfsace4
+abbrev pub ace_of : EntryLine → Value ace
+ace_of e = (kind_number e.kind, (e.flags, (e.mask, e.who)))
+
+-- An entry that can be written as text: its type is one of the four, and its flags take two digits.
+abbrev pub line_of : Value ace → Option EntryLine
+line_of v = option_and_then (λ kind. if nat_lt v.1.0 256 then Some (record { kind = kind; flags = v.1.0; mask = v.1.1.0; who = v.1.1.1 }) else None) (kind_numbered v.0)
+
+abbrev pub text_of : Value ace → Option (List ℕ)
+text_of v = option_map entry_text (line_of v)
+
+-- entries as lines, each with a newline behind it
+abbrev pub list_text : List (Value ace) → Option (List ℕ)
+list_text values = lines_of text_of values
+
+-- ---- setacl
+
+-- entries that can be read, and what is sent of them
+abbrev pub AreRead : List (List ℕ) → List (Value ace) → Type 0
+AreRead texts values = (lines : List EntryLine) × (map entry_in texts ≡ map Some lines) × (values ≡ map ace_of lines)
+
+-- one of the entries can't be read
+abbrev pub SomeUnread : List (List ℕ) → Type 0
+SomeUnread texts = (text : List ℕ) × Contains texts text × (entry_in text ≡ None)
+
+abbrev pub EntriesGive : {X : Type 0} → (X → List (Value ace)) → List (List ℕ) → Result X ToolFault → Type 0
+EntriesGive values texts (Ok x) = AreRead texts (values x)
+EntriesGive values texts (Err Entry) = SomeUnread texts
+EntriesGive values texts (Err Memory) = Unit {0}
+EntriesGive values texts (Err fault) = ⊥
+
+abbrev pub SetAclAsks : {S A : Type 0} → Client S A → List ℕ → List (List ℕ) → List Operation → Type 0
+SetAclAsks client path texts ops =
+    (names : List (List ℕ)) × (values : List (Value ace)) × (names_in path ≡ Some names) × AreRead texts values
+    × (ops ≡ sequence client ∷ walk names ++ set_attributes (of_entries values) ∷ [])
+
+-- The path is read before the entries.
+abbrev pub WrongList : List ℕ → List (List ℕ) → ToolFault → Type 0
+WrongList path texts Path = names_in path ≡ None
+WrongList path texts Entry = (names : List (List ℕ)) × (names_in path ≡ Some names) × SomeUnread texts
+WrongList path texts fault = ⊥
+
+-- ---- getacl
+
+-- the set of attribute 12, acl, alone
+abbrev pub IsAcl : List ℕ → Type 0
+IsAcl set = (n : ℕ) → has_number set n ≡ (n == 12)
+
+abbrev pub GetAclAsks : {S A : Type 0} → Client S A → List ℕ → List Operation → Type 0
+GetAclAsks client path ops =
+    (names : List (List ℕ)) × (set : List ℕ) × (names_in path ≡ Some names) × IsAcl set × (ops ≡ sequence client ∷ walk names ++ Known kinds.GetAttr set ∷ [])
+
+-- the list among the attributes that were given
+abbrev pub list_in : Result Seen XdrFault → Option (List (Value ace))
+list_in (Ok seen) = seen.entries
+list_in (Err fault) = None
+
+-- the list as text
+abbrev pub acl_of : Outcome → Option (List ℕ)
+acl_of (Done kinds.GetAttr v) = option_and_then list_text (list_in (seen_of v.0 v.1))
+acl_of _ = None
+
+abbrev pub acl_in : List Outcome → Option (List ℕ)
+acl_in results = option_and_then acl_of (last_of results)
+
+-- the lines are put behind what was there
+abbrev pub PutsList : List ℕ → List ℕ → List (Value ace) → Result (Unit {0}) ToolFault → Type 0
+PutsList old new values (Ok done) = (text : List ℕ) × (list_text values ≡ Some text) × (new ≡ old ++ text)
+PutsList old new values (Err Reply) = list_text values ≡ None
+PutsList old new values (Err Memory) = Unit {0}
+PutsList old new values (Err fault) = ⊥

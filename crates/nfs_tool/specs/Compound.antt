@@ -1,0 +1,110 @@
+-- A COMPOUND as a client writes it, and its results as a client reads them (RFC 8881, sections 16.2.2 and 16.2.4).
+use Rattle.std.specs.Prelude.{◌≡◌, ℕ, ◌==◌, if◌then◌else◌, List, [], ◌∷◌, ◌++◌, length, Option, Some, None, Ok, Err}
+use Rattle.std.specs.List.{flat_map, AllByRecursion}
+use Rattle.xdr_wire.specs.Xdr.{Xdr, uint, opaque, fields, spelling}
+use Rattle.xdr_wire.specs.Reading.{◌>>=◌, Read, read_at, items_at}
+use Rattle.rpc_record.specs.Records.{IsRecord}
+use Rattle.rpc_record.specs.Identity.{Identity}
+use Rattle.rpc_record.specs.Calling.{call_bytes}
+use Rattle.rpc_record.specs.Answered.{ReplyResult, answered}
+use Rattle.nfs_ops.specs.Items.{ItemHasSpelling, ItemIsNormal, item_spelling}
+use Rattle.nfs_ops.specs.Operations.{Operation, op_item}
+use Rattle.nfs_ops.specs.Results.{Outcome, Done, Refused, SetAttrRefused}
+use Rattle.nfs_ops.specs.Rows.{row}
+use Rattle.nfs_ops.specs.ResultReading.{result_at}
+use Rattle.nfs_ops.specs.declared.op_kind.OpKind.TheVariants.{SetAttr}
+
+-- ---- what is written
+
+-- COMPOUND4args up to the operations: a tag, the minor version, and how many operations there are
+abbrev pub compound_head : Xdr
+compound_head = fields (opaque 1024 ∷ uint ∷ uint ∷ [])
+
+-- The tag is empty, and the minor version is 1.
+abbrev pub head_bytes : ℕ → List ℕ
+head_bytes n = spelling compound_head ([], (1, n))
+
+abbrev pub op_bytes : Operation → List ℕ
+op_bytes o = item_spelling (op_item o)
+
+abbrev pub compound_bytes : List Operation → List ℕ
+compound_bytes ops = head_bytes (length ops) ++ flat_map op_bytes ops
+
+-- an operation can be spelled, and is in normal form
+abbrev pub IsSpelled : Operation → Type 0
+IsSpelled o = ItemHasSpelling (op_item o) × ItemIsNormal (op_item o)
+
+-- The bytes are a record with the call of these operations by this caller.
+pub record IsCall (xid : ℕ) (caller : Identity) (ops : List Operation) (bytes : List ℕ) : Type 0 where
+  pub content : List ℕ
+  pub one_record : IsRecord content bytes
+  pub parts : content ≡ call_bytes xid (Some caller) ++ compound_bytes ops
+  pub spelled : AllByRecursion IsSpelled ops
+
+-- ---- what is read
+
+-- the status of a COMPOUND, and the results of its operations
+pub record Compound : Type 0 where
+  pub status : ℕ
+  pub results : List Outcome
+
+-- COMPOUND4res: the status, the tag, and the results behind their count
+abbrev pub compound_at : List ℕ → Read Compound
+compound_at bytes =
+    read_at uint bytes >>= λ status. read_at (opaque 4294967295) status.1 >>= λ tag. read_at uint tag.1 >>= λ count.
+    items_at result_at count.0 count.1 >>= λ results. Ok (record { status = status.0; results = results.0 }, results.1)
+
+-- nothing stands behind it
+abbrev pub all_of : Read Compound → Option Compound
+all_of (Ok (compound, [])) = Some compound
+all_of (Ok (compound, b ∷ rest)) = None
+all_of (Err fault) = None
+
+-- the number of an operation's result, and its status
+abbrev pub number_of : Outcome → ℕ
+number_of (Done k v) = (row k).number
+number_of (Refused n status) = n
+number_of (SetAttrRefused status) = (row SetAttr).number
+
+abbrev pub status_of : Outcome → ℕ
+status_of (Done k v) = 0
+status_of (Refused n status) = status
+status_of (SetAttrRefused status) = status
+
+-- what comes of a call: all its operations are OK, or the last one run, of this number, has this status; or what came is no reply
+pub data Answer : Type 0 where
+  AllDone : Answer
+  LastRefused : ℕ → ℕ → Answer
+  NoReply : Answer
+
+-- Behind the last result no operation is left where it is OK. Its status is the COMPOUND's.
+abbrev pub ended_by : List ℕ → ℕ → Outcome → Answer
+ended_by left status last =
+    if status_of last == status then (if status == 0 then (if length left == 0 then AllDone else NoReply) else LastRefused (number_of last) status) else NoReply
+
+-- The results are those of the first operations asked, at least of one, and all but the last are OK.
+abbrev pub answer_of : List ℕ → ℕ → List Outcome → Answer
+answer_of asked status [] = NoReply
+answer_of [] status (o ∷ os) = NoReply
+answer_of (n ∷ left) status (o ∷ os) =
+    if number_of o == n then (if length os == 0 then ended_by left status o else if status_of o == 0 then answer_of left status os else NoReply) else NoReply
+
+-- what the results of a COMPOUND of the operations of these numbers say
+pub record Said : Type 0 where
+  pub results : List Outcome
+  pub answer : Answer
+
+abbrev pub no_reply : Said
+no_reply = record { results = []; answer = NoReply }
+
+abbrev pub said_of : List ℕ → Option Compound → Said
+said_of asked (Some c) = record { results = c.results; answer = answer_of asked c.status c.results }
+said_of asked None = no_reply
+
+abbrev pub said_by : List ℕ → ReplyResult → Said
+said_by asked (Ok results) = said_of asked (all_of (compound_at results))
+said_by asked (Err fault) = no_reply
+
+-- what a record says in answer to the call of this transaction that asks the operations of these numbers
+abbrev pub said : ℕ → List ℕ → List ℕ → Said
+said xid asked content = said_by asked (answered xid content)

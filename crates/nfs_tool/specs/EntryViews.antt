@@ -1,0 +1,6 @@
+-- An entry's parts, without where its who lies.
+use Rattle.nfs_tool.specs.Entries.{EntryLine}
+use Rattle.nfs_tool.specs.declared.entry_text.EntryText.{EntryText}
+
+abbrev pub entry_line : EntryText → EntryLine
+entry_line e = record { kind = e.kind; flags = e.flags; mask = e.mask; who = e.who.now }

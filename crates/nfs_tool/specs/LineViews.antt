@@ -1,0 +1,7 @@
+-- What is known of an entry, without where it lies.
+use Rattle.std.specs.Prelude.{option_map}
+use Rattle.nfs_tool.specs.Lines as specs
+use Rattle.nfs_tool.specs.declared.listing.Listed.{Listed}
+
+abbrev pub listed : Listed → specs.Listed
+listed l = record { kind = l.kind; mode = l.mode; owner = option_map (λ t. t.now) l.owner; group = option_map (λ t. t.now) l.group; size = l.size; name = l.name.now }

@@ -1,0 +1,12 @@
+-- What reading a path gives that is to have a name.
+use Rattle.std.specs.Prelude.{ℕ, List, map, Result, Ok, Err}
+use Rattle.nfs_tool.specs.Commands.{IsIn, HasNoName}
+use Rattle.nfs_tool.specs.declared.path.Place.{Place}
+use Rattle.nfs_tool.specs.declared.fault.ToolFault.{ToolFault}
+use Rattle.nfs_tool.specs.declared.fault.ToolFault.TheVariants.{Path, Memory}
+
+abbrev pub PlaceGives : {A : Type 0} → List ℕ → Result (Place A) ToolFault → Type 0
+PlaceGives text (Ok place) = IsIn text (map (λ n. n.now) place.directory.items) place.name.now
+PlaceGives text (Err Path) = HasNoName text
+PlaceGives text (Err Memory) = Unit {0}
+PlaceGives text (Err fault) = ⊥

@@ -1,0 +1,33 @@
+-- What a command takes of the results of operations that are all OK.
+use Rattle.std.specs.Prelude.{◌≡◌, ◌⊎◌, List, [], ◌∷◌, Option, Some, None, Result, Ok, Err}
+use Rattle.nfs_ops.specs.Results.{Outcome}
+use Rattle.nfs_tool.specs.Compound.{AllDone, NoReply, Said}
+use Rattle.nfs_tool.specs.CompoundViews.{FaultIs}
+use Rattle.nfs_tool.specs.declared.fault.ToolFault.{ToolFault}
+use Rattle.nfs_tool.specs.declared.fault.ToolFault.TheVariants.{Reply, Memory}
+
+abbrev pub last_of : List Outcome → Option Outcome
+last_of [] = None
+last_of (o ∷ []) = Some o
+last_of (o ∷ p ∷ os) = last_of (p ∷ os)
+
+-- What is taken; or nothing is, since the results are others; or memory is refused.
+abbrev pub TakeGives : {X V : Type 0} → (X → V) → Option V → Result X ToolFault → Type 0
+TakeGives value taken (Ok x) = taken ≡ Some (value x)
+TakeGives value taken (Err Reply) = taken ≡ None
+TakeGives value taken (Err Memory) = Unit {0}
+TakeGives value taken (Err fault) = ⊥
+
+-- What is taken of the results of a reply where all is done, else its fault. A reply of which nothing can be taken is none.
+abbrev pub SaidGives : {X V : Type 0} → (X → V) → (List Outcome → Option V) → Said → Result X ToolFault → Type 0
+SaidGives value taken said (Ok x) = (said.answer ≡ AllDone) × (taken said.results ≡ Some (value x))
+SaidGives value taken said (Err Reply) = (said.answer ≡ NoReply) ⊎ ((said.answer ≡ AllDone) × (taken said.results ≡ None))
+SaidGives value taken said (Err Memory) = Unit {0}
+SaidGives value taken said (Err fault) = FaultIs fault said.answer
+
+-- nothing but that all is OK
+abbrev pub nothing : {X : Type 0} → X → Unit {0}
+nothing x = tt
+
+abbrev pub takes_nothing : List Outcome → Option (Unit {0})
+takes_nothing os = Some tt

@@ -1,0 +1,97 @@
+//! Which rights the caller has.
+ghost use Rattle.std.specs.Prelude.{◌≡◌, false, Err, option_map, option_and_then};
+ghost use Rattle.nfs_ops.specs.ResultViews.{read_view};
+ghost use Rattle.nfs_tool.specs.Access.{AccessAsks, NoPath, rights_of, rights_in};
+ghost use Rattle.nfs_tool.specs.AccessViews.{rights_value};
+ghost use Rattle.nfs_tool.specs.Commands.{PrepareGives, CommandTells, AskGives};
+ghost use Rattle.nfs_tool.specs.Compound.{said};
+ghost use Rattle.nfs_tool.specs.Requests.{Asks};
+ghost use Rattle.nfs_tool.specs.CompoundViews.{outcomes};
+ghost use Rattle.nfs_tool.specs.Taking.{SaidGives, TakeGives};
+ghost use Rattle.nfs_tool.specs.declared.fault.ToolFault.TheVariants.{Failed};
+
+use crate::client::{Client, Reply};
+use crate::fault::ToolFault;
+use crate::path::Path;
+use crate::request::Request;
+use crate::taking::last;
+use nfs_ops::{AccessArgs, AccessResult, Op, OpResult};
+use std::alloc::Allocator;
+use std::io::{Read, Write};
+
+/// The rights that are asked: READ, LOOKUP, MODIFY, EXTEND, DELETE and EXECUTE.
+const ALL_RIGHTS: u32 = 0x3f;
+
+/// What a result says of rights.
+fn rights(found: Option<OpResult<'_>>) -> Option<AccessResult>
+    ensures { option_map rights_value result ≡ option_and_then rights_of (option_map read_view found.entry) }
+{
+    match found {
+        Some(OpResult::Access(rights)) => Some(rights),
+        _ => None,
+    }
+}
+
+/// The rights that results end with.
+fn rights_told<A: Allocator>(results: Vec<OpResult<'_>, A>) -> Result<AccessResult, ToolFault>
+    ensures { TakeGives rights_value (rights_in (outcomes results.entry.items)) result }
+{
+    match rights(last(results)) {
+        Some(rights) => Ok(rights),
+        None => Err(ToolFault::Reply),
+    }
+}
+
+impl<A: Allocator + Copy> Reply<A> {
+    /// The rights that the results end with.
+    fn rights(&self, alloc: A) -> Result<AccessResult, ToolFault>
+        ensures { SaidGives rights_value rights_in (said self.now.xid self.now.asked.items self.now.content.items) result }
+    {
+        match self.results(alloc) {
+            Ok(results) => rights_told(results),
+            Err(fault) => Err(fault),
+        }
+    }
+}
+
+impl<S: Read + Write, A: Allocator + Copy> Client<S, A> {
+    ghost use Rattle.std.specs.Prelude.{true, List};
+    ghost use Rattle.nfs_ops.specs.Operations.{Operation};
+
+    fn prepare_access(&self, path: &[u8]) -> Result<Request<A>, ToolFault>
+        ensures { PrepareGives (AccessAsks self.now path.now) (NoPath path.now) result }
+    {
+        let path = match Path::read(self.alloc, path) {
+            Ok(path) => path,
+            Err(fault) => return Err(fault),
+        };
+        let mut request = self.request()?;
+        request.walk(path.names())?;
+        request.put(Op::Access(AccessArgs { asked: ALL_RIGHTS }))?;
+        Ok(request)
+    }
+
+    fn ask_rights(&mut self, request: Request<A>) -> Result<AccessResult, ToolFault>
+        ensures { (ops : List Operation) → Asks request ops → AskGives S.contents S.remaining rights_in rights_value true ops self.old self.new result }
+    {
+        let reply = match self.exchange(request) {
+            Ok(reply) => reply,
+            Err(fault) => return Err(fault),
+        };
+        let told = reply.rights(self.alloc);
+        self.conclude(&told, true);
+        told
+    }
+
+    /// Which of the six rights of ACCESS have a meaning for an object, and which of them the caller has.
+    pub fn access(&mut self, path: &[u8]) -> Result<AccessResult, ToolFault>
+        ensures failed { self.old.usable ≡ false → result ≡ Err Failed }
+        ensures gives { CommandTells S.contents S.remaining rights_in rights_value (AccessAsks self.old path.now) (NoPath path.now) self.old self.new result }
+    {
+        self.start()?;
+        match self.prepare_access(path) {
+            Ok(request) => self.ask_rights(request),
+            Err(fault) => Err(fault),
+        }
+    }
+}

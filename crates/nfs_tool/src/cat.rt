@@ -1,0 +1,124 @@
+//! The bytes of a file.
+ghost use Rattle.std.specs.Prelude.{◌≡◌, ◌++◌, Some, false, true, Err, map, option_map, option_and_then};
+ghost use Rattle.nfs_ops.specs.ResultViews.{read_view};
+ghost use Rattle.nfs_tool.specs.Cat.{read_from, bytes_of, piece_of, piece_in, piece_value, by_pieces, PieceTaken, ReadGives, CatGives};
+ghost use Rattle.nfs_tool.specs.Compound.{said};
+ghost use Rattle.nfs_tool.specs.Paging.{PagesGive};
+ghost use Rattle.nfs_tool.specs.Requests.{Asks, PutGives};
+ghost use Rattle.nfs_tool.specs.Taking.{SaidGives};
+ghost use Rattle.nfs_tool.specs.declared.fault.ToolFault.TheVariants.{Failed};
+
+use crate::client::{Client, Reply};
+use crate::fault::ToolFault;
+use crate::path::Path;
+use crate::request::Request;
+use crate::taking::last;
+use nfs_ops::{MAX_READ, Op, OpResult, ReadArgs, ReadResult};
+use nfs_types::StateId;
+use std::alloc::Allocator;
+use std::io::{Read, Write};
+
+/// The most calls of one command.
+pub(crate) const MOST_CALLS: u32 = 10_000;
+
+/// What a result says of bytes.
+fn piece(found: Option<OpResult<'_>>) -> Option<ReadResult<'_>>
+    ensures { option_map piece_value result ≡ option_and_then piece_of (option_map read_view found.entry) }
+{
+    match found {
+        Some(OpResult::Read(piece)) => Some(piece),
+        _ => None,
+    }
+}
+
+impl<A: Allocator + Copy> Reply<A> {
+    /// The bytes that the results end with.
+    fn piece(&self, alloc: A) -> Result<ReadResult<'_>, ToolFault>
+        ensures { SaidGives piece_value piece_in (said self.now.xid self.now.asked.items self.now.content.items) result }
+    {
+        match self.results(alloc) {
+            Ok(results) => match piece(last(results)) {
+                Some(piece) => Ok(piece),
+                None => Err(ToolFault::Reply),
+            },
+            Err(fault) => Err(fault),
+        }
+    }
+
+    /// Puts the bytes that the results end with behind those that were read. Whether the file ends there.
+    fn put_piece(&self, alloc: A, bytes: &mut Vec<u8, A>) -> Result<bool, ToolFault>
+        ensures { PieceTaken (said self.now.xid self.now.asked.items self.now.content.items) bytes.old.items bytes.new.items result }
+    {
+        match self.piece(alloc) {
+            Ok(piece) => {
+                bytes.extend_from_slice(piece.data.bytes)?;
+                Ok(piece.eof)
+            }
+            Err(fault) => Err(fault),
+        }
+    }
+}
+
+impl<S: Read + Write, A: Allocator + Copy> Client<S, A> {
+    ghost use Rattle.std.specs.Prelude.{IfOk};
+
+    /// The request of the bytes behind so many.
+    fn prepare_read(&self, names: &[&[u8]], offset: usize) -> Result<Request<A>, ToolFault>
+        ensures asks { IfOk result (λ r. Asks r (read_from (map (λ n. n.now) names.now) self.now offset)) }
+        ensures memory { PutGives result }
+    {
+        let mut request = self.request()?;
+        request.walk(names)?;
+        let stateid = StateId::anonymous();
+        request.put(Op::Read(ReadArgs {
+            stateid,
+            offset: offset as u64,
+            count: MAX_READ,
+        }))?;
+        Ok(request)
+    }
+
+    /// Reads the bytes behind those that were read. Whether the file ends behind them.
+    fn read_piece(&mut self, names: &[&[u8]], bytes: &mut Vec<u8, A>) -> Result<bool, ToolFault>
+        ensures { ReadGives S.contents S.remaining (map (λ n. n.now) names.now) bytes.old.items bytes.new.items self.old self.new result }
+    {
+        let request = self.prepare_read(names, bytes.len())?;
+        let reply = match self.exchange(request) {
+            Ok(reply) => reply,
+            Err(fault) => return Err(fault),
+        };
+        let told = reply.put_piece(self.alloc, bytes);
+        self.conclude(&told, true);
+        told
+    }
+
+    /// Reads piece after piece.
+    fn read_all(&mut self, names: &[&[u8]]) -> Result<Vec<u8, A>, ToolFault>
+        ensures { PagesGive (by_pieces S.contents S.remaining (map (λ n. n.now) names.now)) (λ v. v.items) bytes_of self.old self.new result }
+    {
+        let mut bytes = Vec::new(self.alloc);
+        for _call in 0..MOST_CALLS {
+            let told = self.read_piece(names, &mut bytes);
+            self.spoil(&told);
+            match told {
+                Ok(true) => return Ok(bytes),
+                Ok(false) => {}
+                Err(fault) => return Err(fault),
+            }
+        }
+        self.usable = false;
+        Err(ToolFault::Reply)
+    }
+
+    /// The bytes of a file, in at most 10,000 calls. `Reply`: there are more of them.
+    pub fn cat(&mut self, path: &[u8]) -> Result<Vec<u8, A>, ToolFault>
+        ensures failed { self.old.usable ≡ false → result ≡ Err Failed }
+        ensures gives { CatGives S.contents S.remaining (λ v. v.items) path.now self.old self.new result }
+    {
+        self.start()?;
+        match Path::read(self.alloc, path) {
+            Ok(path) => self.read_all(path.names()),
+            Err(fault) => Err(fault),
+        }
+    }
+}

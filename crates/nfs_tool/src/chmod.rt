@@ -1,0 +1,62 @@
+//! Setting a mode.
+ghost use Rattle.std.specs.Prelude.{◌≡◌, false, Err};
+ghost use Rattle.nfs_types.specs.ShownViews.{shown_value};
+ghost use Rattle.nfs_tool.specs.ChMod.{ChModAsks, WrongMode};
+ghost use Rattle.nfs_tool.specs.Setting.{of_mode};
+ghost use Rattle.nfs_tool.specs.Commands.{PrepareGives, CommandGives};
+ghost use Rattle.nfs_tool.specs.declared.fault.ToolFault.TheVariants.{Failed};
+
+use crate::client::Client;
+use crate::fault::ToolFault;
+use crate::modes::read_mode;
+use crate::path::Path;
+use crate::request::Request;
+use nfs_types::ShownAttributes;
+use std::alloc::Allocator;
+use std::io::{Read, Write};
+
+/// The mode alone.
+fn of_mode(mode: u32) -> ShownAttributes<'static>
+    ensures { shown_value result ≡ of_mode mode }
+{
+    ShownAttributes {
+        kind: None,
+        size: None,
+        error: None,
+        entries: None,
+        mode: Some(mode),
+        owner: None,
+        group: None,
+    }
+}
+
+impl<S: Read + Write, A: Allocator + Copy> Client<S, A> {
+    fn prepare_chmod(&self, word: &[u8], path: &[u8]) -> Result<Request<A>, ToolFault>
+        ensures { PrepareGives (ChModAsks self.now word.now path.now) (WrongMode word.now path.now) result }
+    {
+        let Some(mode) = read_mode(word) else {
+            return Err(ToolFault::Entry);
+        };
+        let path = match Path::read(self.alloc, path) {
+            Ok(path) => path,
+            Err(fault) => return Err(fault),
+        };
+        let mut request = self.request()?;
+        request.walk(path.names())?;
+        request.set_attributes(self.alloc, &of_mode(mode))?;
+        Ok(request)
+    }
+
+    /// Sets the mode of an object to this word of one to four octal digits, and with it the access control list. `Entry`: the word is
+    /// none.
+    pub fn chmod(&mut self, word: &[u8], path: &[u8]) -> Result<(), ToolFault>
+        ensures failed { self.old.usable ≡ false → result ≡ Err Failed }
+        ensures gives { CommandGives S.contents S.remaining (ChModAsks self.old word.now path.now) (WrongMode word.now path.now) self.old self.new result }
+    {
+        self.start()?;
+        match self.prepare_chmod(word, path) {
+            Ok(request) => self.run(request, true),
+            Err(fault) => Err(fault),
+        }
+    }
+}

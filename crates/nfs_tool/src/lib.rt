@@ -1,0 +1,33 @@
+//! A client of NFS version 4.1 (RFC 8881): its commands as words, and each command as calls and replies over a stream.
+#![tactic(auto)]
+
+mod access;
+mod answer;
+mod cat;
+mod chmod;
+mod client;
+mod entry_text;
+mod fault;
+mod getacl;
+mod listing;
+mod ln;
+mod mkdir;
+mod modes;
+mod mv;
+mod path;
+mod request;
+mod rm;
+mod sessions;
+mod setacl;
+mod setting;
+mod stream;
+mod taking;
+mod words;
+
+pub use client::Client;
+pub use entry_text::{EntryText, an_entry_as_text_is_read};
+pub use fault::ToolFault;
+pub use listing::Listed;
+pub use modes::{mode_text, read_mode};
+pub use path::Path;
+pub use words::Command;

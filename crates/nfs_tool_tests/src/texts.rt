@@ -1,0 +1,116 @@
+//! Paths, entries, modes, lines and words as text.
+use acl_list::EntryKind;
+use nfs_tool::{Command, EntryText, Listed, Path, ToolFault, mode_text, read_mode};
+use nfs_types::Status;
+use std::test::Fail;
+
+#[test]
+fn paths_are_read(rt: HostRuntime) -> Result<(), Fail> {
+    let alloc = rt.alloc();
+    let path = Path::read(alloc, b"/a/bc")?;
+    assert_eq!(rt; path.names().len(), 2);
+    assert!(rt; path.names()[1] == b"bc".as_slice());
+    let root = Path::read(alloc, b"/")?;
+    assert_eq!(rt; root.names().len(), 0);
+    for text in &[b"".as_slice(), b"a", b"//", b"/a/", b"/a//b"] {
+        assert!(rt; matches!(Path::read(alloc, text), Err(ToolFault::Path)));
+    }
+    Ok(())
+}
+
+#[test]
+fn entries_are_read_and_written(rt: HostRuntime) -> Result<(), Fail> {
+    let Some(entry) = EntryText::read(b"L:0B:00040027:a:b") else {
+        return Err(Fail::new("nothing was read"));
+    };
+    assert_eq!(rt; entry.kind, EntryKind::Alarm);
+    assert_eq!(rt; entry.flags, 0x0b);
+    assert_eq!(rt; entry.mask, 0x0004_0027);
+    assert!(rt; entry.who == b"a:b".as_slice());
+    let mut text = Vec::new(rt.alloc());
+    entry.put(&mut text)?;
+    assert!(rt; text.as_slice() == b"L:0b:00040027:a:b".as_slice());
+    for text in &[
+        b"".as_slice(),
+        b"X:00:00000001:1",
+        b"A:0:00000001:1",
+        b"A:00:0000001:1",
+        b"A:00:00000001",
+    ] {
+        assert!(rt; EntryText::read(text).is_none());
+    }
+    Ok(())
+}
+
+#[test]
+fn modes_are_read_and_written(rt: HostRuntime) -> Result<(), Fail> {
+    assert_eq!(rt; read_mode(b"7"), Some(7));
+    assert_eq!(rt; read_mode(b"0640"), Some(0o640));
+    assert_eq!(rt; read_mode(b""), None);
+    assert_eq!(rt; read_mode(b"8"), None);
+    assert_eq!(rt; read_mode(b"00640"), None);
+    assert!(rt; mode_text(0o4755) == *b"4755");
+    Ok(())
+}
+
+#[test]
+fn lines_are_written(rt: HostRuntime) -> Result<(), Fail> {
+    let mut text = Vec::new(rt.alloc());
+    let known = Listed {
+        kind: Some(1),
+        mode: Some(0o600),
+        owner: Some(b"0"),
+        group: Some(b"0"),
+        size: Some(2),
+        name: b"f",
+    };
+    known.put(&mut text)?;
+    assert!(rt; text.as_slice() == b"- 0600 0 0 2 f".as_slice());
+    text.truncate(0);
+    let refused = Listed {
+        kind: Some(5),
+        mode: None,
+        owner: None,
+        group: None,
+        size: None,
+        name: b"l",
+    };
+    refused.put(&mut text)?;
+    assert!(rt; text.as_slice() == b"l ? ? ? ? l".as_slice());
+    Ok(())
+}
+
+#[test]
+fn commands_are_read(rt: HostRuntime) -> Result<(), Fail> {
+    let words: [&[u8]; 3] = [b"put", b"/f", b"hi"];
+    assert!(rt; matches!(Command::read(&words), Some(Command::Put(b"/f", b"hi"))));
+    let words: [&[u8]; 2] = [b"setacl", b"/f"];
+    assert!(rt; Command::read(&words).is_none());
+    let words: [&[u8]; 4] = [b"setacl", b"/f", b"x", b"y"];
+    let Some(Command::SetAcl(path, entries)) = Command::read(&words) else {
+        return Err(Fail::new("nothing was read"));
+    };
+    assert!(rt; path == b"/f".as_slice());
+    assert_eq!(rt; entries.len(), 2);
+    let words: [&[u8]; 3] = [b"ls", b"/f", b"/g"];
+    assert!(rt; Command::read(&words).is_none());
+    Ok(())
+}
+
+#[test]
+fn faults_have_numbers(rt: HostRuntime) -> Result<(), Fail> {
+    let faults = [
+        ToolFault::Path,
+        ToolFault::Refused(3, Status::Access),
+        ToolFault::Reply,
+        ToolFault::Read,
+        ToolFault::Write,
+        ToolFault::Memory,
+        ToolFault::Entry,
+        ToolFault::Failed,
+    ];
+    for number in 0..8 {
+        assert_eq!(rt; faults[number].number(), (number + 1) as u32);
+    }
+    Ok(())
+}
