@@ -1,6 +1,7 @@
 //! OPEN, stateids of opens, CLOSE and READDIR, by hand.
 
-use crate::servers::{ALICE, BOB, Row, Sight, on_sample, play};
+use crate::servers::{ALICE, BOB, Row, Sight, on_sample, play, run};
+use crate::spelling::call_of;
 use compound_run::Server;
 use std::alloc::Global;
 use std::hash::RandomState;
@@ -168,4 +169,76 @@ impl Sight for Files {
 #[test]
 fn files_are_opened_and_listed(rt: HostRuntime) -> Result<(), Fail> {
     on_sample::<Files>(&rt, rt.alloc(), RandomState::new(&rt)?)
+}
+
+/// Behind 4,096 opens of `notes` by as many owners: no owner more has one, of no file, until one is closed.
+static MORE: [Row; 6] = [
+    (
+        ALICE,
+        "PUTFH @2 OPEN 0 1 0 0 0 'o 0 4",
+        "nospc PUTFH ok OPEN nospc",
+    ),
+    (
+        ALICE,
+        "PUTFH @2 OPEN 0 2 0 0 0 '0fff 0 4",
+        "ok PUTFH ok OPEN ok 2 0 0 1000 0>0 0 0 0",
+    ),
+    (
+        BOB,
+        "PUTFH @3 OPEN 0 1 0 0 0 'o 1 0 0 0 0 'x",
+        "nospc PUTFH ok OPEN nospc",
+    ),
+    (
+        ALICE,
+        "PUTFH @2 CLOSE 0 0 0 0 7",
+        "ok PUTFH ok CLOSE ok closed",
+    ),
+    (
+        BOB,
+        "PUTFH @3 OPEN 0 1 0 0 0 'o 1 0 0 0 0 'x",
+        "ok PUTFH ok OPEN ok 1 0 0 1001 3>4 0 0 0",
+    ),
+    (
+        ALICE,
+        "PUTFH @2 OPEN 0 1 0 0 0 'o 0 4",
+        "nospc PUTFH ok OPEN nospc",
+    ),
+];
+
+fn more() -> &'static [Row] {
+    &MORE
+}
+
+/// Opens `notes` for the owner of this number, and tells whether that is OK.
+fn open_notes(alloc: Global, server: &mut Server, number: u32) -> Result<bool, Fail> {
+    let call = format!(in alloc; "PUTFH @2 OPEN 0 1 0 0 0 '{number:04x} 0 4")?;
+    let arguments = call_of(alloc, call.as_str())?;
+    let given = run(alloc, server, ALICE, 0, &arguments)?;
+    Ok(given.is_some_and(|given| given.get(..4) == Some(&[0, 0, 0, 0])))
+}
+
+fn open_often(alloc: Global, server: &mut Server, count: u32) -> Result<u32, Fail> {
+    let mut opened = 0u32;
+    for number in 0..count {
+        if open_notes(alloc, server, number)? {
+            opened = opened.saturating_add(1);
+        }
+    }
+    Ok(opened)
+}
+
+struct Limited;
+
+impl Sight for Limited {
+    fn see(rt: &impl Abort, alloc: Global, server: &mut Server) -> Result<(), Fail> {
+        assert_eq!(rt; open_often(alloc, server, 4097)?, 4096);
+        play(rt, alloc, server, more())?;
+        assert_eq!(rt; server.opens().len(), 4096);
+        Ok(())
+    }
+}
+
+#[test]
+fn opens_are_limited(rt: HostRuntime) -> Result<(), Fail> {
+    on_sample::<Limited>(&rt, rt.alloc(), RandomState::new(&rt)?)
 }

@@ -15,9 +15,13 @@ mod judged;
 #[cfg(test)]
 mod limits;
 #[cfg(test)]
+mod listings;
+#[cfg(test)]
 mod memory;
 #[cfg(test)]
 mod modes;
+#[cfg(test)]
+mod opened;
 #[cfg(test)]
 mod outcomes;
 #[cfg(test)]

@@ -13,7 +13,12 @@ use who_book::Book;
 
 /// Over a root with the directory `d`, 2, of 4,096 names, the links `l`, 3, and `m`, 4, of which `m` has 1,000 names, and the directory `s`, 5.
 /// Within a full directory, and onto a name that is there, an object still moves.
-static FULL_DIRECTORY: [Row; 13] = [
+static FULL_DIRECTORY: [Row; 14] = [
+    (
+        BOB,
+        "PUTFH @2 OPEN 0 1 0 0 0 'o 1 0 0 0 0 'x",
+        "nospc PUTFH ok OPEN nospc",
+    ),
     (
         BOB,
         "PUTFH @2 CREATE 2 'x 0 0",
@@ -126,7 +131,12 @@ fn a_full_directory_is_told(rt: HostRuntime) -> Result<(), Fail> {
 
 /// Over 16,384 objects: the root, the directories `a` to `d`, 2 to 5, and what is in them, last of all the link `z` in `d`. A name more is no
 /// object more.
-static FULL_TREE: [Row; 6] = [
+static FULL_TREE: [Row; 7] = [
+    (
+        BOB,
+        "PUTROOTFH OPEN 0 1 0 0 0 'o 1 1 0 0 0 'x",
+        "nospc PUTROOTFH ok OPEN nospc",
+    ),
     (
         BOB,
         "PUTROOTFH CREATE 2 'x 0 0",

@@ -17,7 +17,7 @@ use who_book::Book;
 use xdr_wire::Writer;
 
 /// Calls, and whether their last operation may want memory. With ample memory each is OK.
-static CALLS: [(&str, bool); 20] = [
+static CALLS: [(&str, bool); 24] = [
     ("PUTROOTFH CREATE 2 'directory 0 0", true),
     ("PUTROOTFH CREATE 5 ~10 'link 0 0", true),
     ("PUTROOTFH LOOKUP 'link SAVEFH PUTROOTFH LINK ~ff", true),
@@ -40,6 +40,19 @@ static CALLS: [(&str, bool); 20] = [
         true,
     ),
     ("PUTROOTFH LOOKUP 'f SETATTR anon +33 ( 1ff )", true),
+    (
+        "PUTROOTFH OPEN 0 3 0 0 0 ~40 1 1 +4+33 ( ^400 1a4 ) 0 'made",
+        true,
+    ),
+    ("PUTROOTFH OPEN 0 1 0 0 0 ~100 0 0 'f", true),
+    (
+        "PUTROOTFH READDIR ^0 0 0 0 4000 3 ffffffff ffffffff ffffffff",
+        false,
+    ),
+    (
+        "PUTROOTFH LOOKUP 'directory READDIR ^0 0 0 0 4000 3 ffffffff ffffffff ffffffff",
+        false,
+    ),
     ("PUTROOTFH LOOKUP 'directory LOOKUPP", false),
     ("PUTROOTFH LOOKUP 'directory LOOKUP ~80 READLINK", false),
     ("PUTROOTFH LOOKUP 'directory LOOKUP ~80 GETFH", false),
@@ -57,7 +70,7 @@ const DELAY: [u8; 4] = [0, 0, 0x27, 0x18];
 /// What came of calls: whether one of each was delayed, how many since the heap is this one, and how many heaps had none.
 #[derive(Clone, Copy, Debug)]
 struct Seen {
-    delayed: [bool; 20],
+    delayed: [bool; 24],
     delays: u32,
     ample: u32,
 }
@@ -74,12 +87,14 @@ struct Site<'a> {
 struct Picture {
     tree: Vec<u8>,
     total: u64,
+    opens: usize,
 }
 
 fn look(alloc: Global, site: &Site<'_>) -> Result<Picture, Fail> {
     Ok(Picture {
         tree: tree_text(alloc, site.server.tree(), 12)?,
         total: site.server.guard().total(),
+        opens: site.server.opens().len(),
     })
 }
 
@@ -220,7 +235,7 @@ fn attempt(
 #[test]
 fn refused_growth_is_told(rt: HostRuntime) -> Result<(), Fail> {
     let mut seen = Seen {
-        delayed: [false; 20],
+        delayed: [false; 24],
         delays: 0,
         ample: 0,
     };
@@ -244,8 +259,8 @@ fn refused_growth_is_told(rt: HostRuntime) -> Result<(), Fail> {
     assert_eq!(rt;
         delayed,
         [
-            true, true, true, true, true, true, true, true, false, false, false, true, true, false,
-            false, false, false, false, false, false
+            true, true, true, true, true, true, true, true, false, false, false, true, true, true,
+            true, false, false, false, false, false, false, false, false, false
         ]
     );
     assert!(rt; seen.ample > 0);

@@ -1,5 +1,6 @@
 //! Each outcome of each operation that calls can bring about.
 
+use crate::opened::{data, listings, opens};
 use crate::servers::{ALICE, BOB, CAROL, ROOT, Row, Sight, on_sample, play, see_trail};
 use compound_run::Server;
 use std::alloc::Global;
@@ -719,10 +720,22 @@ DENY uid=1002 op=RENAME obj=1 mask=00000002 missing=00000002
 DENY uid=1002 op=RENAME obj=1 mask=00000002 missing=00000002
 DENY uid=1002 op=RENAME obj=1 mask=00000004 missing=00000004
 DENY uid=1002 op=LOOKUP obj=11 mask=00000020 missing=00000020
+DENY uid=1002 op=READ obj=2 mask=00000001 missing=00000001
+DENY uid=1002 op=WRITE obj=13 mask=00000004 missing=00000004
+DENY uid=1002 op=GETATTR obj=13 mask=00000080 missing=00000080
+DENY uid=1002 op=VERIFY obj=13 mask=00000080 missing=00000080
+DENY uid=1002 op=NVERIFY obj=13 mask=00000080 missing=00000080
+DENY uid=1002 op=SETATTR obj=13 mask=00040000 missing=00040000
+DENY uid=1001 op=OPEN obj=4 mask=00000020 missing=00000020
+DENY uid=1002 op=OPEN obj=2 mask=00000001 missing=00000001
+DENY uid=1002 op=OPEN obj=2 mask=00000005 missing=00000001
+DENY uid=1002 op=OPEN obj=2 mask=00000006 missing=00000002
+DENY uid=1002 op=OPEN obj=1 mask=00000002 missing=00000002
+DENY uid=1001 op=READDIR obj=4 mask=00000001 missing=00000001
 ";
 
 /// The tables in the order in which they are played: what one makes is there for the next.
-pub fn tables() -> [&'static [Row]; 11] {
+pub fn tables() -> [&'static [Row]; 14] {
     [
         &DONE,
         &RIGHTS,
@@ -735,6 +748,9 @@ pub fn tables() -> [&'static [Row]; 11] {
         &LINKS,
         &REMOVALS,
         &RENAMES,
+        data(),
+        opens(),
+        listings(),
     ]
 }
 
@@ -744,7 +760,7 @@ fn lines() -> &'static str {
 
 /// Sees the trail that the tables leave.
 pub fn see_lines(rt: &impl Abort, alloc: Global, server: &Server) -> Result<(), Fail> {
-    see_trail(rt, alloc, server, 16, lines())
+    see_trail(rt, alloc, server, 28, lines())
 }
 
 struct Outcomes;
