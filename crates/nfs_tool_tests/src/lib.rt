@@ -1,13 +1,23 @@
 //! The client over streams in memory.
 #![tactic(auto)]
 
+#[cfg(test)]
 mod asking;
+#[cfg(test)]
 mod catting;
+#[cfg(test)]
 mod failing;
+#[cfg(test)]
 mod memory;
+#[cfg(test)]
 mod played;
+#[cfg(test)]
 mod refusals;
+#[cfg(test)]
 mod removing;
+#[cfg(test)]
 mod replies;
+#[cfg(test)]
 mod sessions;
+#[cfg(test)]
 mod texts;
