@@ -3,7 +3,7 @@
 use crate::servers::{ALICE, BOB, Row};
 
 /// In `pub`, 3, bob makes the file `y`, 13, whose list gives READ_DATA alone, and `z`, 14, whose list gives all; both stay open. Then what data and
-/// attributes are refused for, in the order of the questions: a refused WRITE, SETATTR or VERIFY takes no tick.
+/// attributes are refused for, in the order of the questions: a refused WRITE or SETATTR takes no tick.
 static DATA: [Row; 55] = [
     (
         BOB,
