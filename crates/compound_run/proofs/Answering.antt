@@ -13,7 +13,7 @@ use Rattle.compound_run.specs.Context.{Context, no_handles}
 use Rattle.compound_run.specs.Runs.{Point, Runs, results_bytes}
 use Rattle.compound_run.specs.Compound.{args_form, args_in, head, opening_fault}
 use Rattle.compound_run.specs.State.{State, Call, Answers, AnswersBy, fate, fate_of, fate_unless, bare_context, start, left}
-use Rattle.compound_run.specs.Views.{point_at, realm_of}
+use Rattle.compound_run.specs.Views.{point_at, realm_of, state_of}
 use Rattle.compound_run.specs.Written.{RunGives, Opens, OpensTo, OpensBehind}
 
 -- ---- operations behind a head
@@ -48,9 +48,6 @@ run_behind fault tag c room operations old new before after end none first is r 
     (subst (λ f. OpensBehind f tag c operations old before end new after) (sym none) (all_run tag c operations old new before after end first r))
 
 -- ---- what is kept
-
-abbrev pub state_of : {A : Type 0} → Export A → Content → State
-state_of e book = record { realm = realm_of e; trail = e.tree.log.trail; total = e.tree.log.total; capacity = e.tree.capacity; book = book }
 
 -- where a COMPOUND begins
 begins : {A : Type 0} (e : Export A) (book : Content) → e.tree.log.held ≡ [] → start (state_of e book) ≡ point_at e no_handles

@@ -1,10 +1,9 @@
 -- The values that are given, compared with those that were sent.
-use Rattle.std.proofs.Common.{◌≡◌, ◌≢◌, ℕ, ◌+◌, ◌*◌, ◌<◌, ◌≤◌, Bool, true, false, List, refl, sym, ap, ◌∙◌, subst, length, append-nil, arith}
-use Rattle.std.specs.Prelude.{[], ◌∷◌, ◌++◌, ◌==◌, nat_eq, bit_and, if◌then◌else◌, Result, Ok, Err, Some, OnOk, is_err}
+use Rattle.std.proofs.Common.{◌≡◌, ◌≢◌, ℕ, ◌+◌, ◌<◌, ◌≤◌, Bool, true, false, List, refl, sym, ap, ◌∙◌, subst, length, append-nil, arith}
+use Rattle.std.specs.Prelude.{[], ◌∷◌, ◌++◌, ◌==◌, nat_eq, if◌then◌else◌, Result, Ok, Err, Some, OnOk, is_err}
 use Rattle.std.specs.Cmp.Lexicographic.{pointwise, same_text}
-use Rattle.std.proofs.lemmas.List.{length-append}
 use Rattle.xdr_wire.specs.Buffer.{Buffer, Puts}
-use Rattle.xdr_wire.specs.Xdr.{Value, HasSpelling, spelling, padding}
+use Rattle.xdr_wire.specs.Xdr.{Value, HasSpelling, spelling}
 use Rattle.xdr_wire.specs.Reading.{Gives, Read, read_at}
 use Rattle.xdr_wire.specs.Wire.{in_normal_form}
 use Rattle.xdr_wire.specs.declared.fault.XdrFault.{XdrFault}
@@ -15,7 +14,7 @@ use Rattle.nfs_types.specs.Forms.{attributes, front_word, trimmed, trimmed_set}
 use Rattle.nfs_types.specs.Given.{given_set}
 use Rattle.nfs_types.specs.Views.{attributes_value}
 use Rattle.nfs_types.specs.declared.attributes.Attributes.{Attributes}
-use Rattle.nfs_ops.specs.Forms.{getattr_size, with_padding}
+use Rattle.nfs_ops.specs.Forms.{getattr_size}
 
 -- ---- how many words the set of what is given has
 

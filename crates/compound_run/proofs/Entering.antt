@@ -77,7 +77,7 @@ stops_so takes fault may room m e h before status is = record { answered = stops
 
 -- one that is run has room for its result
 pub roomy : (c : code.Context) (op : Operation) (out : Buffer) → entry_fault (context_of c) op ≡ None → c.room + REFUSAL_ROOM ≤ out.room → IfRun (is_run op) (HasRoom c out)
-roomy c op out none room = of (is_run op) (nat_lt c.room MIN_ROOM) refl (second (place_fault op) (room_fault (context_of c) op) none)
+roomy c op out none room = of (is_run op) (nat_lt c.room MIN_ROOM) refl (second (place_fault (context_of c) op) (room_fault (context_of c) op) none)
   where
     second : (first more : Option Status) → first_fault first more ≡ None → more ≡ None
     second None more h = h

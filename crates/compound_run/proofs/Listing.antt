@@ -1,6 +1,6 @@
 -- The entries of a directory, one by one.
 use Rattle.std.proofs.Common.{◌≡◌, ℕ, ◌+◌, ◌<◌, ◌≤◌, ◌^◌, Bool, true, false, ◌&&◌, cond, zero, suc, inl, inr, length, append-nil, refl, ap, sym, ◌∙◌, subst, List, nat_lt, arith}
-use Rattle.std.specs.Prelude.{[], ◌∷◌, ◌++◌, ◌==◌, Option, Some, None, Result, Ok, Err, find, filter, map, take, bit_and, if◌then◌else◌}
+use Rattle.std.specs.Prelude.{[], ◌∷◌, ◌==◌, Option, Some, None, Result, Ok, Err, find, filter, map, take, bit_and, if◌then◌else◌}
 use Rattle.std.specs.Option.{option_map, option_map_or}
 use Rattle.std.proofs.lemmas.Bool.Decides.{nat_tests, Decides-eqb}
 use Rattle.rpc_record.specs.Identity.{Identity}

@@ -1,6 +1,6 @@
 -- Open files as the definitions see them.
 use Rattle.std.proofs.Common.{◌≡◌, ◌∙◌, ◌<◌, ℕ, zero, suc, arith, length, get_or, Bool, true, false, cond, List, refl, sym, ap}
-use Rattle.std.specs.Prelude.{[], ◌∷◌, ◌++◌, ◌==◌, if◌then◌else◌, bit_or, filter, find, map, take, drop, slice_set, Option, Some, None, option_map}
+use Rattle.std.specs.Prelude.{[], ◌∷◌, ◌++◌, ◌==◌, if◌then◌else◌, bit_or, filter, find, map, take, drop, slice_set, Some, option_map}
 use Rattle.compound_run.specs.declared.opens.Open.{Open}
 use Rattle.compound_run.specs.declared.opens.Place.{Place}
 use Rattle.compound_run.specs.declared.opens.Place.TheVariants as places

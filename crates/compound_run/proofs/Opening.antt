@@ -14,7 +14,7 @@ use Rattle.compound_run.specs.declared.export.Export.{Export}
 use Rattle.compound_run.specs.declared.filehandles.FileHandles.{FileHandles}
 use Rattle.compound_run.specs.Asking.{sight_of}
 use Rattle.compound_run.specs.Context.{Context}
-use Rattle.compound_run.specs.Sight.{Sight, whole}
+use Rattle.compound_run.specs.Sight.{Sight}
 use Rattle.compound_run.specs.Questions.{failure, trace, told}
 use Rattle.compound_run.specs.Meaning.{here}
 use Rattle.nfs_types.specs.Sent.{Wanted}

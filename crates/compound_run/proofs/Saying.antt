@@ -1,20 +1,18 @@
 -- What is said of an object is what its attributes are.
-use Rattle.std.proofs.Common.{◌≡◌, ℕ, ◌≤◌, List, Bool, true, false, cond, refl, sym, ap, ◌∙◌, length}
-use Rattle.std.specs.Prelude.{[], ◌∷◌, ◌++◌, if◌then◌else◌, map, take, unwrap_or, bit_or, Option, Some}
+use Rattle.std.proofs.Common.{◌≡◌, ℕ, ◌≤◌, List, false, cond, refl, sym, ap, ◌∙◌, length}
+use Rattle.std.specs.Prelude.{[], ◌∷◌, ◌++◌, map, take, unwrap_or, bit_or, Option, Some}
 use Rattle.std.specs.Option.{option_map, option_map_or}
 use Rattle.std.proofs.lemmas.List.{take_all}
 use Rattle.std.specs.List.{flat_map}
-use Rattle.xdr_wire.specs.Xdr.{spelling, Value, uint, hyper, boolean}
-use Rattle.acl_list.specs.declared.entry.Entry.{Entry}
+use Rattle.xdr_wire.specs.Xdr.{spelling}
 use Rattle.acl_list.specs.declared.entry.Kind.TheVariants.{File}
 use Rattle.acl_shape.specs.Inherited.{is_directory}
 use Rattle.acl_shape.specs.Mode.{mode_of}
 use Rattle.who_book.specs.Content.{Content}
 use Rattle.who_book.specs.Spelling.{principal_text}
 use Rattle.who_book.specs.declared.kind.NameKind.TheVariants as name
-use Rattle.nfs_types.specs.Attributes.{all, acl, text, number_of, form_of}
-use Rattle.nfs_types.specs.Forms.{handle, time}
-use Rattle.nfs_types.specs.Given.{type_number, ace_of, value_of, attribute_bytes, part, given_values}
+use Rattle.nfs_types.specs.Attributes.{all, number_of, form_of}
+use Rattle.nfs_types.specs.Given.{type_number, ace_of, value_of, part, given_values}
 use Rattle.nfs_types.specs.Handles.{object_handle}
 use Rattle.nfs_types.specs.MomentView.{moment_value}
 use Rattle.nfs_types.specs.Sets.{has_number}

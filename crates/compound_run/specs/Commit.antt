@@ -1,5 +1,5 @@
 -- COMMIT (RFC 8881, section 18.3): what was written is there already, so nothing is left to do.
-use Rattle.std.specs.Prelude.{List, [], ◌∷◌}
+use Rattle.std.specs.Prelude.{[], ◌∷◌}
 use Rattle.std.proofs.Common.{inl}
 use Rattle.xdr_wire.specs.Xdr.{Value}
 use Rattle.nfs_ops.specs.Forms.{zeros}

@@ -24,6 +24,10 @@ pub record Context : Type 0 where
 abbrev pub behind : Context → ℕ → Context
 behind c taken = record c { position = c.position + 1; room = c.room - taken }
 
+-- the current and the saved filehandle of a COMPOUND
+abbrev pub Handles : Type 0
+Handles = FileHandles
+
 -- a COMPOUND begins with no filehandle
 abbrev pub no_handles : FileHandles
 no_handles = record { current = None; saved = None }

@@ -32,6 +32,8 @@ pub mod Setattr
 pub mod Open
 pub mod Verify
 pub mod Write
+pub mod Sessions
+pub mod ReclaimComplete
 pub mod Operations
 pub mod Runs
 pub mod Telling
@@ -45,6 +47,11 @@ pub mod Written
 pub mod Listed
 pub mod Opening
 pub mod Exact
-pub mod Disclosure
-pub mod EntriesExact
-pub mod LiveOpens
+pub mod ExchangeId
+pub mod CreateSession
+pub mod DestroySession
+pub mod DestroyClientid
+pub mod Beginning
+pub mod Sequence
+pub mod InSession
+pub mod SessionViews

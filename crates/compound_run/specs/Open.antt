@@ -1,6 +1,6 @@
 -- OPEN (RFC 8881, section 18.16): a file is opened, by its name in the current directory or by the current filehandle; one that isn't
 -- there may be made, one that is there truncated. The file becomes current.
-use Rattle.std.specs.Prelude.{ℕ, ◌+◌, ◌==◌, ◌%◌, Bool, true, false, ◌&&◌, ◌||◌, nat_lt, nat_eq, if◌then◌else◌, List, [], ◌∷◌, ◌++◌, length, map, find, unwrap_or, bit_or, Option, Some, None, Result, Ok, Err}
+use Rattle.std.specs.Prelude.{ℕ, ◌+◌, ◌==◌, ◌%◌, Bool, true, false, ◌&&◌, ◌||◌, nat_lt, nat_eq, if◌then◌else◌, List, [], ◌∷◌, ◌++◌, length, map, find, unwrap_or, bit_or, Option, Some, None, Result, Ok}
 use Rattle.std.proofs.Common.{inl}
 use Rattle.std.specs.Option.{option_map}
 use Rattle.std.specs.Cmp.Lexicographic.{pointwise}

@@ -1,11 +1,13 @@
 -- What each operation means at its place (RFC 8881, section 18): a line for each that is built, in the order of the standard. Those that
--- aren't built answer NOTSUPP once they are read, and so do the operations of sessions where there is none.
+-- aren't built answer NOTSUPP once they are read, and so do the operations of sessions where there is none. Of these RECLAIM_COMPLETE alone
+-- runs behind a SEQUENCE.
 use Rattle.std.specs.Prelude.{Bool, true, false, ◌&&◌, nat_lt, is_none, if◌then◌else◌, ◌∷◌, Option, Some, None}
 use Rattle.nfs_types.specs.declared.status.Status.{Status}
 use Rattle.nfs_types.specs.declared.status.Status.TheVariants as statuses
 use Rattle.nfs_ops.specs.Operations.{Operation, Known, Unsupported, Illegal, Bad, illegal}
 use Rattle.nfs_ops.specs.Rows.{row}
 use Rattle.nfs_ops.specs.declared.op_kind.OpKind.TheVariants as kinds
+use Rattle.compound_run.specs.declared.context.Calling.{Calling}
 use Rattle.compound_run.specs.declared.filehandles.FileHandles.{FileHandles}
 use Rattle.compound_run.specs.Limits.{MIN_ROOM}
 use Rattle.compound_run.specs.Context.{Context}
@@ -35,6 +37,7 @@ use Rattle.compound_run.specs.Savefh.{savefh}
 use Rattle.compound_run.specs.Setattr.{setattr}
 use Rattle.compound_run.specs.Verify.{verify}
 use Rattle.compound_run.specs.Write.{write}
+use Rattle.compound_run.specs.ReclaimComplete.{reclaim_complete}
 
 -- ---- place
 
@@ -48,16 +51,37 @@ is_of_sessions (Known kinds.DestroyClientId v) = true
 is_of_sessions (Known kinds.ReclaimComplete v) = true
 is_of_sessions _ = false
 
--- Where there is no session its operations aren't supported.
-abbrev pub place_fault : Operation → Option Status
-place_fault op = if is_of_sessions op then Some statuses.NotSupp else None
+-- those that are to be the only one of their COMPOUND
+abbrev pub is_lone : Operation → Bool
+is_lone (Known kinds.ExchangeId v) = true
+is_lone (Known kinds.CreateSession v) = true
+is_lone (Known kinds.DestroySession v) = true
+is_lone (Known kinds.DestroyClientId v) = true
+is_lone _ = false
 
-pub place_may : (op : Operation) → MayFault (place_fault op)
-place_may op = of (is_of_sessions op)
+abbrev pub is_sequence : Operation → Bool
+is_sequence (Known kinds.Sequence v) = true
+is_sequence _ = false
+
+-- where one of sessions is refused
+abbrev pub refused_place : Option Calling → (lone sequence : Bool) → Option Status
+refused_place None lone sequence = Some statuses.NotSupp
+refused_place (Some calling) lone sequence = if lone then Some statuses.NotOnlyOp else if sequence then Some statuses.SequencePos else None
+
+-- Where there is no session its operations aren't supported. Behind a SEQUENCE there is no place for a further one, nor for one that is to
+-- be the only one of its COMPOUND.
+abbrev pub place_fault : Context → Operation → Option Status
+place_fault c op = if is_of_sessions op then refused_place c.calling (is_lone op) (is_sequence op) else None
+
+pub place_may : (c : Context) (op : Operation) → MayFault (place_fault c op)
+place_may c op = of (is_of_sessions op) c.calling (is_lone op) (is_sequence op)
   where
-    of : (b : Bool) → MayFault (if b then Some statuses.NotSupp else None)
-    of true = tt
-    of false = tt
+    of : (of_sessions : Bool) (calling : Option Calling) (lone sequence : Bool) → MayFault (if of_sessions then refused_place calling lone sequence else None)
+    of false calling lone sequence = tt
+    of true None lone sequence = tt
+    of true (Some calling) true sequence = tt
+    of true (Some calling) false true = tt
+    of true (Some calling) false false = tt
 
 -- ---- room
 
@@ -86,6 +110,7 @@ is_run (Known kinds.SaveFh v) = true
 is_run (Known kinds.SetAttr v) = true
 is_run (Known kinds.Verify v) = true
 is_run (Known kinds.Write v) = true
+is_run (Known kinds.ReclaimComplete v) = true
 is_run _ = false
 
 -- What isn't an operation, or isn't built, is refused whatever the room.
@@ -101,10 +126,10 @@ room_may c op = of (is_run op && nat_lt c.room MIN_ROOM)
 
 -- what is asked before anything of the operation itself: its place, then its room
 abbrev pub entry_fault : Context → Operation → Option Status
-entry_fault c op = first_fault (place_fault op) (room_fault c op)
+entry_fault c op = first_fault (place_fault c op) (room_fault c op)
 
 pub entry_may : (c : Context) (op : Operation) → MayFault (entry_fault c op)
-entry_may c op = first_may (place_fault op) (room_fault c op) (place_may op) (room_may c op)
+entry_may c op = first_may (place_fault c op) (room_fault c op) (place_may c op) (room_may c op)
 
 -- ---- the operations
 
@@ -133,6 +158,7 @@ body c h (Known kinds.SaveFh v) = savefh c h
 body c h (Known kinds.SetAttr v) = setattr v c h
 body c h (Known kinds.Verify v) = verify v c h
 body c h (Known kinds.Write v) = write v c h
+body c h (Known kinds.ReclaimComplete v) = reclaim_complete v c h
 body c h (Known k v) = refusing c h (row k).number statuses.NotSupp tt
 body c h (Unsupported n) = refusing c h n statuses.NotSupp tt
 body c h Illegal = refusing c h illegal statuses.OpIllegal tt

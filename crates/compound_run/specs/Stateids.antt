@@ -1,6 +1,6 @@
 -- What a stateid gives an operation on the current object: the special ones serve every file (RFC 8881, section 8.2.3), and one of an
 -- open serves the client and the object of that open alone.
-use Rattle.std.specs.Prelude.{ℕ, Bool, true, false, ◌==◌, ◌&&◌, not, nat_lt, if◌then◌else◌, List, [], ◌∷◌, find, filter, Option, Some, None}
+use Rattle.std.specs.Prelude.{ℕ, Bool, true, false, ◌==◌, ◌&&◌, not, nat_lt, if◌then◌else◌, List, find, filter, Option, Some, None}
 use Rattle.std.specs.Option.{option_map_or}
 use Rattle.xdr_wire.specs.Xdr.{Value}
 use Rattle.nfs_types.specs.Forms.{stateid}

@@ -1,6 +1,6 @@
 -- What each attribute says of an object, by what is seen of it (RFC 8881, sections 5.6 to 5.8 and 6.2). What is the same of every
 -- object, and how a value is spelled, says the table of attributes itself.
-use Rattle.std.specs.Prelude.{ℕ, ◌≤◌, if◌then◌else◌, List, [], length, take, unwrap_or, bit_or, Option}
+use Rattle.std.specs.Prelude.{ℕ, ◌≤◌, if◌then◌else◌, List, [], length, take, unwrap_or, bit_or}
 use Rattle.std.specs.Option.{option_map_or}
 use Rattle.std.proofs.Common.{arith}
 use Rattle.std.proofs.lemmas.List.{length-take}

@@ -2,7 +2,10 @@
 use Rattle.std.specs.Prelude.{◌≡◌, ◌≢◌, ◌≤◌, ℕ, ◌+◌, Bool, true, false, List, length, map, Option, Some, Result, Ok, Err, OnOk, OnErr}
 use Rattle.xdr_wire.specs.Buffer.{Buffer, Appends}
 use Rattle.xdr_wire.specs.Xdr.{Value}
+use Rattle.rpc_record.specs.Identity.{Identity}
+use Rattle.who_book.specs.Content.{Content}
 use Rattle.nfs_types.specs.declared.attrs.Attrs.{Attrs}
+use Rattle.nfs_types.specs.declared.moment.Moment.{Moment}
 use Rattle.nfs_types.specs.declared.status.Status.{Status}
 use Rattle.nfs_types.specs.declared.status.Status.TheVariants as statuses
 use Rattle.nfs_types.specs.Sent.{Wanted, made}
@@ -19,6 +22,7 @@ use Rattle.compound_run.specs.declared.create.Draft as drafts
 use Rattle.compound_run.specs.declared.export.Export.{Export}
 use Rattle.compound_run.specs.declared.filehandles.FileHandles.{FileHandles}
 use Rattle.compound_run.specs.declared.opens.Open.{Open}
+use Rattle.compound_run.specs.declared.server.Args.{Args}
 use Rattle.access_guard.specs.declared.line.Line.{Line}
 use Rattle.access_guard.specs.Log.{Log, held}
 use Rattle.compound_run.specs.Limits.{MIN_ROOM, REFUSAL_ROOM}
@@ -29,6 +33,7 @@ use Rattle.compound_run.specs.Meaning.{Meaning}
 use Rattle.compound_run.specs.Runs.{Point, Answered, spelled, waits}
 use Rattle.compound_run.specs.Create.{Draft}
 use Rattle.compound_run.specs.Compound.{args_form}
+use Rattle.compound_run.specs.State.{State, Call}
 
 -- an open file
 abbrev pub open_view : {A : Type 0} → Open A → Opened
@@ -43,6 +48,14 @@ realm_of e = record { world = e.tree.world; opens = opens_view e.opens.items; ne
 
 abbrev pub point_at : {A : Type 0} → Export A → FileHandles → Point
 point_at e h = record { realm = realm_of e; log = e.tree.log; capacity = e.tree.capacity; handles = h }
+
+-- what is kept of a server
+abbrev pub state_of : {A : Type 0} → Export A → Content → State
+state_of e book = record { realm = realm_of e; trail = e.tree.log.trail; total = e.tree.log.total; capacity = e.tree.capacity; book = book }
+
+-- a call with these arguments
+abbrev pub called : Args → Identity → Moment → Call
+called args caller now = record { arguments = args.bytes.now; record_len = args.record_len; caller = caller; now = now }
 
 -- the lines of decisions are held
 abbrev pub holding : {A : Type 0} → List Line → Export A → Export A

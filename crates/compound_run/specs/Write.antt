@@ -3,7 +3,7 @@ use Rattle.std.specs.Prelude.{ℕ, ◌==◌, Bool, true, if◌then◌else◌, Li
 use Rattle.std.proofs.Common.{inl}
 use Rattle.xdr_wire.specs.Xdr.{Value}
 use Rattle.nfs_types.specs.declared.status.Status.TheVariants as statuses
-use Rattle.nfs_ops.specs.Forms.{write_args, write_result}
+use Rattle.nfs_ops.specs.Forms.{write_args}
 use Rattle.nfs_ops.specs.Operations.{Known}
 use Rattle.nfs_ops.specs.Parts.{write_stateid, write_offset, written_bytes}
 use Rattle.nfs_ops.specs.declared.op_kind.OpKind.TheVariants as kinds

@@ -48,7 +48,7 @@ impl<A: Allocator + Copy> Export<A> {
         self.grants(&first_demands(op, &facts), caller, op.number())
     }
 
-    /// The same of an operation that asks by the size of the current object, and by the size that it sets.
+    /// Whether the lists grant what an operation asks first by the size of the current object and by the size that it sets. Its lines are held.
     pub fn grants_sized(
         &mut self,
         op: &Op<'_>,
@@ -98,7 +98,7 @@ impl<A: Allocator + Copy> Export<A> {
         self.grants(&second_demands(op, &facts), caller, op.number())
     }
 
-    /// The same of OPEN: the file that is there, if one is, and the size that is to be set.
+    /// Whether the lists grant what OPEN asks of the file that is there, if one is, and by the size that is to be set. Its lines are held.
     pub fn grants_opening(
         &mut self,
         op: &Op<'_>,

@@ -36,7 +36,12 @@ pub(crate) struct CompoundArgs<'a> {
 
 impl<A: Allocator + Copy> Export<A> {
     /// Runs the operations from the context of the first on, which stand in the bytes, up to and with the first that isn't OK.
-    fn run_all(&mut self, context: Context<'_>, operations: &[u8], results: &mut Writer<A>) -> Ended
+    pub fn run_all(
+        &mut self,
+        context: Context<'_>,
+        operations: &[u8],
+        results: &mut Writer<A>,
+    ) -> Ended
         requires settled { self.old.tree.log.held ≡ [] }
         requires place { context.position ≤ context.count }
         requires room { context.room + limits.REFUSAL_ROOM ≤ results.old.room }
@@ -153,7 +158,7 @@ impl<'a> CompoundArgs<'a> {
 }
 
 /// Writes a number for which there is room.
-fn put_word<A: Allocator>(writer: &mut Writer<A>, n: u32)
+pub(crate) fn put_word<A: Allocator>(writer: &mut Writer<A>, n: u32)
     requires { 4 ≤ writer.old.room }
     ensures { Appends writer.old writer.new (to_be_bytes w32 n) }
 {
@@ -161,7 +166,7 @@ fn put_word<A: Allocator>(writer: &mut Writer<A>, n: u32)
 }
 
 /// Writes a tag for which there is room.
-fn put_tag<A: Allocator>(writer: &mut Writer<A>, tag: &[u8])
+pub(crate) fn put_tag<A: Allocator>(writer: &mut Writer<A>, tag: &[u8])
     requires short { length tag.now ≤ 1024 }
     requires room { 1028 ≤ writer.old.room }
     ensures written { Appends writer.old writer.new (to_be_bytes w32 (length tag.now) ++ padded tag.now) }

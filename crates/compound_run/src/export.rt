@@ -215,7 +215,7 @@ impl<A: Allocator + Copy> Export<A> {
         self.tree.rename(from, old, to, new, at).map_err(status_of)
     }
 
-    /// The same, with the end of the opens of what had that name, where that was its last one.
+    /// Gives a name to an object in place of its old one. What had that name loses it, and its opens end where that was its last one.
     pub fn rename_child(
         &mut self,
         from: u64,

@@ -4,17 +4,24 @@
 #![tactic(auto)]
 
 mod access;
+mod alone;
 mod asking;
+mod beginning;
 mod close;
 mod commit;
 mod compound;
 mod context;
 mod create;
+mod create_session;
+mod destroy_clientid;
+mod destroy_session;
+mod exchange_id;
 mod export;
 mod filehandles;
 mod getattr;
 mod getfh;
-mod laws;
+mod heads;
+mod in_session;
 mod limits;
 mod link;
 mod lookup;
@@ -27,13 +34,16 @@ mod putrootfh;
 mod read;
 mod readdir;
 mod readlink;
+mod reclaim_complete;
 mod remove;
 mod rename;
 mod restorefh;
 mod results;
 mod run;
 mod savefh;
+mod sequence;
 mod server;
+mod sessions;
 mod setattr;
 mod sets;
 mod stateids;
@@ -41,12 +51,6 @@ mod values;
 mod verify;
 mod write;
 
-pub use laws::{
-    access_is_exact, close_discloses_nothing, commit_discloses_nothing, getattr_discloses_nothing,
-    lookup_discloses_nothing, nverify_discloses_nothing, ok_is_exact, others_never_delay,
-    read_discloses_nothing, readdir_discloses_nothing, remove_discloses_nothing, rows_decide,
-    setattr_discloses_nothing, verify_discloses_nothing, write_discloses_nothing,
-};
 pub use limits::{MAX_REPLY, MAX_RESULTS};
 pub use opens::Open;
 pub use server::{Args, RunEnd, Server};

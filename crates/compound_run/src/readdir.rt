@@ -238,7 +238,7 @@ impl<A: Allocator + Copy> Export<A> {
         write_readdir(&mut children, args.maxcount, context.room, out)
     }
 
-    /// The same, with the lines of the demand that refuses an entry.
+    /// Writes the listing of a directory. Where an entry is refused without rdattr_error asked, the lines of the demand that refuses it are held.
     fn list(
         &mut self,
         context: Context<'_>,

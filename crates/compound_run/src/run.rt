@@ -20,19 +20,56 @@ use nfs_types::Status;
 use std::alloc::Allocator;
 use xdr_wire::Writer;
 
-/// Where there is no session its operations aren't supported.
-fn place_fault(op: &Op<'_>) -> Option<Status>
-    ensures { result ≡ specs.place_fault (op_view op.now) }
+/// Whether it is an operation of sessions.
+fn is_of_sessions(op: &Op<'_>) -> bool
+    ensures { result ≡ specs.is_of_sessions (op_view op.now) }
 {
-    match op {
+    matches!(
+        op,
         Op::ExchangeId(_)
-        | Op::CreateSession(_)
-        | Op::DestroySession(_)
-        | Op::Sequence(_)
-        | Op::DestroyClientId(_)
-        | Op::ReclaimComplete(_) => Some(Status::NotSupp),
-        _ => None,
+            | Op::CreateSession(_)
+            | Op::DestroySession(_)
+            | Op::Sequence(_)
+            | Op::DestroyClientId(_)
+            | Op::ReclaimComplete(_)
+    )
+}
+
+/// Whether an operation is to be the only one of its COMPOUND.
+fn is_lone(op: &Op<'_>) -> bool
+    ensures { result ≡ specs.is_lone (op_view op.now) }
+{
+    matches!(
+        op,
+        Op::ExchangeId(_) | Op::CreateSession(_) | Op::DestroySession(_) | Op::DestroyClientId(_)
+    )
+}
+
+/// Whether it is a SEQUENCE.
+fn is_sequence(op: &Op<'_>) -> bool
+    ensures { result ≡ specs.is_sequence (op_view op.now) }
+{
+    matches!(op, Op::Sequence(_))
+}
+
+/// What is wrong with an operation's place, if anything is: where there is no session its operations aren't supported. Behind a
+/// SEQUENCE there is no place for a further one, nor for one that is to be the only one of its COMPOUND.
+fn place_fault(context: Context<'_>, op: &Op<'_>) -> Option<Status>
+    ensures { result ≡ specs.place_fault (context_of context.entry) (op_view op.now) }
+{
+    if !is_of_sessions(op) {
+        return None;
     }
+    if context.calling.is_none() {
+        return Some(Status::NotSupp);
+    }
+    if is_lone(op) {
+        return Some(Status::NotOnlyOp);
+    }
+    if is_sequence(op) {
+        return Some(Status::SequencePos);
+    }
+    None
 }
 
 /// Whether an operation is built: it needs room for its result.
@@ -64,6 +101,7 @@ fn is_run(op: &Op<'_>) -> bool
             | Op::SetAttr(_)
             | Op::Verify(_)
             | Op::Write(_)
+            | Op::ReclaimComplete(_)
     )
 }
 
@@ -71,7 +109,7 @@ fn is_run(op: &Op<'_>) -> bool
 fn entry_fault(context: Context<'_>, op: &Op<'_>) -> Option<Status>
     ensures { result ≡ specs.entry_fault (context_of context.entry) (op_view op.now) }
 {
-    if let Some(fault) = place_fault(op) {
+    if let Some(fault) = place_fault(context, op) {
         return Some(fault);
     }
     if is_run(op) && context.room < MIN_ROOM {
@@ -124,6 +162,7 @@ impl<A: Allocator + Copy> Export<A> {
             Op::SetAttr(args) => self.setattr(context, *handles, op, args, out),
             Op::Verify(args) => self.verify(context, *handles, op, &args.attributes, out),
             Op::Write(args) => self.write(context, *handles, op, args, out),
+            Op::ReclaimComplete(args) => self.reclaim_complete(context, *handles, args, out),
             Op::Illegal => Err(Status::OpIllegal),
             Op::Bad(_) => Err(Status::BadXdr),
             Op::ExchangeId(_)
@@ -131,12 +170,11 @@ impl<A: Allocator + Copy> Export<A> {
             | Op::DestroySession(_)
             | Op::Sequence(_)
             | Op::DestroyClientId(_)
-            | Op::ReclaimComplete(_)
             | Op::Unsupported(_) => Err(Status::NotSupp),
         }
     }
 
-    /// The same, where it has its place and room for its result.
+    /// Answers an operation that has its place, and room for its result.
     fn answer(
         &mut self,
         context: Context<'_>,

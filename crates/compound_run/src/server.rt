@@ -1,14 +1,16 @@
 //! The server: a tree of objects, its guard, and a book of names.
-ghost use Rattle.std.specs.Prelude.{◌≡◌, ◌≤◌, [], IfOk};
+ghost use Rattle.std.specs.Prelude.{◌≡◌, ◌≤◌, [], length, IfOk};
 ghost use Rattle.std.specs.NonZero.{non_zero_usize_get};
 ghost use Rattle.access_guard.specs.Memory.{Agrees};
+ghost use Rattle.compound_run.specs.InSession.{AnswersInSession};
 ghost use Rattle.compound_run.specs.Limits as limits;
 ghost use Rattle.compound_run.specs.State.{fresh, Answers, RunsBare};
-ghost use Rattle.compound_run.specs.Views.{opens_view};
+ghost use Rattle.compound_run.specs.Views.{called, opens_view};
 
 use crate::compound::CompoundArgs;
 use crate::context::Context;
 use crate::export::Export;
+use crate::in_session::Coming;
 use crate::limits::{MAX_RESULTS, REFUSAL_ROOM};
 use crate::opens::Open;
 use access_guard::{Guard, GuardedTree};
@@ -51,11 +53,11 @@ pub struct Server<A: Allocator + Copy = Global> {
 impl<A: Allocator + Copy> Model for Server<A> {
     ghost use Rattle.std.specs.Prelude.{◌≡◌, ◌+◌, [], length};
     ghost use Rattle.compound_run.specs.State.{State};
-    ghost use Rattle.compound_run.specs.Views.{realm_of};
+    ghost use Rattle.compound_run.specs.Views.{state_of};
 
     ghost Value = { State };
 
-    ghost view = { λ s. record { realm = realm_of s.export; trail = s.export.tree.log.trail; total = s.export.tree.log.total; capacity = s.export.tree.capacity; book = s.book } };
+    ghost view = { λ s. state_of s.export s.book };
 
     ghost invariant = { λ s. s.export.tree.log.held ≡ [] };
 }
@@ -99,7 +101,7 @@ impl<A: Allocator + Copy> Server<A> {
         out: &mut Writer<A>,
     ) -> RunEnd
         requires room { limits.MAX_RESULTS ≤ out.old.room }
-        ensures answers { RunsBare (Answers self.old (record { arguments = args.entry.bytes.now; record_len = args.entry.record_len; caller = caller.now; now = now })) result out.old out.new self.new }
+        ensures answers { RunsBare (Answers self.old (called args.entry caller.now now)) result out.old out.new self.new }
     {
         let Some(compound) = CompoundArgs::read(args.bytes) else {
             return RunEnd::Garbage;
@@ -114,6 +116,39 @@ impl<A: Allocator + Copy> Server<A> {
             room: MAX_RESULTS - REFUSAL_ROOM,
         };
         compound.run(&mut self.export, context, out);
+        RunEnd::Replied
+    }
+
+    /// Runs a COMPOUND where sessions are in use, at a moment (RFC 8881, sections 2.10.6 and 16.2). It is refused, repeated or run. Its
+    /// results are put behind what `out` holds, at most [`MAX_RESULTS`] bytes, for which there has to be room.
+    ///
+    /// Behind a SEQUENCE the operations run in turn, up to and with the first that isn't OK, within what the session was granted, and
+    /// their results are kept. The last call of a slot again gets what is kept, and changes nothing. EXCHANGE_ID, CREATE_SESSION,
+    /// DESTROY_SESSION and DESTROY_CLIENTID are each the only operation of their COMPOUND. DELAY comes where memory is refused, as in
+    /// [`Server::run_bare`], and of these also at EXCHANGE_ID and at a CREATE_SESSION that isn't repeated; then nothing changes.
+    #[tactic(auto, unfolding(crate::specs::InSession::fate))]
+    pub fn run(
+        &mut self,
+        args: Args<'_>,
+        caller: &Caller,
+        now: Moment,
+        out: &mut Writer<A>,
+    ) -> RunEnd
+        requires whole { length args.bytes.now ≤ args.record_len }
+        requires room { limits.MAX_RESULTS ≤ out.old.room }
+        ensures answers { RunsBare (AnswersInSession self.old (called args.entry caller.now now)) result out.old out.new self.new }
+    {
+        let Some(compound) = CompoundArgs::read(args.bytes) else {
+            return RunEnd::Garbage;
+        };
+        let call = Coming {
+            args,
+            compound,
+            caller,
+            now,
+            book: &self.book,
+        };
+        self.export.answer_in_session(call, out);
         RunEnd::Replied
     }
 

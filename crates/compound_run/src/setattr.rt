@@ -239,7 +239,7 @@ impl<A: Allocator + Copy> Export<A> {
         Ok(())
     }
 
-    /// The same, where none may be set.
+    /// Sets the attributes that are wanted, or nothing where none is: then no tick is taken.
     #[tactic(auto, unfolding(crate::specs::Setattr::has_counts, crate::specs::Setattr::setting))]
     fn set_any(&mut self, now: Moment, number: u64, wanted: Attrs<A>) -> Result<(), Status>
         requires there { IsSome (object self.old.tree.world number) }

@@ -39,6 +39,8 @@ mod script;
 #[cfg(test)]
 mod servers;
 #[cfg(test)]
+mod sessions;
+#[cfg(test)]
 mod setting;
 #[cfg(test)]
 mod spelling;

@@ -87,6 +87,30 @@ pub fn run(
     }
 }
 
+/// The results of these arguments where sessions are in use, or `None` where they are garbage.
+pub fn run_in_session(
+    alloc: Global,
+    server: &mut Server,
+    who: Caller,
+    seconds: i64,
+    bytes: &[u8],
+) -> Result<Option<Vec<u8>>, AllocError> {
+    let caller = Identity::new(who.0, who.1, &[who.2]);
+    let now = Moment {
+        seconds,
+        nanoseconds: 0,
+    };
+    let args = Args {
+        bytes,
+        record_len: bytes.len(),
+    };
+    let mut out = Writer::new(alloc, MAX_RESULTS)?;
+    match server.run(args, &caller, now, &mut out) {
+        RunEnd::Replied => Ok(Some(out.into_bytes())),
+        RunEnd::Garbage => Ok(None),
+    }
+}
+
 /// Sees that bytes are there and are these: of the call at this place, which is told otherwise.
 pub fn see_bytes(rt: &impl Abort, given: Option<&[u8]>, wanted: &[u8], place: i64, call: &str) {
     assert_eq!(rt; given, Some(wanted), "{place}: {call}");
@@ -127,6 +151,36 @@ pub fn play(rt: &impl Abort, alloc: Global, server: &mut Server, rows: &[Row]) -
     for row in rows {
         seconds = seconds.saturating_add(1);
         see(rt, alloc, server, seconds, row)?;
+    }
+    Ok(())
+}
+
+/// Sees that a call at this second is answered so, where sessions are in use.
+fn see_in_session(
+    rt: &impl Abort,
+    alloc: Global,
+    server: &mut Server,
+    seconds: i64,
+    row: &Row,
+) -> Result<(), Fail> {
+    let (who, call, _) = row;
+    let bytes = call_of(alloc, call)?;
+    let given = run_in_session(alloc, server, *who, seconds, &bytes)?;
+    let given = given.as_ref().map(|given| given.as_slice());
+    see_answer(rt, alloc, given, seconds, row)
+}
+
+/// Sees the answers of calls where sessions are in use, the first of them at second 1.
+pub fn play_in_session(
+    rt: &impl Abort,
+    alloc: Global,
+    server: &mut Server,
+    rows: &[Row],
+) -> Result<(), Fail> {
+    let mut seconds = 0i64;
+    for row in rows {
+        seconds = seconds.saturating_add(1);
+        see_in_session(rt, alloc, server, seconds, row)?;
     }
     Ok(())
 }

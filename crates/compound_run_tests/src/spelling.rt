@@ -54,7 +54,7 @@ static OPERATIONS: [(&str, u32); 31] = [
 ];
 
 /// Statuses (RFC 8881, section 15.1).
-static STATUSES: [(&str, u32); 36] = [
+static STATUSES: [(&str, u32); 51] = [
     ("ok", 0),
     ("perm", 1),
     ("noent", 2),
@@ -74,6 +74,7 @@ static STATUSES: [(&str, u32); 36] = [
     ("badcookie", 10003),
     ("toosmall", 10005),
     ("badtype", 10007),
+    ("delay", 10008),
     ("same", 10009),
     ("nofilehandle", 10020),
     ("minorvers", 10021),
@@ -90,6 +91,20 @@ static STATUSES: [(&str, u32); 36] = [
     ("illegal", 10044),
     ("reptoobig", 10066),
     ("toomanyops", 10070),
+    ("clidinuse", 10017),
+    ("staleclientid", 10022),
+    ("badsession", 10052),
+    ("badslot", 10053),
+    ("completealready", 10054),
+    ("seqmisordered", 10063),
+    ("sequencepos", 10064),
+    ("reqtoobig", 10065),
+    ("reptoobigtocache", 10067),
+    ("opnotinsession", 10071),
+    ("clientidbusy", 10074),
+    ("seqfalseretry", 10076),
+    ("badhighslot", 10077),
+    ("notonlyop", 10081),
     ("wrongtype", 10083),
 ];
 

@@ -2,3 +2,4 @@ pub mod Pieces
 pub mod Lines
 pub mod Hubs
 pub mod TurnLaws
+pub mod Arguments

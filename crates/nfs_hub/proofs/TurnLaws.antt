@@ -3,7 +3,7 @@ use Rattle.std.proofs.Common.{◌≡◌, ◌≢◌, ◌↔◌, ℕ, ◌+◌, Boo
 use Rattle.std.specs.Prelude.{◌≤◌, Result, IsTrue, IfSome, IsSome}
 use Rattle.std.specs.Ordering.{nat_cmp}
 use Rattle.std.specs.BTreeMap.{get}
-use Rattle.std.specs.Io.KnownBytes.{Appends, Consumes, Keeps, IsAtEnd}
+use Rattle.std.specs.Io.KnownBytes.{Appends, Consumes, Keeps}
 use Rattle.std.proofs.lemmas.List.{append-nil, length-append, length-take-le, take-append-drop}
 use Rattle.std.proofs.Math.Seq.{take-add}
 use Rattle.nfs_types.specs.declared.moment.Moment.{Moment}
@@ -16,7 +16,7 @@ use Rattle.nfs_hub.specs.declared.fault.HubFault.{HubFault}
 use Rattle.nfs_hub.specs.declared.fault.HubFault.TheVariants as fault
 use Rattle.nfs_hub.specs.Answer.{Served}
 use Rattle.nfs_hub.specs.Hub.{IsHub, Goes, LeadsTo, ConnectGives, BreaksSo, SameConnection, broken_at, pending_at, next_number}
-use Rattle.nfs_hub.specs.Served.{Read_at, IsPending, Turn, Turns, Passes, PassGives, TurnsRun, TurnsEnd, IsLeft, EndsFor, BreaksIn, Writes, Serves, AreShort, MAX_PIECE, broken_end, refused_end, bytes_of}
+use Rattle.nfs_hub.specs.Served.{Read_at, IsPending, Turn, Turns, Passes, PassGives, TurnsRun, TurnsEnd, IsLeft, BreaksIn, Writes, Serves, AreShort, MAX_PIECE, broken_end, refused_end, bytes_of}
 
 pub appends_trans : (a b c : Option (List ℕ)) (bs cs : List ℕ) → Appends a b bs → Appends b c cs → Appends a c (bs ++ cs)
 appends_trans None b c bs cs p q = tt
@@ -73,20 +73,20 @@ passes id piece now old fed new out goes takes s is =
 
 -- what is pending behind a break is what is taken
 pub breaks_in : {A : Type 0} (id : ℕ) (piece : List ℕ) (now : Moment) (old fed new : Hub A) (out : List ℕ) → BreaksSo id piece now old fed
-    → IfSome (pending_at fed id) (λ pending. out ≡ pending) → IsSome (pending_at fed id) → new.bare.server ≡ fed.bare.server
-    → (s : State) → IsHub old s → BreaksIn (piece, now) s id new.bare.server out
+    → IfSome (pending_at fed id) (λ pending. out ≡ pending) → IsSome (pending_at fed id) → new.service ≡ fed.service
+    → (s : State) → IsHub old s → BreaksIn (piece, now) s id new.service out
 breaks_in id piece now old fed new out breaks given some served s is = of (s.connection id) (breaks s is)
   where
     take_it : (c : Connected) (o : Option (List ℕ)) → IsSome o → IfSome o (λ pending. out ≡ pending)
-        → IfSome o (λ pending. CameToBreak now s.served c.pending (c.rest ++ piece) fed.bare.server pending) → CameToBreak now s.served c.pending (c.rest ++ piece) new.bare.server out
+        → IfSome o (λ pending. CameToBreak now s.served c.pending (c.rest ++ piece) fed.service pending) → CameToBreak now s.served c.pending (c.rest ++ piece) new.service out
     take_it c None some given came = absurd (none_is some)
       where
         none_is : IsSome {T = List ℕ} None → ⊥
         none_is e = cc
     take_it c (Some pending) some given came = rw (served, given) came
 
-    of : (o : Option Connected) → IfSome o (λ c. IfSome (pending_at fed id) (λ pending. CameToBreak now s.served c.pending (c.rest ++ piece) fed.bare.server pending))
-        → IfSome o (λ c. CameToBreak now s.served c.pending (c.rest ++ piece) new.bare.server out)
+    of : (o : Option Connected) → IfSome o (λ c. IfSome (pending_at fed id) (λ pending. CameToBreak now s.served c.pending (c.rest ++ piece) fed.service pending))
+        → IfSome o (λ c. CameToBreak now s.served c.pending (c.rest ++ piece) new.service out)
     of None came = tt
     of (Some c) came = take_it c (pending_at fed id) some given came
 
@@ -109,7 +109,7 @@ told_so r f g is same = rw same at is
 
 -- a piece that broke the connection
 pub pass_broken : {A : Type 0} (why : HubFault) (id : ℕ) (piece : Read_at) (old new : Hub A) (held held' : Option (List ℕ)) (out : List ℕ) → Passes id piece old new out → Appends held held' out
-    → broken_at new id ≡ Some true → (why ≡ fault.Broken → (s : State) → IsHub old s → BreaksIn piece s id new.bare.server out) → PassGives (Some (broken_end why)) id piece old new held held'
+    → broken_at new id ≡ Some true → (why ≡ fault.Broken → (s : State) → IsHub old s → BreaksIn piece s id new.service out) → PassGives (Some (broken_end why)) id piece old new held held'
 pass_broken fault.Broken id piece old new held held' out p wrote broken breaks = (out, p, wrote, broken, breaks refl)
 pass_broken fault.Memory id piece old new held held' out p wrote broken breaks = (out, p, wrote, broken)
 pass_broken fault.NoSuch id piece old new held held' out p wrote broken breaks = (out, p, wrote, broken)
@@ -305,19 +305,19 @@ pass_ends end.Turns id count most piece hub new s left left' left'' held held' h
 -- ---- the whole
 
 -- a connection that was refused
-pub serves_refused : {A : Type 0} (why : HubFault) (most : ℕ) (events : List Event) (old new : Hub A) (left held : Option (List ℕ)) → ConnectGives (Err why) old new → LeadsTo (Connect ∷ events) new
-    → Serves (refused_end why) most events old new left left held held
-serves_refused fault.TooMany most events old new left held h leads = inl (record { same = h.1; leads = leads; read = consumes_none left; wrote = appends_none held; ends = inl h.0 })
-serves_refused fault.Exhausted most events old new left held h leads = inl (record { same = h.2; leads = leads; read = consumes_none left; wrote = appends_none held; ends = inr h.1 })
-serves_refused fault.Memory most events old new left held h leads = inl (record { same = h.2; leads = leads; read = consumes_none left; wrote = appends_none held; ends = (h.0, h.1) })
-serves_refused fault.NoSuch most events old new left held h leads = absurd h
-serves_refused fault.Broken most events old new left held h leads = absurd h
+pub serves_refused : {A : Type 0} (first : Served) (why : HubFault) (most : ℕ) (events : List Event) (old new : Hub A) (left held : Option (List ℕ)) → ConnectGives (Err why) old new → LeadsTo first (Connect ∷ events) new
+    → Serves first (refused_end why) most events old new left left held held
+serves_refused first fault.TooMany most events old new left held h leads = inl (record { same = h.1; leads = leads; read = consumes_none left; wrote = appends_none held; ends = inl h.0 })
+serves_refused first fault.Exhausted most events old new left held h leads = inl (record { same = h.2; leads = leads; read = consumes_none left; wrote = appends_none held; ends = inr h.1 })
+serves_refused first fault.Memory most events old new left held h leads = inl (record { same = h.2; leads = leads; read = consumes_none left; wrote = appends_none held; ends = (h.0, h.1) })
+serves_refused first fault.NoSuch most events old new left held h leads = absurd h
+serves_refused first fault.Broken most events old new left held h leads = absurd h
 
 -- a connection that was opened, served and closed
-pub serves_opened : {A : Type 0} (why : ServeEnd) (most : ℕ) (events : List Event) (id : ℕ) (old opened turned new : Hub A) (left left' held held' : Option (List ℕ)) → ConnectGives (Ok id) old opened
-    → LeadsTo (Connect ∷ events) opened → ((s : State) → IsHub opened s → TurnsEnd id most why s turned left left' held held') → Goes (Close id) turned new
-    → Serves why most events old new left left' held held'
-serves_opened why most events id old opened turned new left left' held held' gives leads turns closes =
+pub serves_opened : {A : Type 0} (first : Served) (why : ServeEnd) (most : ℕ) (events : List Event) (id : ℕ) (old opened turned new : Hub A) (left left' held held' : Option (List ℕ)) → ConnectGives (Ok id) old opened
+    → LeadsTo first (Connect ∷ events) opened → ((s : State) → IsHub opened s → TurnsEnd id most why s turned left left' held held') → Goes (Close id) turned new
+    → Serves first why most events old new left left' held held'
+serves_opened first why most events id old opened turned new left left' held held' gives leads turns closes =
     let same : id ≡ next_number old = gives.2 in
     let t = subst (λ (n : ℕ). TurnsEnd n most why leads.state turned left left' held held') same (turns leads.state leads.is) in
     let c = subst (λ (n : ℕ). Goes (Close n) turned new) same closes t.0.state t.0.is in

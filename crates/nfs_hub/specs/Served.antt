@@ -50,7 +50,7 @@ abbrev pub PassGives : {A : Type 0} → Option ServeEnd → ℕ → Read_at → 
 PassGives None id piece old new held held' = (out : List ℕ) × Passes id piece old new out × Appends held held' out × (broken_at new id ≡ Some false)
 PassGives (Some Broken) id piece old new held held' =
     (out : List ℕ) × Passes id piece old new out × Appends held held' out × (broken_at new id ≡ Some true)
-    × ((s : State) → IsHub old s → BreaksIn piece s id new.bare.server out)
+    × ((s : State) → IsHub old s → BreaksIn piece s id new.service out)
 PassGives (Some Memory) id piece old new held held' =
     (out : List ℕ) × Passes id piece old new out × Appends held held' out × (broken_at new id ≡ Some true)
 PassGives (Some Write) id piece old new held held' =
@@ -155,18 +155,18 @@ refused_end fault.NoSuch = TooMany
 refused_end fault.Broken = TooMany
 
 -- nothing was read or written, since no connection was opened
-pub record IsRefused {A : Type 0} (end : ServeEnd) (events : List Event) (old new : Hub A) (left left' held held' : Option (List ℕ)) : Type 0 where
+pub record IsRefused {A : Type 0} (first : Served) (end : ServeEnd) (events : List Event) (old new : Hub A) (left left' held held' : Option (List ℕ)) : Type 0 where
   pub same : IsUnchanged old new
-  pub leads : LeadsTo (Connect ∷ events) new
+  pub leads : LeadsTo first (Connect ∷ events) new
   pub read : Consumes left left' []
   pub wrote : Appends held held' []
   pub ends : RefusedSo end old
 
 -- Behind events that lead to the hub a connection is opened with the next number; its turns read and write what is said; and
 -- it is closed, which leads to the hub.
-pub record IsServed {A : Type 0} (end : ServeEnd) (most : ℕ) (events : List Event) (old new : Hub A) (left left' held held' : Option (List ℕ)) : Type 0 where
+pub record IsServed {A : Type 0} (first : Served) (end : ServeEnd) (most : ℕ) (events : List Event) (old new : Hub A) (left left' held held' : Option (List ℕ)) : Type 0 where
   pub start : State
-  pub leads : Leads (Connect ∷ events) start
+  pub leads : Leads first (Connect ∷ events) start
   pub turned : Hub A
   pub run : TurnsRun (next_number old) most start turned left left'
   pub wrote : Writes end held held' run.written
@@ -176,6 +176,6 @@ pub record IsServed {A : Type 0} (end : ServeEnd) (most : ℕ) (events : List Ev
   pub closes : Step (Close (next_number old)) run.state last
   pub is : IsHub new last
 
-abbrev pub Serves : {A : Type 0} → ServeEnd → ℕ → List Event → Hub A → Hub A → Option (List ℕ) → Option (List ℕ) → Option (List ℕ) → Option (List ℕ) → Type 0
-Serves end most events old new left left' held held' =
-    IsRefused end events old new left left' held held' ⊎ IsServed end most events old new left left' held held'
+abbrev pub Serves : {A : Type 0} → Served → ServeEnd → ℕ → List Event → Hub A → Hub A → Option (List ℕ) → Option (List ℕ) → Option (List ℕ) → Option (List ℕ) → Type 0
+Serves first end most events old new left left' held held' =
+    IsRefused first end events old new left left' held held' ⊎ IsServed first end most events old new left left' held held'

@@ -1,16 +1,18 @@
 //! The server and its connections.
 ghost use Rattle.std.specs.Prelude.{◌≡◌, ◌≢◌, ◌↔◌, ◌≤◌, ◌<◌, ◌^◌, ℕ, List, [], ◌∷◌, ◌++◌, min, length, take, drop, true, false, Some, None, Ok, Err, IfOk, IsErrOf, IsNone, MatchOption, IfSome, IsTrue, option_map, is_err};
+ghost use Rattle.nfs_hub.specs.Answer.{Served, with_sessions, without_sessions};
 ghost use Rattle.nfs_hub.specs.Machine.{Event, Connect, Piece, Take, Close};
 
 use crate::connection::{Connection, ConnectionFault};
 use crate::fault::HubFault;
-use crate::server::Bare;
+use crate::server::Service;
 use compound_run::Server;
 use nfs_types::Moment;
 use std::alloc::{AllocError, Allocator, Global};
 use std::collections::BTreeMap;
 use std::hash::RandomState;
 use std::marker::Model;
+use who_book::Book;
 
 /// The most connections that are open at once, broken ones among them.
 pub const MAX_CONNECTIONS: usize = 16;
@@ -38,7 +40,7 @@ impl Model for ConnId {
 #[derive(Drop)]
 pub struct Hub<A: Allocator + Copy = Global> {
     alloc: A,
-    bare: Bare<A>,
+    service: Service<A>,
     connections: BTreeMap<u64, Connection<A>, A>,
     next: u64,
 }
@@ -48,31 +50,46 @@ impl<A: Allocator + Copy> Hub<A> {
     ghost use Rattle.nfs_hub.specs.Served.{IsPending};
     ghost use Rattle.nfs_hub.specs.Hub.{IsHub, LeadsTo, Goes, ConnectGives, TakeGives, BreaksSo, broken_at, pending_at};
 
+    /// A hub of this server, with no connection open.
+    fn over(alloc: A, service: Service<A>) -> Self
+        ensures { LeadsTo service [] result }
+    {
+        Hub {
+            alloc,
+            service,
+            connections: BTreeMap::new(alloc),
+            next: 1,
+        }
+    }
+
     /// A hub over the sample tree, without sessions: a root with the file `notes` and the directory `pub`. The book of names takes
     /// only `Global`; this one has no names, and takes no memory. What the server remembers of lists is found by `hasher`. `Err`: there
     /// is no memory for the hub.
     pub fn bare(alloc: A, global: Global, hasher: RandomState) -> Result<Self, AllocError>
-        ensures { IfOk result (λ hub. LeadsTo [] hub) }
+        ensures { IfOk result (λ hub. LeadsTo without_sessions [] hub) }
     {
-        Ok(Hub {
-            alloc,
-            bare: Bare::new(alloc, global, hasher)?,
-            connections: BTreeMap::new(alloc),
-            next: 1,
-        })
+        Ok(Hub::over(alloc, Service::without_sessions(alloc, global, hasher)?))
+    }
+
+    /// A hub over a root alone, with sessions. The root's owner, group and mode are those of the book. What the server remembers of
+    /// lists is found by `hasher`. `Err`: there is no memory for the hub.
+    pub fn new(alloc: A, book: Book, hasher: RandomState) -> Result<Self, AllocError>
+        ensures { IfOk result (λ hub. LeadsTo (with_sessions book) [] hub) }
+    {
+        Ok(Hub::over(alloc, Service::with_sessions(alloc, book, hasher)?))
     }
 
     /// The server behind the connections.
     pub fn server(&self) -> &Server<A>
-        ensures { (s : State) → IsHub self.now s → s.served ≡ result.now }
+        ensures { (s : State) → IsHub self.now s → s.served.state ≡ result.now }
     {
-        &self.bare.server
+        self.service.server()
     }
 
     /// Opens a connection. `TooMany` exactly where as many are open as may be, else `Exhausted` exactly where no number
     /// below 2^63 is left, else `Memory` where memory is refused; a refusal changes nothing.
     pub fn connect(&mut self) -> Result<ConnId, HubFault>
-        ensures leads { (events : List Event) → LeadsTo events self.old → LeadsTo (Connect ∷ events) self.new }
+        ensures leads { (first : Served) (events : List Event) → LeadsTo first events self.old → LeadsTo first (Connect ∷ events) self.new }
         ensures goes { Goes Connect self.old self.new }
         ensures gives { ConnectGives result self.old self.new }
     {
@@ -93,7 +110,7 @@ impl<A: Allocator + Copy> Hub<A> {
     /// Moves as many of a connection's first pending bytes as fit to the front of the buffer, and says how many. `NoSuch`
     /// exactly where the number is no open connection's. A broken connection gives its bytes until it is closed.
     pub fn take_out(&mut self, conn: ConnId, buf: &mut [u8]) -> Result<usize, HubFault>
-        ensures leads { IfOk result (λ n. (events : List Event) → LeadsTo events self.old → LeadsTo (Take conn n ∷ events) self.new) }
+        ensures leads { IfOk result (λ n. (first : Served) (events : List Event) → LeadsTo first events self.old → LeadsTo first (Take conn n ∷ events) self.new) }
         ensures goes { IfOk result (λ n. Goes (Take conn n) self.old self.new) }
         ensures gives { TakeGives conn result self.old self.new buf.old buf.new }
     {
@@ -108,7 +125,7 @@ impl<A: Allocator + Copy> Hub<A> {
         ensures goes { (s : State) → IsHub self.old s → IsPending (s.connection conn) result.items × ((t : State) × Step (Take conn (length result.items)) s t × IsHub self.new t) }
         ensures broken { broken_at self.new conn ≡ broken_at self.old conn }
         ensures given { IfSome (pending_at self.old conn) (λ pending. result.items ≡ pending) }
-        ensures served { self.new.bare.server ≡ self.old.bare.server }
+        ensures served { self.new.service ≡ self.old.service }
     {
         match self.connections.get_mut(&conn.number) {
             Some(connection) => connection.take_all(self.alloc),
@@ -129,7 +146,7 @@ impl<A: Allocator + Copy> Hub<A> {
     /// Closes a connection, and drops what it has read of an unfinished record and what is pending. `NoSuch` exactly
     /// where the number is no open connection's.
     pub fn close(&mut self, conn: ConnId) -> Result<(), HubFault>
-        ensures leads { (events : List Event) → LeadsTo events self.old → LeadsTo (Close conn ∷ events) self.new }
+        ensures leads { (first : Served) (events : List Event) → LeadsTo first events self.old → LeadsTo first (Close conn ∷ events) self.new }
         ensures goes { Goes (Close conn) self.old self.new }
         ensures gives { MatchOption (broken_at self.old conn) (result ≡ Err HubFault.NoSuch) (λ was. result ≡ Ok tt) }
         ensures closed { IsNone (broken_at self.new conn) }
@@ -145,7 +162,7 @@ impl<A: Allocator + Copy> Hub<A> {
     /// fault exactly where the connection is broken afterwards: `Broken` where its stream or a record of it breaks it,
     /// or it was broken before; `Memory` where memory is refused, and the next record is not answered.
     pub fn feed(&mut self, conn: ConnId, piece: &[u8], now: Moment) -> Result<(), HubFault>
-        ensures leads { (events : List Event) → LeadsTo events self.old → LeadsTo (Piece conn piece.now now ∷ events) self.new }
+        ensures leads { (first : Served) (events : List Event) → LeadsTo first events self.old → LeadsTo first (Piece conn piece.now now ∷ events) self.new }
         ensures goes { Goes (Piece conn piece.now now) self.old self.new }
         ensures no_such { IsErrOf result HubFault.NoSuch ↔ IsNone (broken_at self.old conn) }
         ensures broken { broken_at self.new conn ≡ option_map (λ was. is_err result) (broken_at self.old conn) }
@@ -157,7 +174,7 @@ impl<A: Allocator + Copy> Hub<A> {
             return Err(HubFault::NoSuch);
         };
         connection
-            .feed(&mut self.bare, piece, now)
+            .feed(&mut self.service, piece, now)
             .map_err(|fault| match fault {
                 ConnectionFault::Broken => HubFault::Broken,
                 ConnectionFault::Memory => HubFault::Memory,

@@ -2,6 +2,7 @@
 ghost use Rattle.std.specs.Prelude.{◌≡◌, ◌≢◌, ◌⊎◌, List, [], true, false, Some, None};
 ghost use Rattle.std.specs.Bool.{OnTrue, OnFalse};
 ghost use Rattle.std.specs.Io.KnownBytes.{Appends};
+ghost use Rattle.nfs_hub.specs.Answer.{Served};
 ghost use Rattle.nfs_hub.specs.Machine.{State, Event};
 ghost use Rattle.nfs_hub.specs.Hub.{IsHub, LeadsTo, broken_at};
 ghost use Rattle.nfs_hub.specs.Served.{PassGives, TurnsEnd, Serves, Writes, broken_end, refused_end};
@@ -148,7 +149,7 @@ pub fn serve<A: Allocator + Copy, R: Read, W: Write, C: Clock>(
     clock: &C,
     turns: u64,
 ) -> ServeEnd
-    ensures { (events : List Event) → LeadsTo events hub.old → Serves result turns events hub.old hub.new (R.remaining reader.old) (R.remaining reader.new) (W.contents writer.old) (W.contents writer.new) }
+    ensures { (first : Served) (events : List Event) → LeadsTo first events hub.old → Serves first result turns events hub.old hub.new (R.remaining reader.old) (R.remaining reader.new) (W.contents writer.old) (W.contents writer.new) }
 {
     let conn = match hub.connect() {
         Ok(conn) => conn,

@@ -10,3 +10,5 @@ pub mod GivenSets
 pub mod TextLines
 pub mod Pages
 pub mod Pieces
+pub mod Listings
+pub mod Putting

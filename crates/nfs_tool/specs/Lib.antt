@@ -17,6 +17,7 @@ pub mod Paging
 pub mod Cat
 pub mod Lines
 pub mod LineViews
+pub mod Ls
 pub mod Words
 pub mod WordViews
 pub mod Requests
@@ -28,3 +29,5 @@ pub mod PlaceViews
 pub mod MkDir
 pub mod Ln
 pub mod Mv
+pub mod Put
+pub mod PutViews

@@ -17,3 +17,7 @@ of_mode mode = record { kind = None; size = None; error = None; entries = None; 
 -- the access control list alone
 abbrev pub of_entries : List (Value ace) → Seen
 of_entries entries = record { kind = None; size = None; error = None; entries = Some entries; mode = None; owner = None; group = None }
+
+-- the size alone
+abbrev pub of_size : ℕ → Seen
+of_size size = record { kind = None; size = Some size; error = None; entries = None; mode = None; owner = None; group = None }

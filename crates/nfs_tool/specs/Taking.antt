@@ -11,6 +11,12 @@ last_of [] = None
 last_of (o ∷ []) = Some o
 last_of (o ∷ p ∷ os) = last_of (p ∷ os)
 
+abbrev pub last_two : List Outcome → Option (Outcome × Outcome)
+last_two [] = None
+last_two (o ∷ []) = None
+last_two (o ∷ p ∷ []) = Some (o, p)
+last_two (o ∷ p ∷ q ∷ os) = last_two (p ∷ q ∷ os)
+
 -- What is taken; or nothing is, since the results are others; or memory is refused.
 abbrev pub TakeGives : {X V : Type 0} → (X → V) → Option V → Result X ToolFault → Type 0
 TakeGives value taken (Ok x) = taken ≡ Some (value x)

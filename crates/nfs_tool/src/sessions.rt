@@ -22,7 +22,7 @@ use std::io::{Read, Write};
 use xdr_wire::{Array, Opaque, Reader, Wire, XdrFault};
 
 /// The client's own name.
-const OWNER: &[u8] = b"nfsc";
+pub(crate) const OWNER: &[u8] = b"nfsc";
 
 /// What calls and replies may carry: 65,536 bytes, 16 operations, one slot.
 const FORE: Channel = Channel {

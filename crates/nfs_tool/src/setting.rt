@@ -15,7 +15,10 @@ use std::alloc::Allocator;
 use xdr_wire::Writer;
 
 /// The values of these attributes, one behind the other.
-fn values_of<A: Allocator>(alloc: A, shown: &ShownAttributes<'_>) -> Result<Writer<A>, ToolFault>
+pub(crate) fn values_of<A: Allocator>(
+    alloc: A,
+    shown: &ShownAttributes<'_>,
+) -> Result<Writer<A>, ToolFault>
     ensures values { IfOk result (λ w. w.bytes ≡ shown_values (shown_value shown.now)) }
     ensures memory { PutGives result }
 {

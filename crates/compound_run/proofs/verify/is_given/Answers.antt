@@ -1,11 +1,10 @@
-use Rattle.std.proofs.Common.{rules, arith, refl, ◌≡◌, ◌∙◌, ap, sym, ℕ, ◌+◌, List, true, false, length}
+use Rattle.std.proofs.Common.{rules, arith, refl, ◌≡◌, ◌∙◌, ap, ◌+◌, true, false, length}
 use Rattle.std.specs.Prelude.{[], is_err, nat_eq}
 use Rattle.std.specs.Cmp.Lexicographic.{pointwise}
 use Rattle.xdr_wire.specs.Xdr.{Value, HasSpelling, spelling}
-use Rattle.nfs_types.specs.Attributes.{supported_words}
 use Rattle.nfs_types.specs.Forms.{attributes, trimmed_set}
 use Rattle.nfs_types.specs.Given.{given_set}
-use Rattle.nfs_types.specs.Views.{attributes_value, bitmap_value}
+use Rattle.nfs_types.specs.Views.{bitmap_value}
 use Rattle.nfs_ops.specs.Forms.{getattr_size}
 use Rattle.compound_run.specs.Says.{values_given, given_outcome}
 use Rattle.compound_run.proofs.Comparing.{too_long, on_ok, written_is, read_back, is_read}

@@ -1,4 +1,4 @@
-use Rattle.std.proofs.Common.{rules, ◌≡◌, ℕ, ◌+◌, true, ap, ◌∙◌, drop, Option, Some, ◌∷◌}
+use Rattle.std.proofs.Common.{rules, ◌≡◌, ◌+◌, true, ap, ◌∙◌, drop, Option, Some, ◌∷◌}
 use Rattle.std.proofs.lemmas.List.{drop_more}
 use Rattle.access_rows.specs.declared.demand.Demand.{Demand}
 use Rattle.access_guard.specs.Decisions.{decision, is_granted}

@@ -1,9 +1,6 @@
-use Rattle.std.proofs.Common.{rules, ◌≡◌}
-use Rattle.std.specs.Prelude.{Some, None, false, true}
-use Rattle.nfs_types.specs.Sets.{has_number}
+use Rattle.std.proofs.Common.{rules}
 use Rattle.nfs_types.specs.Views.{bitmap_value}
 use Rattle.node_tree.specs.Judged.{judged_of}
-use Rattle.access_rows.specs.Rows.{entry_demands}
 use Rattle.compound_run.proofs.Listing.{judged_all, judged_refused, judged_permitted}
 use Rattle.compound_run.proofs.export.Export.judge.Goals as goal
 

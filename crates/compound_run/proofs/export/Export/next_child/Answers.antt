@@ -1,4 +1,4 @@
-use Rattle.std.proofs.Common.{rules, ◌≡◌, ap, sym, subst, ℕ, List}
+use Rattle.std.proofs.Common.{rules, ◌≡◌, sym, subst, ℕ}
 use Rattle.std.specs.Prelude.{Some, None, ◌∷◌}
 use Rattle.node_tree.specs.World.{Name, name_after}
 use Rattle.compound_run.specs.Asking.{sight_of}

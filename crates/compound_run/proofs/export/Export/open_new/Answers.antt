@@ -1,4 +1,4 @@
-use Rattle.std.proofs.Common.{rules, ◌≡◌, ◌∙◌, ℕ, ap, sym, subst, refl, true, inl}
+use Rattle.std.proofs.Common.{rules, ◌≡◌, ◌∙◌, ℕ, ap, sym, subst, true, inl}
 use Rattle.std.specs.Prelude.{Some, None, Ok, Err, Result}
 use Rattle.nfs_types.specs.declared.status.Status.{Status}
 use Rattle.nfs_ops.specs.Results.{Done}

@@ -1,10 +1,5 @@
-use Rattle.std.proofs.Common.{rules, ◌≡◌, ◌∙◌, ap, sym, subst, Bool, ◌-◌, length}
-use Rattle.std.specs.Prelude.{nat_le}
-use Rattle.xdr_wire.specs.Buffer.{Appends}
-use Rattle.nfs_ops.specs.Given.{read_outcome}
-use Rattle.node_tree.specs.World.{bytes_of, bytes_at}
-use Rattle.nfs_ops.specs.Views.{read_args_value}
-use Rattle.nfs_ops.specs.Parts.{read_offset}
+use Rattle.std.proofs.Common.{rules}
+use Rattle.node_tree.specs.World.{bytes_of}
 use Rattle.compound_run.specs.Read.{most_of}
 use Rattle.compound_run.specs.Runs.{spelled}
 use Rattle.compound_run.proofs.Bytes.{end_is}

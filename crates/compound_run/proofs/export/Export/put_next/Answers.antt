@@ -1,7 +1,7 @@
-use Rattle.std.proofs.Common.{rules, ◌≡◌, ◌≤◌, length}
+use Rattle.std.proofs.Common.{rules, ◌≡◌}
 use Rattle.std.specs.Prelude.{Some}
 use Rattle.nfs_types.specs.Views.{bitmap_value}
-use Rattle.node_tree.specs.World.{Name, name_after}
+use Rattle.node_tree.specs.World.{name_after}
 use Rattle.compound_run.specs.Asking.{sight_of}
 use Rattle.compound_run.specs.Views.{context_of}
 use Rattle.compound_run.proofs.Listing.{short_name, next_put}

@@ -1,4 +1,4 @@
-use Rattle.std.proofs.Common.{rules, ◌≡◌, refl}
+use Rattle.std.proofs.Common.{rules, refl}
 use Rattle.compound_run.specs.Views.{context_of, realm_of}
 use Rattle.compound_run.proofs.OpenFiles.{again_placed}
 use Rattle.compound_run.proofs.export.Export.put_open.Goals as goal

@@ -1,4 +1,4 @@
-use Rattle.std.proofs.Common.{rules, ◌≡◌, ◌<◌, ◌∙◌, refl, ap, sym, List, ℕ, ◌∷◌, length}
+use Rattle.std.proofs.Common.{rules, ◌<◌, ◌∙◌, refl, ap, sym, List, ◌∷◌, length}
 use Rattle.std.specs.Prelude.{Ok, Err}
 use Rattle.nfs_types.specs.Views.{bitmap_value}
 use Rattle.xdr_wire.specs.Buffer.{Appends}

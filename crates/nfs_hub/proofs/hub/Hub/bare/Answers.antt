@@ -1,11 +1,6 @@
-use Rattle.std.proofs.Common.{rules, refl, sym}
-use Rattle.nfs_hub.specs.Machine.{opening}
+use Rattle.std.proofs.Common.{[], subst}
+use Rattle.nfs_hub.specs.Hub.{LeadsTo}
 use Rattle.nfs_hub.proofs.hub.Hub.bare.Goals as goal
 
--- no event has happened, and no connection is open
 pub returns : goal.returns
-returns g c = record {
-  state = opening;
-  leads = refl;
-  is = record { served = sym c.in_ok-new.ensures; next = refl; connections = λ id. search rules };
-}
+returns g c = subst (λ first. LeadsTo first [] c.over.result) c.in_ok-without_sessions.ensures c.over.ensures

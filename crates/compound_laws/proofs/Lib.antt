@@ -1,0 +1,14 @@
+pub mod Seen
+pub mod Showing
+pub mod Told
+pub mod ListingSeen
+pub mod HandlesSeen
+pub mod NamesSeen
+pub mod OpenSeen
+pub mod EntriesExactly
+pub mod LivingOpens
+pub mod KeepingOpens
+pub mod RunningOpens
+pub mod Alike
+pub mod SessionOpens
+pub mod Disclosing

@@ -1,0 +1,24 @@
+use Rattle.std.proofs.Common.{◌≡◌, ap}
+use Rattle.std.specs.Prelude.{Option, Some, None, Err}
+use Rattle.nfs_types.specs.declared.status.Status.{Status}
+use Rattle.nfs_types.specs.declared.status.Status.TheVariants as statuses
+use Rattle.nfs_ops.specs.Results.{Outcome}
+use Rattle.compound_run.specs.Sight.{whole}
+use Rattle.compound_run.specs.Questions.{told}
+use Rattle.compound_run.proofs.Exactly.{refused_by_row, by_row, ends_in_refusal}
+use Rattle.compound_laws.proofs.exactness.access_is_exact.Goals as goal
+
+-- what is told is the failure
+told_failure : (f : Option Status) (o : Outcome) → told f o ≡ Err statuses.Access → f ≡ Some statuses.Access
+told_failure None o h = cc
+told_failure (Some status) o h = cc
+
+pub returns-clause-exact : goal.returns-clause-exact
+returns-clause-exact c m r = (
+  λ told. refused_by_row m.caller (whole r) m.questions (told_failure _ _ told),
+  λ row. ap (λ f. told f (m.answer (whole r))) (by_row m.caller (whole r) m.questions row.demands row.first),
+)
+
+pub returns-clause-told : goal.returns-clause-told
+returns-clause-told c m r told =
+    let e = ends_in_refusal m.caller m.number (whole r) m.questions (told_failure _ _ told) in (e.row, e.ends)

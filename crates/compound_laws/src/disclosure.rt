@@ -1,0 +1,23 @@
+//! Two realms that look alike to a caller give that caller equal answers and equal lines in the audit trail: an operation tells nothing that the
+//! lists hide from it.
+ghost use Rattle.std.specs.Prelude.{ℕ};
+ghost use Rattle.rpc_record.specs.Identity.{Identity};
+ghost use Rattle.xdr_wire.specs.Xdr.{Value};
+ghost use Rattle.nfs_ops.specs.Forms.{sequence_args};
+ghost use Rattle.nfs_ops.specs.Operations.{Operation};
+ghost use Rattle.compound_run.specs.Context.{Context, Handles};
+ghost use Rattle.compound_run.specs.Operations.{meaning};
+ghost use Rattle.compound_run.specs.State.{Call};
+ghost use Rattle.compound_laws.specs.Disclosure.{BeginsAlike, DisclosesNothing, DisclosesNothingAlone};
+
+/// No operation discloses anything, at any place of a COMPOUND (RFC 8881, section 18): neither one that runs nor one that is refused there.
+pub fn operations_disclose_nothing()
+    ensures { (c : Context) (h : Handles) (op : Operation) → DisclosesNothing (meaning c h op) }
+{}
+
+/// Nor do EXCHANGE_ID, CREATE_SESSION, DESTROY_SESSION and DESTROY_CLIENTID as the only operation of a COMPOUND (`alone`; RFC 8881, sections 18.35 to
+/// 18.37 and 18.50), nor SEQUENCE (`sequence`; section 18.46).
+pub fn sessions_disclose_nothing()
+    ensures alone { (caller : Identity) (op : Operation) → DisclosesNothingAlone caller op }
+    ensures sequence { (call : Call) (count : ℕ) (v : Value sequence_args) → BeginsAlike call count v }
+{}

@@ -1,0 +1,61 @@
+//! When an operation is OK, when it is refused access, and when it may be delayed.
+ghost use Rattle.std.specs.Prelude.{◌≡◌, ◌≢◌, ◌↔◌, ◌⊎◌, if◌then◌else◌, false, List, ◌∷◌, ◌++◌, Option, Some, None, Result, Ok, Err};
+ghost use Rattle.rpc_record.specs.Identity.{Identity};
+ghost use Rattle.nfs_types.specs.declared.status.Status.{Status};
+ghost use Rattle.nfs_types.specs.declared.status.Status.TheVariants as statuses;
+ghost use Rattle.xdr_wire.specs.Xdr.{Value};
+ghost use Rattle.nfs_ops.specs.Forms.{readdir_args};
+ghost use Rattle.nfs_ops.specs.Operations.{Operation, Known};
+ghost use Rattle.nfs_ops.specs.declared.op_kind.OpKind.TheVariants as kinds;
+ghost use Rattle.nfs_ops.specs.Results.{Outcome};
+ghost use Rattle.node_tree.specs.Judged.{judged_of};
+ghost use Rattle.node_tree.specs.Sound.{IsSound};
+ghost use Rattle.access_rows.specs.declared.demand.Demand.{Demand};
+ghost use Rattle.compound_run.specs.Realm.{Realm};
+ghost use Rattle.compound_run.specs.Context.{Context, Handles};
+ghost use Rattle.compound_run.specs.Sight.{Sight, whole};
+ghost use Rattle.compound_run.specs.Questions.{Question, Row, failure, all_granted};
+ghost use Rattle.compound_run.specs.Meaning.{Meaning};
+ghost use Rattle.compound_run.specs.Operations.{meaning, may_delay};
+ghost use Rattle.compound_run.specs.Runs.{Point, Steps, outcome, traced};
+ghost use Rattle.compound_run.specs.Exact.{ArePassed, ArePassedOrSuffice, IsRefusedByRow, EndsInRefusal};
+ghost use Rattle.compound_laws.specs.EntriesExact.{GivesExactly, IsUnlisted, MeetsRefused};
+
+/// What stands behind a row of demands is an outcome only where the lists grant each of them; else the outcome is ACCESS.
+pub fn rows_decide()
+    ensures { (caller : Identity) (s : Sight) (before behind : List Question) (demands : Sight → List (Option Demand)) → ArePassed caller s before →
+        failure caller s (before ++ Row demands ∷ behind) ≡ (if all_granted s.lists caller (demands s) then failure caller s behind else Some statuses.Access) }
+{}
+
+/// An operation is OK exactly where each of its questions is passed, up to one that suffices.
+pub fn ok_is_exact()
+    ensures { (caller : Identity) (s : Sight) (questions : List Question) → (failure caller s questions ≡ None) ↔ ArePassedOrSuffice caller s questions }
+{}
+
+/// An operation answers ACCESS exactly where a row of demands is its first question that fails (`exact`). Its last line is then the
+/// DENY line of the first demand of that row that isn't granted: it names the first denying entry, else the lowest bit that none allows
+/// (`told`).
+/// That nothing changes, a step says of every outcome that isn't OK.
+pub fn access_is_exact()
+    ensures exact { (m : Meaning) (r : Realm) → (outcome m r ≡ Err statuses.Access) ↔ IsRefusedByRow m.caller (whole r) m.questions }
+    ensures told { (m : Meaning) (r : Realm) → outcome m r ≡ Err statuses.Access →
+        (row : IsRefusedByRow m.caller (whole r) m.questions) × EndsInRefusal m.caller m.number (judged_of r.world) (row.demands (whole r)) (traced m r) }
+{}
+
+/// An operation that takes no memory never answers DELAY: all but CREATE, LINK, NVERIFY, OPEN, RENAME, SETATTR, VERIFY and WRITE. Nor does one that lacks its place or room.
+pub fn others_never_delay()
+    ensures { (c : Context) (op : Operation) (old new : Point) (result : Result Outcome Status) → may_delay c op ≡ false → Steps c op old result new → result ≢ Err statuses.Delay }
+{}
+
+/// In each entry that READDIR gives an attribute that a bit governs stands exactly where it is asked, and the list of the entry's object
+/// grants that bit.
+pub fn readdir_gives_exactly()
+    ensures { (c : Context) (h : Handles) (v : Value readdir_args) (r : Realm) (o : Outcome) → IsSound r.world → outcome (meaning c h (Known kinds.ReadDir v)) r ≡ Ok o → GivesExactly c h v (whole r) o }
+{}
+
+/// READDIR answers ACCESS exactly where LIST_DIRECTORY isn't granted once it is asked, or where a refused entry is met without
+/// rdattr_error asked.
+pub fn readdir_is_refused_exactly()
+    ensures { (c : Context) (h : Handles) (v : Value readdir_args) (r : Realm) →
+        (outcome (meaning c h (Known kinds.ReadDir v)) r ≡ Err statuses.Access) ↔ (IsUnlisted c h v (whole r) ⊎ MeetsRefused c h v (whole r)) }
+{}

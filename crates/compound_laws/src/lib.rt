@@ -1,0 +1,17 @@
+//! Laws of a COMPOUND over a tree that access control lists guard: what follows from its definitions alone.
+//!
+//! Each is the contract of a function that does nothing, so that a program or a reader can cite it by name.
+#![tactic(auto)]
+
+mod disclosure;
+mod exactness;
+mod opens;
+mod repeats;
+
+pub use disclosure::{operations_disclose_nothing, sessions_disclose_nothing};
+pub use exactness::{
+    access_is_exact, ok_is_exact, others_never_delay, readdir_gives_exactly,
+    readdir_is_refused_exactly, rows_decide,
+};
+pub use opens::{calls_keep_opens, opens_hold_at_first, operations_keep_opens};
+pub use repeats::repeats_change_nothing;

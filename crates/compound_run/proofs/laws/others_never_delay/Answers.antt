@@ -1,5 +1,0 @@
-use Rattle.compound_run.proofs.Ending.{never_delayed}
-use Rattle.compound_run.proofs.laws.others_never_delay.Goals as goal
-
-pub returns : goal.returns
-returns c = never_delayed

@@ -1,0 +1,59 @@
+-- CREATE_SESSION (RFC 8881, section 18.36): a client gets a session, and its record is confirmed.
+use Rattle.std.specs.Prelude.{◌≡◌, ℕ, [], Option, Some, None, Result}
+use Rattle.xdr_wire.specs.Xdr.{Value}
+use Rattle.rpc_record.specs.Identity.{Identity}
+use Rattle.nfs_types.specs.declared.status.Status.{Status}
+use Rattle.nfs_ops.specs.Forms.{create_session_args, channel}
+use Rattle.nfs_ops.specs.Parts.{session_client, session_sequence, fore_channel, back_channel, request_size, reply_size, cached_size, operations, slots}
+use Rattle.nfs_ops.specs.declared.op_kind.OpKind.TheVariants as kinds
+use Rattle.nfs_ops.specs.Results.{Outcome, Done}
+use Rattle.session_slots.specs.declared.session.Channel.{Channel}
+use Rattle.session_slots.specs.declared.client.Created.{Created}
+use Rattle.session_slots.specs.declared.creating.Create.{Create}
+use Rattle.session_slots.specs.declared.creating.Made.{Made}
+use Rattle.session_slots.specs.Registry.{Client, client_at}
+use Rattle.session_slots.specs.Creating.{Creates, repeated}
+use Rattle.compound_run.specs.Realm.{Realm}
+use Rattle.compound_run.specs.Sessions.{session_id, opens_without, told_by}
+
+-- what a channel is asked to carry, RDMA apart
+abbrev pub channel_of : Value channel → Channel
+channel_of c = record {
+  padding = c.0;
+  request_size = request_size c;
+  reply_size = reply_size c;
+  cached_size = cached_size c;
+  operations = operations c;
+  slots = slots c;
+}
+
+abbrev pub create_of : Identity → Value create_session_args → Create
+create_of caller v = record {
+  client = session_client v;
+  sequence = session_sequence v;
+  uid = caller.uid;
+  fore = channel_of (fore_channel v);
+  back = channel_of (back_channel v);
+}
+
+-- without RDMA
+abbrev pub channel_given : Channel → Value channel
+channel_given c = (c.padding, (c.request_size, (c.reply_size, (c.cached_size, (c.operations, (c.slots, []))))))
+
+abbrev pub session_made : Created → Outcome
+session_made c = Done kinds.CreateSession (session_id c.session, (c.sequence, (0, (channel_given c.fore, channel_given c.back))))
+
+abbrev pub kept_for : ℕ → Option Client → Option (Result Created Status)
+kept_for sequence None = None
+kept_for sequence (Some c) = repeated c.created sequence
+
+-- what is kept of the last CREATE_SESSION of the client, where this one has its number
+abbrev pub created_before : Value create_session_args → Realm → Option (Result Created Status)
+created_before v r = kept_for (session_sequence v) (client_at r.registry (session_client v))
+
+-- The opens of a client whose record goes end with it.
+pub record CreatesSession (caller : Identity) (v : Value create_session_args) (old : Realm) (outcome : Result Outcome Status) (new : Realm) : Type 0 where
+  pub made : Made
+  pub creates : Creates old.registry (create_of caller v) made new.registry
+  pub told : outcome ≡ told_by session_made made.result
+  pub others : new ≡ record old { registry = new.registry; opens = opens_without made.gone old.opens }

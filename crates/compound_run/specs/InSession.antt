@@ -1,0 +1,160 @@
+-- A call where sessions are in use: it is refused, repeated or run (RFC 8881, sections 2.10.6 and 16.2).
+use Rattle.std.specs.Prelude.{◌≡◌, ◌≤◌, ℕ, ◌-◌, List, [], ◌∷◌, length, Option, Some, None, Result, Err}
+use Rattle.xdr_wire.specs.Reading.{read_at}
+use Rattle.xdr_wire.specs.Xdr.{Value}
+use Rattle.rpc_record.specs.Identity.{Identity}
+use Rattle.nfs_types.specs.declared.status.Status.{Status}
+use Rattle.nfs_ops.specs.Forms.{sequence_args}
+use Rattle.nfs_ops.specs.Operations.{Operation, Known, number_of}
+use Rattle.nfs_ops.specs.Parts.{sequence_session, sequence_slot}
+use Rattle.nfs_ops.specs.Results.{Outcome}
+use Rattle.nfs_ops.specs.Rows.{row}
+use Rattle.nfs_ops.specs.declared.op_kind.OpKind.TheVariants as kinds
+use Rattle.session_slots.specs.declared.client.Created.{Created}
+use Rattle.session_slots.specs.declared.session.Begin.{Begin}
+use Rattle.session_slots.specs.declared.session.Begin.TheVariants as begins
+use Rattle.session_slots.specs.declared.session.NewCall.{NewCall}
+use Rattle.session_slots.specs.Registry.{Registry, results_at}
+use Rattle.session_slots.specs.Repeating.{Fate, Runs, Repeats, Fails, AnswersBy}
+use Rattle.session_slots.specs.Sequencing.{Asked, sequence_begin, sequence_begun}
+use Rattle.compound_run.specs.Limits.{REPLY_HEADER}
+use Rattle.compound_run.specs.Realm.{Realm}
+use Rattle.compound_run.specs.Context.{Context}
+use Rattle.compound_run.specs.Runs as runs
+use Rattle.compound_run.specs.Runs.{Point, Given}
+use Rattle.compound_run.specs.Compound.{args_form, args_in, head, together}
+use Rattle.compound_run.specs.State.{State, Call, start, left}
+use Rattle.compound_run.specs.Sessions.{session_of, told_by, with_registry}
+use Rattle.compound_run.specs.Beginning.{Beginning, Ends, Refuses, Acts, Follows, beginning}
+use Rattle.compound_run.specs.ExchangeId.{ExchangesId}
+use Rattle.compound_run.specs.CreateSession.{CreatesSession, created_before, session_made}
+use Rattle.compound_run.specs.DestroySession.{DestroysSession}
+use Rattle.compound_run.specs.DestroyClientid.{DestroysClient}
+use Rattle.compound_run.specs.Sequence.{asked_by, calling_by, room_behind, sequence_done, keeping}
+
+-- none: the arguments are garbage
+abbrev pub Reply : Type 0
+Reply = Option (List ℕ)
+
+-- one operation has this outcome, under the tag of its call
+abbrev pub given_alone : List ℕ → ℕ → Result Outcome Status → List ℕ
+given_alone tag number outcome = together tag (record { number = number; outcome = outcome } ∷ [])
+
+abbrev pub refused_alone : List ℕ → ℕ → Status → List ℕ
+refused_alone tag number status = given_alone tag number (Err status)
+
+-- ---- operations that are the only one of their COMPOUND
+
+abbrev pub ActsAlone : Identity → Operation → Realm → Result Outcome Status → Realm → Type 0
+ActsAlone caller (Known kinds.ExchangeId v) old outcome new = ExchangesId caller v old outcome new
+ActsAlone caller (Known kinds.CreateSession v) old outcome new = CreatesSession caller v old outcome new
+ActsAlone caller (Known kinds.DestroySession v) old outcome new = DestroysSession v old outcome new
+ActsAlone caller (Known kinds.DestroyClientId v) old outcome new = DestroysClient v old outcome new
+ActsAlone caller _ old outcome new = ⊥
+
+-- such an operation has its result under the tag of its call
+abbrev pub ActsTo : Identity → Operation → List ℕ → Realm → List ℕ → Realm → Type 0
+ActsTo caller op tag old bytes new = (outcome : Result Outcome Status) × ActsAlone caller op old outcome new × (bytes ≡ given_alone tag (number_of op) outcome)
+
+-- ---- operations behind a SEQUENCE
+
+-- They are run in turn from this context of the first of them, and their results stand behind that of SEQUENCE.
+abbrev pub RunsTo : Context → List ℕ → Given → List ℕ → Point → List ℕ → Point → Type 0
+RunsTo c tag given operations old bytes new =
+    (results : List Given) × runs.Runs c (c.count - c.position) operations old results new × (bytes ≡ together tag (given ∷ results))
+
+-- the clients and their sessions are others
+abbrev pub in_registry : Registry → State → State
+in_registry registry s = record s { realm = with_registry registry s.realm }
+
+-- what this SEQUENCE asks, with so many operations
+abbrev pub asked_in : Call → ℕ → Value sequence_args → Asked
+asked_in call count v = asked_by v count call.record_len call.caller call.arguments
+
+abbrev pub begin_in : Registry → Call → ℕ → Value sequence_args → Begin
+begin_in r call count v = sequence_begin r (session_of (sequence_session v)) (asked_in call count v)
+
+abbrev pub begun_in : Registry → Call → ℕ → Value sequence_args → Registry
+begun_in r call count v = sequence_begun r (session_of (sequence_session v)) (asked_in call count v)
+
+-- the context of the first operation behind it
+abbrev pub context_behind : State → Call → List ℕ → ℕ → Value sequence_args → NewCall → Context
+context_behind s call tag count v new = record {
+  caller = call.caller;
+  now = call.now;
+  book = s.book;
+  calling = Some (calling_by v new);
+  position = 1;
+  count = count;
+  room = room_behind tag v new;
+}
+
+-- The operations are run in the realm in which the call has begun, and at the end its slot keeps all results. They are no more than a reply of
+-- the granted size may have.
+abbrev pub RunsOnSlot : State → Call → List ℕ → ℕ → Value sequence_args → List ℕ → NewCall → List ℕ → State → Type 0
+RunsOnSlot old call tag count v operations granted bytes new =
+    (end : Point)
+    × RunsTo (context_behind old call tag count v granted) tag (sequence_done v granted.highest_slot) operations (start (in_registry (begun_in old.realm.registry call count v) old)) bytes end
+    × (new ≡ in_registry (keeping v bytes end.realm.registry) (left old end))
+    × (length bytes ≤ granted.reply_size - REPLY_HEADER)
+
+-- ---- the fate of a call, which is known before anything of it is run
+
+-- a CREATE_SESSION with the number of the last one gets what is kept of that
+abbrev pub again : List ℕ → Option (Result Created Status) → Fate Reply
+again tag None = Runs
+again tag (Some kept) = Repeats (Some (given_alone tag (row kinds.CreateSession).number (told_by session_made kept)))
+
+abbrev pub fate_alone : List ℕ → Operation → Realm → Fate Reply
+fate_alone tag (Known kinds.CreateSession v) r = again tag (created_before v r)
+fate_alone tag _ r = Runs
+
+-- a call that is the last one of its slot again gets the results that are kept
+abbrev pub fate_by : List ℕ → Value sequence_args → Registry → Begin → Fate Reply
+fate_by tag v r (begins.New new) = Runs
+fate_by tag v r begins.Repeat = Repeats (Some (results_at r (session_of (sequence_session v)) (sequence_slot v)))
+fate_by tag v r (begins.Refused status) = Fails (Some (refused_alone tag (row kinds.Sequence).number status))
+
+-- a COMPOUND of no operation is answered without a result, as one that is refused before its first
+abbrev pub fate_begun : State → Call → List ℕ → ℕ → Beginning → Fate Reply
+fate_begun s call tag count (Ends status) = Fails (Some (head status tag 0))
+fate_begun s call tag count (Refuses number status) = Fails (Some (refused_alone tag number status))
+fate_begun s call tag count (Acts op) = fate_alone tag op s.realm
+fate_begun s call tag count (Follows v rest) = fate_by tag v s.realm.registry (begin_in s.realm.registry call count v)
+
+abbrev pub fate_of : State → Call → Option (Value args_form × List ℕ) → Fate Reply
+fate_of s call None = Fails None
+fate_of s call (Some ((tag, (minor, count)), operations)) = fate_begun s call tag count (beginning minor count operations)
+
+unfoldable pub fate : State → Call → Fate Reply
+fate s call = fate_of s call (args_in (read_at args_form call.arguments))
+
+-- ---- a call that is run
+
+abbrev pub RunsAlone : Call → List ℕ → Operation → State → List ℕ → State → Type 0
+RunsAlone call tag op old bytes new = ActsTo call.caller op tag old.realm bytes new.realm × (new ≡ record old { realm = new.realm })
+
+abbrev pub RunsBy : Begin → Call → List ℕ → ℕ → Value sequence_args → List ℕ → State → List ℕ → State → Type 0
+RunsBy (begins.New new_call) call tag count v operations old bytes new = RunsOnSlot old call tag count v operations new_call bytes new
+RunsBy begins.Repeat call tag count v operations old bytes new = ⊥
+RunsBy (begins.Refused status) call tag count v operations old bytes new = ⊥
+
+abbrev pub RunsBegun : Call → List ℕ → ℕ → Beginning → State → List ℕ → State → Type 0
+RunsBegun call tag count (Ends status) old bytes new = ⊥
+RunsBegun call tag count (Refuses number status) old bytes new = ⊥
+RunsBegun call tag count (Acts op) old bytes new = RunsAlone call tag op old bytes new
+RunsBegun call tag count (Follows v operations) old bytes new = RunsBy (begin_in old.realm.registry call count v) call tag count v operations old bytes new
+
+abbrev pub RunsOf : Call → Option (Value args_form × List ℕ) → State → Reply → State → Type 0
+RunsOf call None old reply new = ⊥
+RunsOf call (Some ((tag, (minor, count)), operations)) old None new = ⊥
+RunsOf call (Some ((tag, (minor, count)), operations)) old (Some bytes) new = RunsBegun call tag count (beginning minor count operations) old bytes new
+
+unfoldable pub RunsCall : Call → State → Reply → State → Type 0
+RunsCall call old reply new = RunsOf call (args_in (read_at args_form call.arguments)) old reply new
+
+-- ---- the answer
+
+-- a call may have this reply, and leave the server so: a refusal and a repeat change nothing
+abbrev pub AnswersInSession : State → Call → Reply → State → Type 0
+AnswersInSession old call reply new = AnswersBy RunsCall (fate old call) call old reply new

@@ -1,0 +1,47 @@
+-- SEQUENCE (RFC 8881, section 18.46): a call of a session begins.
+use Rattle.std.specs.Prelude.{ℕ, ◌-◌, List, length, Ok}
+use Rattle.std.proofs.Common.{inl}
+use Rattle.xdr_wire.specs.Xdr.{Value}
+use Rattle.rpc_record.specs.Identity.{Identity}
+use Rattle.nfs_ops.specs.Forms.{sequence_args, sequence_result}
+use Rattle.nfs_ops.specs.Parts.{sequence_session, sequence_number, sequence_slot, highest_slot, keeps_reply}
+use Rattle.nfs_ops.specs.Rows.{row}
+use Rattle.nfs_ops.specs.declared.op_kind.OpKind.TheVariants as kinds
+use Rattle.nfs_ops.specs.Results.{Done}
+use Rattle.session_slots.specs.declared.session.NewCall.{NewCall}
+use Rattle.session_slots.specs.Slots.{finished}
+use Rattle.session_slots.specs.Registry.{Registry, with_session, with_place}
+use Rattle.session_slots.specs.Sequencing.{Asked}
+use Rattle.compound_run.specs.declared.context.Calling.{Calling}
+use Rattle.compound_run.specs.Runs.{Given, result_bytes}
+use Rattle.compound_run.specs.Compound.{first_room}
+use Rattle.compound_run.specs.Sessions.{session_of}
+
+-- what is asked of a slot: by so many operations, in a record of so many bytes
+abbrev pub asked_by : Value sequence_args → ℕ → ℕ → Identity → List ℕ → Asked
+asked_by v count record_len caller arguments = record {
+  slot = sequence_slot v;
+  highest = highest_slot v;
+  count = count;
+  record_len = record_len;
+  call = record { number = sequence_number v; caller = caller; arguments = arguments };
+}
+
+-- The highest slot that may be used is that which is to be used. No flag is ever set.
+abbrev pub sequence_given : Value sequence_args → ℕ → Value sequence_result
+sequence_given v highest = (sequence_session v, (sequence_number v, (sequence_slot v, (highest, (highest, inl tt)))))
+
+abbrev pub sequence_done : Value sequence_args → ℕ → Given
+sequence_done v highest = record { number = (row kinds.Sequence).number; outcome = Ok (Done kinds.Sequence (sequence_given v highest)) }
+
+-- what SEQUENCE settles for the operations behind it
+abbrev pub calling_by : Value sequence_args → NewCall → Calling
+calling_by v new = record { client = new.client; keeps_reply = keeps_reply v }
+
+-- their room, in a reply of the granted size
+abbrev pub room_behind : List ℕ → Value sequence_args → NewCall → ℕ
+room_behind tag v new = first_room new.reply_size tag - length (result_bytes (sequence_done v new.highest_slot))
+
+-- the results of the call are kept in its slot
+abbrev pub keeping : Value sequence_args → List ℕ → Registry → Registry
+keeping v results r = with_session (session_of (sequence_session v)) (with_place (sequence_slot v) (λ p. finished p results)) r

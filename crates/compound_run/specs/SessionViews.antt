@@ -1,0 +1,136 @@
+-- What the code does of sessions, as the definitions see it.
+use Rattle.std.specs.Prelude.{◌≡◌, ◌≤◌, ℕ, ◌+◌, ◌++◌, List, length, Some, Result, Ok, OnOk, OnErr}
+use Rattle.xdr_wire.specs.Buffer.{Buffer, Appends}
+use Rattle.xdr_wire.specs.Xdr.{Value}
+use Rattle.rpc_record.specs.Identity.{Identity}
+use Rattle.nfs_types.specs.declared.status.Status.{Status}
+use Rattle.nfs_ops.specs.Forms.{sequence_args}
+use Rattle.nfs_ops.specs.Operations.{Operation, Known, number_of}
+use Rattle.nfs_ops.specs.Results.{Outcome, Done}
+use Rattle.nfs_ops.specs.Rows.{row}
+use Rattle.nfs_ops.specs.declared.sequence.SequenceResult.{SequenceResult}
+use Rattle.nfs_ops.specs.Views.{exchange_id_args_value, create_session_args_value, destroy_session_args_value, destroy_clientid_args_value, sequence_args_value, sequence_result_value}
+use Rattle.nfs_ops.specs.declared.op_kind.OpKind.TheVariants as kinds
+use Rattle.session_slots.specs.declared.session.NewCall.{NewCall}
+use Rattle.session_slots.specs.Repeating.{Fate, Runs, Repeats, Fails}
+use Rattle.compound_run.specs.declared.in_session.Coming.{Coming}
+use Rattle.compound_run.specs.declared.beginning.Beginning as code
+use Rattle.compound_run.specs.declared.beginning.Lone.{Lone}
+use Rattle.compound_run.specs.declared.beginning.Lone.TheVariants as lones
+use Rattle.compound_run.specs.declared.compound.Ended.{Ended}
+use Rattle.compound_run.specs.declared.export.Export.{Export}
+use Rattle.compound_run.specs.declared.filehandles.FileHandles.{FileHandles}
+use Rattle.compound_run.specs.Limits.{MIN_ROOM}
+use Rattle.compound_run.specs.Realm.{Realm}
+use Rattle.compound_run.specs.Context.{Context, no_handles}
+use Rattle.compound_run.specs.Runs.{Given, result_bytes, status_in}
+use Rattle.compound_run.specs.Compound.{head}
+use Rattle.compound_run.specs.Telling.{IsToldBy}
+use Rattle.compound_run.specs.Views.{called, point_at}
+use Rattle.compound_run.specs.Beginning.{Beginning, Ends, Refuses, Acts, Follows, beginning}
+use Rattle.compound_run.specs.State.{State, Call}
+use Rattle.compound_run.specs.Sequence.{calling_by, room_behind, keeping}
+use Rattle.compound_run.specs.InSession.{Reply, ActsAlone, RunsTo, RunsBy, RunsBegun, begin_in, fate_by, fate_begun}
+
+-- ---- how a COMPOUND begins
+
+abbrev pub lone_view : Lone → Operation
+lone_view (lones.ExchangeId a) = Known kinds.ExchangeId (exchange_id_args_value a)
+lone_view (lones.CreateSession a) = Known kinds.CreateSession (create_session_args_value a)
+lone_view (lones.DestroySession a) = Known kinds.DestroySession (destroy_session_args_value a)
+lone_view (lones.DestroyClientId a) = Known kinds.DestroyClientId (destroy_clientid_args_value a)
+
+abbrev pub beginning_view : code.Beginning → Beginning
+beginning_view (code.TheVariants.Ends status) = Ends status
+beginning_view (code.TheVariants.Refuses number status) = Refuses number status
+beginning_view (code.TheVariants.Acts lone) = Acts (lone_view lone)
+beginning_view (code.TheVariants.Follows a rest) = Follows (sequence_args_value a) rest.now
+
+-- ---- operations that are the only one
+
+-- clients and opens alone may be others
+abbrev pub IsOfClients : {A : Type 0} → Export A → Export A → Type 0
+IsOfClients old new = new ≡ record old { clients = new.clients; opens = new.opens }
+
+-- The operation is done, and where it is OK its result is written; else nothing is.
+pub record ActGives (caller : Identity) (op : Operation) (old : Realm) (before : Buffer) (answer : Result (Unit {0}) Status) (new : Realm) (after : Buffer) : Type 0 where
+  pub outcome : Result Outcome Status
+  pub acts : ActsAlone caller op old outcome new
+  pub tells : IsToldBy answer outcome
+  pub written : OnOk answer (Appends before after (result_bytes (record { number = number_of op; outcome = outcome })))
+  pub within : OnOk answer (length after.bytes ≤ length before.bytes + MIN_ROOM)
+  pub unwritten : OnErr answer (after ≡ before)
+
+-- The operation is done, and its result is written.
+pub record ActedSo (caller : Identity) (op : Operation) (old : Realm) (before : Buffer) (status : Status) (new : Realm) (after : Buffer) : Type 0 where
+  pub outcome : Result Outcome Status
+  pub acts : ActsAlone caller op old outcome new
+  pub written : Appends before after (result_bytes (record { number = number_of op; outcome = outcome }))
+  pub told : status ≡ status_in outcome
+  pub within : length after.bytes ≤ length before.bytes + MIN_ROOM
+
+-- These bytes stand behind what was there, and are no more than the limit.
+abbrev pub Writes : ℕ → List ℕ → Buffer → Buffer → Type 0
+Writes limit bytes before after = Appends before after bytes × (length bytes ≤ limit)
+
+-- What is given stands behind what was there, and is no more than the limit.
+abbrev pub WritesWithin : ℕ → (List ℕ → Type 0) → Buffer → Buffer → Type 0
+WritesWithin limit answers before after = (bytes : List ℕ) × answers bytes × Appends before after bytes × (length bytes ≤ limit)
+
+-- ---- operations behind a SEQUENCE
+
+abbrev pub SequencedTo : {A : Type 0} → Context → List ℕ → Given → List ℕ → Export A → List ℕ → Export A → Type 0
+SequencedTo c tag given operations old bytes new = (handles : FileHandles) × RunsTo c tag given operations (point_at old no_handles) bytes (point_at new handles)
+
+-- The results stand behind what was there, in front of which a head would make them what is given.
+abbrev pub SequencedBehind : {A : Type 0} → ℕ → Context → List ℕ → Given → List ℕ → Export A → Buffer → Ended → Export A → Buffer → Type 0
+SequencedBehind most c tag given operations old before end new after =
+    (results : List ℕ) × SequencedTo c tag given operations old (head end.status tag end.ran ++ results) new
+    × Appends before after results × (length after.bytes ≤ most)
+
+-- what SEQUENCE gives
+abbrev pub sequence_told : SequenceResult → Given
+sequence_told r = record { number = (row kinds.Sequence).number; outcome = Ok (Done kinds.Sequence (sequence_result_value r)) }
+
+-- the context of the first operation behind a SEQUENCE
+abbrev pub coming_behind : Coming → Value sequence_args → NewCall → Context
+coming_behind c v new = record {
+  caller = c.caller.now;
+  now = c.now;
+  book = c.book.now;
+  calling = Some (calling_by v new);
+  position = 1;
+  count = c.compound.count;
+  room = room_behind c.compound.tag.now v new;
+}
+
+-- The operations are run, and the slot keeps all results.
+abbrev pub SequencedKept : {A : Type 0} → Context → List ℕ → Value sequence_args → Given → List ℕ → Export A → List ℕ → Export A → Type 0
+SequencedKept {A} c tag v given operations old bytes new =
+    (mid : Export A) × SequencedTo c tag given operations old bytes mid × (new ≡ record mid { clients = keeping v bytes mid.clients })
+
+-- ---- a call
+
+abbrev pub call_of : Coming → Call
+call_of c = called c.args c.caller.now c.now
+
+-- how its COMPOUND begins
+abbrev pub begun_at : Coming → Beginning
+begun_at c = beginning c.compound.minor_version c.compound.count c.compound.operations.now
+
+-- a call of this fate has these results: as it is run, or those that are known
+abbrev pub AnswersAs : Fate Reply → (List ℕ → State → Type 0) → State → List ℕ → State → Type 0
+AnswersAs Runs run old bytes new = run bytes new
+AnswersAs (Repeats kept) run old bytes new = (Some bytes ≡ kept) × (new ≡ old)
+AnswersAs (Fails refusal) run old bytes new = (Some bytes ≡ refusal) × (new ≡ old)
+
+-- a COMPOUND that begins with this SEQUENCE
+abbrev pub AnswersSequence : Coming → Value sequence_args → List ℕ → State → List ℕ → State → Type 0
+AnswersSequence c v operations old bytes new =
+    let begin = begin_in old.realm.registry (call_of c) c.compound.count v in
+    AnswersAs (fate_by c.compound.tag.now v old.realm.registry begin) (RunsBy begin (call_of c) c.compound.tag.now c.compound.count v operations old) old bytes new
+
+-- any COMPOUND
+abbrev pub AnswersComing : Coming → State → List ℕ → State → Type 0
+AnswersComing c old bytes new =
+    AnswersAs (fate_begun old (call_of c) c.compound.tag.now c.compound.count (begun_at c)) (RunsBegun (call_of c) c.compound.tag.now c.compound.count (begun_at c) old) old bytes new

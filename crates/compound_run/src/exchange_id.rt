@@ -1,0 +1,75 @@
+//! EXCHANGE_ID (RFC 8881, section 18.35).
+ghost use Rattle.std.specs.Prelude.{◌≡◌, ◌+◌, ◌≤◌, length};
+ghost use Rattle.xdr_wire.specs.Buffer.{Appends};
+ghost use Rattle.nfs_ops.specs.Operations.{Known};
+ghost use Rattle.nfs_ops.specs.Views.{exchange_id_args_value};
+ghost use Rattle.nfs_ops.specs.declared.op_kind.OpKind.TheVariants as kinds;
+ghost use Rattle.session_slots.specs.Exchanging.{Exchanges};
+ghost use Rattle.compound_run.specs.ExchangeId.{exchanging, exchanged};
+ghost use Rattle.compound_run.specs.Limits as limits;
+ghost use Rattle.compound_run.specs.Runs.{spelled};
+ghost use Rattle.compound_run.specs.SessionViews.{ActGives, IsOfClients};
+ghost use Rattle.compound_run.specs.Views.{realm_of};
+
+use crate::export::Export;
+use crate::results::put_result;
+use nfs_ops::{ExchangeIdArgs, ExchangeIdResult, OpResult};
+use nfs_types::Status;
+use rpc_record::Caller;
+use session_slots::{Exchange, Exchanged};
+use std::alloc::Allocator;
+use xdr_wire::{Opaque, Writer};
+
+/// The name of this server, and where its names are known.
+const SERVER: &[u8] = b"nfs41-lists";
+
+/// Writes the record of a client that is told.
+fn put_exchanged<A: Allocator>(told: Exchanged, out: &mut Writer<A>)
+    requires room { limits.MIN_ROOM ≤ out.old.room }
+    ensures written { Appends out.old out.new (spelled (exchanged told)) }
+    ensures within { length out.new.bytes ≤ length out.old.bytes + limits.MIN_ROOM }
+{
+    put_result(
+        OpResult::ExchangeId(ExchangeIdResult {
+            client: told.client,
+            sequence: told.sequence,
+            flags: told.flags(),
+            server: Opaque { bytes: SERVER },
+            scope: Opaque { bytes: SERVER },
+        }),
+        out,
+    );
+}
+
+impl<A: Allocator + Copy> Export<A> {
+    /// Asks for the record of a client.
+    fn exchange(&mut self, caller: &Caller, args: &ExchangeIdArgs<'_>) -> Result<Exchanged, Status>
+        ensures exchanges { Exchanges self.old.clients (exchanging caller.now (exchange_id_args_value args.now) (realm_of self.old)) result self.new.clients }
+        ensures others { self.new ≡ record self.old { clients = self.new.clients } }
+    {
+        let has_opens = self.owner_has_opens(args.owner.bytes);
+        self.clients.exchange_id(Exchange {
+            owner: args.owner.bytes,
+            verifier: u64::from_be_bytes(args.verifier),
+            uid: caller.uid(),
+            flags: args.flags,
+            has_opens,
+        })
+    }
+
+    /// A client is made known. DELAY: there is no memory where a record would be made, and nothing changes.
+    pub fn exchange_id(
+        &mut self,
+        caller: &Caller,
+        args: &ExchangeIdArgs<'_>,
+        out: &mut Writer<A>,
+    ) -> Result<(), Status>
+        requires room { limits.MIN_ROOM ≤ out.old.room }
+        ensures gives { ActGives caller.now (Known kinds.ExchangeId (exchange_id_args_value args.now)) (realm_of self.old) out.old result (realm_of self.new) out.new }
+        ensures others { IsOfClients self.old self.new }
+    {
+        let told = self.exchange(caller, args)?;
+        put_exchanged(told, out);
+        Ok(())
+    }
+}

@@ -1,0 +1,157 @@
+//! A call where sessions are in use (RFC 8881, sections 2.10.6 and 16.2).
+ghost use Rattle.std.specs.Prelude.{◌≡◌, ◌-◌, ◌<◌, ◌≤◌, [], drop, length, IfSome};
+ghost use Rattle.nfs_ops.specs.Views.{sequence_args_value};
+ghost use Rattle.session_slots.specs.declared.session.Begin.TheVariants as begins;
+ghost use Rattle.session_slots.specs.Registry.{kept_size, session_at};
+ghost use Rattle.session_slots.specs.Sequencing.{StandsIn};
+ghost use Rattle.compound_run.specs.Views.{state_of};
+ghost use Rattle.compound_run.specs.Limits as limits;
+ghost use Rattle.compound_run.specs.Sequence.{keeping, sequence_done};
+ghost use Rattle.compound_run.specs.Sessions.{session_of};
+ghost use Rattle.compound_run.specs.SessionViews.{AnswersComing, AnswersSequence, SequencedKept, WritesWithin, coming_behind, sequence_told};
+
+use crate::beginning::{Beginning, begin};
+use crate::compound::CompoundArgs;
+use crate::context::{Calling, Context};
+use crate::export::Export;
+use crate::heads::{put_ended, put_kept, put_refused};
+use crate::server::Args;
+use crate::sessions::session_of;
+use nfs_ops::{OP_SEQUENCE, SequenceArgs, SequenceResult};
+use nfs_types::Moment;
+use rpc_record::Caller;
+use session_slots::{Begin, NewCall, REPLY_HEADER, Sequence};
+use std::alloc::Allocator;
+use who_book::Book;
+use xdr_wire::Writer;
+
+/// A call where sessions are in use.
+#[derive(Clone, Copy)]
+pub(crate) struct Coming<'t> {
+    pub args: Args<'t>,
+    /// What its arguments say.
+    pub compound: CompoundArgs<'t>,
+    pub caller: &'t Caller,
+    pub now: Moment,
+    /// The book of names.
+    pub book: &'t Book,
+}
+
+/// What a SEQUENCE gives that begins a new call.
+fn sequence_given(args: &SequenceArgs, new: NewCall) -> SequenceResult
+    ensures { sequence_told result ≡ sequence_done (sequence_args_value args.now) new.highest_slot }
+{
+    SequenceResult {
+        session: args.session,
+        number: args.number,
+        slot: args.slot,
+        highest: new.highest_slot,
+        target: new.highest_slot,
+    }
+}
+
+impl<A: Allocator + Copy> Export<A> {
+    /// Keeps what stands behind the first bytes as the results of a call.
+    fn keep_from(&mut self, args: &SequenceArgs, out: &Writer<A>, start: usize)
+        requires start { start ≤ length out.now.bytes }
+        requires slot { IfSome (session_at self.old.clients (session_of args.now.session)) (λ s. args.now.slot < s.granted.slots) }
+        requires few { IfSome (session_at self.old.clients (session_of args.now.session)) (λ s. length (drop start out.now.bytes) ≤ kept_size s.granted) }
+        ensures { self.new ≡ record self.old { clients = keeping (sequence_args_value args.now) (drop start out.now.bytes) self.old.clients } }
+    {
+        let results = &out.bytes()[start..];
+        self.clients
+            .keep(session_of(&args.session), args.slot, results);
+    }
+
+    /// Runs the operations behind a SEQUENCE that has begun a new call, and keeps their results.
+    fn answer_new(
+        &mut self,
+        call: Coming<'_>,
+        args: &SequenceArgs,
+        new: NewCall,
+        operations: &[u8],
+        out: &mut Writer<A>,
+    )
+        requires short { length call.compound.tag.now ≤ limits.MAX_TAG }
+        requires settled { self.old.tree.log.held ≡ [] }
+        requires some { 1 ≤ call.compound.count }
+        requires stands { StandsIn self.old.clients (session_of args.now.session) args.now.slot (begins.New new) }
+        requires room { limits.MAX_RESULTS ≤ out.old.room }
+        ensures answers { WritesWithin (new.reply_size - limits.REPLY_HEADER) (λ bytes. SequencedKept (coming_behind call.entry (sequence_args_value args.now) new) call.entry.compound.tag.now (sequence_args_value args.now) (sequence_done (sequence_args_value args.now) new.highest_slot) operations.now self.old bytes self.new) out.old out.new }
+        ensures settled { self.new.tree.log.held ≡ [] }
+    {
+        let start = out.len();
+        let limit = new.reply_size as usize - REPLY_HEADER;
+        let caller = call.caller;
+        let context = Context {
+            caller,
+            now: call.now,
+            book: call.book,
+            calling: Some(Calling {
+                client: new.client,
+                keeps_reply: args.keep,
+            }),
+            position: 1,
+            count: call.compound.count,
+            room: limit,
+        };
+        let given = sequence_given(args, new);
+        call.compound
+            .run_behind(self, context, limit, given, operations, out);
+        self.keep_from(args, out, start);
+    }
+
+    /// Answers a COMPOUND that begins with a SEQUENCE.
+    fn answer_sequence(
+        &mut self,
+        call: Coming<'_>,
+        args: &SequenceArgs,
+        operations: &[u8],
+        out: &mut Writer<A>,
+    )
+        requires short { length call.compound.tag.now ≤ limits.MAX_TAG }
+        requires whole { length call.args.bytes.now ≤ call.args.record_len }
+        requires settled { self.old.tree.log.held ≡ [] }
+        requires some { 1 ≤ call.compound.count }
+        requires room { limits.MAX_RESULTS ≤ out.old.room }
+        ensures answers { WritesWithin limits.MAX_RESULTS (λ bytes. AnswersSequence call.entry (sequence_args_value args.now) operations.now (state_of self.old call.entry.book.now) bytes (state_of self.new call.entry.book.now)) out.old out.new }
+        ensures settled { self.new.tree.log.held ≡ [] }
+    {
+        let session = session_of(&args.session);
+        let compound = call.compound;
+        let asked = Sequence {
+            slot: args.slot,
+            number: args.number,
+            highest: args.highest,
+            count: compound.count,
+            record_len: call.args.record_len,
+            arguments: call.args.bytes,
+            caller: call.caller,
+        };
+        match self.clients.begin(session, asked) {
+            Begin::New(new) => self.answer_new(call, args, new, operations, out),
+            Begin::Repeat => put_kept(self.clients.results(session, args.slot), out),
+            Begin::Refused(status) => put_refused(compound.tag, OP_SEQUENCE, status, out),
+        }
+    }
+
+    /// Answers a COMPOUND where sessions are in use, behind what `out` holds.
+    pub fn answer_in_session(&mut self, call: Coming<'_>, out: &mut Writer<A>)
+        requires short { length call.compound.tag.now ≤ limits.MAX_TAG }
+        requires whole { length call.args.bytes.now ≤ call.args.record_len }
+        requires settled { self.old.tree.log.held ≡ [] }
+        requires room { limits.MAX_RESULTS ≤ out.old.room }
+        ensures answers { WritesWithin limits.MAX_RESULTS (λ bytes. AnswersComing call.entry (state_of self.old call.entry.book.now) bytes (state_of self.new call.entry.book.now)) out.old out.new }
+        ensures settled { self.new.tree.log.held ≡ [] }
+    {
+        let compound = call.compound;
+        match begin(compound.minor_version, compound.count, compound.operations) {
+            Beginning::Ends(status) => put_ended(compound.tag, status, out),
+            Beginning::Refuses(number, status) => put_refused(compound.tag, number, status, out),
+            Beginning::Acts(lone) => self.answer_alone(compound.tag, call.caller, &lone, out),
+            Beginning::Follows(args, operations) => {
+                self.answer_sequence(call, &args, operations, out);
+            }
+        }
+    }
+}

@@ -1,0 +1,78 @@
+//! Operations behind a SEQUENCE (RFC 8881, sections 2.10.6.4 and 18.46).
+ghost use Rattle.std.specs.Prelude.{◌≡◌, ◌+◌, ◌-◌, ◌≤◌, [], length};
+ghost use Rattle.nfs_ops.specs.Results.{Done};
+ghost use Rattle.nfs_ops.specs.Views.{sequence_result_value};
+ghost use Rattle.nfs_ops.specs.declared.op_kind.OpKind.TheVariants as kinds;
+ghost use Rattle.compound_run.specs.Compound.{first_room};
+ghost use Rattle.compound_run.specs.Limits as limits;
+ghost use Rattle.compound_run.specs.Runs.{spelled};
+ghost use Rattle.compound_run.specs.SessionViews.{SequencedTo, SequencedBehind, WritesWithin, sequence_told};
+ghost use Rattle.compound_run.specs.Views.{context_of};
+
+use crate::compound::{CompoundArgs, Ended, put_tag, put_word};
+use crate::context::Context;
+use crate::export::Export;
+use crate::limits::REFUSAL_ROOM;
+use crate::results::put_result;
+use nfs_ops::{OpResult, SequenceResult};
+use std::alloc::Allocator;
+use xdr_wire::Writer;
+
+impl CompoundArgs<'_> {
+    /// Writes what SEQUENCE gives, and runs the operations behind it. The results end before `end`.
+    fn run_sequenced<A: Allocator + Copy>(
+        &self,
+        export: &mut Export<A>,
+        context: Context<'_>,
+        end: usize,
+        given: SequenceResult,
+        operations: &[u8],
+        out: &mut Writer<A>,
+    ) -> Ended
+        requires settled { export.old.tree.log.held ≡ [] }
+        requires second { context.position ≡ 1 }
+        requires some { 1 ≤ context.count }
+        requires result { length out.old.bytes + limits.MIN_ROOM ≤ end }
+        requires room { end + limits.REFUSAL_ROOM ≤ length out.old.bytes + out.old.room }
+        ensures answers { SequencedBehind (end + limits.REFUSAL_ROOM) (record (context_of context.entry) { room = end - length out.old.bytes - length (spelled (Done kinds.Sequence (sequence_result_value given))) }) self.now.tag.now (sequence_told given) operations.now export.old out.old result export.new out.new }
+        ensures settled { export.new.tree.log.held ≡ [] }
+    {
+        put_result(OpResult::Sequence(given), out);
+        let second = Context {
+            room: end - out.len(),
+            ..context
+        };
+        export.run_all(second, operations, out)
+    }
+
+    /// Writes what the COMPOUND gives, of whose operations these stand behind a SEQUENCE that gives this, behind what `out` holds: at
+    /// most so many bytes. Status and number of its results are filled in once they are known.
+    pub fn run_behind<A: Allocator + Copy>(
+        &self,
+        export: &mut Export<A>,
+        context: Context<'_>,
+        limit: usize,
+        given: SequenceResult,
+        operations: &[u8],
+        out: &mut Writer<A>,
+    )
+        requires short { length self.now.tag.now ≤ limits.MAX_TAG }
+        requires settled { export.old.tree.log.held ≡ [] }
+        requires second { context.position ≡ 1 }
+        requires some { 1 ≤ context.count }
+        requires least { 4072 ≤ limit }
+        requires room { limit ≤ out.old.room }
+        ensures answers { WritesWithin limit (λ bytes. SequencedTo (record (context_of context.entry) { room = first_room (limit + limits.REPLY_HEADER) self.now.tag.now - length (spelled (Done kinds.Sequence (sequence_result_value given))) }) self.now.tag.now (sequence_told given) operations.now export.old bytes export.new) out.old out.new }
+        ensures settled { export.new.tree.log.held ≡ [] }
+    {
+        let end = out.capacity() - (out.room() - limit) - REFUSAL_ROOM;
+        let status_at = out.len();
+        put_word(out, 0);
+        put_tag(out, self.tag);
+        let count_at = out.len();
+        put_word(out, 0);
+        let ended = self.run_sequenced(export, context, end, given, operations, out);
+        out.fill(count_at, ended.ran);
+        out.fill(status_at, ended.status.number());
+    }
+}

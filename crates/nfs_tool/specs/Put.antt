@@ -1,0 +1,143 @@
+-- put: a file is opened for writing and emptied, a text is written to it piece by piece, and it is closed.
+use Rattle.std.specs.Prelude.{◌≡◌, ◌⊎◌, ℕ, nat_le, ◌&&◌, true, false, if◌then◌else◌, sum, List, [], ◌∷◌, ◌++◌, length, take, drop, Option, Some, None, option_and_then, option_map, Result, Ok, Err}
+use Rattle.std.proofs.Common.{inl, inr}
+use Rattle.xdr_wire.specs.Xdr.{Value}
+use Rattle.nfs_types.specs.Forms.{stateid}
+use Rattle.nfs_types.specs.Seen.{Seen, shown_set, shown_values}
+use Rattle.nfs_types.specs.declared.status.Status.{Status}
+use Rattle.nfs_ops.specs.Operations.{Operation, Known}
+use Rattle.nfs_ops.specs.Results.{Outcome, Done}
+use Rattle.nfs_ops.specs.declared.op_kind.OpKind.TheVariants as kinds
+use Rattle.nfs_tool.specs.Sessions.{owner}
+use Rattle.nfs_tool.specs.Setting.{of_size}
+use Rattle.nfs_tool.specs.Taking.{last_of, last_two, nothing, takes_nothing}
+use Rattle.nfs_tool.specs.Commands.{sequence, walk, IsIn, HasNoName, AskGives}
+use Rattle.nfs_tool.specs.Paging.{itself}
+use Rattle.nfs_tool.specs.declared.client.Client.{Client}
+use Rattle.nfs_tool.specs.declared.fault.ToolFault.{ToolFault}
+use Rattle.nfs_tool.specs.declared.fault.ToolFault.TheVariants.{Path, Refused, Memory, Failed}
+
+-- ---- operations
+
+-- OPEN for writing (2), which denies others nothing, of the file of this name, which is made where there is none (UNCHECKED4), with
+-- attributes
+abbrev pub open_with : Seen → ℕ → List ℕ → Operation
+open_with s client name = Known kinds.Open (0, (2, (0, (client, (owner, (inr (inl (inl (shown_set s, shown_values s))), inl name))))))
+
+-- The size is 0, also where there is such a file.
+abbrev pub open_emptied : ℕ → List ℕ → Operation
+open_emptied client name = open_with (of_size 0) client name
+
+abbrev pub get_handle : Operation
+get_handle = Known kinds.GetFh tt
+
+abbrev pub put_handle : List ℕ → Operation
+put_handle handle = Known kinds.PutFh handle
+
+-- WRITE from an offset on, which is to reach the disk (FILE_SYNC4)
+abbrev pub write : Value stateid → ℕ → List ℕ → Operation
+write s offset bytes = Known kinds.Write (s, (offset, (inr (inr (inl tt)), bytes)))
+
+abbrev pub close : Value stateid → Operation
+close s = Known kinds.Close (0, s)
+
+-- ---- results
+
+-- an open of a file: its stateid, and the file's handle
+pub record Open : Type 0 where
+  pub stateid : Value stateid
+  pub handle : List ℕ
+
+abbrev pub stateid_of : Outcome → Option (Value stateid)
+stateid_of (Done kinds.Open v) = Some v.0
+stateid_of _ = None
+
+abbrev pub handle_of : Outcome → Option (List ℕ)
+handle_of (Done kinds.GetFh v) = Some v
+handle_of _ = None
+
+-- that of an OPEN and of the GETFH behind it
+abbrev pub open_of : Outcome × Outcome → Option Open
+open_of p = option_and_then (λ s. option_map (λ h. record { stateid = s; handle = h }) (handle_of p.1)) (stateid_of p.0)
+
+abbrev pub open_in : List Outcome → Option Open
+open_in results = option_and_then open_of (last_two results)
+
+-- How many bytes were written, of so many that were sent: one at least.
+abbrev pub count_within : ℕ → ℕ → Option ℕ
+count_within sent n = if nat_le 1 n && nat_le n sent then Some n else None
+
+abbrev pub written_of : ℕ → Outcome → Option ℕ
+written_of sent (Done kinds.Write v) = count_within sent v.0
+written_of sent _ = None
+
+abbrev pub written_in : ℕ → List Outcome → Option ℕ
+written_in sent results = option_and_then (written_of sent) (last_of results)
+
+-- ---- what is asked
+
+abbrev pub OpenAsks : {S A : Type 0} → Client S A → List ℕ → List Operation → Type 0
+OpenAsks client path ops =
+    (directory : List (List ℕ)) × (name : List ℕ) × IsIn path directory name
+    × (ops ≡ sequence client ∷ walk directory ++ open_emptied client.client name ∷ get_handle ∷ [])
+
+abbrev pub write_to : {S A : Type 0} → Client S A → Open → ℕ → List ℕ → List Operation
+write_to client o offset bytes = sequence client ∷ put_handle o.handle ∷ write o.stateid offset bytes ∷ []
+
+abbrev pub close_it : {S A : Type 0} → Client S A → Open → List Operation
+close_it client o = sequence client ∷ put_handle o.handle ∷ close o.stateid ∷ []
+
+-- At most 32,768 bytes are written at once.
+abbrev pub piece : List ℕ → List ℕ
+piece left = take 32768 left
+
+-- ---- what comes of it
+
+-- what is told of a refused WRITE behind its CLOSE: the refusal, unless the CLOSE ends by a fault that is no refusal
+abbrev pub told_behind : ℕ → Status → Result (Unit {0}) ToolFault → Result (Unit {0}) ToolFault
+told_behind op status (Ok done) = Err (Refused op status)
+told_behind op status (Err (Refused n s)) = Err (Refused op status)
+told_behind op status (Err fault) = Err fault
+
+module _ {S A : Type 0} (contents remaining : S → Option (List ℕ)) (o : Open) where
+  abbrev pub WriteGives : ℕ → List ℕ → Client S A → Client S A → Result ℕ ToolFault → Type 0
+  WriteGives offset bytes old new result = AskGives contents remaining (written_in (length bytes)) itself true (write_to old o offset bytes) old new result
+
+  abbrev pub CloseGives : Client S A → Client S A → Result (Unit {0}) ToolFault → Type 0
+  CloseGives old new result = AskGives contents remaining takes_nothing nothing true (close_it old o) old new result
+
+  -- Each WRITE is of what comes behind the bytes that are written. How many each wrote, the last first.
+  abbrev pub Writes : List ℕ → Client S A → List ℕ → Client S A → Type 0
+  Writes text old [] new = new ≡ old
+  Writes text old (n ∷ before) new = (mid : Client S A) × Writes text old before mid × WriteGives (sum before) (piece (drop (sum before) text)) mid new (Ok n)
+
+  -- the whole text is written; or a WRITE fails behind others
+  abbrev pub TextGives : List ℕ → Client S A → Client S A → Result (Unit {0}) ToolFault → Type 0
+  TextGives text old new (Ok done) = (counts : List ℕ) × Writes text old counts new × (sum counts ≡ length text)
+  TextGives text old new (Err fault) =
+      (mid : Client S A) × (before : List ℕ) × Writes text old before mid × WriteGives (sum before) (piece (drop (sum before) text)) mid new (Err fault)
+
+  -- The file is closed where the text is written, and where a WRITE was refused.
+  abbrev pub ClosesBehind : Result (Unit {0}) ToolFault → Client S A → Client S A → Result (Unit {0}) ToolFault → Type 0
+  ClosesBehind (Ok done) old new result = CloseGives old new result
+  ClosesBehind (Err (Refused op status)) old new result = (closed : Result (Unit {0}) ToolFault) × CloseGives old new closed × (result ≡ told_behind op status closed)
+  ClosesBehind (Err fault) old new result = (new ≡ old) × (result ≡ Err fault)
+
+  -- the text is written to the open file, which is closed
+  abbrev pub FileGives : List ℕ → Client S A → Client S A → Result (Unit {0}) ToolFault → Type 0
+  FileGives text old new (Err Memory) = new.usable ≡ false
+  FileGives text old new result = (told : Result (Unit {0}) ToolFault) × (mid : Client S A) × TextGives text old mid told × ClosesBehind told mid new result
+
+-- The file is opened, written and closed; or the OPEN fails, or what comes behind it; or something is wrong with the path, and nothing is
+-- asked.
+abbrev pub PutCommandGives : {S A : Type 0} → (S → Option (List ℕ)) → (S → Option (List ℕ)) → List ℕ → List ℕ → Client S A → Client S A → Result (Unit {0}) ToolFault → Type 0
+PutCommandGives contents remaining path text old new (Err Failed) = (old.usable ≡ false) × (new ≡ old)
+PutCommandGives contents remaining path text old new (Err Path) = HasNoName path × (new ≡ old)
+PutCommandGives contents remaining path text old new (Err Memory) = (new ≡ old) ⊎ (new.usable ≡ false)
+PutCommandGives {S} {A} contents remaining path text old new (Ok done) =
+    (ops : List Operation) × (mid : Client S A) × (o : Open) × OpenAsks old path ops × AskGives contents remaining open_in itself true ops old mid (Ok o)
+    × FileGives contents remaining o text mid new (Ok done)
+PutCommandGives {S} {A} contents remaining path text old new (Err fault) =
+    (ops : List Operation) × OpenAsks old path ops
+    × (AskGives {X = Open} contents remaining open_in itself true ops old new (Err fault)
+    ⊎ ((mid : Client S A) × (o : Open) × AskGives contents remaining open_in itself true ops old mid (Ok o) × FileGives contents remaining o text mid new (Err fault)))

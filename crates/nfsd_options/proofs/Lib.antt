@@ -1,0 +1,4 @@
+mod Rules
+mod Taken
+mod Numbers
+mod Answers

@@ -1,0 +1,86 @@
+//! The command of `nfsd`, with its help.
+ghost use Rattle.std.specs.Prelude.{◌≡◌, IfOk, false};
+ghost use Rattle.clap.specs.Words.{app_of, rule_of};
+ghost use Rattle.nfsd_options.specs.Simple.{bare_rule, book_rule, connections_rule, nfsd, port_rule};
+
+use clap::{Arg, ArgAction, Command, value_parser};
+use std::alloc::{AllocError, Global};
+
+/// What is served, and where.
+const ABOUT: &str = "\
+Serves files over NFS version 4.1, and means what their access control lists say.
+
+It listens on 127.0.0.1, prints 'listening on 127.0.0.1:PORT', serves its connections one after the other, and ends.
+The files are kept in memory: an empty root at first, which belongs to whom the book says.";
+
+/// What a book is, with an example.
+const BOOK: &str = "\
+A book gives users and groups their names. It is a file in TOML with these six keys and no others:
+
+    domain = \"example.org\"
+    root_owner = 0
+    root_group = 0
+    root_mode = 0o755
+    users = { root = 0, alice = 1001 }
+    groups = { wheel = 0, staff = 100 }
+
+Without a book there are no names, the domain is 'localdomain', and the root belongs to user 0 and group 0, with mode 0o755.
+
+For example, two connections on port 12049:
+
+    nfsd --book names.toml --port 12049 --connections 2";
+
+/// The command of `nfsd`, as `clap` reads it.
+pub(crate) fn command<'a>(alloc: Global) -> Result<Command<'a>, AllocError>
+    ensures { IfOk result (λ c. app_of c ≡ nfsd) }
+{
+    let command = Command::new(alloc, "nfsd")
+        .about(ABOUT)
+        .after_help(BOOK)
+        .arg(book(alloc))?
+        .arg(bare(alloc))?
+        .arg(port(alloc))?
+        .arg(connections(alloc))?;
+    Ok(command)
+}
+
+fn book<'a>(alloc: Global) -> Arg<'a>
+    ensures { (rule_of result ≡ book_rule) × (result.global ≡ false) }
+{
+    Arg::new(alloc, "book")
+        .long("book")
+        .value_name("FILE")
+        .help("The book of names")
+}
+
+fn bare<'a>(alloc: Global) -> Arg<'a>
+    ensures { (rule_of result ≡ bare_rule) × (result.global ≡ false) }
+{
+    Arg::new(alloc, "bare")
+        .long("bare")
+        .value_parser(value_parser!(bool))
+        .action(ArgAction::SetTrue)
+        .help(
+            "Serves a sample tree, without sessions, from standard input to standard output, whatever the book",
+        )
+}
+
+fn port<'a>(alloc: Global) -> Arg<'a>
+    ensures { (rule_of result ≡ port_rule) × (result.global ≡ false) }
+{
+    Arg::new(alloc, "port")
+        .long("port")
+        .value_name("N")
+        .value_parser(value_parser!(u16).range(1..))
+        .help("The port to listen on, from 1 to 65535 [default: 2049]")
+}
+
+fn connections<'a>(alloc: Global) -> Arg<'a>
+    ensures { (rule_of result ≡ connections_rule) × (result.global ≡ false) }
+{
+    Arg::new(alloc, "connections")
+        .long("connections")
+        .value_name("N")
+        .value_parser(value_parser!(u32))
+        .help("How many connections to serve, from 0 to 4294967295 [default: 1]")
+}

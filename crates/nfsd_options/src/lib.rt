@@ -1,0 +1,7 @@
+//! The words of `nfsd`: `nfsd [--book FILE] [--bare] [--port N] [--connections N]`.
+#![tactic(auto)]
+
+mod command;
+mod options;
+
+pub use options::Options;

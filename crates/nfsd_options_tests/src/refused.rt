@@ -1,0 +1,61 @@
+//! Lines whose words are refused, with the kind of `clap`'s error.
+use clap::error::ErrorKind;
+use nfsd_options::Options;
+use std::alloc::{AllocError, Global};
+use std::test::Fail;
+
+/// The kind of the error, where the words of a line, split at spaces, are refused.
+fn refusal(alloc: Global, line: &str) -> Result<Option<ErrorKind>, AllocError> {
+    let words: Vec<&str> = line.split(' ').collect(alloc)?;
+    match Options::read(alloc, words.as_slice()) {
+        Ok(_) => Ok(None),
+        Err(error) => Ok(Some(error.kind())),
+    }
+}
+
+static ROWS: [(&str, ErrorKind); 24] = [
+    ("nfsd --port 0", ErrorKind::ValueValidation),
+    ("nfsd --port 65536", ErrorKind::ValueValidation),
+    ("nfsd --port=-1", ErrorKind::ValueValidation),
+    ("nfsd --port=", ErrorKind::ValueValidation),
+    ("nfsd --port nfs", ErrorKind::ValueValidation),
+    ("nfsd --port 0x801", ErrorKind::ValueValidation),
+    ("nfsd --connections 4294967296", ErrorKind::ValueValidation),
+    ("nfsd --connections=-1", ErrorKind::ValueValidation),
+    (
+        "nfsd --connections 18446744073709551616",
+        ErrorKind::ValueValidation,
+    ),
+    ("nfsd --connections all", ErrorKind::ValueValidation),
+    ("nfsd --book", ErrorKind::InvalidValue),
+    ("nfsd --port", ErrorKind::InvalidValue),
+    ("nfsd --connections", ErrorKind::InvalidValue),
+    ("nfsd --bare=true", ErrorKind::TooManyValues),
+    ("nfsd --bare --bare", ErrorKind::ArgumentConflict),
+    ("nfsd --book a --book b", ErrorKind::ArgumentConflict),
+    ("nfsd --port 1 --port 1", ErrorKind::ArgumentConflict),
+    (
+        "nfsd --connections 1 --connections 1",
+        ErrorKind::ArgumentConflict,
+    ),
+    ("nfsd --ports 1", ErrorKind::UnknownArgument),
+    ("nfsd -p 1", ErrorKind::UnknownArgument),
+    ("nfsd names.toml", ErrorKind::UnknownArgument),
+    ("nfsd -- --bare", ErrorKind::UnknownArgument),
+    ("nfsd --help", ErrorKind::DisplayHelp),
+    ("nfsd -h", ErrorKind::DisplayHelp),
+];
+
+fn rows() -> &'static [(&'static str, ErrorKind)] {
+    &ROWS
+}
+
+#[test]
+fn lines_are_refused(rt: HostRuntime) -> Result<(), Fail> {
+    for row in rows() {
+        let (line, want) = *row;
+        let got = refusal(rt.alloc(), line)?;
+        assert!(rt; got == Some(want), "{line}");
+    }
+    Ok(())
+}

@@ -1,0 +1,90 @@
+//! Lines that are taken, with what their words say.
+use nfsd_options::Options;
+use std::alloc::{AllocError, Global};
+use std::test::Fail;
+
+/// A line, and the file, the flag, the port and the connections that its words say.
+type Row = (&'static str, Option<&'static str>, bool, u16, u32);
+
+static ROWS: [Row; 17] = [
+    ("nfsd", None, false, 2049, 1),
+    ("nfsd --bare", None, true, 2049, 1),
+    ("nfsd --book names.toml", Some("names.toml"), false, 2049, 1),
+    ("nfsd --book=names.toml", Some("names.toml"), false, 2049, 1),
+    ("nfsd --book a=b", Some("a=b"), false, 2049, 1),
+    ("nfsd --book=", Some(""), false, 2049, 1),
+    ("nfsd --book=--bare", Some("--bare"), false, 2049, 1),
+    ("nfsd --port 1", None, false, 1, 1),
+    ("nfsd --port=65535", None, false, 65535, 1),
+    ("nfsd --port +80", None, false, 80, 1),
+    ("nfsd --port 00080", None, false, 80, 1),
+    ("nfsd --connections 0", None, false, 2049, 0),
+    ("nfsd --connections=-0", None, false, 2049, 0),
+    (
+        "nfsd --connections 4294967295",
+        None,
+        false,
+        2049,
+        4294967295,
+    ),
+    (
+        "nfsd --bare --book f --port 3 --connections 4",
+        Some("f"),
+        true,
+        3,
+        4,
+    ),
+    (
+        "nfsd --connections 4 --port 3 --book f --bare",
+        Some("f"),
+        true,
+        3,
+        4,
+    ),
+    (
+        "nfsd --book names.toml --port 12049 --connections 2",
+        Some("names.toml"),
+        false,
+        12049,
+        2,
+    ),
+];
+
+fn rows() -> &'static [Row] {
+    &ROWS
+}
+
+/// Whether the words of a line, split at spaces, say this.
+fn says(alloc: Global, line: &str, want: &Options) -> Result<bool, AllocError> {
+    let words: Vec<&str> = line.split(' ').collect(alloc)?;
+    match Options::read(alloc, words.as_slice()) {
+        Ok(options) => Ok(options == *want),
+        Err(_) => Ok(false),
+    }
+}
+
+#[test]
+fn lines_are_taken(rt: HostRuntime) -> Result<(), Fail> {
+    for row in rows() {
+        let (line, book, bare, port, connections) = *row;
+        let want = Options {
+            book,
+            bare,
+            port,
+            connections,
+        };
+        let said = says(rt.alloc(), line, &want)?;
+        assert!(rt; said, "{line}");
+    }
+    Ok(())
+}
+
+/// Where there is no word at all, also no name, the defaults hold.
+#[test]
+fn no_word_is_needed(rt: HostRuntime) {
+    let words: [&str; 0] = [];
+    let said = Options::read(rt.alloc(), words.as_slice()).is_ok_and(|options| {
+        options.book.is_none() && !options.bare && options.port == 2049 && options.connections == 1
+    });
+    assert!(rt; said);
+}
