@@ -33,6 +33,8 @@ mod remembered;
 #[cfg(test)]
 mod removals;
 #[cfg(test)]
+mod repeats;
+#[cfg(test)]
 mod rooms;
 #[cfg(test)]
 mod script;
