@@ -45,12 +45,6 @@ mod session_heads;
 #[cfg(test)]
 mod session_limits;
 #[cfg(test)]
-mod session_memory;
-#[cfg(test)]
-mod session_outcomes;
-#[cfg(test)]
-mod session_rooms;
-#[cfg(test)]
 mod sessions;
 #[cfg(test)]
 mod setting;

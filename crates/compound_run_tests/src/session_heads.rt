@@ -371,9 +371,7 @@ fn see_behind(
 ) -> Result<(), Fail> {
     let next = number.saturating_add(1);
     let tail = tail_of(operation);
-    let words = format!(in alloc;
-        "0 1 2 SEQUENCE ^0 ^1 {number:x} 0 0 0 {operation} {arguments}"
-    )?;
+    let words = format!(in alloc; "0 1 2 SEQUENCE ^0 ^1 {number:x} 0 0 0 {operation} {arguments}")?;
     let results = format!(in alloc;
         "{status} 0 2 SEQUENCE ok ^0 ^1 {number:x} 0 0 0 0 {operation} {status} {tail}"
     )?;
@@ -414,14 +412,7 @@ fn see_faults_behind(
 ) -> Result<u32, Fail> {
     let mut number = number;
     for (operation, arguments, status) in rows {
-        see_behind(
-            rt,
-            alloc,
-            server,
-            number,
-            (operation, arguments),
-            status,
-        )?;
+        see_behind(rt, alloc, server, number, (operation, arguments), status)?;
         number = number.saturating_add(2);
     }
     Ok(number)

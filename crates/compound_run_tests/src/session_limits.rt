@@ -61,11 +61,7 @@ static CLIENTS: [Row; 22] = [
         "EXCHANGE_ID ^0 'c1 0 0 0",
         "ok EXCHANGE_ID ok ^2 2 80010000 0 ^0 'nfs41-lists 'nfs41-lists 0",
     ),
-    (
-        ALICE,
-        "EXCHANGE_ID ^1 'c1 0 0 0",
-        "nospc EXCHANGE_ID nospc",
-    ),
+    (ALICE, "EXCHANGE_ID ^1 'c1 0 0 0", "nospc EXCHANGE_ID nospc"),
     (
         ALICE,
         "SEQUENCE ^0 ^2 1 0 0 0",
@@ -737,9 +733,9 @@ impl Sight for EightSlots {
     }
 }
 
-struct Orders;
+struct FirstFaults;
 
-impl Sight for Orders {
+impl Sight for FirstFaults {
     fn see(rt: &impl Abort, alloc: Global, server: &mut Server) -> Result<(), Fail> {
         play_in_session(rt, alloc, server, owner())?;
         play_in_session(rt, alloc, server, faults())?;
@@ -774,7 +770,7 @@ fn slots_come_in_any_order(rt: HostRuntime) -> Result<(), Fail> {
 
 #[test]
 fn a_call_has_its_first_fault(rt: HostRuntime) -> Result<(), Fail> {
-    on_sample::<Orders>(&rt, rt.alloc(), RandomState::new(&rt)?)
+    on_sample::<FirstFaults>(&rt, rt.alloc(), RandomState::new(&rt)?)
 }
 
 #[test]
