@@ -3,6 +3,8 @@
 #![tactic(auto)]
 
 #[cfg(test)]
+mod behind;
+#[cfg(test)]
 mod data;
 #[cfg(test)]
 mod files;
@@ -44,6 +46,8 @@ mod servers;
 mod session_heads;
 #[cfg(test)]
 mod session_limits;
+#[cfg(test)]
+mod session_outcomes;
 #[cfg(test)]
 mod sessions;
 #[cfg(test)]
