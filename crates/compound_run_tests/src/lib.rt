@@ -49,6 +49,8 @@ mod session_limits;
 #[cfg(test)]
 mod session_outcomes;
 #[cfg(test)]
+mod session_rooms;
+#[cfg(test)]
 mod sessions;
 #[cfg(test)]
 mod setting;
@@ -58,3 +60,5 @@ mod spelling;
 mod told;
 #[cfg(test)]
 mod trees;
+#[cfg(test)]
+mod turns;
