@@ -66,7 +66,8 @@ impl Sight for BehindSequence {
         for rows in tables() {
             turn = see_rows(rt, alloc, server, turn, rows)?;
         }
-        assert!(rt; turn.number > 250);
+        // six of the 295 calls have operations of sessions
+        assert_eq!(rt; turn.number, 290);
         see_lines(rt, alloc, server)
     }
 }

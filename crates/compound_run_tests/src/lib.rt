@@ -47,6 +47,8 @@ mod session_heads;
 #[cfg(test)]
 mod session_limits;
 #[cfg(test)]
+mod session_memory;
+#[cfg(test)]
 mod session_outcomes;
 #[cfg(test)]
 mod session_rooms;

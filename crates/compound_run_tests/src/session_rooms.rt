@@ -74,10 +74,10 @@ static FILES: [(u32, Row); 4] = [
     ),
 ];
 
-/// Replies of 4,096 bytes. Behind the header, the COMPOUND's 12 bytes, SEQUENCE's 44 and PUTFH's 8 there are 3,992 left, of which READ takes 16 and its data. An
-/// operation needs 256, attributes and a link's text what they take. Where it is first the reply is not to be kept, and then it is. What is refused
-/// has changed nothing. Entries of READDIR with the long name and with `a` take 280 and 28 bytes beside the 16 of a result without entries,
-/// and the 8 of operation and status.
+/// Replies of 4,096 bytes. Behind the header, the COMPOUND's 12 bytes, SEQUENCE's 44 and PUTFH's 8 there are 3,992 left, of which READ takes 16 and its
+/// data. An operation needs 256, attributes and a link's text what they take. Where it is first the reply is not to be kept, and then it is.
+/// What is refused has changed nothing. Entries of READDIR with the long name and with `a` take 280 and 28 bytes beside the 16 of a result
+/// without entries, and the 8 of operation and status.
 static ROOMS: [(u32, Row); 29] = [
     (
         0,
