@@ -276,7 +276,7 @@ static ANEW: [Step; 7] = [
     ),
 ];
 
-/// What is refused of bob's client is refused again, until it ends with its session.
+/// Calls of bob's client that were refused are refused again, until it ends with its session.
 static LEAVE: [Step; 6] = [
     (BOB, "DESTROY_CLIENTID ^2", "clientidbusy", &[46, 30]),
     (BOB, "SEQUENCE ^0 ^2 a 0 0 0 LOCK", "notsupp", &[47]),
@@ -391,7 +391,7 @@ fn see_steps(
     Ok(())
 }
 
-/// The same tree, the same trail and as many opens.
+/// Sees an equal tree, an equal trail and as many opens.
 fn see_alike(rt: &impl Abort, alloc: Global, one: &Server, other: &Server) -> Result<(), Fail> {
     assert_eq!(rt;
         tree_text(alloc, one.tree(), 32)?,

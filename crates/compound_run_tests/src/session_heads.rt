@@ -222,7 +222,7 @@ fn stands() -> &'static [Row] {
     &STANDS
 }
 
-/// The same but for the call of the slot, whose number has risen.
+/// All of these but the call of the slot, whose number has risen.
 fn still_there() -> &'static [Row] {
     STANDS.get(1..).unwrap_or(&[])
 }

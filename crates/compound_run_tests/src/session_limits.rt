@@ -432,7 +432,7 @@ static FAULTS: [Row; 15] = [
     ),
 ];
 
-/// What is granted of what is asked: sizes up to 65,536, from 1 to 16 operations, from 1 to 8 slots, a cached size like the reply's, no
+/// So much is granted of what is asked: sizes up to 65,536, from 1 to 16 operations, from 1 to 8 slots, a cached size like the reply's, no
 /// padding and no RDMA. Of the flags none is granted. The back channel is answered as asked, without RDMA. Callback parameters say nothing.
 static GRANTS: [Row; 13] = [
     (

@@ -12,13 +12,13 @@ use std::hash::RandomState;
 use std::process::Abort;
 use std::test::Fail;
 
-/// The bytes of the heap. A server takes about half of them.
+/// The bytes of the heap: there is room for a server and for some sessions.
 const SIZE: usize = 1 << 20;
 
 /// The bytes that are given back at a time. No slot's request or reply has as few.
 const CHUNK: usize = 256;
 
-/// A call made with ample memory; then what wants memory; and what is answered meanwhile, as long as that is delayed.
+/// A call made with ample memory; then one that wants memory; and one that is answered meanwhile, as long as the second is delayed.
 type Growth = (Row, Row, Row);
 
 /// The owner's name is 1,024 bytes long, and a session has eight slots, each with 1,024 bytes for a request and 4,072 for results. An open stays with
@@ -241,7 +241,7 @@ static FULL: [Row; 18] = [
     ),
 ];
 
-/// What was delayed is done with memory, at the next number; at the old one it is delayed again.
+/// Calls that were delayed are done with memory, at the next number; at the old one they are delayed again.
 static AFTER: [Row; 3] = [
     (
         ALICE,
@@ -321,7 +321,7 @@ fn take_all<'a>(alloc: Global, heap: &'a LocalHeap) -> Result<Vec<Vec<u8, &'a Lo
     Ok(taken)
 }
 
-/// What a call gives.
+/// The results of a call.
 fn results(alloc: Global, site: &mut Site<'_>, who: Caller, call: &str) -> Result<Vec<u8>, Fail> {
     let bytes = call_of(alloc, call)?;
     let (uid, gid, group) = who;
@@ -514,7 +514,7 @@ fn act(rt: &impl Abort, alloc: Global, heap: &LocalHeap, site: &mut Site<'_>) ->
     see_full(rt, alloc, heap, site, ends())
 }
 
-/// What wants memory is done, or delayed with all as it was, and no other operation is ever delayed.
+/// Each growth is done, or delayed with all as it was, and no other operation is ever delayed.
 #[test]
 fn refused_growth_of_sessions_is_told(rt: HostRuntime) -> Result<(), Fail> {
     let heap = LocalHeap::new(rt.alloc(), SIZE)?;

@@ -1,4 +1,4 @@
-//! What has too little room in a session: a COMPOUND gives no more bytes than a reply was granted, its header of 24 included, of which 16 stay free; and
+//! Replies of a session that are full: a COMPOUND gives no more bytes than a reply was granted, its header of 24 included, of which 16 stay free; and
 //! all that it gives is kept (RFC 8881, sections 2.10.6.4 and 18.46).
 
 use crate::pictures::tree_text;
