@@ -3,6 +3,8 @@
 #![tactic(auto)]
 
 #[cfg(test)]
+mod behind;
+#[cfg(test)]
 mod data;
 #[cfg(test)]
 mod files;
@@ -33,11 +35,23 @@ mod remembered;
 #[cfg(test)]
 mod removals;
 #[cfg(test)]
+mod repeats;
+#[cfg(test)]
 mod rooms;
 #[cfg(test)]
 mod script;
 #[cfg(test)]
 mod servers;
+#[cfg(test)]
+mod session_heads;
+#[cfg(test)]
+mod session_limits;
+#[cfg(test)]
+mod session_memory;
+#[cfg(test)]
+mod session_outcomes;
+#[cfg(test)]
+mod session_rooms;
 #[cfg(test)]
 mod sessions;
 #[cfg(test)]
@@ -48,3 +62,5 @@ mod spelling;
 mod told;
 #[cfg(test)]
 mod trees;
+#[cfg(test)]
+mod turns;

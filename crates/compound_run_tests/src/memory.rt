@@ -77,20 +77,20 @@ struct Seen {
 
 /// What a call is made on.
 #[derive(Drop)]
-struct Site<'a> {
-    server: Server<&'a LocalHeap>,
-    out: Writer<&'a LocalHeap>,
+pub struct Site<'a> {
+    pub server: Server<&'a LocalHeap>,
+    pub out: Writer<&'a LocalHeap>,
 }
 
 /// What is looked at before and after a call.
 #[derive(Debug, Drop, PartialEq, Eq)]
-struct Picture {
-    tree: Vec<u8>,
-    total: u64,
-    opens: usize,
+pub struct Picture {
+    pub tree: Vec<u8>,
+    pub total: u64,
+    pub opens: usize,
 }
 
-fn look(alloc: Global, site: &Site<'_>) -> Result<Picture, Fail> {
+pub fn look(alloc: Global, site: &Site<'_>) -> Result<Picture, Fail> {
     Ok(Picture {
         tree: tree_text(alloc, site.server.tree(), 12)?,
         total: site.server.guard().total(),
@@ -108,7 +108,7 @@ fn entry(kind: EntryKind, flags: u32, mask: u32) -> Entry {
 }
 
 /// A server over this heap, with room for results: of a root and a file `f`, where what changes and reads them is told. `None`: the heap is too small.
-fn build<'a>(alloc: Global, heap: &'a LocalHeap, hasher: RandomState) -> Option<Site<'a>> {
+pub fn build<'a>(alloc: Global, heap: &'a LocalHeap, hasher: RandomState) -> Option<Site<'a>> {
     let list = [
         entry(EntryKind::Audit, 0x30, 0x47),
         entry(EntryKind::Allow, 0, 0x1f_07ff),
@@ -147,7 +147,7 @@ fn see_pictures(rt: &impl Abort, after: &Picture, before: &Picture, call: &str) 
 }
 
 /// Sees that all is as it was before a call.
-fn see_unchanged(
+pub fn see_unchanged(
     rt: &impl Abort,
     alloc: Global,
     site: &Site<'_>,

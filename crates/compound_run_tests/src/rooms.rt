@@ -11,8 +11,10 @@ use std::process::Abort;
 use std::test::Fail;
 use who_book::Book;
 
-/// A READ gives at most 32,768 bytes, and what fits. Behind 44 bytes and a READ of so many, 32,692 are left; another READ leaves as many as the next operation needs, or fewer. An operation needs 256, an attribute and a link's text what they take.
-static ROOMS: [Row; 12] = [
+/// A READ gives at most 32,768 bytes, and what fits. Behind 44 bytes and a READ of so many, 32,692 are left; another READ leaves as many as the next
+/// operation needs, or fewer. An operation needs 256, an attribute and a link's text what they take. An entry of READDIR with a list of 16 entries
+/// takes 364 bytes beside the 16 of a result without entries, and the 8 of operation and status.
+static ROOMS: [Row; 17] = [
     (
         BOB,
         "PUTFH @2 WRITE anon ^0 0 ~8000 WRITE anon ^8000 0 ~8000 WRITE anon ^10000 0 ~1 GETATTR +4",
@@ -73,6 +75,31 @@ static ROOMS: [Row; 12] = [
         "PUTFH @2 READ anon ^0 8000 READ anon ^0 7b91 PUTFH @4 READLINK",
         "reptoobig PUTFH ok READ ok 0 ~8000 READ ok 0 ~7b91 PUTFH ok READLINK reptoobig",
     ),
+    (
+        BOB,
+        "PUTFH @2 READ anon ^0 8000 READ anon ^0 7e9d PUTROOTFH OPEN 0 1 0 0 0 'o 1 0 0 0 0 'n",
+        "reptoobig PUTFH ok READ ok 0 ~8000 READ ok 0 ~7e9d PUTROOTFH ok OPEN reptoobig",
+    ),
+    (
+        BOB,
+        "PUTROOTFH LOOKUP 'n",
+        "noent PUTROOTFH ok LOOKUP noent",
+    ),
+    (
+        BOB,
+        "PUTFH @2 READ anon ^0 8000 READ anon ^0 7e9c PUTROOTFH OPEN 0 1 0 0 0 'o 1 0 0 0 0 'n",
+        "ok PUTFH ok READ ok 0 ~8000 READ ok 0 ~7e9c PUTROOTFH ok OPEN ok 1 0 0 1 7>8 0 0 0",
+    ),
+    (
+        BOB,
+        "PUTFH @2 READ anon ^0 8000 READ anon ^0 7e18 PUTROOTFH READDIR ^3 0 0 0 1000 +12",
+        "ok PUTFH ok READ ok 0 ~8000 READ ok 0 ~7e18 PUTROOTFH ok READDIR ok 0 0 1 ^4 'g +12 ( 10 *f 0 0 1f07ff 'EVERYONE@ ) 0 0",
+    ),
+    (
+        BOB,
+        "PUTFH @2 READ anon ^0 8000 READ anon ^0 7e19 PUTROOTFH READDIR ^3 0 0 0 1000 +12",
+        "toosmall PUTFH ok READ ok 0 ~8000 READ ok 0 ~7e19 PUTROOTFH ok READDIR toosmall",
+    ),
 ];
 
 fn rooms() -> &'static [Row] {
@@ -80,7 +107,7 @@ fn rooms() -> &'static [Row] {
 }
 
 /// The operations with their arguments.
-static OPERATIONS: [(&str, &str); 21] = [
+static OPERATIONS: [(&str, &str); 23] = [
     ("ACCESS", "3f"),
     ("CLOSE", "0 anon"),
     ("COMMIT", "^0 0"),
@@ -91,9 +118,11 @@ static OPERATIONS: [(&str, &str); 21] = [
     ("LOOKUP", "'x"),
     ("LOOKUPP", ""),
     ("NVERIFY", "0 0"),
+    ("OPEN", "0 1 0 0 0 'o 0 0 'x"),
     ("PUTFH", "@1"),
     ("PUTROOTFH", ""),
     ("READ", "anon ^0 0"),
+    ("READDIR", "^0 0 0 0 1000 0"),
     ("READLINK", ""),
     ("REMOVE", "'x"),
     ("RENAME", "'x 'y"),
@@ -104,12 +133,12 @@ static OPERATIONS: [(&str, &str); 21] = [
     ("WRITE", "anon ^0 0 0"),
 ];
 
-fn operations() -> &'static [(&'static str, &'static str)] {
+pub fn operations() -> &'static [(&'static str, &'static str)] {
     &OPERATIONS
 }
 
 /// A refused SETATTR alone gives more than its status: the empty set.
-fn tail_of(operation: &str) -> &'static str {
+pub fn tail_of(operation: &str) -> &'static str {
     if operation == "SETATTR" { "0" } else { "" }
 }
 

@@ -1,7 +1,7 @@
 //! Servers, and calls that they answer.
 
 use crate::pictures::trail_text;
-use crate::spelling::{answer_of, call_of};
+use crate::spelling::{answer_of, bytes_of, call_of};
 use compound_run::{Args, MAX_RESULTS, RunEnd, Server};
 use node_tree::{Moment, Tree};
 use rpc_record::Caller as Identity;
@@ -182,6 +182,40 @@ pub fn play_in_session(
         seconds = seconds.saturating_add(1);
         see_in_session(rt, alloc, server, seconds, row)?;
     }
+    Ok(())
+}
+
+/// Sees that arguments of these words have these results at second 0, where sessions are in use.
+pub fn see_words_in_session(
+    rt: &impl Abort,
+    alloc: Global,
+    server: &mut Server,
+    who: Caller,
+    words: &str,
+    results: &str,
+) -> Result<(), Fail> {
+    let bytes = bytes_of(alloc, words)?;
+    let wanted = bytes_of(alloc, results)?;
+    let given = run_in_session(alloc, server, who, 0, &bytes)?;
+    let given = given.as_ref().map(|given| given.as_slice());
+    see_bytes(rt, given, &wanted, 0, words);
+    Ok(())
+}
+
+/// Sees that a call is answered so at second 0, where sessions are in use.
+pub fn see_text_in_session(
+    rt: &impl Abort,
+    alloc: Global,
+    server: &mut Server,
+    who: Caller,
+    call: &str,
+    answer: &str,
+) -> Result<(), Fail> {
+    let bytes = call_of(alloc, call)?;
+    let wanted = answer_of(alloc, answer)?;
+    let given = run_in_session(alloc, server, who, 0, &bytes)?;
+    let given = given.as_ref().map(|given| given.as_slice());
+    see_bytes(rt, given, &wanted, 0, call);
     Ok(())
 }
 
