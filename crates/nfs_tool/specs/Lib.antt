@@ -31,3 +31,6 @@ pub mod Ln
 pub mod Mv
 pub mod Put
 pub mod PutViews
+pub mod FaultTexts
+pub mod AnswerTexts
+pub mod Running
