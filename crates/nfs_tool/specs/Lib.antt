@@ -34,3 +34,7 @@ pub mod PutViews
 pub mod FaultTexts
 pub mod AnswerTexts
 pub mod Running
+pub mod LocalFaults
+pub mod LocalStreams
+pub mod ScriptLines
+pub mod ScriptViews
