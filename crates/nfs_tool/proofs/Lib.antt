@@ -12,3 +12,5 @@ pub mod Pages
 pub mod Pieces
 pub mod Listings
 pub mod Putting
+pub mod ScriptTexts
+pub mod Telling
