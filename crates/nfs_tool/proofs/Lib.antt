@@ -14,3 +14,4 @@ pub mod Listings
 pub mod Putting
 pub mod ScriptTexts
 pub mod Telling
+pub mod Scripts

@@ -1,5 +1,5 @@
 -- What a script prints: the answer to each line, and behind the last line the trail.
-use Rattle.std.specs.Prelude.{◌≡◌, ◌⊎◌, ℕ, ◌+◌, ◌≤◌, ◌==◌, ◌&&◌, min, not, Bool, true, false, List, [], ◌∷◌, ◌++◌, length, codes, decimal, pos, Option, Some, None, Result, Ok, Err}
+use Rattle.std.specs.Prelude.{◌≡◌, ◌⊎◌, ℕ, ◌≤◌, ◌==◌, ◌&&◌, not, Bool, true, false, List, [], ◌∷◌, ◌++◌, length, codes, decimal, pos, Option, Some, None, Result, Ok, Err}
 use Rattle.std.specs.Int.{w64, to_be_bytes}
 use Rattle.std.specs.List.{flat_map, list_all}
 use Rattle.std.specs.Io.KnownBytes.{Appends, Consumes, IsAtEnd}
@@ -86,16 +86,12 @@ LinePrints A number line out good =
 
 -- ---- lines, the last of them first
 
--- The number of the line behind so many others. No script has 2 ^ 32 - 1 lines.
-abbrev pub number_behind : ℕ → ℕ
-number_behind lines = min (lines + 1) 4294967295
-
 -- what lines print in their order, and whether none of it is `bad line` or `failed`
 abbrev pub Print : (A : Type 0) → List (List ℕ) → List ℕ → Bool → Type 0
 Print A [] out good = (out ≡ []) × (good ≡ true)
 Print A (line ∷ before) out good =
     (earlier : List ℕ) × (was_good : Bool) × (printed : List ℕ) × (is_good : Bool) × Print A before earlier was_good
-    × LinePrints A (number_behind (length before)) line printed is_good × (out ≡ earlier ++ printed) × (good ≡ (was_good && is_good))
+    × LinePrints A (length (line ∷ before)) line printed is_good × (out ≡ earlier ++ printed) × (good ≡ (was_good && is_good))
 
 abbrev pub is_within : ℕ → Bool
 is_within b = not (b == 10)
@@ -142,16 +138,20 @@ pub record Stands {A : Type 0} (p : Progress A) (text out : List ℕ) : Type 0 w
   pub whole : List (List ℕ)
   pub cut : IsCut text whole p.line.items
   pub printed : Print A whole out p.is_good
-  pub count : p.lines ≡ min (length whole) 4294967295
+  pub count : p.lines ≡ length whole
 
 -- nothing was read or printed
 abbrev pub Begins : {A : Type 0} → Progress A → Type 0
 Begins p = Stands p [] []
 
--- a line is printed, or the script fails
+-- a text is printed, or the writer fails
+abbrev pub Puts : {X : Type 0} → List ℕ → Option (List ℕ) → Option (List ℕ) → Result X ToolFault → Type 0
+Puts text held held' (Ok x) = Appends held held' text
+Puts text held held' (Err fault) = fault ≡ Write
+
+-- a line is printed, or the writer fails
 abbrev pub WritesLine : {X : Type 0} → List ℕ → Option (List ℕ) → Option (List ℕ) → Result X ToolFault → Type 0
-WritesLine text held held' (Ok x) = Appends held held' (text ++ 10 ∷ [])
-WritesLine text held held' (Err fault) = fault ≡ Write
+WritesLine text held held' result = Puts (text ++ 10 ∷ []) held held' result
 
 -- a text is printed, and whether it is neither `bad line` nor `failed`
 abbrev pub Tells : List ℕ → Bool → Option (List ℕ) → Option (List ℕ) → Result Bool ToolFault → Type 0
@@ -168,12 +168,12 @@ pub record Answered {A : Type 0} (old new : Progress A) (held held' : Option (Li
   pub printed : List ℕ
   pub wrote : Appends held held' printed
   pub prints : Print A (old.line.items ∷ whole) (out ++ printed) new.is_good
-  pub count : new.lines ≡ min (length whole + 1) 4294967295
+  pub count : new.lines ≡ length (old.line.items ∷ whole)
   pub line : new.line ≡ old.line
 
 abbrev pub Answers : {A : Type 0} → Progress A → Progress A → Option (List ℕ) → Option (List ℕ) → Result (Unit {0}) ToolFault → Type 0
 Answers {A = A} old new held held' (Ok done) =
-    (whole : List (List ℕ)) → (out : List ℕ) → Print A whole out old.is_good → old.lines ≡ min (length whole) 4294967295 → Answered old new held held' whole out
+    (whole : List (List ℕ)) → (out : List ℕ) → Print A whole out old.is_good → old.lines ≡ length whole → Answered old new held held' whole out
 Answers old new held held' (Err fault) = IsScriptFault fault
 
 -- it goes on behind this piece, of which is printed what is written

@@ -1,7 +1,8 @@
 //! Running a script: lines of commands, each by a client of its own, against a hub in memory.
-ghost use Rattle.std.specs.Prelude.{◌≡◌, ◌∷◌, [], false};
-ghost use Rattle.nfs_tool.specs.Script.{RunsOver, LineRuns, unconnected, is_refusal, is_answered, fault_line, bad_line, told_text, WritesLine, Tells, LineWrites, Begins, Answers, GoesOn, WritesTrail, Finishes, ScriptGives};
-ghost use Rattle.nfs_tool.specs.ScriptLines.{is_skipped};
+ghost use Rattle.std.specs.Prelude.{◌≡◌, ◌∷◌, [], ◌&&◌, ◌++◌, false, map, option_map, length, codes, decimal};
+ghost use Rattle.std.specs.List.{flat_map};
+ghost use Rattle.nfs_tool.specs.Script.{RunsOver, LineRuns, unconnected, is_refusal, is_answered, fault_line, bad_line, told_text, trail_line, Puts, WritesLine, Tells, LineWrites, Begins, Answers, GoesOn, WritesTrail, Finishes, ScriptGives};
+ghost use Rattle.nfs_tool.specs.ScriptLines.{is_skipped, words_in, line_in};
 ghost use Rattle.nfs_tool.specs.ScriptViews.{said_line};
 
 use crate::client::Client;
@@ -10,7 +11,7 @@ use crate::local::Local;
 use crate::running::Answer;
 use crate::script_line::{Said, is_skipped, is_text, words_in};
 use crate::stream::write_out;
-use access_guard::write_line;
+use access_guard::{Guard, write_line};
 use itoa::Buffer;
 use nfs_hub::{Hub, HubFault};
 use std::alloc::Allocator;
@@ -129,6 +130,18 @@ fn tell_bad_line<W: Write>(writer: &mut W) -> Result<bool, ToolFault>
     }
 }
 
+/// What a line with these words asks.
+fn asked<'a>(line: &[u8], words: &'a [&'a [u8]]) -> Option<Said<'a>>
+    requires { map (λ w. w.now) words.entry.now ≡ words_in line.now }
+    ensures { option_map said_line result ≡ line_in line.now }
+{
+    if is_text(line) {
+        Said::read(words)
+    } else {
+        None
+    }
+}
+
 /// Answers the line of this number, in which something stands. Whether that is neither `bad line` nor `failed`.
 fn answer_words<A: Allocator + Copy, W: Write>(
     alloc: A,
@@ -140,11 +153,8 @@ fn answer_words<A: Allocator + Copy, W: Write>(
     requires { is_skipped line.now ≡ false }
     ensures { LineWrites A number line.now (W.contents writer.old) (W.contents writer.new) result }
 {
-    if !is_text(line) {
-        return tell_bad_line(writer);
-    }
     let words = words_in(alloc, line)?;
-    match Said::read(&words) {
+    match asked(line, &words) {
         Some(said) => tell(run(alloc, hub, said, number), writer),
         None => tell_bad_line(writer),
     }
@@ -167,6 +177,12 @@ fn answer_line<A: Allocator + Copy, W: Write>(
     }
 }
 
+fn both(first: bool, second: bool) -> bool
+    ensures { result ≡ (first && second) }
+{
+    first && second
+}
+
 impl<A: Allocator + Copy> Progress<A> {
     fn new(alloc: A) -> Self
         ensures { Begins result }
@@ -178,7 +194,7 @@ impl<A: Allocator + Copy> Progress<A> {
         }
     }
 
-    /// Answers what was read of a line as a line.
+    /// Answers what was read of a line as a line. `Read`: there are more lines than so many reads give.
     fn answer<W: Write>(
         &mut self,
         alloc: A,
@@ -187,10 +203,13 @@ impl<A: Allocator + Copy> Progress<A> {
     ) -> Result<(), ToolFault>
         ensures { Answers self.old self.new (W.contents writer.old) (W.contents writer.new) result }
     {
-        self.lines = self.lines.saturating_add(1);
-        match answer_line(alloc, hub, &self.line, self.lines, writer) {
+        let Some(number) = self.lines.checked_add(1) else {
+            return Err(ToolFault::Read);
+        };
+        match answer_line(alloc, hub, &self.line, number, writer) {
             Ok(is_good) => {
-                self.is_good = self.is_good && is_good;
+                self.lines = number;
+                self.is_good = both(self.is_good, is_good);
                 Ok(())
             }
             Err(fault) => Err(fault),
@@ -240,6 +259,29 @@ impl<A: Allocator + Copy> Progress<A> {
     }
 }
 
+/// Writes how many lines the trail had.
+fn tell_total<W: Write>(total: u64, writer: &mut W) -> Result<(), ToolFault>
+    ensures { WritesLine (codes "trail " ++ decimal total) (W.contents writer.old) (W.contents writer.new) result }
+{
+    match write_out(writer, b"trail ") {
+        Ok(()) => put_line(Buffer::new().format(total).as_bytes(), writer),
+        Err(fault) => Err(fault),
+    }
+}
+
+/// Writes the lines of the trail that are kept.
+fn tell_lines<A: Allocator + Copy, W: Write>(guard: &Guard<A>, writer: &mut W) -> Result<(), ToolFault>
+    ensures { Puts (flat_map trail_line guard.now.log.trail) (W.contents writer.old) (W.contents writer.new) result }
+{
+    for line in guard.trail() {
+        match put_line(write_line(line).as_bytes(), writer) {
+            Ok(()) => {}
+            Err(fault) => return Err(fault),
+        }
+    }
+    Ok(())
+}
+
 /// Writes how many lines the trail had, and those that are kept.
 fn tell_trail<A: Allocator + Copy, W: Write>(
     hub: &Hub<A>,
@@ -248,12 +290,10 @@ fn tell_trail<A: Allocator + Copy, W: Write>(
     ensures { WritesTrail hub.now (W.contents writer.old) (W.contents writer.new) result }
 {
     let guard = hub.server().guard();
-    write_out(writer, b"trail ")?;
-    put_line(Buffer::new().format(guard.total()).as_bytes(), writer)?;
-    for line in guard.trail() {
-        put_line(write_line(line).as_bytes(), writer)?;
+    match tell_total(guard.total(), writer) {
+        Ok(()) => tell_lines(guard, writer),
+        Err(fault) => Err(fault),
     }
-    Ok(())
 }
 
 /// Answers what is left behind the last newline, and tells the trail.
