@@ -82,37 +82,107 @@ fn played(
     }
 }
 
-const PUT_AND_READ: &[u8] =
-    b"as 0 0 put /f hi\nas 1001 100 cat /f\nas 1001 0 cat /f\nas 0 0 chmod 0604 /f\nas 1001 100 cat /f\nas 1001 100 getacl /f\n";
+/// Lines, with a newline behind each.
+fn joined(alloc: Global, lines: &[&str]) -> Result<Vec<u8>, AllocError> {
+    let mut text = Vec::new(alloc);
+    for line in lines {
+        text.extend_from_slice(line.as_bytes())?;
+        text.push(b'\n')?;
+    }
+    Ok(text)
+}
 
-const ALLOWED_OR_NOT: &[u8] =
-    b"ok\nrefused READ ACCESS\nrefused READ ACCESS\nok\nhi\nA:00:001e0187:OWNER@\nD:00:00000020:OWNER@\nA:00:00000000:GROUP@\nD:00:00000027:GROUP@\nA:00:00120081:EVERYONE@\ntrail 2\nDENY uid=1001 op=READ obj=2 mask=00000001 missing=00000001\nDENY uid=1001 op=READ obj=2 mask=00000001 entry=3\n";
+/// How a script of these lines ends that is to print these.
+fn run(
+    alloc: Global,
+    hasher: RandomState,
+    lines: &[&str],
+    wants: &[&str],
+) -> Result<bool, ToolFault> {
+    let text = joined(alloc, lines)?;
+    let wants = joined(alloc, wants)?;
+    played(alloc, hasher, &text, &wants, 1000, 1000)
+}
+
+const PUT_AND_READ: &[&str] = &[
+    "as 0 0 put /f hi",
+    "as 1001 100 cat /f",
+    "as 1001 0 cat /f",
+    "as 0 0 chmod 0604 /f",
+    "as 1001 100 cat /f",
+    "as 1001 100 getacl /f",
+];
+
+const ALLOWED_OR_NOT: &[&str] = &[
+    "ok",
+    "refused READ ACCESS",
+    "refused READ ACCESS",
+    "ok",
+    "hi",
+    "A:00:001e0187:OWNER@",
+    "D:00:00000020:OWNER@",
+    "A:00:00000000:GROUP@",
+    "D:00:00000027:GROUP@",
+    "A:00:00120081:EVERYONE@",
+    "trail 2",
+    "DENY uid=1001 op=READ obj=2 mask=00000001 missing=00000001",
+    "DENY uid=1001 op=READ obj=2 mask=00000001 entry=3",
+];
 
 #[test]
 fn a_file_is_put_and_read_by_who_may(rt: HostRuntime) -> Result<(), Fail> {
     let hasher = RandomState::new(&rt)?;
-    let told = played(rt.alloc(), hasher, PUT_AND_READ, ALLOWED_OR_NOT, 100, 100);
+    let told = run(rt.alloc(), hasher, PUT_AND_READ, ALLOWED_OR_NOT);
     assert_eq!(rt; told, Ok(true));
     Ok(())
 }
 
 #[test]
 fn a_directory_is_listed(rt: HostRuntime) -> Result<(), Fail> {
-    let text = b"as 0 0 put /f hi\nas 0 0 ls /\nas 0 0 ls /f\n";
-    let wants = b"ok\n- 0600 0 0 2 f\nrefused READDIR NOTDIR\ntrail 0\n";
-    let told = played(rt.alloc(), RandomState::new(&rt)?, text, wants, 100, 100);
+    let lines = ["as 0 0 put /f hi", "as 0 0 ls /", "as 0 0 ls /f"];
+    let wants = ["ok", "- 0600 0 0 2 f", "refused READDIR NOTDIR", "trail 0"];
+    let told = run(rt.alloc(), RandomState::new(&rt)?, &lines, &wants);
     assert_eq!(rt; told, Ok(true));
     Ok(())
 }
 
-/// Each command is done once. A name whose last line has no newline is a line too.
+const EACH: &[&str] = &[
+    "as 0 0 mkdir /d",
+    "as 0 0 put /d/f x",
+    "as 0 0 ln /d/f /g",
+    "as 0 0 mv /g /h",
+    "as 0 0 rm /d/f",
+    "as 0 0 cat /h",
+    "as 0 0 setacl /h A:00:00020001:EVERYONE@ D:00:00000002:7",
+    "as 7 7 getacl /h",
+    "as 0 0 access /",
+    "as 1001 100 access /",
+    "as 0 0 ls /d",
+    "as 0 0 rm /d",
+    "as 0 0 ls /",
+];
+
+/// The listing of `/d`, which is empty, has no line; of `/h` READ_ATTRIBUTES is refused.
+const DONE: &[&str] = &[
+    "ok",
+    "ok",
+    "ok",
+    "ok",
+    "ok",
+    "x",
+    "ok",
+    "A:00:00020001:EVERYONE@",
+    "D:00:00000002:7",
+    "access 0000001f 0000001f",
+    "access 0000001f 00000003",
+    "ok",
+    "- ? ? ? ? h",
+    "trail 0",
+];
+
 #[test]
 fn each_command_is_done(rt: HostRuntime) -> Result<(), Fail> {
-    let text =
-        b"as 0 0 mkdir /d\nas 0 0 put /d/f x\nas 0 0 ln /d/f /g\nas 0 0 mv /g /h\nas 0 0 rm /d/f\nas 0 0 cat /h\nas 0 0 setacl /h A:00:00020001:EVERYONE@ D:00:00000002:7\nas 7 7 getacl /h\nas 0 0 access /\nas 1001 100 access /\nas 0 0 ls /d\nas 0 0 rm /d\nas 0 0 ls /";
-    let wants =
-        b"ok\nok\nok\nok\nok\nx\nok\nA:00:00020001:EVERYONE@\nD:00:00000002:7\naccess 0000001f 0000001f\naccess 0000001f 00000003\nok\n- ? ? ? ? h\ntrail 0\n";
-    let told = played(rt.alloc(), RandomState::new(&rt)?, text, wants, 200, 200);
+    let told = run(rt.alloc(), RandomState::new(&rt)?, EACH, DONE);
     assert_eq!(rt; told, Ok(true));
     Ok(())
 }
@@ -182,18 +252,28 @@ fn nothing_has_no_trail(rt: HostRuntime) -> Result<(), Fail> {
     Ok(())
 }
 
-/// The script has 49 bytes, so ten reads give them, and the eleventh their end.
+/// A file is put, listed, and refused to another; and behind that stands no command. These are 49 bytes.
+const SHORT: &[u8] = b"as 0 0 put /f hi\nas 0 0 ls /\nas 7 7 cat /f\nas ...";
+
+const TOLD: &[&str] = &[
+    "ok",
+    "- 0600 0 0 2 f",
+    "refused READ ACCESS",
+    "bad line",
+    "trail 1",
+    "DENY uid=7 op=READ obj=2 mask=00000001 missing=00000001",
+];
+
+/// Ten reads give the script, and the eleventh its end.
 #[test]
 fn each_read_fails(rt: HostRuntime) -> Result<(), Fail> {
     let hasher = RandomState::new(&rt)?;
-    let text = b"as 0 0 put /f hi\nas 0 0 ls /\nas 7 7 cat /f\nas ...";
-    let wants =
-        b"ok\n- 0600 0 0 2 f\nrefused READ ACCESS\nbad line\ntrail 1\nDENY uid=7 op=READ obj=2 mask=00000001 missing=00000001\n";
+    let wants = joined(rt.alloc(), TOLD)?;
     for reads in 0..11 {
-        let told = played(rt.alloc(), hasher, text, wants, reads, 100);
+        let told = played(rt.alloc(), hasher, SHORT, &wants, reads, 100);
         assert_eq!(rt; told, Err(ToolFault::Read));
     }
-    let told = played(rt.alloc(), hasher, text, wants, 11, 100);
+    let told = played(rt.alloc(), hasher, SHORT, &wants, 11, 100);
     assert_eq!(rt; told, Ok(false));
     Ok(())
 }
@@ -203,14 +283,12 @@ fn each_read_fails(rt: HostRuntime) -> Result<(), Fail> {
 #[test]
 fn each_write_fails(rt: HostRuntime) -> Result<(), Fail> {
     let hasher = RandomState::new(&rt)?;
-    let text = b"as 0 0 put /f hi\nas 0 0 ls /\nas 7 7 cat /f\nas ...";
-    let wants =
-        b"ok\n- 0600 0 0 2 f\nrefused READ ACCESS\nbad line\ntrail 1\nDENY uid=7 op=READ obj=2 mask=00000001 missing=00000001\n";
+    let wants = joined(rt.alloc(), TOLD)?;
     for writes in 0..23 {
-        let told = played(rt.alloc(), hasher, text, wants, 100, writes);
+        let told = played(rt.alloc(), hasher, SHORT, &wants, 100, writes);
         assert_eq!(rt; told, Err(ToolFault::Write));
     }
-    let told = played(rt.alloc(), hasher, text, wants, 100, 23);
+    let told = played(rt.alloc(), hasher, SHORT, &wants, 100, 23);
     assert_eq!(rt; told, Ok(false));
     Ok(())
 }
