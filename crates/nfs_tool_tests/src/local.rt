@@ -1,7 +1,7 @@
 //! A stream over a connection of a hub, with the bytes of its calls by hand (RFC 5531, sections 9 and 11).
 use crate::replies::bytes_of;
 use nfs_hub::{ConnId, Hub, HubFault};
-use nfs_tool::{Client, Local};
+use nfs_tool::{Client, Local, ToolFault};
 use std::alloc::{AllocError, Global};
 use std::hash::RandomState;
 use std::io::{self, ErrorKind, Read, Write};
@@ -16,6 +16,14 @@ const DONE: &[u32] = &[0x8000_0018, 1, 1, 0, 0, 0, 0];
 
 fn sample(alloc: Global, hasher: RandomState) -> Result<Hub, AllocError> {
     Hub::bare(alloc, alloc, hasher)
+}
+
+fn root_alone(alloc: Global, hasher: RandomState) -> Result<Hub, AllocError> {
+    Hub::new(alloc, Book::default(alloc), hasher)
+}
+
+fn close(hub: &mut Hub, conn: ConnId) -> Result<(), HubFault> {
+    hub.close(conn)
 }
 
 fn connect(hub: &mut Hub) -> Result<ConnId, HubFault> {
@@ -88,7 +96,7 @@ fn a_broken_connection_takes_nothing(rt: HostRuntime) -> Result<(), Fail> {
 fn a_closed_connection_is_none(rt: HostRuntime) -> Result<(), Fail> {
     let mut hub = sample(rt.alloc(), RandomState::new(&rt)?)?;
     let conn = connect(&mut hub)?;
-    hub.close(conn)?;
+    close(&mut hub, conn)?;
     let mut buf = [0; 64];
     assert_eq!(rt; written(&mut hub, conn, &[]), Err(ErrorKind::NotConnected));
     assert_eq!(rt;
@@ -104,19 +112,26 @@ fn changed_at(hub: &Hub, number: u64) -> Option<i64> {
     Some(node.time_modify().seconds)
 }
 
-/// Opens a client at a moment, puts a file, and ends the client.
-fn put_at(alloc: Global, hub: &mut Hub, conn: ConnId, seconds: i64) -> Result<(), Fail> {
-    let local = Local::new(hub, conn, seconds);
-    let mut client = Client::open(alloc, local, 0, 0, [1; 8])?;
-    client.put(b"/f", b"hi")?;
-    client.end()?;
-    Ok(())
+/// Puts a file, and ends the client.
+fn put<S: Read + Write>(client: &mut Client<S>) -> Result<(), ToolFault> {
+    match client.put(b"/f", b"hi") {
+        Ok(()) => client.end(),
+        Err(fault) => Err(fault),
+    }
+}
+
+/// Opens a client at a moment, by which a file is put.
+fn put_at(alloc: Global, hub: &mut Hub, conn: ConnId, seconds: i64) -> Result<(), ToolFault> {
+    match Client::open(alloc, Local::new(hub, conn, seconds), 0, 0, [1; 8]) {
+        Ok(mut client) => put(&mut client),
+        Err(fault) => Err(fault),
+    }
 }
 
 #[test]
 fn each_call_has_the_moment(rt: HostRuntime) -> Result<(), Fail> {
     let alloc = rt.alloc();
-    let mut hub = Hub::new(alloc, Book::default(alloc), RandomState::new(&rt)?)?;
+    let mut hub = root_alone(alloc, RandomState::new(&rt)?)?;
     let conn = connect(&mut hub)?;
     put_at(alloc, &mut hub, conn, 77)?;
     assert_eq!(rt; changed_at(&hub, 2), Some(77));
