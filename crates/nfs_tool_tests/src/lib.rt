@@ -8,15 +8,23 @@ mod catting;
 #[cfg(test)]
 mod failing;
 #[cfg(test)]
+mod listing;
+#[cfg(test)]
+mod local;
+#[cfg(test)]
 mod memory;
 #[cfg(test)]
 mod played;
+#[cfg(test)]
+mod putting;
 #[cfg(test)]
 mod refusals;
 #[cfg(test)]
 mod removing;
 #[cfg(test)]
 mod replies;
+#[cfg(test)]
+mod scripts;
 #[cfg(test)]
 mod sessions;
 #[cfg(test)]
