@@ -31,3 +31,10 @@ pub mod Ln
 pub mod Mv
 pub mod Put
 pub mod PutViews
+pub mod FaultTexts
+pub mod AnswerTexts
+pub mod Running
+pub mod LocalFaults
+pub mod LocalStreams
+pub mod ScriptLines
+pub mod ScriptViews

@@ -16,7 +16,7 @@ const PIECE: usize = 4096;
 const MOST_READS: u32 = 200_000;
 
 /// Writes all of the bytes. `Write`: the stream failed, or took nothing.
-fn write_out<W: Write>(stream: &mut W, bytes: &[u8]) -> Result<(), ToolFault>
+pub(crate) fn write_out<W: Write>(stream: &mut W, bytes: &[u8]) -> Result<(), ToolFault>
     ensures { WriteGives (W.contents stream.old) (W.contents stream.new) bytes.now result }
 {
     let mut done = 0;

@@ -18,6 +18,8 @@ mod removing;
 #[cfg(test)]
 mod replies;
 #[cfg(test)]
+mod scripts;
+#[cfg(test)]
 mod sessions;
 #[cfg(test)]
 mod texts;

@@ -7,17 +7,77 @@ use std::test::Fail;
 type Row = (&'static str, u16, u32, u32, &'static str);
 
 static ROWS: [Row; 14] = [
-    ("nfsc --port 2049 --uid 1001 --gid 100 ls /", 2049, 1001, 100, "ls /"),
-    ("nfsc --gid 100 --uid 1001 --port 2049 ls /", 2049, 1001, 100, "ls /"),
-    ("nfsc --port=1 --uid=0 --gid=4294967295 cat /f", 1, 0, 4294967295, "cat /f"),
-    ("nfsc --port 65535 --uid 4294967295 --gid 0 rm /f", 65535, 4294967295, 0, "rm /f"),
-    ("nfsc --port +80 --uid 007 --gid=-0 rm /f", 80, 7, 0, "rm /f"),
+    (
+        "nfsc --port 2049 --uid 1001 --gid 100 ls /",
+        2049,
+        1001,
+        100,
+        "ls /",
+    ),
+    (
+        "nfsc --gid 100 --uid 1001 --port 2049 ls /",
+        2049,
+        1001,
+        100,
+        "ls /",
+    ),
+    (
+        "nfsc --port=1 --uid=0 --gid=4294967295 cat /f",
+        1,
+        0,
+        4294967295,
+        "cat /f",
+    ),
+    (
+        "nfsc --port 65535 --uid 4294967295 --gid 0 rm /f",
+        65535,
+        4294967295,
+        0,
+        "rm /f",
+    ),
+    (
+        "nfsc --port +80 --uid 007 --gid=-0 rm /f",
+        80,
+        7,
+        0,
+        "rm /f",
+    ),
     ("nfsc --port 1 --uid 0 --gid 0 ls", 1, 0, 0, "ls"),
-    ("nfsc --port 1 --uid 0 --gid 0 no such command", 1, 0, 0, "no such command"),
-    ("nfsc --port 1 --uid 0 --gid 0 put /f -x", 1, 0, 0, "put /f -x"),
-    ("nfsc --port 1 --uid 0 --gid 0 put /f --port 2", 1, 0, 0, "put /f --port 2"),
-    ("nfsc --port 1 --uid 0 --gid 0 put /f --help", 1, 0, 0, "put /f --help"),
-    ("nfsc --port 1 --uid 0 --gid 0 put /f --", 1, 0, 0, "put /f --"),
+    (
+        "nfsc --port 1 --uid 0 --gid 0 no such command",
+        1,
+        0,
+        0,
+        "no such command",
+    ),
+    (
+        "nfsc --port 1 --uid 0 --gid 0 put /f -x",
+        1,
+        0,
+        0,
+        "put /f -x",
+    ),
+    (
+        "nfsc --port 1 --uid 0 --gid 0 put /f --port 2",
+        1,
+        0,
+        0,
+        "put /f --port 2",
+    ),
+    (
+        "nfsc --port 1 --uid 0 --gid 0 put /f --help",
+        1,
+        0,
+        0,
+        "put /f --help",
+    ),
+    (
+        "nfsc --port 1 --uid 0 --gid 0 put /f --",
+        1,
+        0,
+        0,
+        "put /f --",
+    ),
     ("nfsc --port 1 --uid 0 --gid 0 -- ls /", 1, 0, 0, "ls /"),
     ("nfsc --port 1 --uid 0 --gid 0 -- --help", 1, 0, 0, "--help"),
     ("nfsc --port 1 --uid 0 --gid 0 put /f ", 1, 0, 0, "put /f "),
@@ -32,10 +92,12 @@ fn says(alloc: Global, row: &Row) -> Result<bool, AllocError> {
     let (line, port, uid, gid, command) = *row;
     let words: Vec<&str> = line.split(' ').collect(alloc)?;
     match Options::read(alloc, words.as_slice()) {
-        Ok(options) => Ok(options.port == port
-            && options.uid == uid
-            && options.gid == gid
-            && options.words.iter().copied().eq(command.split(' '))),
+        Ok(options) => Ok(
+            options.port == port
+                && options.uid == uid
+                && options.gid == gid
+                && options.words.iter().copied().eq(command.split(' ')),
+        ),
         Err(_) => Ok(false),
     }
 }

@@ -34,9 +34,11 @@ fn no_names() -> &'static [&'static str] {
 fn tells(alloc: Global, name: &str, text: &str) -> Result<bool, Fail> {
     let error = wrong_command(alloc, name)?;
     let told = error.to_string(alloc)?;
-    Ok(error.kind() == ErrorKind::InvalidSubcommand
-        && told.contains(text)
-        && told.contains("Usage: nfsc --port <N> --uid <N> --gid <N> <COMMAND>...\n"))
+    Ok(
+        error.kind() == ErrorKind::InvalidSubcommand
+            && told.contains(text)
+            && told.contains("Usage: nfsc --port <N> --uid <N> --gid <N> <COMMAND>...\n"),
+    )
 }
 
 #[test]

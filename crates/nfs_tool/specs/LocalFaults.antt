@@ -1,0 +1,13 @@
+-- The errors of a stream over a hub.
+use Rattle.std.specs.declared.io.ErrorKind.{ErrorKind}
+use Rattle.std.specs.declared.io.ErrorKind.TheVariants.{NotConnected, BrokenPipe, OutOfMemory, QuotaExceeded, AddrNotAvailable}
+use Rattle.nfs_hub.specs.declared.fault.HubFault.{HubFault}
+use Rattle.nfs_hub.specs.declared.fault.HubFault.TheVariants.{TooMany, NoSuch, Broken, Memory, Exhausted}
+
+-- how a refusal of the hub is told by a stream
+abbrev pub kind_of : HubFault → ErrorKind
+kind_of NoSuch = NotConnected
+kind_of Broken = BrokenPipe
+kind_of Memory = OutOfMemory
+kind_of TooMany = QuotaExceeded
+kind_of Exhausted = AddrNotAvailable

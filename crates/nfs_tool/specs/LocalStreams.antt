@@ -1,0 +1,52 @@
+-- What a stream over a connection of a hub does: a write is one piece of the connection, and a read one taking.
+use Rattle.std.specs.Prelude.{◌≡◌, ◌≢◌, ◌↔◌, ℕ, List, length, Option, Some, IsNone, IfOk, IsErrOf, is_err, option_map, Result, Ok, Err}
+use Rattle.std.specs.IoError.{error_kind}
+use Rattle.std.specs.declared.io.Error.{Error}
+use Rattle.nfs_types.specs.declared.moment.Moment.{Moment}
+use Rattle.nfs_hub.specs.Answer.{Served}
+use Rattle.nfs_hub.specs.Machine.{Event, Piece, Take}
+use Rattle.nfs_hub.specs.Hub.{LeadsTo, Goes, TakeGives, BreaksSo, broken_at}
+use Rattle.nfs_hub.specs.declared.hub.Hub.{Hub}
+use Rattle.nfs_hub.specs.declared.fault.HubFault.{HubFault}
+use Rattle.nfs_hub.specs.declared.fault.HubFault.TheVariants.{TooMany, NoSuch, Broken, Exhausted}
+use Rattle.nfs_tool.specs.LocalFaults.{kind_of}
+use Rattle.nfs_tool.specs.declared.local.Local.{Local}
+
+-- the same connection of the same hub, at the same moment
+pub record IsSameStream {A : Type 0} (old new : Local A) : Type 0 where
+  pub same_hub : new.hub.ghost_name ≡ old.hub.ghost_name
+  pub conn : new.conn ≡ old.conn
+  pub moment : new.moment ≡ old.moment
+
+-- so many bytes where the hub did its part, and a refusal of it as an error of its kind
+abbrev pub ToldAs : {X : Type 0} → (X → ℕ) → Result X HubFault → Result ℕ Error → Type 0
+ToldAs count (Ok x) (Ok n) = n ≡ count x
+ToldAs count (Err fault) (Err error) = error_kind error ≡ kind_of fault
+ToldAs count (Ok x) (Err error) = ⊥
+ToldAs count (Err fault) (Ok n) = ⊥
+
+-- these events lead on from the hub before to the hub after
+pub record LeadsOn {A : Type 0} (event : Event) (old new : Hub A) : Type 0 where
+  pub goes : Goes event old new
+  pub leads : (first : Served) (events : List Event) → LeadsTo first events old → LeadsTo first (event ∷ events) new
+
+abbrev pub as_many : ℕ → ℕ
+as_many n = n
+
+-- A read is one taking: what it tells is what the taking gives.
+pub record Taken {A : Type 0} (old new : Local A) (buf buf' : List ℕ) (result : Result ℕ Error) : Type 0 where
+  pub told : Result ℕ HubFault
+  pub gives : TakeGives old.conn told old.hub.now new.hub.now buf buf'
+  pub leads : IfOk told (λ n. LeadsOn (Take old.conn n) old.hub.now new.hub.now)
+  pub tells : ToldAs as_many told result
+
+-- A write is one piece at the stream's moment: what it tells is what feeding it gives.
+pub record Fed {A : Type 0} (old new : Local A) (piece : List ℕ) (result : Result ℕ Error) : Type 0 where
+  pub told : Result (Unit {0}) HubFault
+  pub leads : LeadsOn (Piece old.conn piece old.moment) old.hub.now new.hub.now
+  pub no_such : IsErrOf told NoSuch ↔ IsNone (broken_at old.hub.now old.conn)
+  pub broken : broken_at new.hub.now old.conn ≡ option_map (λ was. is_err told) (broken_at old.hub.now old.conn)
+  pub stays : broken_at old.hub.now old.conn ≡ Some true → told ≡ Err Broken
+  pub breaks : told ≡ Err Broken → broken_at old.hub.now old.conn ≡ Some false → BreaksSo old.conn piece old.moment old.hub.now new.hub.now
+  pub faults : (told ≢ Err TooMany) × (told ≢ Err Exhausted)
+  pub tells : ToldAs (λ done. length piece) told result

@@ -1,0 +1,41 @@
+-- What comes of each command, and the text that is told of it.
+use Rattle.std.specs.Prelude.{◌≡◌, ℕ, List, Option, Result, Vec}
+use Rattle.nfs_tool.specs.Access.{AccessAsks, NoPath, rights_in}
+use Rattle.nfs_tool.specs.AccessViews.{rights_value}
+use Rattle.nfs_tool.specs.Acls.{GetAclAsks, SetAclAsks, WrongList, acl_in}
+use Rattle.nfs_tool.specs.AnswerTexts.{SaysAs, says_ok, says_rights, says_text, says_line}
+use Rattle.nfs_tool.specs.Cat.{CatGives}
+use Rattle.nfs_tool.specs.ChMod.{ChModAsks, WrongMode}
+use Rattle.nfs_tool.specs.Commands.{CommandGives, CommandTells}
+use Rattle.nfs_tool.specs.Ln.{LnAsks, WrongPaths}
+use Rattle.nfs_tool.specs.Ls.{LsGives}
+use Rattle.nfs_tool.specs.MkDir.{MkDirAsks}
+use Rattle.nfs_tool.specs.Mv.{MvAsks, WrongNames}
+use Rattle.nfs_tool.specs.Put.{PutCommandGives}
+use Rattle.nfs_tool.specs.Rm.{RmAsks, WrongPath}
+use Rattle.nfs_tool.specs.Words.{CommandLine, Ls, Cat, Put, MkDir, Ln, Mv, Rm, ChMod, GetAcl, SetAcl, Access}
+use Rattle.nfs_tool.specs.declared.client.Client.{Client}
+use Rattle.nfs_tool.specs.declared.running.Answer.{Answer}
+use Rattle.nfs_tool.specs.declared.fault.ToolFault.{ToolFault}
+
+-- a command gives what it is said to give, of which this text is told
+abbrev pub Tells : {A V : Type 0} → (Result V ToolFault → Type 0) → (V → List ℕ) → Result (Answer A) ToolFault → Type 0
+Tells {V = V} gives text result = (told : Result V ToolFault) × gives told × SaysAs text told result
+
+-- the bytes of the file at a path, with a newline behind them
+abbrev pub CatTells : {S A : Type 0} → (S → Option (List ℕ)) → (S → Option (List ℕ)) → List ℕ → Client S A → Client S A → Result (Answer A) ToolFault → Type 0
+CatTells {A = A} contents remaining path old new result = Tells {V = Vec ℕ A} (CatGives contents remaining says_text path old new) says_line result
+
+-- what comes of a command, as text
+abbrev pub Runs : {S A : Type 0} → (S → Option (List ℕ)) → (S → Option (List ℕ)) → CommandLine → Client S A → Client S A → Result (Answer A) ToolFault → Type 0
+Runs {A = A} contents remaining (Ls path) old new result = Tells {V = Vec ℕ A} (LsGives contents remaining says_text path old new) says_text result
+Runs contents remaining (Cat path) old new result = CatTells contents remaining path old new result
+Runs contents remaining (Put path text) old new result = Tells (PutCommandGives contents remaining path text old new) says_ok result
+Runs contents remaining (MkDir path) old new result = Tells (CommandGives contents remaining (MkDirAsks old path) (WrongPath path) old new) says_ok result
+Runs contents remaining (Ln from to) old new result = Tells (CommandGives contents remaining (LnAsks old from to) (WrongPaths from to) old new) says_ok result
+Runs contents remaining (Mv from to) old new result = Tells (CommandGives contents remaining (MvAsks old from to) (WrongNames from to) old new) says_ok result
+Runs contents remaining (Rm path) old new result = Tells (CommandGives contents remaining (RmAsks old path) (WrongPath path) old new) says_ok result
+Runs contents remaining (ChMod mode path) old new result = Tells (CommandGives contents remaining (ChModAsks old mode path) (WrongMode mode path) old new) says_ok result
+Runs {A = A} contents remaining (GetAcl path) old new result = Tells {V = Vec ℕ A} (CommandTells contents remaining acl_in says_text (GetAclAsks old path) (NoPath path) old new) says_text result
+Runs contents remaining (SetAcl path entries) old new result = Tells (CommandGives contents remaining (SetAclAsks old path entries) (WrongList path entries) old new) says_ok result
+Runs contents remaining (Access path) old new result = Tells (CommandTells contents remaining rights_in rights_value (AccessAsks old path) (NoPath path) old new) says_rights result

@@ -1,0 +1,87 @@
+//! A stream over a connection of a hub.
+ghost use Rattle.std.specs.Prelude.{◌≡◌};
+ghost use Rattle.std.specs.IoError.{error_kind};
+ghost use Rattle.nfs_tool.specs.LocalFaults.{kind_of};
+
+use nfs_hub::{ConnId, Hub, HubFault};
+use nfs_types::Moment;
+use std::alloc::{Allocator, Global};
+use std::io::{self, ErrorKind, Read, Write};
+
+/// A stream over a connection of a hub, which is lent: what is written comes to the connection as a piece, and what is read is taken from
+/// the replies that are pending on it. A read gives nothing where nothing is pending.
+#[derive(Drop)]
+pub struct Local<'h, A: Allocator + Copy = Global> {
+    hub: &'h mut Hub<A>,
+    conn: ConnId,
+    /// The moment of each piece.
+    moment: Moment,
+}
+
+/// The error that a refusal of the hub is: `NotConnected` where no such connection is open, `BrokenPipe` where it is broken, and
+/// `OutOfMemory`.
+fn error_of(fault: HubFault) -> io::Error
+    ensures { error_kind result ≡ kind_of fault }
+{
+    io::Error::from(match fault {
+        HubFault::NoSuch => ErrorKind::NotConnected,
+        HubFault::Broken => ErrorKind::BrokenPipe,
+        HubFault::Memory => ErrorKind::OutOfMemory,
+        HubFault::TooMany => ErrorKind::QuotaExceeded,
+        HubFault::Exhausted => ErrorKind::AddrNotAvailable,
+    })
+}
+
+impl<'h, A: Allocator + Copy> Local<'h, A> {
+    /// A stream over the connection of this number, each of whose pieces has this moment.
+    pub fn new(hub: &'h mut Hub<A>, conn: ConnId, moment: Moment) -> Self
+        ensures same_hub { result.hub.ghost_name ≡ hub.entry.ghost_name }
+        ensures hub { result.hub.now ≡ hub.old }
+        ensures of_connection { (result.conn ≡ conn) × (result.moment ≡ moment) }
+    {
+        Local { hub, conn, moment }
+    }
+}
+
+impl<A: Allocator + Copy> Read for Local<'_, A> {
+    ghost use Rattle.std.specs.Io.{ReadsAtMost};
+    ghost use Rattle.std.specs.Io.KnownBytes.{ReadConsumes};
+    ghost use Rattle.nfs_hub.specs.Hub.{pending_at};
+    ghost use Rattle.nfs_tool.specs.LocalStreams.{IsSameStream, Taken};
+
+    ghost remaining = { λ l. pending_at l.hub.now l.conn };
+
+    /// Moves as many of the first pending bytes as fit to the front of the buffer, by one `Hub::take_out`.
+    fn read(&mut self, buf: &mut [u8]) -> io::Result<usize>
+        ensures bound { ReadsAtMost result buf.new }
+        ensures bytes { ReadConsumes (pending_at self.old.hub.now self.old.conn) (pending_at self.new.hub.now self.new.conn) result buf.new }
+        ensures same { IsSameStream self.old self.new }
+        ensures taken { Taken self.old self.new buf.old buf.new result }
+    {
+        self.hub.take_out(self.conn, buf).map_err(error_of)
+    }
+}
+
+impl<A: Allocator + Copy> Write for Local<'_, A> {
+    ghost use Rattle.std.specs.Io.{WritesAtMost};
+    ghost use Rattle.nfs_tool.specs.LocalStreams.{IsSameStream, Fed};
+
+    /// Feeds the bytes as one piece, by one `Hub::feed`: all of them are written, or the connection is broken.
+    fn write(&mut self, buf: &[u8]) -> io::Result<usize>
+        ensures bound { WritesAtMost result buf.now }
+        ensures same { IsSameStream self.old self.new }
+        ensures fed { Fed self.old self.new buf.now result }
+    {
+        match self.hub.feed(self.conn, buf, self.moment) {
+            Ok(()) => Ok(buf.len()),
+            Err(fault) => Err(error_of(fault)),
+        }
+    }
+
+    /// Nothing is held back.
+    fn flush(&mut self) -> io::Result<()>
+        ensures { self.new ≡ self.old }
+    {
+        Ok(())
+    }
+}

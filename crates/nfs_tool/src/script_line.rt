@@ -1,0 +1,79 @@
+//! A line of a script.
+ghost use Rattle.std.specs.Prelude.{◌≡◌, map, option_map, IfOk};
+ghost use Rattle.std.specs.List.{list_all};
+ghost use Rattle.std.specs.Str.{is_utf8};
+ghost use Rattle.nfs_tool.specs.ScriptLines.{number_in, is_skipped, words_in, said_in, line_in};
+ghost use Rattle.nfs_tool.specs.ScriptViews.{said_line};
+
+use crate::words::Command;
+use std::alloc::{AllocError, Allocator};
+
+const AS: &[u8] = b"as";
+
+/// What a line of a script asks: a command, and who calls.
+#[derive(Clone, Copy, Debug)]
+pub(crate) struct Said<'a> {
+    pub(crate) uid: u32,
+    pub(crate) gid: u32,
+    pub(crate) command: Command<'a>,
+}
+
+/// The number that decimal digits are; there may be zeros in front. `None`: a byte is no digit, or the number has more than 32 bits.
+fn number_in(word: &[u8]) -> Option<u32>
+    ensures { result ≡ number_in word.now }
+{
+    let mut value: u32 = 0;
+    for digit in word {
+        if !digit.is_ascii_digit() {
+            return None;
+        }
+        value = value
+            .checked_mul(10)?
+            .checked_add(u32::from(*digit - b'0'))?;
+    }
+    Some(value)
+}
+
+/// Whether a line asks nothing: nothing but spaces stands in it, or it begins with `#`.
+pub(crate) fn is_skipped(line: &[u8]) -> bool
+    ensures { result ≡ is_skipped line.now }
+{
+    match line {
+        [b'#', ..] => true,
+        _ => line.iter().all(|byte| *byte == b' '),
+    }
+}
+
+/// The words of a line, which stand between its spaces. None of them is empty.
+pub(crate) fn words_in<A: Allocator>(alloc: A, line: &[u8]) -> Result<Vec<&[u8], A>, AllocError>
+    ensures { IfOk result (λ v. map (λ w. w.now) v.items ≡ words_in line.now) }
+{
+    line.split(|byte| *byte == b' ')
+        .filter(|word| !word.is_empty())
+        .collect(alloc)
+}
+
+/// Whether a text is UTF-8.
+pub(crate) fn is_text(line: &[u8]) -> bool
+    ensures { result ≡ is_utf8 line.now }
+{
+    str::from_utf8(line).is_ok()
+}
+
+impl<'a> Said<'a> {
+    /// What words ask: `as`, a uid and a gid in decimal digits, and a command with its number of words.
+    pub(crate) fn read(words: &'a [&'a [u8]]) -> Option<Self>
+        ensures { option_map said_line result ≡ said_in (map (λ w. w.now) words.entry.now) }
+    {
+        let [word, uid, gid, rest @ ..] = words else {
+            return None;
+        };
+        if *word != AS {
+            return None;
+        }
+        let uid = number_in(uid)?;
+        let gid = number_in(gid)?;
+        let command = Command::read(rest)?;
+        Some(Said { uid, gid, command })
+    }
+}
