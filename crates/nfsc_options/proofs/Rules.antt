@@ -1,5 +1,6 @@
 -- The four arguments by their places, and what building keeps of each.
-use Rattle.std.proofs.Common.{◌≡◌, ◌∙◌, ◌<◌, ◌≤◌, ap, ap₂, ℕ, true, false, List, [], ◌∷◌, length, zero, suc, Option, Some, is_some, refl, sym, subst, inl, inr, arith, codes}
+use Rattle.std.proofs.Common.{◌≡◌, ◌∙◌, ◌<◌, ◌≤◌, ap, ap₂, ℕ, true, false, List, [], ◌∷◌, length, zero, suc, Option, Some, is_some}
+use Rattle.std.proofs.Common.{refl, sym, subst, inl, inr, arith, codes}
 use Rattle.std.specs.List.{slice_index_or}
 use Rattle.std.specs.Str.{bytes_eq}
 use Rattle.std.proofs.lemmas.List.{get_or-map, length-map}

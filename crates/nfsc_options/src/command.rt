@@ -11,10 +11,10 @@ use std::alloc::{AllocError, Global};
 const ABOUT: &str = "\
 Runs one command on the NFS version 4.1 server at 127.0.0.1, as this user in this group, and prints its answer.
 
-For example, a file of user 1001 on the server at port 2049:
+For example, on the server at port 2049:
 
-    nfsc --port 2049 --uid 1001 --gid 100 put /notes hi
-    nfsc --port 2049 --uid 1001 --gid 100 cat /notes";
+    nfsc --port 2049 --uid 0 --gid 0 put /notes hi
+    nfsc --port 2049 --uid 0 --gid 0 ls /";
 
 /// The command of `nfsc`, as `clap` reads it.
 pub(crate) fn command<'a>(alloc: Global) -> Result<Command<'a>, AllocError>

@@ -11,7 +11,7 @@ use std::alloc::{AllocError, Global};
 const ABOUT: &str = "\
 Runs a script of commands on an NFS version 4.1 server in memory, and prints their answers and then the audit trail.
 
-The script is read from standard input, a line a command: 'as UID GID COMMAND ..', with words split at single spaces. Blank lines and lines that
+The script is read from standard input, a line a command: 'as UID GID COMMAND ..', with words split at spaces. Blank lines and lines that
 begin with '#' are skipped. The files are an empty root at first, which belongs to whom the book says; the line's number is the time in seconds.
 For example:
 
