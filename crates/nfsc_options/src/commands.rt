@@ -31,7 +31,7 @@ fn line_of(name: &str) -> Option<&'static str> {
 }
 
 /// The words that a command wants, with its name in front, as `mv OLD NEW`. `None`: there is no command of this name.
-pub fn usage_of(name: &str) -> Option<&'static str> {
+pub(crate) fn usage_of(name: &str) -> Option<&'static str> {
     let line = line_of(name)?;
     let (usage, _) = line.split_once("  ")?;
     Some(usage)

@@ -8,7 +8,7 @@ mod lab_command;
 mod options;
 mod wrong;
 
-pub use commands::{COMMANDS, usage_of};
+pub use commands::COMMANDS;
 pub use lab::LabOptions;
 pub use options::Options;
 pub use wrong::wrong_command;
