@@ -12,3 +12,6 @@ pub mod Pages
 pub mod Pieces
 pub mod Listings
 pub mod Putting
+pub mod ScriptTexts
+pub mod Telling
+pub mod Scripts

@@ -13,7 +13,7 @@ use Rattle.nfs_tool.specs.declared.fault.ToolFault.TheVariants as faults
 
 -- ---- writing
 
-appends_trans : (a b c : Option (List ℕ)) (bs cs : List ℕ) → Appends a b bs → Appends b c cs → Appends a c (bs ++ cs)
+pub appends_trans : (a b c : Option (List ℕ)) (bs cs : List ℕ) → Appends a b bs → Appends b c cs → Appends a c (bs ++ cs)
 appends_trans None b c bs cs p q = tt
 appends_trans (Some x) None c bs cs p q = absurd p
 appends_trans (Some x) (Some y) None bs cs p q = absurd q

@@ -38,3 +38,4 @@ pub mod LocalFaults
 pub mod LocalStreams
 pub mod ScriptLines
 pub mod ScriptViews
+pub mod Script

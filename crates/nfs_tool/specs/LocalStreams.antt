@@ -1,11 +1,11 @@
 -- What a stream over a connection of a hub does: a write is one piece of the connection, and a read one taking.
-use Rattle.std.specs.Prelude.{◌≡◌, ◌≢◌, ◌↔◌, ℕ, List, length, Option, Some, IsNone, IfOk, IsErrOf, is_err, option_map, Result, Ok, Err}
+use Rattle.std.specs.Prelude.{◌≡◌, ◌≢◌, ◌↔◌, ℕ, true, false, List, ◌∷◌, length, Option, Some, None, IsNone, IfOk, IsErrOf, is_err, option_map, Result, Ok, Err}
 use Rattle.std.specs.IoError.{error_kind}
 use Rattle.std.specs.declared.io.Error.{Error}
 use Rattle.nfs_types.specs.declared.moment.Moment.{Moment}
 use Rattle.nfs_hub.specs.Answer.{Served}
 use Rattle.nfs_hub.specs.Machine.{Event, Piece, Take}
-use Rattle.nfs_hub.specs.Hub.{LeadsTo, Goes, TakeGives, BreaksSo, broken_at}
+use Rattle.nfs_hub.specs.Hub.{LeadsTo, Goes, TakeGives, BreaksSo, broken_at, pending_at}
 use Rattle.nfs_hub.specs.declared.hub.Hub.{Hub}
 use Rattle.nfs_hub.specs.declared.fault.HubFault.{HubFault}
 use Rattle.nfs_hub.specs.declared.fault.HubFault.TheVariants.{TooMany, NoSuch, Broken, Exhausted}
@@ -16,7 +16,20 @@ use Rattle.nfs_tool.specs.declared.local.Local.{Local}
 pub record IsSameStream {A : Type 0} (old new : Local A) : Type 0 where
   pub same_hub : new.hub.ghost_name ≡ old.hub.ghost_name
   pub conn : new.conn ≡ old.conn
-  pub moment : new.moment ≡ old.moment
+  pub seconds : new.seconds ≡ old.seconds
+
+-- the stream's moment: its whole seconds
+pub record IsMomentOf {A : Type 0} (l : Local A) (moment : Moment) : Type 0 where
+  pub seconds : moment.seconds ≡ l.seconds
+  pub whole : moment.nanoseconds ≡ 0
+
+-- It isn't told what was written to a connection.
+abbrev pub unknown : {A : Type 0} → Local A → Option (List ℕ)
+unknown l = None
+
+-- what can be read of a connection is what is pending on it
+abbrev pub pending_of : {A : Type 0} → Local A → Option (List ℕ)
+pending_of l = pending_at l.hub.now l.conn
 
 -- so many bytes where the hub did its part, and a refusal of it as an error of its kind
 abbrev pub ToldAs : {X : Type 0} → (X → ℕ) → Result X HubFault → Result ℕ Error → Type 0
@@ -43,10 +56,12 @@ pub record Taken {A : Type 0} (old new : Local A) (buf buf' : List ℕ) (result 
 -- A write is one piece at the stream's moment: what it tells is what feeding it gives.
 pub record Fed {A : Type 0} (old new : Local A) (piece : List ℕ) (result : Result ℕ Error) : Type 0 where
   pub told : Result (Unit {0}) HubFault
-  pub leads : LeadsOn (Piece old.conn piece old.moment) old.hub.now new.hub.now
+  pub moment : Moment
+  pub is_moment : IsMomentOf old moment
+  pub leads : LeadsOn (Piece old.conn piece moment) old.hub.now new.hub.now
   pub no_such : IsErrOf told NoSuch ↔ IsNone (broken_at old.hub.now old.conn)
   pub broken : broken_at new.hub.now old.conn ≡ option_map (λ was. is_err told) (broken_at old.hub.now old.conn)
   pub stays : broken_at old.hub.now old.conn ≡ Some true → told ≡ Err Broken
-  pub breaks : told ≡ Err Broken → broken_at old.hub.now old.conn ≡ Some false → BreaksSo old.conn piece old.moment old.hub.now new.hub.now
+  pub breaks : told ≡ Err Broken → broken_at old.hub.now old.conn ≡ Some false → BreaksSo old.conn piece moment old.hub.now new.hub.now
   pub faults : (told ≢ Err TooMany) × (told ≢ Err Exhausted)
   pub tells : ToldAs (λ done. length piece) told result

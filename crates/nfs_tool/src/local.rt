@@ -14,8 +14,8 @@ use std::io::{self, ErrorKind, Read, Write};
 pub struct Local<'h, A: Allocator + Copy = Global> {
     hub: &'h mut Hub<A>,
     conn: ConnId,
-    /// The moment of each piece.
-    moment: Moment,
+    /// The moment of each piece, in whole seconds since the epoch.
+    seconds: i64,
 }
 
 /// The error that a refusal of the hub is: `NotConnected` where no such connection is open, `BrokenPipe` where it is broken, and
@@ -33,28 +33,39 @@ fn error_of(fault: HubFault) -> io::Error
 }
 
 impl<'h, A: Allocator + Copy> Local<'h, A> {
-    /// A stream over the connection of this number, each of whose pieces has this moment.
-    pub fn new(hub: &'h mut Hub<A>, conn: ConnId, moment: Moment) -> Self
+    ghost use Rattle.nfs_tool.specs.LocalStreams.{IsMomentOf};
+
+    /// A stream over the connection of this number, each of whose pieces comes so many whole seconds behind the epoch.
+    pub fn new(hub: &'h mut Hub<A>, conn: ConnId, seconds: i64) -> Self
         ensures same_hub { result.hub.ghost_name ≡ hub.entry.ghost_name }
         ensures hub { result.hub.now ≡ hub.old }
-        ensures of_connection { (result.conn ≡ conn) × (result.moment ≡ moment) }
+        ensures of_connection { (result.conn ≡ conn) × (result.seconds ≡ seconds) }
     {
-        Local { hub, conn, moment }
+        Local { hub, conn, seconds }
+    }
+
+    /// The moment of each piece.
+    fn moment(&self) -> Moment
+        ensures { IsMomentOf self.now result }
+    {
+        Moment {
+            seconds: self.seconds,
+            nanoseconds: 0,
+        }
     }
 }
 
 impl<A: Allocator + Copy> Read for Local<'_, A> {
     ghost use Rattle.std.specs.Io.{ReadsAtMost};
     ghost use Rattle.std.specs.Io.KnownBytes.{ReadConsumes};
-    ghost use Rattle.nfs_hub.specs.Hub.{pending_at};
-    ghost use Rattle.nfs_tool.specs.LocalStreams.{IsSameStream, Taken};
+    ghost use Rattle.nfs_tool.specs.LocalStreams.{pending_of, IsSameStream, Taken};
 
-    ghost remaining = { λ l. pending_at l.hub.now l.conn };
+    ghost remaining = { pending_of };
 
     /// Moves as many of the first pending bytes as fit to the front of the buffer, by one `Hub::take_out`.
     fn read(&mut self, buf: &mut [u8]) -> io::Result<usize>
         ensures bound { ReadsAtMost result buf.new }
-        ensures bytes { ReadConsumes (pending_at self.old.hub.now self.old.conn) (pending_at self.new.hub.now self.new.conn) result buf.new }
+        ensures bytes { ReadConsumes (pending_of self.old) (pending_of self.new) result buf.new }
         ensures same { IsSameStream self.old self.new }
         ensures taken { Taken self.old self.new buf.old buf.new result }
     {
@@ -64,15 +75,20 @@ impl<A: Allocator + Copy> Read for Local<'_, A> {
 
 impl<A: Allocator + Copy> Write for Local<'_, A> {
     ghost use Rattle.std.specs.Io.{WritesAtMost};
-    ghost use Rattle.nfs_tool.specs.LocalStreams.{IsSameStream, Fed};
+    ghost use Rattle.std.specs.Io.KnownBytes.{WriteAppends, Keeps};
+    ghost use Rattle.nfs_tool.specs.LocalStreams.{unknown, IsSameStream, Fed};
+
+    ghost contents = { unknown };
 
     /// Feeds the bytes as one piece, by one `Hub::feed`: all of them are written, or the connection is broken.
     fn write(&mut self, buf: &[u8]) -> io::Result<usize>
         ensures bound { WritesAtMost result buf.now }
+        ensures bytes { WriteAppends (unknown self.old) (unknown self.new) result buf.now }
         ensures same { IsSameStream self.old self.new }
         ensures fed { Fed self.old self.new buf.now result }
     {
-        match self.hub.feed(self.conn, buf, self.moment) {
+        let moment = self.moment();
+        match self.hub.feed(self.conn, buf, moment) {
             Ok(()) => Ok(buf.len()),
             Err(fault) => Err(error_of(fault)),
         }
@@ -80,7 +96,8 @@ impl<A: Allocator + Copy> Write for Local<'_, A> {
 
     /// Nothing is held back.
     fn flush(&mut self) -> io::Result<()>
-        ensures { self.new ≡ self.old }
+        ensures bytes { Keeps (unknown self.old) (unknown self.new) }
+        ensures same { self.new ≡ self.old }
     {
         Ok(())
     }

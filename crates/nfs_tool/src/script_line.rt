@@ -2,7 +2,7 @@
 ghost use Rattle.std.specs.Prelude.{◌≡◌, map, option_map, IfOk};
 ghost use Rattle.std.specs.List.{list_all};
 ghost use Rattle.std.specs.Str.{is_utf8};
-ghost use Rattle.nfs_tool.specs.ScriptLines.{number_in, is_skipped, words_in, said_in, line_in};
+ghost use Rattle.nfs_tool.specs.ScriptLines.{number_in, is_space, is_comment, is_skipped, words_in, said_in};
 ghost use Rattle.nfs_tool.specs.ScriptViews.{said_line};
 
 use crate::words::Command;
@@ -34,14 +34,25 @@ fn number_in(word: &[u8]) -> Option<u32>
     Some(value)
 }
 
+/// Whether a line begins with `#`.
+fn is_comment(line: &[u8]) -> bool
+    ensures { result ≡ is_comment line.now }
+{
+    matches!(line, [b'#', ..])
+}
+
+/// Whether nothing but spaces stands in a line.
+fn is_blank(line: &[u8]) -> bool
+    ensures { result ≡ list_all is_space line.now }
+{
+    line.iter().all(|byte| *byte == b' ')
+}
+
 /// Whether a line asks nothing: nothing but spaces stands in it, or it begins with `#`.
 pub(crate) fn is_skipped(line: &[u8]) -> bool
     ensures { result ≡ is_skipped line.now }
 {
-    match line {
-        [b'#', ..] => true,
-        _ => line.iter().all(|byte| *byte == b' '),
-    }
+    is_comment(line) || is_blank(line)
 }
 
 /// The words of a line, which stand between its spaces. None of them is empty.

@@ -1,5 +1,9 @@
 //! Running a script: lines of commands, each by a client of its own, against a hub in memory.
-ghost use Rattle.std.specs.Prelude.{◌≡◌};
+ghost use Rattle.std.specs.Prelude.{◌≡◌, ◌∷◌, [], ◌&&◌, ◌++◌, false, map, option_map, length, codes, decimal};
+ghost use Rattle.std.specs.List.{flat_map};
+ghost use Rattle.nfs_tool.specs.Script.{RunsOver, LineRuns, unconnected, is_refusal, is_answered, fault_line, bad_line, told_text, trail_line, Puts, WritesLine, Tells, LineWrites, Begins, Answers, GoesOn, WritesTrail, Finishes, ScriptGives};
+ghost use Rattle.nfs_tool.specs.ScriptLines.{is_skipped, words_in, line_in};
+ghost use Rattle.nfs_tool.specs.ScriptViews.{said_line};
 
 use crate::client::Client;
 use crate::fault::ToolFault;
@@ -7,10 +11,9 @@ use crate::local::Local;
 use crate::running::Answer;
 use crate::script_line::{Said, is_skipped, is_text, words_in};
 use crate::stream::write_out;
-use access_guard::write_line;
+use access_guard::{Guard, write_line};
 use itoa::Buffer;
 use nfs_hub::{Hub, HubFault};
-use nfs_types::Moment;
 use std::alloc::Allocator;
 use std::io::{Read, Write};
 
@@ -32,7 +35,9 @@ struct Progress<A: Allocator> {
 }
 
 /// The fault of a client whose connection isn't opened.
-fn unconnected(fault: HubFault) -> ToolFault {
+fn unconnected(fault: HubFault) -> ToolFault
+    ensures { result ≡ unconnected fault }
+{
     match fault {
         HubFault::Memory => ToolFault::Memory,
         HubFault::TooMany | HubFault::Exhausted | HubFault::NoSuch | HubFault::Broken => {
@@ -47,7 +52,9 @@ fn run_over<A: Allocator + Copy>(
     local: Local<'_, A>,
     said: Said<'_>,
     verifier: [u8; 8],
-) -> Result<Answer<A>, ToolFault> {
+) -> Result<Answer<A>, ToolFault>
+    ensures { RunsOver local.entry (said_line said.entry) verifier result }
+{
     let mut client = match Client::open(alloc, local, said.uid, said.gid, verifier) {
         Ok(client) => client,
         Err(fault) => return Err(fault),
@@ -63,39 +70,93 @@ fn run<A: Allocator + Copy>(
     hub: &mut Hub<A>,
     said: Said<'_>,
     number: u32,
-) -> Result<Answer<A>, ToolFault> {
+) -> Result<Answer<A>, ToolFault>
+    ensures { LineRuns number (said_line said.entry) result }
+{
     let conn = match hub.connect() {
         Ok(conn) => conn,
         Err(fault) => return Err(unconnected(fault)),
     };
-    let moment = Moment {
-        seconds: i64::from(number),
-        nanoseconds: 0,
-    };
     let verifier = u64::from(number).to_be_bytes();
-    let told = run_over(alloc, Local::new(hub, conn, moment), said, verifier);
+    let local = Local::new(hub, conn, i64::from(number));
+    let told = run_over(alloc, local, said, verifier);
     let _ = hub.close(conn);
     told
 }
 
-/// Writes the text of a fault as a line. Whether the fault is a refusal by the server.
-fn tell_fault<W: Write>(fault: ToolFault, writer: &mut W) -> Result<bool, ToolFault> {
-    write_out(writer, fault.text().as_bytes())?;
-    write_out(writer, b"\n")?;
-    Ok(matches!(fault, ToolFault::Refused(_, _)))
+/// Writes a text, and a newline behind it.
+fn put_line<W: Write>(text: &[u8], writer: &mut W) -> Result<(), ToolFault>
+    ensures { WritesLine text.now (W.contents writer.old) (W.contents writer.new) result }
+{
+    match write_out(writer, text) {
+        Ok(()) => write_out(writer, b"\n"),
+        Err(fault) => Err(fault),
+    }
 }
 
-/// Writes what a line is answered. Whether that is neither `failed` nor, of a line that asks no command, `bad line`.
+/// Writes the text of a fault as a line. Whether the fault is a refusal by the server.
+fn tell_fault<W: Write>(fault: ToolFault, writer: &mut W) -> Result<bool, ToolFault>
+    ensures { Tells (fault_line fault) (is_refusal fault) (W.contents writer.old) (W.contents writer.new) result }
+{
+    match put_line(fault.text().as_bytes(), writer) {
+        Ok(()) => Ok(matches!(fault, ToolFault::Refused(_, _))),
+        Err(fault) => Err(fault),
+    }
+}
+
+/// Writes what a line is answered. Whether that isn't `failed`.
 fn tell<A: Allocator, W: Write>(
     told: Result<Answer<A>, ToolFault>,
     writer: &mut W,
-) -> Result<bool, ToolFault> {
+) -> Result<bool, ToolFault>
+    ensures { Tells (told_text told) (is_answered told) (W.contents writer.old) (W.contents writer.new) result }
+{
     match told {
-        Ok(answer) => {
-            write_out(writer, answer.as_bytes())?;
-            Ok(true)
-        }
+        Ok(answer) => match write_out(writer, answer.as_bytes()) {
+            Ok(()) => Ok(true),
+            Err(fault) => Err(fault),
+        },
         Err(fault) => tell_fault(fault, writer),
+    }
+}
+
+/// Writes that a line asks no command.
+fn tell_bad_line<W: Write>(writer: &mut W) -> Result<bool, ToolFault>
+    ensures { Tells bad_line false (W.contents writer.old) (W.contents writer.new) result }
+{
+    match put_line(b"bad line", writer) {
+        Ok(()) => Ok(false),
+        Err(fault) => Err(fault),
+    }
+}
+
+/// What a line with these words asks.
+fn asked<'a>(line: &[u8], words: &'a [&'a [u8]]) -> Option<Said<'a>>
+    requires { map (λ w. w.now) words.entry.now ≡ words_in line.now }
+    ensures { option_map said_line result ≡ line_in line.now }
+{
+    if is_text(line) {
+        Said::read(words)
+    } else {
+        None
+    }
+}
+
+/// Answers the line of this number, in which something stands. Whether that is neither `bad line` nor `failed`.
+fn answer_words<A: Allocator + Copy, W: Write>(
+    alloc: A,
+    hub: &mut Hub<A>,
+    line: &[u8],
+    number: u32,
+    writer: &mut W,
+) -> Result<bool, ToolFault>
+    requires { is_skipped line.now ≡ false }
+    ensures { LineWrites A number line.now (W.contents writer.old) (W.contents writer.new) result }
+{
+    let words = words_in(alloc, line)?;
+    match asked(line, &words) {
+        Some(said) => tell(run(alloc, hub, said, number), writer),
+        None => tell_bad_line(writer),
     }
 }
 
@@ -106,33 +167,76 @@ fn answer_line<A: Allocator + Copy, W: Write>(
     line: &[u8],
     number: u32,
     writer: &mut W,
-) -> Result<bool, ToolFault> {
+) -> Result<bool, ToolFault>
+    ensures { LineWrites A number line.now (W.contents writer.old) (W.contents writer.new) result }
+{
     if is_skipped(line) {
-        return Ok(true);
-    }
-    let words = words_in(alloc, line)?;
-    match Said::read(&words) {
-        Some(said) if is_text(line) => tell(run(alloc, hub, said, number), writer),
-        _ => {
-            write_out(writer, b"bad line\n")?;
-            Ok(false)
-        }
+        Ok(true)
+    } else {
+        answer_words(alloc, hub, line, number, writer)
     }
 }
 
+fn both(first: bool, second: bool) -> bool
+    ensures { result ≡ (first && second) }
+{
+    first && second
+}
+
 impl<A: Allocator + Copy> Progress<A> {
-    /// Answers the line that is whole now.
-    fn end_line<W: Write>(
+    fn new(alloc: A) -> Self
+        ensures { Begins result }
+    {
+        Progress {
+            line: Vec::new(alloc),
+            lines: 0,
+            is_good: true,
+        }
+    }
+
+    /// Answers what was read of a line as a line. `Read`: there are more lines than so many reads give.
+    fn answer<W: Write>(
         &mut self,
         alloc: A,
         hub: &mut Hub<A>,
         writer: &mut W,
-    ) -> Result<(), ToolFault> {
-        self.lines = self.lines.saturating_add(1);
-        let is_good = answer_line(alloc, hub, &self.line, self.lines, writer)?;
-        self.is_good = self.is_good && is_good;
-        self.line.clear();
-        Ok(())
+    ) -> Result<(), ToolFault>
+        ensures { Answers self.old self.new (W.contents writer.old) (W.contents writer.new) result }
+    {
+        let Some(number) = self.lines.checked_add(1) else {
+            return Err(ToolFault::Read);
+        };
+        match answer_line(alloc, hub, &self.line, number, writer) {
+            Ok(is_good) => {
+                self.lines = number;
+                self.is_good = both(self.is_good, is_good);
+                Ok(())
+            }
+            Err(fault) => Err(fault),
+        }
+    }
+
+    /// Takes a byte of the script, and answers the line that ends with it.
+    fn take_byte<W: Write>(
+        &mut self,
+        alloc: A,
+        hub: &mut Hub<A>,
+        byte: u8,
+        writer: &mut W,
+    ) -> Result<(), ToolFault>
+        ensures { GoesOn self.old self.new (byte ∷ []) (W.contents writer.old) (W.contents writer.new) result }
+    {
+        if byte != b'\n' {
+            self.line.push(byte)?;
+            return Ok(());
+        }
+        match self.answer(alloc, hub, writer) {
+            Ok(()) => {
+                self.line.clear();
+                Ok(())
+            }
+            Err(fault) => Err(fault),
+        }
     }
 
     /// Goes through a piece of the script, and answers each line that ends in it.
@@ -142,47 +246,74 @@ impl<A: Allocator + Copy> Progress<A> {
         hub: &mut Hub<A>,
         piece: &[u8],
         writer: &mut W,
-    ) -> Result<(), ToolFault> {
+    ) -> Result<(), ToolFault>
+        ensures { GoesOn self.old self.new piece.now (W.contents writer.old) (W.contents writer.new) result }
+    {
         for byte in piece {
-            if *byte == b'\n' {
-                self.end_line(alloc, hub, writer)?;
-            } else {
-                self.line.push(*byte)?;
+            match self.take_byte(alloc, hub, *byte, writer) {
+                Ok(()) => {}
+                Err(fault) => return Err(fault),
             }
         }
         Ok(())
     }
 }
 
-/// Writes how many lines the trail had, and those that are kept.
-fn tell_trail<A: Allocator + Copy, W: Write>(
-    hub: &Hub<A>,
-    writer: &mut W,
-) -> Result<(), ToolFault> {
-    let guard = hub.server().guard();
-    write_out(writer, b"trail ")?;
-    write_out(writer, Buffer::new().format(guard.total()).as_bytes())?;
-    write_out(writer, b"\n")?;
+/// Writes how many lines the trail had.
+fn tell_total<W: Write>(total: u64, writer: &mut W) -> Result<(), ToolFault>
+    ensures { WritesLine (codes "trail " ++ decimal total) (W.contents writer.old) (W.contents writer.new) result }
+{
+    match write_out(writer, b"trail ") {
+        Ok(()) => put_line(Buffer::new().format(total).as_bytes(), writer),
+        Err(fault) => Err(fault),
+    }
+}
+
+/// Writes the lines of the trail that are kept.
+fn tell_lines<A: Allocator + Copy, W: Write>(guard: &Guard<A>, writer: &mut W) -> Result<(), ToolFault>
+    ensures { Puts (flat_map trail_line guard.now.log.trail) (W.contents writer.old) (W.contents writer.new) result }
+{
     for line in guard.trail() {
-        write_out(writer, write_line(line).as_bytes())?;
-        write_out(writer, b"\n")?;
+        match put_line(write_line(line).as_bytes(), writer) {
+            Ok(()) => {}
+            Err(fault) => return Err(fault),
+        }
     }
     Ok(())
 }
 
-/// Answers a last line without a newline, and tells the trail.
+/// Writes how many lines the trail had, and those that are kept.
+fn tell_trail<A: Allocator + Copy, W: Write>(
+    hub: &Hub<A>,
+    writer: &mut W,
+) -> Result<(), ToolFault>
+    ensures { WritesTrail hub.now (W.contents writer.old) (W.contents writer.new) result }
+{
+    let guard = hub.server().guard();
+    match tell_total(guard.total(), writer) {
+        Ok(()) => tell_lines(guard, writer),
+        Err(fault) => Err(fault),
+    }
+}
+
+/// Answers what is left behind the last newline, and tells the trail.
 fn finish<A: Allocator + Copy, W: Write>(
     alloc: A,
     hub: &mut Hub<A>,
     progress: Progress<A>,
     writer: &mut W,
-) -> Result<bool, ToolFault> {
+) -> Result<bool, ToolFault>
+    ensures { Finishes progress hub.new (W.contents writer.old) (W.contents writer.new) result }
+{
     let mut progress = progress;
-    if !progress.line.is_empty() {
-        progress.end_line(alloc, hub, writer)?;
+    match progress.answer(alloc, hub, writer) {
+        Ok(()) => {}
+        Err(fault) => return Err(fault),
     }
-    tell_trail(hub, writer)?;
-    Ok(progress.is_good)
+    match tell_trail(hub, writer) {
+        Ok(()) => Ok(progress.is_good),
+        Err(fault) => Err(fault),
+    }
 }
 
 /// Runs a script: lines `as UID GID COMMAND ..`, whose words stand between spaces. A line of nothing but spaces, or one that begins with `#`,
@@ -198,12 +329,10 @@ pub fn script<A: Allocator + Copy, R: Read, W: Write>(
     hub: &mut Hub<A>,
     reader: &mut R,
     writer: &mut W,
-) -> Result<bool, ToolFault> {
-    let mut progress = Progress {
-        line: Vec::new(alloc),
-        lines: 0,
-        is_good: true,
-    };
+) -> Result<bool, ToolFault>
+    ensures { ScriptGives hub.new (R.remaining reader.old) (R.remaining reader.new) (W.contents writer.old) (W.contents writer.new) result }
+{
+    let mut progress = Progress::new(alloc);
     for _read in 0..MOST_READS {
         let mut buf = [0u8; PIECE];
         let Ok(n) = reader.read(&mut buf) else {
@@ -212,7 +341,10 @@ pub fn script<A: Allocator + Copy, R: Read, W: Write>(
         if n == 0 {
             return finish(alloc, hub, progress, writer);
         }
-        progress.take(alloc, hub, &buf[..n], writer)?;
+        match progress.take(alloc, hub, &buf[..n], writer) {
+            Ok(()) => {}
+            Err(fault) => return Err(fault),
+        }
     }
     Err(ToolFault::Read)
 }

@@ -8,9 +8,13 @@ mod catting;
 #[cfg(test)]
 mod failing;
 #[cfg(test)]
+mod listing;
+#[cfg(test)]
 mod memory;
 #[cfg(test)]
 mod played;
+#[cfg(test)]
+mod putting;
 #[cfg(test)]
 mod refusals;
 #[cfg(test)]

@@ -62,8 +62,9 @@ fn memory_is_refused_until_there_is_enough(rt: HostRuntime) -> Result<(), Fail> 
     let gives = reply(alloc, 1, 0, 3, BEGUN, &list)?;
     let mut refused = false;
     let mut done = false;
-    for step in 0..24 {
-        let heap = LocalHeap::new(alloc, 131_000 + 64 * step)?;
+    for step in 0..24usize {
+        let size = step.saturating_mul(64).saturating_add(131_000);
+        let heap = LocalHeap::new(alloc, size)?;
         let (told, then) = listed(&gives, &heap);
         assert_eq!(rt; then, Err(ToolFault::Path));
         if told == Some(ToolFault::Memory) {

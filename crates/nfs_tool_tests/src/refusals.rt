@@ -51,6 +51,10 @@ fn run(client: &mut Client<Given<'_>>, name: &str) -> Result<(), ToolFault> {
         client.getacl(b"/").map(|_| ())
     } else if name == "cat" {
         client.cat(b"/").map(|_| ())
+    } else if name == "ls" {
+        client.ls(b"/").map(|_| ())
+    } else if name == "put" {
+        client.put(b"/f", b"hi")
     } else {
         client.access(b"/").map(|_| ())
     }
@@ -187,7 +191,7 @@ fn attributes_are_refused(rt: HostRuntime) -> Result<(), Fail> {
 
 /// The commands.
 const NAMES: &[&str] = &[
-    "rm", "mkdir", "ln", "mv", "chmod", "setacl", "getacl", "access", "cat",
+    "rm", "mkdir", "ln", "mv", "chmod", "setacl", "getacl", "access", "cat", "ls", "put",
 ];
 
 #[test]
