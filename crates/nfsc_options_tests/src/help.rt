@@ -23,7 +23,7 @@ fn lab_help(alloc: Global) -> Result<String, AllocError> {
 }
 
 /// Texts of the help of `nfsc`: what is run, where, the options with their ranges, and an example.
-static TEXTS: [&str; 9] = [
+static TEXTS: [&str; 10] = [
     "NFS version 4.1",
     "127.0.0.1",
     "Usage: nfsc --port <N> --uid <N> --gid <N> <COMMAND>...\n",
@@ -33,6 +33,7 @@ static TEXTS: [&str; 9] = [
     "--gid <N>",
     "from 0 to 4294967295",
     "-h, --help",
+    "    nfsc --port 2049 --uid 0 --gid 0 put /notes hi\n",
 ];
 
 /// Texts of the help of `nfslab`: what is run, the form of a line, the option, and an example.

@@ -6,7 +6,14 @@ use std::test::Fail;
 /// A line, and the port, the user, the group and the words of the command that it says, split at spaces.
 type Row = (&'static str, u16, u32, u32, &'static str);
 
-static ROWS: [Row; 14] = [
+static ROWS: [Row; 15] = [
+    (
+        "nfsc --port 2049 --uid 0 --gid 0 put /notes hi",
+        2049,
+        0,
+        0,
+        "put /notes hi",
+    ),
     (
         "nfsc --port 2049 --uid 1001 --gid 100 ls /",
         2049,
