@@ -45,13 +45,13 @@ keeps_front a (Some y) (Some z) bs p q = q ∙ append-nil y
 
 -- ---- reading
 
-consumes_trans : (a b c : Option (List ℕ)) (bs cs : List ℕ) → Consumes a b bs → Consumes b c cs → Consumes a c (bs ++ cs)
+pub consumes_trans : (a b c : Option (List ℕ)) (bs cs : List ℕ) → Consumes a b bs → Consumes b c cs → Consumes a c (bs ++ cs)
 consumes_trans None b c bs cs p q = tt
 consumes_trans (Some x) None c bs cs p q = absurd p
 consumes_trans (Some x) (Some y) None bs cs p q = absurd q
 consumes_trans (Some x) (Some y) (Some z) bs cs p q = p ∙ ap (λ (l : List ℕ). bs ++ l) q ∙ sym (append_assoc bs cs z)
 
-consumes_none : (a : Option (List ℕ)) → Consumes a a []
+pub consumes_none : (a : Option (List ℕ)) → Consumes a a []
 consumes_none None = tt
 consumes_none (Some x) = refl
 

@@ -1,6 +1,5 @@
 -- What a script prints: the answer to each line, and behind the last line the trail.
-use Rattle.std.specs.Prelude.{◌≡◌, ◌⊎◌, ℕ, ◌≤◌, ◌==◌, ◌&&◌, not, Bool, true, false, List, [], ◌∷◌, ◌++◌, length, codes, decimal, pos, Option, Some, None, Result, Ok, Err}
-use Rattle.std.specs.Int.{w64, to_be_bytes}
+use Rattle.std.specs.Prelude.{◌≡◌, ◌⊎◌, ℕ, ◌≤◌, ◌==◌, ◌&&◌, not, Bool, true, false, List, [], ◌∷◌, ◌++◌, length, codes, decimal, Option, Some, None, Result, Ok, Err}
 use Rattle.std.specs.List.{flat_map, list_all}
 use Rattle.std.specs.Io.KnownBytes.{Appends, Consumes, IsAtEnd}
 use Rattle.access_guard.specs.Text.{line_text}
@@ -12,12 +11,10 @@ use Rattle.nfs_hub.specs.declared.fault.HubFault.{HubFault}
 use Rattle.nfs_hub.specs.declared.fault.HubFault.TheVariants as hub_fault
 use Rattle.nfs_tool.specs.AnswerTexts.{answer_text}
 use Rattle.nfs_tool.specs.FaultTexts.{fault_text}
-use Rattle.nfs_tool.specs.LocalStreams.{unknown, pending_of}
 use Rattle.nfs_tool.specs.Running.{Runs}
 use Rattle.nfs_tool.specs.ScriptLines.{Said, is_skipped, line_in}
 use Rattle.nfs_tool.specs.Sessions.{OpenGives}
 use Rattle.nfs_tool.specs.declared.client.Client.{Client}
-use Rattle.nfs_tool.specs.declared.local.Local.{Local}
 use Rattle.nfs_tool.specs.declared.running.Answer.{Answer}
 use Rattle.nfs_tool.specs.declared.scripting.Progress.{Progress}
 use Rattle.nfs_tool.specs.declared.fault.ToolFault.{ToolFault}
@@ -26,10 +23,10 @@ use Rattle.nfs_tool.specs.declared.fault.ToolFault.TheVariants.{Refused, Read, W
 -- ---- what a line's command tells
 
 -- the command of a client with a session of its own, over a stream; or no session is opened
-abbrev pub RunsOver : {A : Type 0} → Local A → Said → List ℕ → Result (Answer A) ToolFault → Type 0
-RunsOver {A} local said verifier told =
-    ((fault : ToolFault) × OpenGives {S = Local A} {A = A} unknown pending_of local said.uid said.gid verifier (Err fault) × (told ≡ Err fault))
-    ⊎ ((old : Client (Local A) A) × (new : Client (Local A) A) × OpenGives unknown pending_of local said.uid said.gid verifier (Ok old) × Runs unknown pending_of said.command old new told)
+abbrev pub RunsOver : {S A : Type 0} → (S → Option (List ℕ)) → (S → Option (List ℕ)) → S → Said → List ℕ → Result (Answer A) ToolFault → Type 0
+RunsOver {S} {A} contents remaining stream said verifier told =
+    ((fault : ToolFault) × OpenGives {S = S} {A = A} contents remaining stream said.uid said.gid verifier (Err fault) × (told ≡ Err fault))
+    ⊎ ((old : Client S A) × (new : Client S A) × OpenGives contents remaining stream said.uid said.gid verifier (Ok old) × Runs contents remaining said.command old new told)
 
 -- a client whose connection isn't opened can't write to it
 abbrev pub unconnected : HubFault → ToolFault
@@ -38,12 +35,6 @@ unconnected hub_fault.TooMany = Write
 unconnected hub_fault.Exhausted = Write
 unconnected hub_fault.NoSuch = Write
 unconnected hub_fault.Broken = Write
-
--- what the line of a number tells: over a connection of its own, as many seconds behind the epoch, by a verifier of its own
-abbrev pub LineRuns : {A : Type 0} → ℕ → Said → Result (Answer A) ToolFault → Type 0
-LineRuns {A} number said told =
-    ((fault : HubFault) × (told ≡ Err (unconnected fault)))
-    ⊎ ((local : Local A) × (local.seconds ≡ pos number) × RunsOver local said (to_be_bytes w64 number) told)
 
 -- ---- what is printed of it
 
@@ -68,21 +59,20 @@ abbrev pub bad_line : List ℕ
 bad_line = codes "bad line" ++ 10 ∷ []
 
 -- a line that asks a command prints what that tells
-pub record Asked (A : Type 0) (number : ℕ) (line out : List ℕ) (good : Bool) : Type 0 where
+pub record Asked (A : Type 0) (line out : List ℕ) (good : Bool) : Type 0 where
   pub asks : is_skipped line ≡ false
   pub said : Said
   pub is : line_in line ≡ Some said
   pub told : Result (Answer A) ToolFault
-  pub runs : LineRuns number said told
   pub text : out ≡ told_text told
   pub answered : good ≡ is_answered told
 
--- What the line of a number prints, and whether that is neither `bad line` nor `failed`. A line that is skipped prints nothing.
-abbrev pub LinePrints : (A : Type 0) → ℕ → List ℕ → List ℕ → Bool → Type 0
-LinePrints A number line out good =
+-- What a line prints, and whether that is neither `bad line` nor `failed`. A line that is skipped prints nothing.
+abbrev pub LinePrints : (A : Type 0) → List ℕ → List ℕ → Bool → Type 0
+LinePrints A line out good =
     ((is_skipped line ≡ true) × (out ≡ []) × (good ≡ true))
     ⊎ ((is_skipped line ≡ false) × (line_in line ≡ None) × (out ≡ bad_line) × (good ≡ false))
-    ⊎ Asked A number line out good
+    ⊎ Asked A line out good
 
 -- ---- lines, the last of them first
 
@@ -91,7 +81,7 @@ abbrev pub Print : (A : Type 0) → List (List ℕ) → List ℕ → Bool → Ty
 Print A [] out good = (out ≡ []) × (good ≡ true)
 Print A (line ∷ before) out good =
     (earlier : List ℕ) × (was_good : Bool) × (printed : List ℕ) × (is_good : Bool) × Print A before earlier was_good
-    × LinePrints A (length (line ∷ before)) line printed is_good × (out ≡ earlier ++ printed) × (good ≡ (was_good && is_good))
+    × LinePrints A line printed is_good × (out ≡ earlier ++ printed) × (good ≡ (was_good && is_good))
 
 abbrev pub is_within : ℕ → Bool
 is_within b = not (b == 10)
@@ -138,7 +128,6 @@ pub record Stands {A : Type 0} (p : Progress A) (text out : List ℕ) : Type 0 w
   pub whole : List (List ℕ)
   pub cut : IsCut text whole p.line.items
   pub printed : Print A whole out p.is_good
-  pub count : p.lines ≡ length whole
 
 -- nothing was read or printed
 abbrev pub Begins : {A : Type 0} → Progress A → Type 0
@@ -158,22 +147,21 @@ abbrev pub Tells : List ℕ → Bool → Option (List ℕ) → Option (List ℕ)
 Tells text good held held' (Ok told) = (told ≡ good) × Appends held held' text
 Tells text good held held' (Err fault) = fault ≡ Write
 
--- what the line of a number prints is written
-abbrev pub LineWrites : (A : Type 0) → ℕ → List ℕ → Option (List ℕ) → Option (List ℕ) → Result Bool ToolFault → Type 0
-LineWrites A number line held held' (Ok good) = (printed : List ℕ) × LinePrints A number line printed good × Appends held held' printed
-LineWrites A number line held held' (Err fault) = IsScriptFault fault
+-- what a line prints is written
+abbrev pub LineWrites : (A : Type 0) → List ℕ → Option (List ℕ) → Option (List ℕ) → Result Bool ToolFault → Type 0
+LineWrites A line held held' (Ok good) = (printed : List ℕ) × LinePrints A line printed good × Appends held held' printed
+LineWrites A line held held' (Err fault) = IsScriptFault fault
 
 -- the line that was read so far is answered behind these, and stays
 pub record Answered {A : Type 0} (old new : Progress A) (held held' : Option (List ℕ)) (whole : List (List ℕ)) (out : List ℕ) : Type 0 where
   pub printed : List ℕ
   pub wrote : Appends held held' printed
   pub prints : Print A (old.line.items ∷ whole) (out ++ printed) new.is_good
-  pub count : new.lines ≡ length (old.line.items ∷ whole)
   pub line : new.line ≡ old.line
 
 abbrev pub Answers : {A : Type 0} → Progress A → Progress A → Option (List ℕ) → Option (List ℕ) → Result (Unit {0}) ToolFault → Type 0
 Answers {A = A} old new held held' (Ok done) =
-    (whole : List (List ℕ)) → (out : List ℕ) → Print A whole out old.is_good → old.lines ≡ length whole → Answered old new held held' whole out
+    (whole : List (List ℕ)) → (out : List ℕ) → Print A whole out old.is_good → Answered old new held held' whole out
 Answers old new held held' (Err fault) = IsScriptFault fault
 
 -- it goes on behind this piece, of which is printed what is written

@@ -1,7 +1,7 @@
 //! Running a script: lines of commands, each by a client of its own, against a hub in memory.
 ghost use Rattle.std.specs.Prelude.{◌≡◌, ◌∷◌, [], ◌&&◌, ◌++◌, false, map, option_map, length, codes, decimal};
 ghost use Rattle.std.specs.List.{flat_map};
-ghost use Rattle.nfs_tool.specs.Script.{RunsOver, LineRuns, unconnected, is_refusal, is_answered, fault_line, bad_line, told_text, trail_line, Puts, WritesLine, Tells, LineWrites, Begins, Answers, GoesOn, WritesTrail, Finishes, ScriptGives};
+ghost use Rattle.nfs_tool.specs.Script.{RunsOver, unconnected, is_refusal, is_answered, fault_line, bad_line, told_text, trail_line, Puts, WritesLine, Tells, LineWrites, Begins, Answers, GoesOn, WritesTrail, Finishes, ScriptGives};
 ghost use Rattle.nfs_tool.specs.ScriptLines.{is_skipped, words_in, line_in};
 ghost use Rattle.nfs_tool.specs.ScriptViews.{said_line};
 
@@ -47,15 +47,15 @@ fn unconnected(fault: HubFault) -> ToolFault
 }
 
 /// Runs a command by a client and a session of its own. The session is ended behind the command, also where that was refused.
-fn run_over<A: Allocator + Copy>(
+fn run_over<S: Read + Write + Drop, A: Allocator + Copy>(
     alloc: A,
-    local: Local<'_, A>,
+    stream: S,
     said: Said<'_>,
     verifier: [u8; 8],
 ) -> Result<Answer<A>, ToolFault>
-    ensures { RunsOver local.entry (said_line said.entry) verifier result }
+    ensures { RunsOver S.contents S.remaining stream (said_line said.entry) verifier result }
 {
-    let mut client = match Client::open(alloc, local, said.uid, said.gid, verifier) {
+    let mut client = match Client::open(alloc, stream, said.uid, said.gid, verifier) {
         Ok(client) => client,
         Err(fault) => return Err(fault),
     };
@@ -64,15 +64,14 @@ fn run_over<A: Allocator + Copy>(
     told
 }
 
-/// Runs what the line of this number asks over a connection of its own, at the moment of so many seconds.
+/// Runs what the line of this number asks over a connection of its own, at the moment of so many seconds. No verifier is used by two
+/// lines.
 fn run<A: Allocator + Copy>(
     alloc: A,
     hub: &mut Hub<A>,
     said: Said<'_>,
     number: u32,
-) -> Result<Answer<A>, ToolFault>
-    ensures { LineRuns number (said_line said.entry) result }
-{
+) -> Result<Answer<A>, ToolFault> {
     let conn = match hub.connect() {
         Ok(conn) => conn,
         Err(fault) => return Err(unconnected(fault)),
@@ -132,7 +131,7 @@ fn tell_bad_line<W: Write>(writer: &mut W) -> Result<bool, ToolFault>
 
 /// What a line with these words asks.
 fn asked<'a>(line: &[u8], words: &'a [&'a [u8]]) -> Option<Said<'a>>
-    requires { map (λ w. w.now) words.entry.now ≡ words_in line.now }
+    requires { map (λ w. w.now) words.now ≡ words_in line.now }
     ensures { option_map said_line result ≡ line_in line.now }
 {
     if is_text(line) {
@@ -151,7 +150,7 @@ fn answer_words<A: Allocator + Copy, W: Write>(
     writer: &mut W,
 ) -> Result<bool, ToolFault>
     requires { is_skipped line.now ≡ false }
-    ensures { LineWrites A number line.now (W.contents writer.old) (W.contents writer.new) result }
+    ensures { LineWrites A line.now (W.contents writer.old) (W.contents writer.new) result }
 {
     let words = words_in(alloc, line)?;
     match asked(line, &words) {
@@ -168,7 +167,7 @@ fn answer_line<A: Allocator + Copy, W: Write>(
     number: u32,
     writer: &mut W,
 ) -> Result<bool, ToolFault>
-    ensures { LineWrites A number line.now (W.contents writer.old) (W.contents writer.new) result }
+    ensures { LineWrites A line.now (W.contents writer.old) (W.contents writer.new) result }
 {
     if is_skipped(line) {
         Ok(true)
@@ -270,7 +269,10 @@ fn tell_total<W: Write>(total: u64, writer: &mut W) -> Result<(), ToolFault>
 }
 
 /// Writes the lines of the trail that are kept.
-fn tell_lines<A: Allocator + Copy, W: Write>(guard: &Guard<A>, writer: &mut W) -> Result<(), ToolFault>
+fn tell_lines<A: Allocator + Copy, W: Write>(
+    guard: &Guard<A>,
+    writer: &mut W,
+) -> Result<(), ToolFault>
     ensures { Puts (flat_map trail_line guard.now.log.trail) (W.contents writer.old) (W.contents writer.new) result }
 {
     for line in guard.trail() {
@@ -283,10 +285,7 @@ fn tell_lines<A: Allocator + Copy, W: Write>(guard: &Guard<A>, writer: &mut W) -
 }
 
 /// Writes how many lines the trail had, and those that are kept.
-fn tell_trail<A: Allocator + Copy, W: Write>(
-    hub: &Hub<A>,
-    writer: &mut W,
-) -> Result<(), ToolFault>
+fn tell_trail<A: Allocator + Copy, W: Write>(hub: &Hub<A>, writer: &mut W) -> Result<(), ToolFault>
     ensures { WritesTrail hub.now (W.contents writer.old) (W.contents writer.new) result }
 {
     let guard = hub.server().guard();

@@ -10,6 +10,8 @@ mod failing;
 #[cfg(test)]
 mod listing;
 #[cfg(test)]
+mod local;
+#[cfg(test)]
 mod memory;
 #[cfg(test)]
 mod played;

@@ -54,6 +54,35 @@ fn modes_are_read_and_written(rt: HostRuntime) -> Result<(), Fail> {
 }
 
 #[test]
+fn faults_have_texts(rt: HostRuntime) -> Result<(), Fail> {
+    let texts: [(ToolFault, &str); 10] = [
+        (ToolFault::Path, "failed 1"),
+        (ToolFault::Reply, "failed 3"),
+        (ToolFault::Read, "failed 4"),
+        (ToolFault::Write, "failed 5"),
+        (ToolFault::Memory, "failed 6"),
+        (ToolFault::Entry, "failed 7"),
+        (ToolFault::Failed, "failed 8"),
+        (
+            ToolFault::Refused(25, Status::Access),
+            "refused READ ACCESS",
+        ),
+        (
+            ToolFault::Refused(57, Status::RepTooBigToCache),
+            "refused DESTROY_CLIENTID REP_TOO_BIG_TO_CACHE",
+        ),
+        (
+            ToolFault::Refused(4_294_967_295, Status::NoEnt),
+            "refused 4294967295 NOENT",
+        ),
+    ];
+    for (fault, text) in texts {
+        assert!(rt; fault.text().as_bytes() == text.as_bytes());
+    }
+    Ok(())
+}
+
+#[test]
 fn lines_are_written(rt: HostRuntime) -> Result<(), Fail> {
     let mut text = Vec::new(rt.alloc());
     let known = Listed {

@@ -1,0 +1,124 @@
+//! A stream over a connection of a hub, with the bytes of its calls by hand (RFC 5531, sections 9 and 11).
+use crate::replies::bytes_of;
+use nfs_hub::{ConnId, Hub, HubFault};
+use nfs_tool::{Client, Local};
+use std::alloc::{AllocError, Global};
+use std::hash::RandomState;
+use std::io::{self, ErrorKind, Read, Write};
+use std::test::Fail;
+use who_book::Book;
+
+/// A call of NULL.
+const NULL: &[u32] = &[0x8000_0028, 1, 0, 2, 100_003, 4, 0, 0, 0, 0, 0];
+
+/// Its reply.
+const DONE: &[u32] = &[0x8000_0018, 1, 1, 0, 0, 0, 0];
+
+fn sample(alloc: Global, hasher: RandomState) -> Result<Hub, AllocError> {
+    Hub::bare(alloc, alloc, hasher)
+}
+
+fn connect(hub: &mut Hub) -> Result<ConnId, HubFault> {
+    hub.connect()
+}
+
+/// How many bytes of these are written to a connection, or the kind of the error.
+fn written(hub: &mut Hub, conn: ConnId, bytes: &[u8]) -> Result<usize, ErrorKind> {
+    let mut local = Local::new(hub, conn, 5);
+    local.write(bytes).map_err(|error| error.kind())
+}
+
+/// How many bytes a read of at most so many gives of a connection, or the kind of the error.
+fn read(hub: &mut Hub, conn: ConnId, buf: &mut [u8]) -> Result<usize, ErrorKind> {
+    let mut local = Local::new(hub, conn, 5);
+    local.read(buf).map_err(|error| error.kind())
+}
+
+#[test]
+fn a_reply_is_read_in_pieces(rt: HostRuntime) -> Result<(), Fail> {
+    let alloc = rt.alloc();
+    let call = bytes_of(alloc, NULL)?;
+    let reply = bytes_of(alloc, DONE)?;
+    let mut hub = sample(alloc, RandomState::new(&rt)?)?;
+    let conn = connect(&mut hub)?;
+    let mut buf = [9; 20];
+    assert_eq!(rt; read(&mut hub, conn, &mut buf), Ok(0));
+    assert_eq!(rt; written(&mut hub, conn, &call[..7]), Ok(7));
+    assert_eq!(rt; read(&mut hub, conn, &mut buf), Ok(0));
+    assert_eq!(rt; written(&mut hub, conn, &call[7..]), Ok(37));
+    assert_eq!(rt; read(&mut hub, conn, &mut buf), Ok(20));
+    assert!(rt; buf.as_slice() == &reply[..20]);
+    assert_eq!(rt; read(&mut hub, conn, &mut buf), Ok(8));
+    assert!(rt; &buf[..8] == &reply[20..]);
+    assert!(rt; &buf[8..] == &reply[8..20]);
+    assert_eq!(rt; read(&mut hub, conn, &mut buf), Ok(0));
+    Ok(())
+}
+
+#[test]
+fn connections_are_apart(rt: HostRuntime) -> Result<(), Fail> {
+    let alloc = rt.alloc();
+    let call = bytes_of(alloc, NULL)?;
+    let mut hub = sample(alloc, RandomState::new(&rt)?)?;
+    let first = connect(&mut hub)?;
+    let second = connect(&mut hub)?;
+    let mut buf = [0; 64];
+    assert_eq!(rt; written(&mut hub, first, &call), Ok(44));
+    assert_eq!(rt; read(&mut hub, second, &mut buf), Ok(0));
+    assert_eq!(rt; read(&mut hub, first, &mut buf), Ok(28));
+    Ok(())
+}
+
+/// A record above 131,072 bytes breaks the connection. What was pending is still read.
+#[test]
+fn a_broken_connection_takes_nothing(rt: HostRuntime) -> Result<(), Fail> {
+    let alloc = rt.alloc();
+    let mut bytes = bytes_of(alloc, NULL)?;
+    bytes.extend_from_slice(&bytes_of(alloc, &[0x8002_0001])?)?;
+    let mut hub = sample(alloc, RandomState::new(&rt)?)?;
+    let conn = connect(&mut hub)?;
+    let mut buf = [0; 64];
+    assert_eq!(rt; written(&mut hub, conn, &bytes), Err(ErrorKind::BrokenPipe));
+    assert_eq!(rt; written(&mut hub, conn, &bytes), Err(ErrorKind::BrokenPipe));
+    assert_eq!(rt; read(&mut hub, conn, &mut buf), Ok(28));
+    Ok(())
+}
+
+#[test]
+fn a_closed_connection_is_none(rt: HostRuntime) -> Result<(), Fail> {
+    let mut hub = sample(rt.alloc(), RandomState::new(&rt)?)?;
+    let conn = connect(&mut hub)?;
+    hub.close(conn)?;
+    let mut buf = [0; 64];
+    assert_eq!(rt; written(&mut hub, conn, &[]), Err(ErrorKind::NotConnected));
+    assert_eq!(rt;
+        read(&mut hub, conn, &mut buf),
+        Err(ErrorKind::NotConnected)
+    );
+    Ok(())
+}
+
+/// The second of the last change of an object's bytes, if it is there.
+fn changed_at(hub: &Hub, number: u64) -> Option<i64> {
+    let node = hub.server().tree().object(number)?;
+    Some(node.time_modify().seconds)
+}
+
+/// Opens a client at a moment, puts a file, and ends the client.
+fn put_at(alloc: Global, hub: &mut Hub, conn: ConnId, seconds: i64) -> Result<(), Fail> {
+    let local = Local::new(hub, conn, seconds);
+    let mut client = Client::open(alloc, local, 0, 0, [1; 8])?;
+    client.put(b"/f", b"hi")?;
+    client.end()?;
+    Ok(())
+}
+
+#[test]
+fn each_call_has_the_moment(rt: HostRuntime) -> Result<(), Fail> {
+    let alloc = rt.alloc();
+    let mut hub = Hub::new(alloc, Book::default(alloc), RandomState::new(&rt)?)?;
+    let conn = connect(&mut hub)?;
+    put_at(alloc, &mut hub, conn, 77)?;
+    assert_eq!(rt; changed_at(&hub, 2), Some(77));
+    Ok(())
+}
