@@ -1,0 +1,5 @@
+mod Plain
+mod Rules
+mod Numbers
+mod Answers
+mod Taken

@@ -1,0 +1,80 @@
+//! The command of `nfsc`, with its help.
+ghost use Rattle.std.specs.Prelude.{◌≡◌, IfOk, false};
+ghost use Rattle.clap.specs.Words.{app_of, rule_of};
+ghost use Rattle.nfsc_options.specs.Simple.{command_rule, gid_rule, nfsc, port_rule, uid_rule};
+
+use crate::commands::COMMANDS;
+use clap::{Arg, ArgAction, Command, value_parser};
+use std::alloc::{AllocError, Global};
+
+/// What is run, and where.
+const ABOUT: &str = "\
+Runs one command on the NFS version 4.1 server at 127.0.0.1, as this user in this group, and prints its answer.
+
+For example, on the server at port 2049:
+
+    nfsc --port 2049 --uid 0 --gid 0 put /notes hi
+    nfsc --port 2049 --uid 0 --gid 0 ls /";
+
+/// The command of `nfsc`, as `clap` reads it.
+pub(crate) fn command<'a>(alloc: Global) -> Result<Command<'a>, AllocError>
+    ensures { IfOk result (λ c. app_of c ≡ nfsc) }
+{
+    let command = Command::new(alloc, "nfsc")
+        .about(ABOUT)
+        .after_help(COMMANDS)
+        .arg(port(alloc))?
+        .arg(uid(alloc))?
+        .arg(gid(alloc))?
+        .arg(words(alloc))?;
+    Ok(command)
+}
+
+fn port<'a>(alloc: Global) -> Arg<'a>
+    ensures { (rule_of result ≡ port_rule) × (result.global ≡ false) }
+{
+    Arg::new(alloc, "port")
+        .long("port")
+        .value_name("N")
+        .required(true)
+        .action(ArgAction::Set)
+        .value_parser(value_parser!(u16).range(1..))
+        .help("The port of the server, from 1 to 65535")
+}
+
+fn uid<'a>(alloc: Global) -> Arg<'a>
+    ensures { (rule_of result ≡ uid_rule) × (result.global ≡ false) }
+{
+    Arg::new(alloc, "uid")
+        .long("uid")
+        .value_name("N")
+        .required(true)
+        .action(ArgAction::Set)
+        .value_parser(value_parser!(u32))
+        .help("The user's number, from 0 to 4294967295")
+}
+
+fn gid<'a>(alloc: Global) -> Arg<'a>
+    ensures { (rule_of result ≡ gid_rule) × (result.global ≡ false) }
+{
+    Arg::new(alloc, "gid")
+        .long("gid")
+        .value_name("N")
+        .required(true)
+        .action(ArgAction::Set)
+        .value_parser(value_parser!(u32))
+        .help("The group's number, from 0 to 4294967295")
+}
+
+/// The words of the command. Behind the first of them a hyphen has no meaning.
+fn words<'a>(alloc: Global) -> Arg<'a>
+    ensures { (rule_of result ≡ command_rule) × (result.global ≡ false) }
+{
+    Arg::new(alloc, "command")
+        .value_name("COMMAND")
+        .required(true)
+        .action(ArgAction::Set)
+        .num_args(1..)
+        .trailing_var_arg(true)
+        .help("The command and its words, with the options before it")
+}

@@ -1,0 +1,32 @@
+//! What the words of `nfslab` say.
+ghost use Rattle.std.specs.Prelude.{IfOk, map};
+ghost use Rattle.clap.specs.Words.{FailsBy, fault_of};
+ghost use Rattle.nfsc_options.specs.Simple.{nfslab};
+ghost use Rattle.nfsc_options.specs.Given.{LabOptionsOf};
+
+use crate::lab_command::lab_command;
+use clap::Error;
+use std::alloc::Global;
+use std::convert::AsStr;
+
+/// What the words of `nfslab` say.
+#[derive(Clone, Copy, Debug, PartialEq, Eq)]
+pub struct LabOptions<'a> {
+    /// The file of the book.
+    pub book: Option<&'a str>,
+}
+
+impl<'a> LabOptions<'a> {
+    /// Reads the words, of which the first is the program's name, as in `env::args`.
+    ///
+    /// An error is `clap`'s own: a mistake in the words, a call for help, or want of memory. Its `Display` is the text for the user.
+    pub fn read<S: AsStr>(alloc: Global, words: &'a [S]) -> Result<LabOptions<'a>, Error>
+        ensures said { IfOk result (LabOptionsOf (map S.text words.entry.now)) }
+        ensures refused { FailsBy (fault_of nfslab (map S.text words.entry.now)) result }
+    {
+        let matches = lab_command(alloc)?.try_get_matches_from(words)?;
+        Ok(LabOptions {
+            book: matches.get_str("book"),
+        })
+    }
+}

@@ -1,0 +1,42 @@
+//! What the words of `nfsc` say.
+ghost use Rattle.std.specs.Prelude.{IfOk, map};
+ghost use Rattle.clap.specs.Words.{FailsBy, fault_of};
+ghost use Rattle.nfsc_options.specs.Simple.{nfsc};
+ghost use Rattle.nfsc_options.specs.Given.{OptionsOf};
+
+use crate::command::command;
+use clap::Error;
+use std::alloc::Global;
+use std::convert::AsStr;
+
+/// What the words of `nfsc` say.
+#[derive(Debug, Drop)]
+pub struct Options<'a> {
+    /// The port of the server, 1 to 65535.
+    pub port: u16,
+    /// The user's number.
+    pub uid: u32,
+    /// The group's number.
+    pub gid: u32,
+    /// The words of the command, its name first.
+    pub words: Vec<&'a str>,
+}
+
+impl<'a> Options<'a> {
+    /// Reads the words, of which the first is the program's name, as in `env::args`. Which words make a command isn't looked at.
+    ///
+    /// An error is `clap`'s own: a mistake in the words, a call for help, or want of memory. Its `Display` is the text for the user.
+    pub fn read<S: AsStr>(alloc: Global, words: &'a [S]) -> Result<Options<'a>, Error>
+        ensures said { IfOk result (OptionsOf (map S.text words.entry.now)) }
+        ensures refused { FailsBy (fault_of nfsc (map S.text words.entry.now)) result }
+    {
+        let matches = command(alloc)?.try_get_matches_from(words)?;
+        let words = matches.get_strs("command").unwrap().to_vec(alloc)?;
+        Ok(Options {
+            port: matches.get_one::<u16>("port").unwrap(),
+            uid: matches.get_one::<u32>("uid").unwrap(),
+            gid: matches.get_one::<u32>("gid").unwrap(),
+            words,
+        })
+    }
+}

@@ -1,0 +1,109 @@
+//! The texts of help.
+use nfs_tool::Command;
+use nfsc_options::{COMMANDS, LabOptions, Options};
+use std::alloc::{AllocError, Global};
+use std::test::Fail;
+
+/// The text that stands for `nfsc --help`.
+fn help(alloc: Global) -> Result<String, AllocError> {
+    let words = ["nfsc", "--help"];
+    match Options::read(alloc, words.as_slice()) {
+        Ok(_) => Ok(String::new(alloc)),
+        Err(error) => error.to_string(alloc),
+    }
+}
+
+/// The text that stands for `nfslab --help`.
+fn lab_help(alloc: Global) -> Result<String, AllocError> {
+    let words = ["nfslab", "--help"];
+    match LabOptions::read(alloc, words.as_slice()) {
+        Ok(_) => Ok(String::new(alloc)),
+        Err(error) => error.to_string(alloc),
+    }
+}
+
+/// Texts of the help of `nfsc`: what is run, where, the options with their ranges, and an example.
+static TEXTS: [&str; 10] = [
+    "NFS version 4.1",
+    "127.0.0.1",
+    "Usage: nfsc --port <N> --uid <N> --gid <N> <COMMAND>...\n",
+    "--port <N>",
+    "from 1 to 65535",
+    "--uid <N>",
+    "--gid <N>",
+    "from 0 to 4294967295",
+    "-h, --help",
+    "    nfsc --port 2049 --uid 0 --gid 0 put /notes hi\n",
+];
+
+/// Texts of the help of `nfslab`: what is run, the form of a line, the option, and an example.
+static LAB_TEXTS: [&str; 7] = [
+    "NFS version 4.1",
+    "standard input",
+    "'as UID GID COMMAND ..'",
+    "Usage: nfslab [OPTIONS]\n",
+    "--book <FILE>",
+    "-h, --help",
+    "    as 1001 100 cat /notes\n",
+];
+
+fn texts() -> &'static [&'static str] {
+    &TEXTS
+}
+
+fn lab_texts() -> &'static [&'static str] {
+    &LAB_TEXTS
+}
+
+#[test]
+fn help_tells(rt: HostRuntime) -> Result<(), Fail> {
+    let told = help(rt.alloc())?;
+    for text in texts() {
+        assert!(rt; told.contains(*text), "{text}");
+    }
+    assert!(rt; told.contains(COMMANDS));
+    Ok(())
+}
+
+#[test]
+fn lab_help_tells(rt: HostRuntime) -> Result<(), Fail> {
+    let told = lab_help(rt.alloc())?;
+    for text in lab_texts() {
+        assert!(rt; told.contains(*text), "{text}");
+    }
+    assert!(rt; told.contains(COMMANDS));
+    Ok(())
+}
+
+/// Whether the words of a text, split at spaces, are a command.
+fn is_command(alloc: Global, text: &str) -> Result<bool, AllocError> {
+    let words: Vec<&[u8]> = text.split(' ').map(|word| word.as_bytes()).collect(alloc)?;
+    Ok(Command::read(words.as_slice()).is_some())
+}
+
+/// The example at the end of a line of a command, which stands behind two spaces at least.
+fn example(line: &str) -> Option<&str> {
+    let (_, found) = line.strip_prefix("    ")?.rsplit_once("  ")?;
+    Some(found.trim_start())
+}
+
+/// How many lines of the table have an example that is a command.
+fn examples(alloc: Global) -> Result<usize, AllocError> {
+    let mut count: usize = 0;
+    for line in COMMANDS.lines() {
+        if let Some(found) = example(line)
+            && is_command(alloc, found)?
+        {
+            count = count.saturating_add(1);
+        }
+    }
+    Ok(count)
+}
+
+/// The example of each of the eleven commands is one.
+#[test]
+fn examples_are_commands(rt: HostRuntime) -> Result<(), Fail> {
+    let count = examples(rt.alloc())?;
+    assert!(rt; count == 11);
+    Ok(())
+}

@@ -1,0 +1,119 @@
+//! Lines that are taken, with what their words say.
+use nfsc_options::Options;
+use std::alloc::{AllocError, Global};
+use std::test::Fail;
+
+/// A line, and the port, the user, the group and the words of the command that it says, split at spaces.
+type Row = (&'static str, u16, u32, u32, &'static str);
+
+static ROWS: [Row; 15] = [
+    (
+        "nfsc --port 2049 --uid 0 --gid 0 put /notes hi",
+        2049,
+        0,
+        0,
+        "put /notes hi",
+    ),
+    (
+        "nfsc --port 2049 --uid 1001 --gid 100 ls /",
+        2049,
+        1001,
+        100,
+        "ls /",
+    ),
+    (
+        "nfsc --gid 100 --uid 1001 --port 2049 ls /",
+        2049,
+        1001,
+        100,
+        "ls /",
+    ),
+    (
+        "nfsc --port=1 --uid=0 --gid=4294967295 cat /f",
+        1,
+        0,
+        4294967295,
+        "cat /f",
+    ),
+    (
+        "nfsc --port 65535 --uid 4294967295 --gid 0 rm /f",
+        65535,
+        4294967295,
+        0,
+        "rm /f",
+    ),
+    (
+        "nfsc --port +80 --uid 007 --gid=-0 rm /f",
+        80,
+        7,
+        0,
+        "rm /f",
+    ),
+    ("nfsc --port 1 --uid 0 --gid 0 ls", 1, 0, 0, "ls"),
+    (
+        "nfsc --port 1 --uid 0 --gid 0 no such command",
+        1,
+        0,
+        0,
+        "no such command",
+    ),
+    (
+        "nfsc --port 1 --uid 0 --gid 0 put /f -x",
+        1,
+        0,
+        0,
+        "put /f -x",
+    ),
+    (
+        "nfsc --port 1 --uid 0 --gid 0 put /f --port 2",
+        1,
+        0,
+        0,
+        "put /f --port 2",
+    ),
+    (
+        "nfsc --port 1 --uid 0 --gid 0 put /f --help",
+        1,
+        0,
+        0,
+        "put /f --help",
+    ),
+    (
+        "nfsc --port 1 --uid 0 --gid 0 put /f --",
+        1,
+        0,
+        0,
+        "put /f --",
+    ),
+    ("nfsc --port 1 --uid 0 --gid 0 -- ls /", 1, 0, 0, "ls /"),
+    ("nfsc --port 1 --uid 0 --gid 0 -- --help", 1, 0, 0, "--help"),
+    ("nfsc --port 1 --uid 0 --gid 0 put /f ", 1, 0, 0, "put /f "),
+];
+
+fn rows() -> &'static [Row] {
+    &ROWS
+}
+
+/// Whether the words of a line, split at spaces, say this.
+fn says(alloc: Global, row: &Row) -> Result<bool, AllocError> {
+    let (line, port, uid, gid, command) = *row;
+    let words: Vec<&str> = line.split(' ').collect(alloc)?;
+    match Options::read(alloc, words.as_slice()) {
+        Ok(options) => Ok(
+            options.port == port
+                && options.uid == uid
+                && options.gid == gid
+                && options.words.iter().copied().eq(command.split(' ')),
+        ),
+        Err(_) => Ok(false),
+    }
+}
+
+#[test]
+fn lines_are_taken(rt: HostRuntime) -> Result<(), Fail> {
+    for row in rows() {
+        let said = says(rt.alloc(), row)?;
+        assert!(rt; said, "{}", row.0);
+    }
+    Ok(())
+}

@@ -1,0 +1,63 @@
+//! What is said of words that are no command.
+use clap::error::ErrorKind;
+use nfsc_options::wrong_command;
+use std::alloc::Global;
+use std::test::Fail;
+
+/// The commands by their names, with the words that each wants.
+static USAGES: [(&str, &str); 11] = [
+    ("ls", "ls P"),
+    ("cat", "cat P"),
+    ("put", "put P TEXT"),
+    ("mkdir", "mkdir P"),
+    ("ln", "ln OLD NEW"),
+    ("mv", "mv OLD NEW"),
+    ("rm", "rm P"),
+    ("chmod", "chmod OCTAL P"),
+    ("getacl", "getacl P"),
+    ("setacl", "setacl P ENTRY.."),
+    ("access", "access P"),
+];
+
+/// Words that name no command.
+static NO_NAMES: [&str; 7] = ["", "copy", "l", "lss", "LS", "P", "An"];
+
+fn usages() -> &'static [(&'static str, &'static str)] {
+    &USAGES
+}
+
+fn no_names() -> &'static [&'static str] {
+    &NO_NAMES
+}
+
+/// Whether the error for words with this name in front is one that tells this, and how `nfsc` is called.
+fn tells(alloc: Global, name: &str, text: &str) -> Result<bool, Fail> {
+    let error = wrong_command(alloc, name)?;
+    let told = error.to_string(alloc)?;
+    Ok(
+        error.kind() == ErrorKind::InvalidSubcommand
+            && told.contains(text)
+            && told.contains("Usage: nfsc --port <N> --uid <N> --gid <N> <COMMAND>...\n"),
+    )
+}
+
+#[test]
+fn a_command_says_which_words_it_wants(rt: HostRuntime) -> Result<(), Fail> {
+    for row in usages() {
+        let (name, usage) = *row;
+        let text = format!(in rt.alloc(); "the command '{name}' wants these words: {usage}\n")?;
+        let told = tells(rt.alloc(), name, text.as_str())?;
+        assert!(rt; told, "{name}");
+    }
+    Ok(())
+}
+
+#[test]
+fn a_name_of_no_command_is_told(rt: HostRuntime) -> Result<(), Fail> {
+    for name in no_names() {
+        let text = format!(in rt.alloc(); "there is no command '{name}'\n")?;
+        let told = tells(rt.alloc(), name, text.as_str())?;
+        assert!(rt; told, "{name}");
+    }
+    Ok(())
+}

@@ -1,0 +1,88 @@
+//! `nfslab`: runs a script of commands on an NFS version 4.1 server (RFC 8881) in memory, from standard input to standard output.
+//!
+//! The status is 0; 2 where the words aren't understood, with `clap`'s text on standard error; and else 1: after a line that was answered
+//! `bad line` or `failed N`, and after a fault of the whole, which is told on standard error.
+#![tactic(auto)]
+
+use anyhow::Result;
+use nfs_hub::{Hub, HubFault};
+use nfs_tool::{ToolFault, script};
+use nfsc_options::LabOptions;
+use std::alloc::Global;
+use std::hash::RandomState;
+use std::process::ExitCode;
+use std::rt::Files;
+use std::{env, fs, io};
+use who_book::{Book, BookFault};
+
+/// What keeps `nfslab` from running a script to its end, in the order in which it is found.
+#[derive(Debug, Drop, thiserror::Error)]
+enum Fault {
+    /// The book's file can't be read, or isn't UTF-8.
+    #[error("file")]
+    File,
+    /// The book has a fault, of this number.
+    #[error("book {0}")]
+    Book(u8),
+    /// The hub can't be made, by a fault of this number.
+    #[error("hub {0}")]
+    Hub(u8),
+    /// The script can't be read, or its answers can't be written, by a fault of this number.
+    #[error("failed {0}")]
+    Failed(u32),
+}
+
+/// The book of a file, or the one without names.
+fn book<R: Files + Alloc>(rt: &R, alloc: Global, file: Option<&str>) -> Result<Book, Fault> {
+    let Some(file) = file else {
+        return Ok(Book::default(alloc));
+    };
+    let Ok(text) = fs::read_to_string(rt, file) else {
+        return Err(Fault::File);
+    };
+    Book::read(alloc, text.as_str()).map_err(|fault: BookFault| Fault::Book(fault as u8))
+}
+
+/// The hub of a root alone, which belongs to whom the book says.
+fn hub<R: Files + Alloc>(
+    rt: &R,
+    alloc: Global,
+    options: &LabOptions<'_>,
+    hasher: RandomState,
+) -> Result<Hub, Fault> {
+    let book = book(rt, alloc, options.book)?;
+    Hub::new(alloc, book, hasher).map_err(|_| Fault::Hub(HubFault::Memory as u8))
+}
+
+/// Runs the script on standard input. Whether no line was answered `bad line` or `failed N`.
+fn run<R: Files + Alloc + Input + Print>(
+    rt: &R,
+    alloc: Global,
+    options: &LabOptions<'_>,
+    hasher: RandomState,
+) -> Result<bool, Fault> {
+    let mut hub = hub(rt, alloc, options, hasher)?;
+    script(alloc, &mut hub, &mut rt.reader(), &mut io::writer(rt)).map_err(
+        |fault: ToolFault| Fault::Failed(fault.number()),
+    )
+}
+
+fn main(rt: HostRuntime) -> Result<ExitCode> {
+    let alloc = rt.alloc();
+    let words: Vec<String> = env::args(&rt)?.collect(alloc)?;
+    let options = match LabOptions::read(alloc, words.as_slice()) {
+        Ok(options) => options,
+        Err(error) => {
+            rt.eprint(&error)?;
+            return Ok(ExitCode::from(2));
+        }
+    };
+    match run(&rt, alloc, &options, RandomState::new(&rt)?) {
+        Ok(true) => Ok(ExitCode::SUCCESS),
+        Ok(false) => Ok(ExitCode::FAILURE),
+        Err(fault) => {
+            eprintln!(rt; "nfslab: {fault}")?;
+            Ok(ExitCode::FAILURE)
+        }
+    }
+}
