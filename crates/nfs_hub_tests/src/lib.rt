@@ -6,10 +6,20 @@ mod calls;
 #[cfg(test)]
 mod connections;
 #[cfg(test)]
+mod granted;
+#[cfg(test)]
 mod interleaving;
+#[cfg(test)]
+mod pictures;
 #[cfg(test)]
 mod plain;
 #[cfg(test)]
+mod scenes;
+#[cfg(test)]
 mod serving;
+#[cfg(test)]
+mod sessions;
+#[cfg(test)]
+mod spelling;
 #[cfg(test)]
 mod words;
