@@ -4,9 +4,17 @@
 #[cfg(test)]
 mod calls;
 #[cfg(test)]
+mod clients;
+#[cfg(test)]
 mod connections;
 #[cfg(test)]
+mod failing;
+#[cfg(test)]
 mod granted;
+#[cfg(test)]
+mod growth;
+#[cfg(test)]
+mod hostile;
 #[cfg(test)]
 mod interleaving;
 #[cfg(test)]

@@ -1,7 +1,7 @@
 //! Runs of calls over new hubs with sessions, in pieces of several sizes.
 
 use crate::pictures::{file_text, trail_text};
-use crate::plain::{connect, feed, take_out, with_sessions};
+use crate::plain::{close, connect, feed, take_out, with_sessions};
 use crate::spelling::{ROOT, Row, calls_of, reply_of};
 use nfs_hub::{ConnId, Hub};
 use std::alloc::Global;
@@ -99,6 +99,7 @@ pub fn told(alloc: Global, hub: &mut Hub, stream: &[u8], piece: usize) -> Result
     let mut given = Vec::new(alloc);
     let mut out = vec![in alloc; 0u8; OUT]?;
     pass(hub, conn, stream, piece, &mut out, &mut given)?;
+    close(hub, conn)?;
     Ok(given)
 }
 

@@ -1,0 +1,368 @@
+//! Every growth refused: runs of calls over heaps of every size in turn. Each call is answered as with ample memory, up to the first whose last
+//! operation is delayed, or that breaks the connection for want of memory.
+
+use crate::granted;
+use crate::pictures::{trail_text, tree_text};
+use crate::plain::{connect, feed, take_out, with_sessions};
+use crate::scenes::{Scene, new_hub};
+use crate::spelling::{ROOT, Row, put_call_record, reply_of};
+use linked_list_allocator::LocalHeap;
+use nfs_hub::{ConnId, Hub, HubFault};
+use std::alloc::{Allocator, Global};
+use std::hash::RandomState;
+use std::process::Abort;
+use std::test::Fail;
+use who_book::Book;
+
+/// A session of 8 slots with calls and replies of 4,096 bytes.
+static SESSION: [Row; 2] = [
+    (
+        ROOT,
+        "EXCHANGE_ID ^0 'own 0 0 0",
+        "ok EXCHANGE_ID ok ^1 1 10000 0 ^0 'nfs41-lists 'nfs41-lists 0",
+    ),
+    (
+        ROOT,
+        "CREATE_SESSION ^1 1 0 0 1000 1000 0 10 8 0 0 0 0 0 0 0 0 0 0",
+        "ok CREATE_SESSION ok ^0 ^1 1 0 0 1000 1000 1000 10 8 0 0 0 0 0 0 0 0",
+    ),
+];
+
+/// Where the status of a reply's record stands, and its first result.
+const STATUS: usize = 28;
+
+const RESULTS: usize = 40;
+
+/// Where the count of operations stands in a call's record: behind its mark, header, tag and minor version.
+const COUNT: usize = 76;
+
+/// The status DELAY, 10008.
+const DELAY: [u8; 4] = [0, 0, 0x27, 0x18];
+
+/// The operations that may be delayed: CREATE, LINK, NVERIFY, OPEN, RENAME, SETATTR, VERIFY, WRITE, EXCHANGE_ID and CREATE_SESSION.
+static DELAYED: [u32; 10] = [6, 11, 17, 18, 29, 34, 37, 38, 42, 43];
+
+fn may_be_delayed(operation: u32) -> bool {
+    DELAYED.contains(&operation)
+}
+
+/// What is looked at before and after a call.
+#[derive(Debug, Drop, PartialEq, Eq)]
+struct Picture {
+    tree: Vec<u8>,
+    trail: Vec<u8>,
+    total: u64,
+    opens: usize,
+}
+
+fn look<A: Allocator + Copy>(alloc: Global, hub: &Hub<A>) -> Result<Picture, Fail> {
+    Ok(Picture {
+        tree: tree_text(alloc, hub, 24)?,
+        trail: trail_text(alloc, hub)?,
+        total: hub.server().guard().total(),
+        opens: hub.server().opens().len(),
+    })
+}
+
+/// The calls and replies of a run, as records.
+#[derive(Drop)]
+struct Run {
+    calls: Vec<Vec<u8>>,
+    replies: Vec<Vec<u8>>,
+}
+
+fn call_record(alloc: Global, xid: u32, row: &Row) -> Result<Vec<u8>, Fail> {
+    let mut call = Vec::new(alloc);
+    put_call_record(&mut call, xid, row.0, row.1)?;
+    Ok(call)
+}
+
+fn put_run(alloc: Global, run: &mut Run, rows: &[Row]) -> Result<(), Fail> {
+    for row in rows {
+        let xid = u32::try_from(run.calls.len())?;
+        run.calls.push(call_record(alloc, xid, row)?)?;
+        run.replies.push(reply_of(alloc, xid, row.2)?)?;
+    }
+    Ok(())
+}
+
+/// What comes of a run over a small heap.
+#[derive(Clone, Copy, Debug, PartialEq, Eq)]
+enum Fate {
+    /// There is no hub, or no connection.
+    Refused,
+    /// In the call with this index so many operations are run, and the next one is delayed.
+    Delayed(usize, u32),
+    /// The call with this index breaks the connection.
+    Broken(usize),
+    /// All calls are answered.
+    Answered,
+}
+
+/// The word at a place.
+fn word_at(bytes: &[u8], at: usize) -> Option<u32> {
+    let word = bytes.get(at..)?.first_chunk::<4>()?;
+    Some(u32::from_be_bytes(*word))
+}
+
+/// Whether a reply is the wanted one up to its last result, which is that of an operation that is delayed.
+fn is_delayed(reply: &[u8], wanted: &[u8]) -> bool {
+    if reply.get(STATUS..STATUS + 4) != Some(&DELAY) {
+        return false;
+    }
+    let tail = if reply.ends_with(&DELAY) { 8 } else { 12 };
+    let last = reply.len().saturating_sub(tail);
+    let operation = word_at(reply, last).unwrap_or(0);
+    may_be_delayed(operation)
+        && (operation == 34) == (tail == 12)
+        && word_at(reply, last.saturating_add(4)) == Some(10_008)
+        && reply.get(RESULTS..last) == wanted.get(RESULTS..last)
+        && word_at(wanted, last) == Some(operation)
+}
+
+/// What comes of one call: `None` where it is answered.
+fn fate_of<A: Allocator + Copy>(
+    rt: &impl Abort,
+    hub: &mut Hub<A>,
+    conn: ConnId,
+    (call, wanted): (&[u8], &[u8]),
+    index: usize,
+) -> Option<Fate> {
+    let mut out = [0u8; 8192];
+    let fed = feed(hub, conn, call);
+    let taken = take_out(hub, conn, &mut out).unwrap_or(0);
+    let reply = out.get(..taken).unwrap_or(&[]);
+    if fed == Err(HubFault::Memory) {
+        assert!(rt; reply.is_empty(), "{index}");
+        assert!(rt; feed(hub, conn, &[]) == Err(HubFault::Broken), "{index}");
+        return Some(Fate::Broken(index));
+    }
+    assert!(rt; fed == Ok(()), "{index}");
+    if reply == wanted {
+        return None;
+    }
+    assert!(rt; is_delayed(reply, wanted), "{index}: {reply:?}");
+    let ran = word_at(reply, RESULTS - 4).unwrap_or(0).saturating_sub(1);
+    Some(Fate::Delayed(index, ran))
+}
+
+/// Makes the calls of a run up to the first that is delayed or breaks the connection.
+fn make_calls<A: Allocator + Copy>(
+    rt: &impl Abort,
+    hub: &mut Hub<A>,
+    conn: ConnId,
+    run: &Run,
+) -> Fate {
+    for (index, (call, wanted)) in run.calls.iter().zip(run.replies.iter()).enumerate() {
+        if let Some(fate) = fate_of(rt, hub, conn, (call, wanted), index) {
+            return fate;
+        }
+    }
+    Fate::Answered
+}
+
+/// What comes of a run, and what is left.
+#[derive(Debug, Drop)]
+struct Left {
+    fate: Fate,
+    picture: Picture,
+}
+
+fn run_on<A: Allocator + Copy>(
+    rt: &impl Abort,
+    alloc: Global,
+    hub: &mut Hub<A>,
+    run: &Run,
+) -> Result<Left, Fail> {
+    let fate = match connect(hub) {
+        Ok(conn) => make_calls(rt, hub, conn, run),
+        Err(_) => Fate::Refused,
+    };
+    let picture = look(alloc, hub)?;
+    Ok(Left { fate, picture })
+}
+
+/// A run over a heap of this size. `None`: there is no memory for a hub.
+fn run_over(
+    rt: &impl Abort,
+    alloc: Global,
+    hasher: RandomState,
+    run: &Run,
+    size: usize,
+) -> Result<Option<Left>, Fail> {
+    let heap = LocalHeap::new(alloc, size)?;
+    let Ok(mut hub) = with_sessions(&heap, Book::default(alloc), hasher) else {
+        return Ok(None);
+    };
+    Ok(Some(run_on(rt, alloc, &mut hub, run)?))
+}
+
+/// A call of so many of its operations.
+fn front_of(alloc: Global, call: &[u8], count: u32) -> Result<Vec<u8>, Fail> {
+    let mut front = Vec::from_slice(alloc, call.get(..COUNT).unwrap_or(&[]))?;
+    front.extend_from_slice(&count.to_be_bytes())?;
+    front.extend_from_slice(call.get(COUNT + 4..).unwrap_or(&[]))?;
+    Ok(front)
+}
+
+/// Makes the first calls of a run with ample memory, and so many operations of the next one.
+fn make_first(
+    alloc: Global,
+    hub: &mut Hub,
+    run: &Run,
+    (count, ran): (usize, u32),
+) -> Result<(), Fail> {
+    let conn = connect(hub)?;
+    for call in run.calls.iter().take(count) {
+        feed(hub, conn, call)?;
+    }
+    if let Some(call) = run.calls.get(count) {
+        feed(hub, conn, &front_of(alloc, call, ran)?)?;
+    }
+    Ok(())
+}
+
+/// How many calls are answered in a run that ended so, and how many operations are run of the next one.
+fn answered(run: &Run, fate: Fate) -> (usize, u32) {
+    match fate {
+        Fate::Refused => (0, 0),
+        Fate::Delayed(index, ran) => (index, ran),
+        Fate::Broken(index) => (index, 0),
+        Fate::Answered => (run.calls.len(), 0),
+    }
+}
+
+/// What is to be left by a run that ended so.
+fn wanted(alloc: Global, hasher: RandomState, run: &Run, fate: Fate) -> Result<Picture, Fail> {
+    let mut hub = new_hub(alloc, hasher, "")?;
+    make_first(alloc, &mut hub, run, answered(run, fate))?;
+    look(alloc, &hub)
+}
+
+/// How often what came of runs.
+#[derive(Clone, Copy, Debug)]
+struct Seen {
+    delayed: u32,
+    broken: u32,
+    answered: u32,
+}
+
+fn count(seen: &mut Seen, fate: Fate) {
+    match fate {
+        Fate::Refused => (),
+        Fate::Delayed(_, _) => seen.delayed = seen.delayed.saturating_add(1),
+        Fate::Broken(_) => seen.broken = seen.broken.saturating_add(1),
+        Fate::Answered => seen.answered = seen.answered.saturating_add(1),
+    }
+}
+
+/// Sees that a run leaves what the calls before its end leave with ample memory, and those before the operation that is delayed.
+fn see_left(
+    rt: &impl Abort,
+    alloc: Global,
+    hasher: RandomState,
+    run: &Run,
+    left: &Left,
+) -> Result<(), Fail> {
+    let wanted = wanted(alloc, hasher, run, left.fate)?;
+    assert_eq!(rt; &left.picture, &wanted, "{:?}", left.fate);
+    Ok(())
+}
+
+fn see_over(
+    rt: &impl Abort,
+    alloc: Global,
+    hasher: RandomState,
+    run: &Run,
+    size: usize,
+    seen: &mut Seen,
+) -> Result<(), Fail> {
+    if let Some(left) = run_over(rt, alloc, hasher, run, size)? {
+        see_left(rt, alloc, hasher, run, &left)?;
+        count(seen, left.fate);
+    }
+    Ok(())
+}
+
+/// The least size of a heap in pages that has a hub.
+fn least(alloc: Global, hasher: RandomState) -> Result<usize, Fail> {
+    for pages in 0..2048usize {
+        let heap = LocalHeap::new(alloc, pages * 4096)?;
+        let made = with_sessions(&heap, Book::default(alloc), hasher);
+        if made.is_ok() {
+            return Ok(pages * 4096);
+        }
+    }
+    Err(Fail::new("no heap is large enough"))
+}
+
+/// Sees a run over heaps from the least on, each larger than the one before by a step.
+fn see_run(
+    rt: &impl Abort,
+    alloc: Global,
+    hasher: RandomState,
+    run: &Run,
+    step: usize,
+) -> Result<Seen, Fail> {
+    let mut seen = Seen {
+        delayed: 0,
+        broken: 0,
+        answered: 0,
+    };
+    let least = least(alloc, hasher)?;
+    for index in 0..400usize {
+        let size = least.saturating_add(index.saturating_mul(step));
+        see_over(rt, alloc, hasher, run, size, &mut seen)?;
+    }
+    Ok(seen)
+}
+
+fn run_of(alloc: Global, opening: &[Row], rows: &[Row]) -> Result<Run, Fail> {
+    let mut run = Run {
+        calls: Vec::new(alloc),
+        replies: Vec::new(alloc),
+    };
+    put_run(alloc, &mut run, opening)?;
+    put_run(alloc, &mut run, rows)?;
+    Ok(run)
+}
+
+/// Sees a scene over heaps: some have its connection break, and some are ample.
+fn see_scene(
+    rt: &impl Abort,
+    alloc: Global,
+    hasher: RandomState,
+    scene: &Scene,
+    opening: &[Row],
+    step: usize,
+) -> Result<(), Fail> {
+    let run = run_of(alloc, opening, scene.rows)?;
+    let seen = see_run(rt, alloc, hasher, &run, step)?;
+    assert!(rt;
+        seen.broken > 0 && seen.answered > 0,
+        "{}: {seen:?}",
+        scene.name
+    );
+    assert!(rt; seen.delayed > 0, "{}: {seen:?}", scene.name);
+    Ok(())
+}
+
+fn see_scenes(
+    rt: &impl Abort,
+    alloc: Global,
+    hasher: RandomState,
+    scenes: &[Scene],
+) -> Result<(), Fail> {
+    for scene in scenes {
+        if scene.book.is_empty() {
+            see_scene(rt, alloc, hasher, scene, &SESSION, 448)?;
+        }
+    }
+    Ok(())
+}
+
+#[test]
+fn refused_growth_is_told(rt: HostRuntime) -> Result<(), Fail> {
+    let hasher = RandomState::new(&rt)?;
+    see_scenes(&rt, rt.alloc(), hasher, &granted::scenes())
+}
