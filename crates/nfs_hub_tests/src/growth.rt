@@ -1,9 +1,9 @@
 //! Every growth refused: runs of calls over heaps of every size in turn. Each call is answered as with ample memory, up to the first whose last
 //! operation is delayed, or that breaks the connection for want of memory.
 
-use crate::granted;
+use crate::{granted, sessions};
 use crate::pictures::{trail_text, tree_text};
-use crate::plain::{connect, feed, take_out, with_sessions};
+use crate::plain::{close, connect, feed, take_out, with_sessions};
 use crate::scenes::{Scene, new_hub};
 use crate::spelling::{ROOT, Row, put_call_record, reply_of};
 use linked_list_allocator::LocalHeap;
@@ -361,8 +361,132 @@ fn see_scenes(
     Ok(())
 }
 
+/// The scenes of sessions: all with the small session but the last, which asks for its own.
+fn see_sessions(
+    rt: &impl Abort,
+    alloc: Global,
+    hasher: RandomState,
+    [slots, rooms, client]: [Scene; 3],
+) -> Result<(), Fail> {
+    see_scene(rt, alloc, hasher, &slots, &SESSION, 448)?;
+    see_scene(rt, alloc, hasher, &rooms, &SESSION, 448)?;
+    see_scene(rt, alloc, hasher, &client, client.opening, 3200)
+}
+
+#[test]
+fn refused_sessions_are_told(rt: HostRuntime) -> Result<(), Fail> {
+    let hasher = RandomState::new(&rt)?;
+    see_sessions(&rt, rt.alloc(), hasher, sessions::scenes())
+}
+
 #[test]
 fn refused_growth_is_told(rt: HostRuntime) -> Result<(), Fail> {
     let hasher = RandomState::new(&rt)?;
     see_scenes(&rt, rt.alloc(), hasher, &granted::scenes())
+}
+
+/// Two calls of a session.
+static TWO_CALLS: [Row; 2] = [
+    (
+        ROOT,
+        "$1.1 PUTROOTFH CREATE 2 'd 0 0",
+        "ok =1.1 PUTROOTFH ok CREATE ok 1>2 0",
+    ),
+    (
+        ROOT,
+        "$1.2 PUTROOTFH CREATE 2 'e 0 0",
+        "ok =1.2 PUTROOTFH ok CREATE ok 2>3 0",
+    ),
+];
+
+fn two_calls() -> &'static [Row] {
+    &TWO_CALLS
+}
+
+/// The calls of a run with this index, on a connection.
+fn feed_call<A: Allocator + Copy>(
+    hub: &mut Hub<A>,
+    conn: ConnId,
+    run: &Run,
+    index: usize,
+) -> Result<(), HubFault> {
+    let call = run.calls.get(index).map_or(&[][..], |call| call.as_slice());
+    feed(hub, conn, call)
+}
+
+/// Lets the session come on a connection that is closed then, and makes the first call on another, whose reply stays pending.
+fn begin<A: Allocator + Copy>(hub: &mut Hub<A>, run: &Run) -> Result<ConnId, HubFault> {
+    let opening = connect(hub)?;
+    feed_call(hub, opening, run, 0)?;
+    feed_call(hub, opening, run, 1)?;
+    close(hub, opening)?;
+    let first = connect(hub)?;
+    feed_call(hub, first, run, 2)?;
+    Ok(first)
+}
+
+/// Whether the second call is refused the room of its reply, and then its connection stays broken and has nothing pending.
+fn is_refused<A: Allocator + Copy>(hub: &mut Hub<A>, run: &Run) -> Result<bool, HubFault> {
+    let second = connect(hub)?;
+    let fed = feed_call(hub, second, run, 3);
+    let again = feed_call(hub, second, run, 3);
+    let mut out = [0u8; 256];
+    let taken = take_out(hub, second, &mut out)?;
+    close(hub, second)?;
+    Ok(fed == Err(HubFault::Memory) && again == Err(HubFault::Broken) && taken == 0)
+}
+
+/// Sees that the second call is run as a new one where the room of its reply was refused before. `false`: it wasn't.
+fn see_again<A: Allocator + Copy>(
+    rt: &impl Abort,
+    hub: &mut Hub<A>,
+    run: &Run,
+    wanted: &[u8],
+) -> Result<bool, HubFault> {
+    let first = begin(hub, run)?;
+    if !is_refused(hub, run)? {
+        return Ok(false);
+    }
+    assert_eq!(rt; hub.server().tree().find(1, b"e"), None);
+    close(hub, first)?;
+    let again = connect(hub)?;
+    feed_call(hub, again, run, 3)?;
+    let mut out = [0u8; 256];
+    let taken = take_out(hub, again, &mut out)?;
+    assert_eq!(rt; out.get(..taken), Some(wanted));
+    Ok(true)
+}
+
+/// Sees it over a heap of this size. `false`: the heap is too small or too large for it.
+fn see_again_over(
+    rt: &impl Abort,
+    alloc: Global,
+    hasher: RandomState,
+    run: &Run,
+    wanted: &[u8],
+    size: usize,
+) -> Result<bool, Fail> {
+    let heap = LocalHeap::new(alloc, size)?;
+    let Ok(mut hub) = with_sessions(&heap, Book::default(alloc), hasher) else {
+        return Ok(false);
+    };
+    Ok(see_again(rt, &mut hub, run, wanted).unwrap_or(false))
+}
+
+/// A call whose reply has no room isn't run: the connection breaks, and the same bytes on another one are a new call.
+#[test]
+fn a_call_without_room_is_new_again(rt: HostRuntime) -> Result<(), Fail> {
+    let hasher = RandomState::new(&rt)?;
+    let run = run_of(rt.alloc(), &SESSION, two_calls())?;
+    let wanted = reply_of(rt.alloc(), 3, "ok =1.2 PUTROOTFH ok CREATE ok 2>3 0")?;
+    let least = least(rt.alloc(), hasher)?;
+    let mut count = 0u32;
+    for pages in 0..80usize {
+        let size = least.saturating_add(pages * 4096);
+        if see_again_over(&rt, rt.alloc(), hasher, &run, &wanted, size)? {
+            count = count.saturating_add(1);
+        }
+    }
+    assert!(rt; count > 8, "{count}");
+    Ok(())
 }
