@@ -1,11 +1,11 @@
 //! Every growth refused: runs of calls over heaps of every size in turn. Each call is answered as with ample memory, up to the first whose last
 //! operation is delayed, or that breaks the connection for want of memory.
 
-use crate::{granted, sessions};
 use crate::pictures::{trail_text, tree_text};
 use crate::plain::{close, connect, feed, take_out, with_sessions};
 use crate::scenes::{Scene, new_hub};
 use crate::spelling::{ROOT, Row, put_call_record, reply_of};
+use crate::{granted, sessions};
 use linked_list_allocator::LocalHeap;
 use nfs_hub::{ConnId, Hub, HubFault};
 use std::alloc::{Allocator, Global};

@@ -18,6 +18,8 @@ mod hostile;
 #[cfg(test)]
 mod interleaving;
 #[cfg(test)]
+mod largest;
+#[cfg(test)]
 mod pictures;
 #[cfg(test)]
 mod plain;
@@ -29,5 +31,7 @@ mod serving;
 mod sessions;
 #[cfg(test)]
 mod spelling;
+#[cfg(test)]
+mod statuses;
 #[cfg(test)]
 mod words;
