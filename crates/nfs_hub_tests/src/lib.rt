@@ -20,6 +20,8 @@ mod interleaving;
 #[cfg(test)]
 mod largest;
 #[cfg(test)]
+mod limits;
+#[cfg(test)]
 mod pictures;
 #[cfg(test)]
 mod plain;
