@@ -44,7 +44,7 @@ fn put_replies(alloc: Global, rows: &[Row], len: usize, wanted: &mut Vec<u8>) ->
     Ok(())
 }
 
-/// What is to be served, and how.
+/// Calls to be served, with their stream and their replies.
 #[derive(Clone, Copy)]
 struct Served<'a> {
     rows: &'a [Row],

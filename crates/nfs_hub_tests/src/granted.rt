@@ -1,4 +1,4 @@
-//! What lists grant and refuse in a session: names that go and move, modes and lists that are set, data, listings and owners.
+//! Lists that grant and refuse in a session: names that go and move, modes and lists that are set, data, listings and owners.
 
 use crate::scenes::{Scene, see_scenes};
 use crate::spelling::{ALICE, BOB, ROOT, Row};
@@ -152,7 +152,7 @@ static REPLACED: [Row; 7] = [
     ),
 ];
 
-/// What an entry watches is told. Who may only append writes at the end alone.
+/// A decision that an entry watches has its line. Who may only append writes at the end alone.
 static WATCHED: [Row; 5] = [
     (
         ROOT,

@@ -46,7 +46,7 @@ fn may_be_delayed(operation: u32) -> bool {
     DELAYED.contains(&operation)
 }
 
-/// What is looked at before and after a call.
+/// The parts of a hub that a refused operation leaves.
 #[derive(Debug, Drop, PartialEq, Eq)]
 struct Picture {
     tree: Vec<u8>,
@@ -86,7 +86,7 @@ fn put_run(alloc: Global, run: &mut Run, rows: &[Row]) -> Result<(), Fail> {
     Ok(())
 }
 
-/// What comes of a run over a small heap.
+/// The end of a run over a small heap.
 #[derive(Clone, Copy, Debug, PartialEq, Eq)]
 enum Fate {
     /// There is no hub, or no connection.
@@ -120,7 +120,7 @@ fn is_delayed(reply: &[u8], wanted: &[u8]) -> bool {
         && word_at(wanted, last) == Some(operation)
 }
 
-/// What comes of one call: `None` where it is answered.
+/// The end that one call brings: `None` where it is answered.
 fn fate_of<A: Allocator + Copy>(
     rt: &impl Abort,
     hub: &mut Hub<A>,
@@ -161,7 +161,7 @@ fn make_calls<A: Allocator + Copy>(
     Fate::Answered
 }
 
-/// What comes of a run, and what is left.
+/// The end of a run, and the parts of the hub then.
 #[derive(Debug, Drop)]
 struct Left {
     fate: Fate,
@@ -232,14 +232,14 @@ fn answered(run: &Run, fate: Fate) -> (usize, u32) {
     }
 }
 
-/// What is to be left by a run that ended so.
+/// The parts of a hub that are to be left by a run that ended so.
 fn wanted(alloc: Global, hasher: RandomState, run: &Run, fate: Fate) -> Result<Picture, Fail> {
     let mut hub = new_hub(alloc, hasher, "")?;
     make_first(alloc, &mut hub, run, answered(run, fate))?;
     look(alloc, &hub)
 }
 
-/// How often what came of runs.
+/// How many runs came to each end.
 #[derive(Clone, Copy, Debug)]
 struct Seen {
     delayed: u32,

@@ -22,7 +22,7 @@ fn sizes() -> &'static [usize] {
     &SIZES
 }
 
-/// What a connection of the sample tree is sent (RFC 5531, sections 9 and 11, and RFC 8881, sections 2.10.6 and 16.2).
+/// Streams to a connection of the sample tree (RFC 5531, sections 9 and 11, and RFC 8881, sections 2.10.6 and 16.2).
 static STREAMS: [Stream; 9] = [
     (
         "a record of 131,072 bytes",
@@ -89,10 +89,10 @@ fn feed_all(hub: &mut Hub, conn: nfs_hub::ConnId, stream: &[u8], piece: usize) -
     None
 }
 
-/// What comes of a stream in pieces: the fault, the count of bytes that are pending then, and the fault of one call more.
+/// The fault of a stream in pieces, the count of bytes that are pending then, and the fault of one piece more.
 type Told = (Option<HubFault>, usize, Option<HubFault>);
 
-/// What comes of a stream, whose replies go to the front of the buffer.
+/// Feeds a stream in pieces; its replies go to the front of the buffer.
 fn fed(hub: &mut Hub, stream: &[u8], piece: usize, out: &mut [u8]) -> Result<Told, Fail> {
     let conn = connect(hub)?;
     let fault = feed_all(hub, conn, stream, piece);

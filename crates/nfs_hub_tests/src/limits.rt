@@ -17,7 +17,7 @@ struct Site {
     tick: u32,
 }
 
-/// What is done often: a name more of the file, an open more of it, or a link more in a directory.
+/// One of many: a name more of the file, an open more of it, or a link more in a directory.
 #[derive(Clone, Copy)]
 enum Growth {
     Name,
@@ -43,7 +43,14 @@ fn see_call(
     let mut out = [0u8; 2048];
     let taken = take_out(hub, site.conn, &mut out)?;
     let wanted = reply_of(alloc, number, results.as_str())?;
-    see_bytes(rt, out.get(..taken).unwrap_or(&[]), &wanted, number, "limits", call.as_str());
+    see_bytes(
+        rt,
+        out.get(..taken).unwrap_or(&[]),
+        &wanted,
+        number,
+        "limits",
+        call.as_str(),
+    );
     site.number = number.saturating_add(1);
     Ok(())
 }
@@ -60,22 +67,24 @@ fn put_one(
     match growth {
         Growth::Name => {
             call.push_str(format!(in alloc; " PUTROOTFH LINK 'n{index}")?.as_str())?;
-            results.push_str(format!(in alloc; " PUTROOTFH ok LINK ok {before:x}>{tick:x}")?.as_str())?;
+            results.push_str(format!(in alloc;
+                " PUTROOTFH ok LINK ok {before:x}>{tick:x}"
+            )?.as_str())?;
         }
         Growth::Open => {
             call.push_str(format!(in alloc; " PUTFH @2 OPEN 0 1 0 ^0 'o{index} 0 4")?.as_str())?;
             let open = index.saturating_add(1);
-            results.push_str(
-                format!(in alloc; " PUTFH ok OPEN ok 1 0 0 {open:x} 0>0 0 0 0")?.as_str(),
-            )?;
+            results.push_str(format!(in alloc;
+                " PUTFH ok OPEN ok 1 0 0 {open:x} 0>0 0 0 0"
+            )?.as_str())?;
         }
         Growth::Object(directory) => {
-            call.push_str(
-                format!(in alloc; " PUTFH @{directory:x} CREATE 5 't 'm{index} 0 0")?.as_str(),
-            )?;
-            results.push_str(
-                format!(in alloc; " PUTFH ok CREATE ok {before:x}>{tick:x} 0")?.as_str(),
-            )?;
+            call.push_str(format!(in alloc;
+                " PUTFH @{directory:x} CREATE 5 't 'm{index} 0 0"
+            )?.as_str())?;
+            results.push_str(format!(in alloc;
+                " PUTFH ok CREATE ok {before:x}>{tick:x} 0"
+            )?.as_str())?;
         }
     }
     Ok(())
@@ -103,7 +112,14 @@ fn see_five(
             site.tick = site.tick.saturating_add(1);
         }
     }
-    see_call(rt, alloc, hub, site, call.as_str(), ("ok", results.as_str()))
+    see_call(
+        rt,
+        alloc,
+        hub,
+        site,
+        call.as_str(),
+        ("ok", results.as_str()),
+    )
 }
 
 /// Sees so many times five more.
@@ -124,8 +140,10 @@ fn see_many(
 
 /// A file has 1,000 names: those of 995 LINKs, its first one, and four more.
 fn see_names(rt: &impl Abort, alloc: Global, hub: &mut Hub, site: &mut Site) -> Result<(), Fail> {
-    let made = "PUTROOTFH OPEN 0 1 0 ^0 'o 1 0 0 0 0 'f SAVEFH PUTROOTFH LINK 'a LINK 'b LINK 'c LINK 'd";
-    let results = "PUTROOTFH ok OPEN ok 1 0 0 1 1>2 0 0 0 SAVEFH ok PUTROOTFH ok LINK ok 2>3 LINK ok 3>4 LINK ok 4>5 LINK ok 5>6";
+    let made =
+        "PUTROOTFH OPEN 0 1 0 ^0 'o 1 0 0 0 0 'f SAVEFH PUTROOTFH LINK 'a LINK 'b LINK 'c LINK 'd";
+    let results =
+        "PUTROOTFH ok OPEN ok 1 0 0 1 1>2 0 0 0 SAVEFH ok PUTROOTFH ok LINK ok 2>3 LINK ok 3>4 LINK ok 4>5 LINK ok 5>6";
     see_call(rt, alloc, hub, site, made, ("ok", results))?;
     site.tick = 7;
     see_many(rt, alloc, hub, site, Growth::Name, 199)?;
@@ -145,13 +163,34 @@ fn see_opens(rt: &impl Abort, alloc: Global, hub: &mut Hub, site: &mut Site) -> 
 /// A directory has 4,096 names: 1,000 of the file, the directory `z`, and 3,095 links. A name can be replaced in it, and not added.
 fn see_full(rt: &impl Abort, alloc: Global, hub: &mut Hub, site: &mut Site) -> Result<(), Fail> {
     let made = "PUTROOTFH CREATE 2 'z 0 0 GETFH";
-    see_call(rt, alloc, hub, site, made, ("ok", "PUTROOTFH ok CREATE ok 3e9>3ea 0 GETFH ok @3"))?;
+    see_call(
+        rt,
+        alloc,
+        hub,
+        site,
+        made,
+        ("ok", "PUTROOTFH ok CREATE ok 3e9>3ea 0 GETFH ok @3"),
+    )?;
     site.tick = 0x3eb;
     see_many(rt, alloc, hub, site, Growth::Object(1), 619)?;
     let more = "PUTROOTFH CREATE 5 't 'e 0 0";
-    see_call(rt, alloc, hub, site, more, ("nospc", "PUTROOTFH ok CREATE nospc"))?;
+    see_call(
+        rt,
+        alloc,
+        hub,
+        site,
+        more,
+        ("nospc", "PUTROOTFH ok CREATE nospc"),
+    )?;
     let more = "PUTROOTFH OPEN 0 1 0 ^0 'o 1 0 0 0 0 'e";
-    see_call(rt, alloc, hub, site, more, ("nospc", "PUTROOTFH ok OPEN nospc"))?;
+    see_call(
+        rt,
+        alloc,
+        hub,
+        site,
+        more,
+        ("nospc", "PUTROOTFH ok OPEN nospc"),
+    )?;
     let moved = "PUTFH @3 CREATE 5 't 'x 0 0 PUTFH @3 SAVEFH PUTROOTFH RENAME 'x 'e";
     let refused = "PUTFH ok CREATE ok 3ea>1002 0 PUTFH ok SAVEFH ok PUTROOTFH ok RENAME nospc";
     see_call(rt, alloc, hub, site, moved, ("nospc", refused))?;
@@ -174,7 +213,14 @@ fn see_filled(
     let results = format!(in alloc;
         "PUTFH ok CREATE ok {before:x}>{tick:x} 0 GETFH ok @{directory:x}"
     )?;
-    see_call(rt, alloc, hub, site, call.as_str(), ("ok", results.as_str()))?;
+    see_call(
+        rt,
+        alloc,
+        hub,
+        site,
+        call.as_str(),
+        ("ok", results.as_str()),
+    )?;
     site.tick = tick.saturating_add(1);
     see_many(rt, alloc, hub, site, Growth::Object(directory), fives)
 }
@@ -186,8 +232,10 @@ fn see_objects(rt: &impl Abort, alloc: Global, hub: &mut Hub, site: &mut Site) -
     see_filled(rt, alloc, hub, site, ("b", 0x1c1c, 0x1004), 819)?;
     see_filled(rt, alloc, hub, site, ("c", 0x2c1c, 0x2004), 819)?;
     see_filled(rt, alloc, hub, site, ("d", 0x3c1c, 0x3004), 199)?;
-    let last = "PUTFH @3c1c CREATE 5 't 'x 0 0 PUTFH @3c1c CREATE 5 't 'y 0 0 PUTFH @3c1c CREATE 5 't 'z 0 0";
-    let results = "PUTFH ok CREATE ok 43e7>43e8 0 PUTFH ok CREATE ok 43e8>43e9 0 PUTFH ok CREATE nospc";
+    let last =
+        "PUTFH @3c1c CREATE 5 't 'x 0 0 PUTFH @3c1c CREATE 5 't 'y 0 0 PUTFH @3c1c CREATE 5 't 'z 0 0";
+    let results =
+        "PUTFH ok CREATE ok 43e7>43e8 0 PUTFH ok CREATE ok 43e8>43e9 0 PUTFH ok CREATE nospc";
     see_call(rt, alloc, hub, site, last, ("nospc", results))
 }
 

@@ -1,4 +1,4 @@
-//! What a server holds as text: its objects with their names, lists and bytes, and its trail.
+//! The objects of a server as text, with their names, lists and bytes; and its trail.
 
 use access_guard::{Guard, write_line};
 use acl_list::{Entry, EntryKind, Who};

@@ -10,7 +10,7 @@ use std::process::Abort;
 use std::test::Fail;
 use who_book::Book;
 
-/// What is seen of a run.
+/// A run of calls with their replies, and the state that it leaves.
 #[derive(Clone, Copy)]
 pub struct Scene {
     pub name: &'static str,
@@ -93,7 +93,7 @@ fn pass(
     Ok(())
 }
 
-/// What a new connection of a hub answers to a stream in pieces of this many bytes.
+/// The replies of a new connection of a hub to a stream in pieces of this many bytes; it is closed then.
 pub fn told(alloc: Global, hub: &mut Hub, stream: &[u8], piece: usize) -> Result<Vec<u8>, Fail> {
     let conn = connect(hub)?;
     let mut given = Vec::new(alloc);
