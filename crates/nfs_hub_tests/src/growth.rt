@@ -490,3 +490,76 @@ fn a_call_without_room_is_new_again(rt: HostRuntime) -> Result<(), Fail> {
     assert!(rt; count > 8, "{count}");
     Ok(())
 }
+
+/// A session of 8 slots, and under the same number one of a single slot.
+static SMALLER: [Row; 3] = [
+    (
+        ROOT,
+        "EXCHANGE_ID ^0 'own 0 0 0",
+        "ok EXCHANGE_ID ok ^1 1 10000 0 ^0 'nfs41-lists 'nfs41-lists 0",
+    ),
+    (
+        ROOT,
+        "CREATE_SESSION ^1 1 0 0 10000 10000 0 10 8 0 0 0 0 0 0 0 0 0 0",
+        "delay CREATE_SESSION delay",
+    ),
+    (
+        ROOT,
+        "CREATE_SESSION ^1 1 0 0 1000 1000 0 10 1 0 0 0 0 0 0 0 0 0 0",
+        "ok CREATE_SESSION ok ^0 ^1 1 0 0 1000 1000 1000 10 1 0 0 0 0 0 0 0 0",
+    ),
+];
+
+fn smaller() -> &'static [Row] {
+    &SMALLER
+}
+
+/// Whether the call of a run with this index is answered so.
+fn is_answered<A: Allocator + Copy>(
+    hub: &mut Hub<A>,
+    conn: ConnId,
+    run: &Run,
+    index: usize,
+) -> Result<bool, HubFault> {
+    let mut out = [0u8; 256];
+    feed_call(hub, conn, run, index)?;
+    let taken = take_out(hub, conn, &mut out)?;
+    let wanted = run.replies.get(index).map(|reply| reply.as_slice());
+    Ok(out.get(..taken) == wanted)
+}
+
+/// Whether a client's session is delayed, and then a smaller one is made under the same number.
+fn is_made_smaller<A: Allocator + Copy>(hub: &mut Hub<A>, run: &Run) -> Result<bool, HubFault> {
+    let conn = connect(hub)?;
+    let has_client = is_answered(hub, conn, run, 0)?;
+    let is_delayed = is_answered(hub, conn, run, 1)?;
+    let is_made = is_answered(hub, conn, run, 2)?;
+    Ok(has_client && is_delayed && is_made)
+}
+
+/// Whether it is so over a heap of this size.
+fn is_made_over(alloc: Global, hasher: RandomState, run: &Run, size: usize) -> Result<bool, Fail> {
+    let heap = LocalHeap::new(alloc, size)?;
+    let Ok(mut hub) = with_sessions(&heap, Book::default(alloc), hasher) else {
+        return Ok(false);
+    };
+    Ok(is_made_smaller(&mut hub, run).unwrap_or(false))
+}
+
+/// A session that is delayed takes neither the number of its call nor a session's number, and leaves no slot behind: over all heaps that have
+/// room for a small session and not for a large one.
+#[test]
+fn a_delayed_session_takes_no_number(rt: HostRuntime) -> Result<(), Fail> {
+    let hasher = RandomState::new(&rt)?;
+    let run = run_of(rt.alloc(), &[], smaller())?;
+    let least = least(rt.alloc(), hasher)?;
+    let mut count = 0u32;
+    for pages in 20..256usize {
+        let size = least.saturating_add(pages * 4096);
+        if is_made_over(rt.alloc(), hasher, &run, size)? {
+            count = count.saturating_add(1);
+        }
+    }
+    assert_eq!(rt; count, 236);
+    Ok(())
+}
