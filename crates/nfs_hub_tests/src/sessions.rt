@@ -45,7 +45,7 @@ static SLOTS: [Row; 7] = [
 ];
 
 /// A session with replies of 4,096 bytes.
-static SMALL_SESSION: [Row; 2] = [
+pub static SMALL_SESSION: [Row; 2] = [
     (
         ROOT,
         "EXCHANGE_ID ^0 'own 0 0 0",

@@ -3,6 +3,7 @@
 
 use crate::plain::{connect, feed, take_out};
 use crate::scenes::{Scene, new_hub, see_bytes, see_scenes};
+use crate::sessions::SMALL_SESSION;
 use crate::spelling::{BOB, ROOT, Row, put_call_record, reply_of};
 use nfs_hub::{ConnId, Hub};
 use std::alloc::Global;
@@ -264,6 +265,56 @@ static LATER: [Row; 42] = [
     ),
 ];
 
+/// Replies of 4,096 bytes of which a READ of 3,000 leaves 976 bytes, 8 of them for another filehandle: a list of 59 entries takes 1,212 in
+/// GETATTR, and a text of 1,024 bytes 1,036 in READLINK. READ and READDIR give no more than fits.
+static NARROW: [Row; 9] = [
+    (
+        ROOT,
+        "$1.1 PUTROOTFH OPEN 0 3 0 ^0 'o 1 0 +12 ( 3b *3a A:0:1f07ff:EVERYONE@ ) 0 'f WRITE 1 0 0 1 ^0 0 ~bb8",
+        "ok =1.1 PUTROOTFH ok OPEN ok 1 0 0 1 1>2 0 +12 0 WRITE ok bb8 2 0 0",
+    ),
+    (
+        ROOT,
+        "$1.2 PUTROOTFH CREATE 5 ~400 'l 0 0 GETFH",
+        "ok =1.2 PUTROOTFH ok CREATE ok 2>4 0 GETFH ok @3",
+    ),
+    (
+        ROOT,
+        "$1.3 PUTFH @2 READ anon ^0 bb8 GETATTR +12",
+        "reptoobig =1.3 PUTFH ok READ ok 1 ~bb8 GETATTR reptoobig",
+    ),
+    (
+        ROOT,
+        "SEQUENCE ^0 ^1 4 0 0 1 PUTFH @2 READ anon ^0 bb8 GETATTR +12",
+        "reptoobigtocache =1.4 PUTFH ok READ ok 1 ~bb8 GETATTR reptoobigtocache",
+    ),
+    (
+        ROOT,
+        "$1.5 PUTFH @2 READ anon ^0 bb8 PUTFH @3 READLINK",
+        "reptoobig =1.5 PUTFH ok READ ok 1 ~bb8 PUTFH ok READLINK reptoobig",
+    ),
+    (
+        ROOT,
+        "SEQUENCE ^0 ^1 6 0 0 1 PUTFH @2 READ anon ^0 bb8 PUTFH @3 READLINK",
+        "reptoobigtocache =1.6 PUTFH ok READ ok 1 ~bb8 PUTFH ok READLINK reptoobigtocache",
+    ),
+    (
+        ROOT,
+        "$1.7 PUTFH @2 READ anon ^0 b00 PUTFH @3 READLINK",
+        "ok =1.7 PUTFH ok READ ok 0 ~b00 PUTFH ok READLINK ok ~400",
+    ),
+    (
+        ROOT,
+        "$1.8 PUTFH @2 READ anon ^0 bb8 PUTROOTFH READDIR ^0 ^0 0 ffffffff +12",
+        "toosmall =1.8 PUTFH ok READ ok 1 ~bb8 PUTROOTFH ok READDIR toosmall",
+    ),
+    (
+        ROOT,
+        "$1.9 PUTFH @2 READ anon ^0 bb8 READ anon ^0 bb8",
+        "ok =1.9 PUTFH ok READ ok 1 ~bb8 READ ok 0 ~3c0",
+    ),
+];
+
 #[test]
 fn what_sessions_refuse_is_told_in_every_cut(rt: HostRuntime) -> Result<(), Fail> {
     let scenes = [
@@ -274,6 +325,10 @@ fn what_sessions_refuse_is_told_in_every_cut(rt: HostRuntime) -> Result<(), Fail
         Scene {
             opening: &[],
             ..Scene::new("in a session", &LATER, "")
+        },
+        Scene {
+            opening: &SMALL_SESSION,
+            ..Scene::new("in a narrow session", &NARROW, "")
         },
     ];
     see_scenes(&rt, rt.alloc(), RandomState::new(&rt)?, &scenes)
