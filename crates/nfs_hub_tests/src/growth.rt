@@ -296,24 +296,69 @@ fn least(alloc: Global, hasher: RandomState) -> Result<usize, Fail> {
     Err(Fail::new("no heap is large enough"))
 }
 
-/// Sees a run over heaps from the least on, each larger than the one before by a step.
-fn see_run(
+/// Whether the two calls by which the session comes are answered over a heap of this size.
+fn has_session(
     rt: &impl Abort,
     alloc: Global,
     hasher: RandomState,
     run: &Run,
-    step: usize,
-) -> Result<Seen, Fail> {
+    size: usize,
+) -> Result<bool, Fail> {
+    let Some(left) = run_over(rt, alloc, hasher, run, size)? else {
+        return Ok(false);
+    };
+    let (count, _) = answered(run, left.fate);
+    Ok(count >= 2)
+}
+
+/// The first size in pages behind a hub's least that has a session.
+fn ready(
+    rt: &impl Abort,
+    alloc: Global,
+    hasher: RandomState,
+    run: &Run,
+    least: usize,
+) -> Result<usize, Fail> {
+    for pages in 0..512usize {
+        let size = least.saturating_add(pages * 4096);
+        if has_session(rt, alloc, hasher, run, size)? {
+            return Ok(size);
+        }
+    }
+    Err(Fail::new("no heap has a session"))
+}
+
+/// Sees a run over 400 heaps from a size on, each larger than the one before by a step.
+fn see_sizes(
+    rt: &impl Abort,
+    alloc: Global,
+    hasher: RandomState,
+    run: &Run,
+    (first, step): (usize, usize),
+    seen: &mut Seen,
+) -> Result<(), Fail> {
+    for index in 0..400usize {
+        let size = first.saturating_add(index.saturating_mul(step));
+        see_over(rt, alloc, hasher, run, size, seen)?;
+    }
+    Ok(())
+}
+
+/// Sees a run over heaps that have no session, and over heaps that have one, 48 bytes apart.
+fn see_run(rt: &impl Abort, alloc: Global, hasher: RandomState, run: &Run) -> Result<Seen, Fail> {
     let mut seen = Seen {
         delayed: 0,
         broken: 0,
         answered: 0,
     };
     let least = least(alloc, hasher)?;
-    for index in 0..400usize {
-        let size = least.saturating_add(index.saturating_mul(step));
-        see_over(rt, alloc, hasher, run, size, &mut seen)?;
-    }
+    let ready = ready(rt, alloc, hasher, run, least)?;
+    let step = ready.saturating_sub(least) / 400;
+    see_sizes(rt, alloc, hasher, run, (least, step), &mut seen)?;
+    let first = ready.saturating_sub(4096);
+    see_sizes(rt, alloc, hasher, run, (first, 48), &mut seen)?;
+    let ample = ready.saturating_add(65_536);
+    see_over(rt, alloc, hasher, run, ample, &mut seen)?;
     Ok(seen)
 }
 
@@ -334,10 +379,9 @@ fn see_scene(
     hasher: RandomState,
     scene: &Scene,
     opening: &[Row],
-    step: usize,
 ) -> Result<(), Fail> {
     let run = run_of(alloc, opening, scene.rows)?;
-    let seen = see_run(rt, alloc, hasher, &run, step)?;
+    let seen = see_run(rt, alloc, hasher, &run)?;
     assert!(rt;
         seen.broken > 0 && seen.answered > 0,
         "{}: {seen:?}",
@@ -355,7 +399,7 @@ fn see_scenes(
 ) -> Result<(), Fail> {
     for scene in scenes {
         if scene.book.is_empty() {
-            see_scene(rt, alloc, hasher, scene, &SESSION, 448)?;
+            see_scene(rt, alloc, hasher, scene, &SESSION)?;
         }
     }
     Ok(())
@@ -368,9 +412,9 @@ fn see_sessions(
     hasher: RandomState,
     [slots, rooms, client]: [Scene; 3],
 ) -> Result<(), Fail> {
-    see_scene(rt, alloc, hasher, &slots, &SESSION, 448)?;
-    see_scene(rt, alloc, hasher, &rooms, &SESSION, 448)?;
-    see_scene(rt, alloc, hasher, &client, client.opening, 3200)
+    see_scene(rt, alloc, hasher, &slots, &SESSION)?;
+    see_scene(rt, alloc, hasher, &rooms, &SESSION)?;
+    see_scene(rt, alloc, hasher, &client, client.opening)
 }
 
 #[test]
