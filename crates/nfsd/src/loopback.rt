@@ -7,8 +7,9 @@ use nfs_hub::Hub;
 use std::alloc::Global;
 use std::hash::RandomState;
 use std::io::{Read, Write};
-use std::net::{Ipv4Addr, Shutdown, SocketAddrV4, TcpListener, TcpStream};
+use std::net::{Ipv4Addr, Net, Shutdown, SocketAddr, SocketAddrV4, TcpListener, TcpStream};
 use std::process::Abort;
+use std::rt::Clock;
 use std::test::Fail;
 use who_book::Book;
 
@@ -135,19 +136,65 @@ fn see_replies(
     Ok(())
 }
 
-/// Both streams wait in the listener's backlog before the first is accepted. An owner that comes anew without a session gets a new number.
+/// A stream that has connected to a listener's address, written the calls and ended its writing side.
+fn connected<R: Net<Stream = TcpStream>>(
+    rt: &R,
+    alloc: Global,
+    address: SocketAddr,
+) -> Result<TcpStream, Fail> {
+    let stream = TcpStream::connect(rt, address)?;
+    send(alloc, &stream)?;
+    Ok(stream)
+}
+
+/// Serves two streams of a listener, and says whether each ended behind a whole record.
+fn serve<R: Eprint + Clock>(rt: &R, hub: &mut Hub, listener: &TcpListener) -> Result<bool, Fail> {
+    let clock = SystemClock::new(rt);
+    Ok(serve_streams(rt, hub, &clock, listener, 2)??)
+}
+
+/// Serves two streams that wait in the listener's backlog, and sees their replies.
+fn see_streams<R: Eprint + Clock + Abort>(
+    rt: &R,
+    alloc: Global,
+    hub: &mut Hub,
+    listener: &TcpListener,
+    (first, second): (&TcpStream, &TcpStream),
+) -> Result<(), Fail> {
+    let are_whole = serve(rt, hub, listener)?;
+    assert!(rt; are_whole);
+    see_replies(rt, alloc, first, 1)?;
+    see_replies(rt, alloc, second, 2)
+}
+
+fn see_served<R: Eprint + Clock + Abort>(
+    rt: &R,
+    alloc: Global,
+    hasher: RandomState,
+    listener: &TcpListener,
+    streams: (&TcpStream, &TcpStream),
+) -> Result<(), Fail> {
+    let mut hub = Hub::new(alloc, Book::default(alloc), hasher)?;
+    see_streams(rt, alloc, &mut hub, listener, streams)
+}
+
+/// Two streams connect, and are served by a new hub.
+fn see_listener<R: Net<Stream = TcpStream> + Eprint + Clock + Abort>(
+    rt: &R,
+    alloc: Global,
+    hasher: RandomState,
+    listener: &TcpListener,
+) -> Result<(), Fail> {
+    let address = listener.local_addr()?;
+    let first = connected(rt, alloc, address)?;
+    let second = connected(rt, alloc, address)?;
+    see_served(rt, alloc, hasher, listener, (&first, &second))
+}
+
+/// An owner that comes anew on the second stream without a session gets a new number: one hub serves both.
 #[test]
 fn streams_are_served_in_turn(rt: HostRuntime) -> Result<(), Fail> {
-    let listener = TcpListener::bind(&rt, SocketAddrV4::new(Ipv4Addr::LOCALHOST, 0))?;
-    let address = listener.local_addr()?;
-    let first = TcpStream::connect(&rt, address)?;
-    send(rt.alloc(), &first)?;
-    let second = TcpStream::connect(&rt, address)?;
-    send(rt.alloc(), &second)?;
     let hasher = RandomState::new(&rt)?;
-    let mut hub = Hub::new(rt.alloc(), Book::default(rt.alloc()), hasher)?;
-    let clock = SystemClock::new(&rt);
-    assert!(rt; serve_streams(&rt, &mut hub, &clock, &listener, 2)??);
-    see_replies(&rt, rt.alloc(), &first, 1)?;
-    see_replies(&rt, rt.alloc(), &second, 2)
+    let listener = TcpListener::bind(&rt, SocketAddrV4::new(Ipv4Addr::LOCALHOST, 0))?;
+    see_listener(&rt, rt.alloc(), hasher, &listener)
 }
