@@ -28,7 +28,7 @@ fn a_connection_is_opened_and_closed(rt: HostRuntime) -> Result<(), Fail> {
     see_connections(&rt, &mut hub)
 }
 
-/// What breaks a connection: a header above the limit, a record that is no call, and a credential of 401 bytes.
+/// Records that break a connection: a header above the limit, a record that is no call, and a credential of 401 bytes.
 static BREAKING: [(&str, &str); 5] = [
     ("131,073 bytes", "80020001"),
     ("the empty record", "80000000"),
@@ -122,7 +122,7 @@ fn the_server_is_changed(rt: HostRuntime) -> Result<(), Fail> {
     Ok(())
 }
 
-/// What becomes of a call over a small heap.
+/// The end of a call over a small heap.
 #[derive(Clone, Copy, Debug, PartialEq, Eq)]
 enum Fate {
     /// There is no hub or no connection.
@@ -135,7 +135,7 @@ enum Fate {
     Wrong,
 }
 
-/// What becomes of a call to a hub.
+/// The end of a call to a hub.
 fn fate_of<A: Allocator + Copy>(hub: &mut Hub<A>, call: &[u8]) -> Fate {
     let Ok(conn) = connect(hub) else {
         return Fate::Refused;

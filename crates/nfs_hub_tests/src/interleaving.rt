@@ -75,7 +75,7 @@ struct Calls<'a> {
     e: &'a [u8],
 }
 
-/// What two new connections are answered, where `d` is whole first or not.
+/// Whether the third connection breaks, and two new ones have these answers, where `d` is whole first or not.
 fn are_answered(
     hub: &mut Hub,
     order: &str,

@@ -6,6 +6,7 @@ use nfs_types::Moment;
 use std::alloc::{AllocError, Allocator, Global};
 use std::hash::RandomState;
 use std::io::{Read, Write};
+use who_book::Book;
 
 struct Epoch;
 
@@ -21,6 +22,15 @@ pub fn bare<A: Allocator + Copy>(
     hasher: RandomState,
 ) -> Result<Hub<A>, AllocError> {
     Hub::bare(alloc, global, hasher)
+}
+
+/// A hub with sessions over a root alone.
+pub fn with_sessions<A: Allocator + Copy>(
+    alloc: A,
+    book: Book,
+    hasher: RandomState,
+) -> Result<Hub<A>, AllocError> {
+    Hub::new(alloc, book, hasher)
 }
 
 pub fn connect<A: Allocator + Copy>(hub: &mut Hub<A>) -> Result<ConnId, HubFault> {
@@ -46,6 +56,19 @@ pub fn take_out<A: Allocator + Copy>(
     buf: &mut [u8],
 ) -> Result<usize, HubFault> {
     hub.take_out(conn, buf)
+}
+
+pub fn feed_at<A: Allocator + Copy>(
+    hub: &mut Hub<A>,
+    conn: ConnId,
+    piece: &[u8],
+    seconds: i64,
+) -> Result<(), HubFault> {
+    let now = Moment {
+        seconds,
+        nanoseconds: 0,
+    };
+    hub.feed(conn, piece, now)
 }
 
 /// Each call is made at the epoch.

@@ -13,9 +13,9 @@ use std::test::Fail;
 
 /// Gives its bytes in pieces of at most five, and fails at the read of this number.
 #[derive(Drop)]
-struct Failing<'a> {
-    bytes: &'a [u8],
-    reads_left: usize,
+pub struct Failing<'a> {
+    pub bytes: &'a [u8],
+    pub reads_left: usize,
 }
 
 impl Read for Failing<'_> {
@@ -34,9 +34,9 @@ impl Read for Failing<'_> {
 
 /// Gives its bytes in pieces of this length.
 #[derive(Drop)]
-struct Pieces<'a> {
-    bytes: &'a [u8],
-    len: usize,
+pub struct Pieces<'a> {
+    pub bytes: &'a [u8],
+    pub len: usize,
 }
 
 impl Read for Pieces<'_> {

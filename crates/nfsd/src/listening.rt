@@ -6,7 +6,7 @@ use std::io;
 use std::net::{Ipv4Addr, Net, SocketAddrV4, TcpListener, TcpStream};
 
 /// Serves a stream. A reply isn't held back to be sent with the next one.
-pub(crate) fn serve_stream<C: Clock>(hub: &mut Hub, stream: &TcpStream, clock: &C) -> ServeEnd {
+fn serve_stream<C: Clock>(hub: &mut Hub, stream: &TcpStream, clock: &C) -> ServeEnd {
     let _ = stream.set_nodelay(true);
     serve(hub, &mut &*stream, &mut &*stream, clock, TURNS)
 }
@@ -22,8 +22,20 @@ pub(crate) fn serve_all<
         return Ok(Err(Fault::Socket));
     };
     println!(rt; "listening on 127.0.0.1:{port}")?;
+    serve_streams(rt, hub, clock, &listener, options.connections)
+}
+
+/// Accepts so many streams and serves one after the other, and says whether each ended behind a whole record. `Err` of the outer result: it
+/// can't be told.
+pub(crate) fn serve_streams<R: Eprint, C: Clock>(
+    rt: &R,
+    hub: &mut Hub,
+    clock: &C,
+    listener: &TcpListener,
+    connections: u32,
+) -> io::Result<Result<bool, Fault>> {
     let mut are_whole = true;
-    for _connection in 0..options.connections {
+    for _connection in 0..connections {
         let Ok((stream, _)) = listener.accept() else {
             return Ok(Err(Fault::Socket));
         };

@@ -7,6 +7,8 @@
 
 mod clock;
 mod listening;
+#[cfg(test)]
+mod loopback;
 
 use anyhow::Result;
 use clock::SystemClock;
