@@ -42,6 +42,21 @@ fn read(hub: &mut Hub, conn: ConnId, buf: &mut [u8]) -> Result<usize, ErrorKind>
     local.read(buf).map_err(|error| error.kind())
 }
 
+/// The first so many bytes.
+fn front(bytes: &[u8], count: usize) -> &[u8] {
+    &bytes[..count.min(bytes.len())]
+}
+
+/// The bytes behind the first so many.
+fn behind(bytes: &[u8], count: usize) -> &[u8] {
+    &bytes[count.min(bytes.len())..]
+}
+
+/// Bytes are these.
+fn are(bytes: &[u8], wanted: &[u8]) -> bool {
+    bytes == wanted
+}
+
 #[test]
 fn a_reply_is_read_in_pieces(rt: HostRuntime) -> Result<(), Fail> {
     let alloc = rt.alloc();
@@ -51,14 +66,14 @@ fn a_reply_is_read_in_pieces(rt: HostRuntime) -> Result<(), Fail> {
     let conn = connect(&mut hub)?;
     let mut buf = [9; 20];
     assert_eq!(rt; read(&mut hub, conn, &mut buf), Ok(0));
-    assert_eq!(rt; written(&mut hub, conn, &call[..7]), Ok(7));
+    assert_eq!(rt; written(&mut hub, conn, front(&call, 7)), Ok(7));
     assert_eq!(rt; read(&mut hub, conn, &mut buf), Ok(0));
-    assert_eq!(rt; written(&mut hub, conn, &call[7..]), Ok(37));
+    assert_eq!(rt; written(&mut hub, conn, behind(&call, 7)), Ok(37));
     assert_eq!(rt; read(&mut hub, conn, &mut buf), Ok(20));
-    assert!(rt; buf.as_slice() == &reply[..20]);
+    assert!(rt; are(&buf, front(&reply, 20)));
     assert_eq!(rt; read(&mut hub, conn, &mut buf), Ok(8));
-    assert!(rt; &buf[..8] == &reply[20..]);
-    assert!(rt; &buf[8..] == &reply[8..20]);
+    assert!(rt; are(front(&buf, 8), behind(&reply, 20)));
+    assert!(rt; are(behind(&buf, 8), behind(front(&reply, 20), 8)));
     assert_eq!(rt; read(&mut hub, conn, &mut buf), Ok(0));
     Ok(())
 }
