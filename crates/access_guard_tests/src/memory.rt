@@ -1,4 +1,4 @@
-//! What is remembered, and that it is what the lists come to now.
+//! The remembered decisions, and that they are what the lists come to now.
 ghost use Rattle.std.specs.Prelude.{◌≡◌, []};
 
 use crate::trees::{LOOKUP, READ, add, allow, decide, entry, guarded, mode_755, root, sample};
@@ -14,7 +14,7 @@ use std::hash::RandomState;
 use std::process::Abort;
 use std::test::Fail;
 
-/// What is remembered, the one asked last first: stamps, and the bits that are granted.
+/// The remembered decisions, the one asked last first: stamps, and the bits that are granted.
 fn remembered(alloc: Global, guard: &Guard) -> Result<Vec<(u64, Summary)>, AllocError> {
     let mut pairs = Vec::new(alloc);
     for (key, sum) in guard.remembered() {

@@ -71,7 +71,7 @@ fn audited_reads(rt: HostRuntime) -> Result<(), Fail> {
     Ok(())
 }
 
-/// What a guard over a small heap does: none could be made, or it answers and may have remembered nothing.
+/// How far a guard came over a small heap: none could be made, or it answers and may have remembered nothing.
 #[derive(Clone, Copy, Debug, PartialEq, Eq)]
 enum Made {
     None,

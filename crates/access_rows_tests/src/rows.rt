@@ -1,4 +1,4 @@
-//! What operations ask, and what ACCESS tells, worked out by hand from RFC 8881, sections 6.2.1.3.1 and 18.1.
+//! The demands of operations, and the answers of ACCESS, worked out by hand from RFC 8881, sections 6.2.1.3.1 and 18.1.
 
 use access_rows::{
     Demand, First, Object, Second, entry_demands, first_demands, rights_of, second_demands,
@@ -24,7 +24,7 @@ const ATTIC: Object = Object {
     kind: Kind::Directory,
 };
 
-/// What one demand asks of an object, written down as text.
+/// One demand on an object, written down as text.
 fn asked(demand: Option<Demand>) -> (u64, u64, u32) {
     match demand {
         None => (0, 0, 0),

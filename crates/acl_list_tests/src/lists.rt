@@ -1,4 +1,4 @@
-//! What a list holds, with ample memory and where it is refused.
+//! The entries of a list, with ample memory and where it is refused.
 
 use crate::people::{allow, deny};
 use acl_list::{AclList, Entry, Who};

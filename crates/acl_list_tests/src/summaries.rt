@@ -110,7 +110,7 @@ fn mentions_of_a_mixed_list(rt: HostRuntime) -> Result<(), Fail> {
     Ok(())
 }
 
-/// What an entry watches, where a mask is granted and where it is refused.
+/// An entry watches bits by one flag where a mask is granted, and by the other where it is refused.
 #[test]
 fn watched(rt: HostRuntime) {
     for (name, entry, asked, granted, refused) in [

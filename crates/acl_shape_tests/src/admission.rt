@@ -38,7 +38,7 @@ static ON_A_FILE: [Entry; 3] = [
     allow!(0x40, 0, GroupOf(7)),
 ];
 
-/// What is set, on a directory as it was sent, on a file or a link without what is there to be inherited.
+/// A directory gets the list as it was sent, a file or a link without its parts that are there to be inherited.
 #[test]
 fn lists_that_are_taken(rt: HostRuntime) -> Result<(), Fail> {
     let list = admit(rt.alloc(), &ASKED, Kind::Directory)?;

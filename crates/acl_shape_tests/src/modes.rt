@@ -98,7 +98,7 @@ static KEPT: [(Entry, Option<Entry>); 14] = [
     (deny!(0x03, 0x27, User(5)), Some(deny!(0x03, 0x27, User(5)))),
 ];
 
-/// What becomes of one entry, where the group may read alone and so lacks 0x26.
+/// Each entry by itself, where the group may read alone and so lacks 0x26.
 #[test]
 fn what_a_mode_keeps(rt: HostRuntime) -> Result<(), Fail> {
     let none = AclList::new(rt.alloc());

@@ -1,4 +1,4 @@
-//! What new objects have, and what objects have after a mode, a list or both were set: by hand from RFC 8881, sections 6.4.1
+//! The lists of new objects, and of objects whose mode, list or both were set: by hand from RFC 8881, sections 6.4.1
 //! and 6.4.3.
 
 use crate::entries::{allow, deny, entry, five};

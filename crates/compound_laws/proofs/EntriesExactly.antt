@@ -1,4 +1,4 @@
--- What stands in the entries that READDIR gives, and when an entry refuses it.
+-- The attributes in the entries that READDIR gives, and when an entry refuses it.
 use Rattle.std.proofs.Common.{◌≡◌, ◌⊎◌, ℕ, Bool, true, false, ◌&&◌, ◌||◌, cond, zero, suc, inl, inr, List, refl, sym, ap, ◌∙◌, subst}
 use Rattle.std.specs.Prelude.{[], ◌∷◌, ◌++◌, Option, Some, None, Result, Ok, Err, IsSome, map, filter, take, nat_lt, ◌==◌}
 use Rattle.std.specs.List.{AllByRecursion, list_any}

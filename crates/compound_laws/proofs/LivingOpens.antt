@@ -1,4 +1,4 @@
--- What becomes of the open files where the world changes.
+-- The open files where the world changes.
 use Rattle.std.proofs.Common.{◌≡◌, ◌≢◌, ℕ, ◌<◌, ◌≤◌, Bool, true, false, not, cond, ◌||◌, List, inl, inr, refl, sym, ap, ◌∙◌, subst, length, arith}
 use Rattle.std.specs.Prelude.{[], ◌∷◌, ◌++◌, ◌==◌, Option, Some, None, IsSome, is_some, filter, find, nat_eq, if◌then◌else◌}
 use Rattle.std.specs.List.{AllByRecursion}

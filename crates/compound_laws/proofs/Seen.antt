@@ -1,4 +1,4 @@
--- What a caller may see decides what the caller is told.
+-- The view of a caller decides what the caller is told.
 use Rattle.std.proofs.Common.{◌≡◌, ℕ, Bool, true, false, ◌&&◌, cond, List, refl, sym, ap, ◌∙◌, subst}
 use Rattle.std.specs.Prelude.{[], ◌∷◌, ◌++◌, Option, Some, None, Ok, is_some, not}
 use Rattle.std.specs.Option.{option_map}

@@ -1,4 +1,4 @@
--- What is seen of an object's bytes and attributes decides what a caller is told of them.
+-- The view of an object's bytes and attributes decides what a caller is told of them.
 use Rattle.std.proofs.Common.{◌≡◌, ℕ, ◌<◌, ◌^◌, Bool, true, false, ◌||◌, cond, List, refl, sym, ap, ◌∙◌, subst, arith}
 use Rattle.std.specs.Prelude.{[], ◌∷◌, ◌++◌, ◌==◌, Option, Some, None, is_some, unwrap_or, bit_and, bit_or, if◌then◌else◌}
 use Rattle.std.specs.List.{flat_map}

@@ -1,4 +1,4 @@
--- What a caller is told rests on what the caller may see alone.
+-- A caller is told by what the caller may see, and by nothing else.
 use Rattle.std.specs.Prelude.{◌≡◌, List, Result, ℕ}
 use Rattle.xdr_wire.specs.Xdr.{Value}
 use Rattle.rpc_record.specs.Identity.{Identity}

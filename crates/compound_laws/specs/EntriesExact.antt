@@ -1,4 +1,4 @@
--- What stands in the entries that READDIR gives, and when an entry refuses it (RFC 8881, sections 5.8, 6.2.1 and 18.23).
+-- The attributes in the entries that READDIR gives, and when an entry refuses it (RFC 8881, sections 5.8, 6.2.1 and 18.23).
 use Rattle.std.specs.Prelude.{◌≡◌, ◌≤◌, ◌⊎◌, ℕ, false, true, ◌&&◌, List, [], ◌∷◌, ◌++◌, map, IsSome, Some, Ok}
 use Rattle.std.specs.List.{AllByRecursion}
 use Rattle.xdr_wire.specs.Xdr.{Value}

@@ -21,7 +21,7 @@ ghost use Rattle.compound_run.specs.Runs.{Point, Steps, outcome, traced};
 ghost use Rattle.compound_run.specs.Exact.{ArePassed, ArePassedOrSuffice, IsRefusedByRow, EndsInRefusal};
 ghost use Rattle.compound_laws.specs.EntriesExact.{GivesExactly, IsUnlisted, MeetsRefused};
 
-/// What stands behind a row of demands is an outcome only where the lists grant each of them; else the outcome is ACCESS.
+/// An outcome that stands behind a row of demands comes only where the lists grant each of them; else the outcome is ACCESS.
 pub fn rows_decide()
     ensures { (caller : Identity) (s : Sight) (before behind : List Question) (demands : Sight → List (Option Demand)) → ArePassed caller s before →
         failure caller s (before ++ Row demands ∷ behind) ≡ (if all_granted s.lists caller (demands s) then failure caller s behind else Some statuses.Access) }

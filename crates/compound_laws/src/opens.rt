@@ -1,4 +1,4 @@
-//! What holds of the open files in every state that a server comes to (RFC 8881, section 9.1).
+//! The open files in every state that a server comes to (RFC 8881, section 9.1).
 ghost use Rattle.std.specs.Prelude.{◌≡◌, ℕ, List, Option, Ok};
 ghost use Rattle.nfs_ops.specs.Operations.{Operation};
 ghost use Rattle.nfs_ops.specs.Results.{Outcome};

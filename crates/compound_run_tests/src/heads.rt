@@ -1,4 +1,4 @@
-//! What stands around the operations: tag, minor version, count, and the most that they give.
+//! The parts of a COMPOUND around its operations: tag, minor version, count, and the most that they give.
 
 use crate::servers::{BOB, Row, Sight, on_sample, play, run, see_trail};
 use crate::spelling::bytes_of;

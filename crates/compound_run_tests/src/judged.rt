@@ -1,4 +1,4 @@
-//! What lists refuse of the data and the attributes of files, and the lines that are written.
+//! Refusals by the lists of files, of their data and their attributes, and the lines that are written.
 
 use crate::servers::{BOB, Row, Sight, on, play, see_trail, server_of};
 use crate::trees::{ALL, add, root_of};

@@ -67,7 +67,7 @@ const OK: [u8; 4] = [0, 0, 0, 0];
 /// The status DELAY, 10008.
 const DELAY: [u8; 4] = [0, 0, 0x27, 0x18];
 
-/// What came of calls: whether one of each was delayed, how many since the heap is this one, and how many heaps had none.
+/// The outcomes of calls: whether one of each was delayed, how many since the heap is this one, and how many heaps had none.
 #[derive(Clone, Copy, Debug)]
 struct Seen {
     delayed: [bool; 24],
@@ -75,14 +75,14 @@ struct Seen {
     ample: u32,
 }
 
-/// What a call is made on.
+/// A server and the writer of its reply, which a call is made on.
 #[derive(Drop)]
 pub struct Site<'a> {
     pub server: Server<&'a LocalHeap>,
     pub out: Writer<&'a LocalHeap>,
 }
 
-/// What is looked at before and after a call.
+/// The parts of a server that are looked at before and after a call.
 #[derive(Debug, Drop, PartialEq, Eq)]
 pub struct Picture {
     pub tree: Vec<u8>,

@@ -95,7 +95,7 @@ static RIGHTS: [Row; 10] = [
     ),
 ];
 
-/// What is read, and what isn't built or needs a session.
+/// Arguments that don't spell, and operations that aren't built or need a session.
 static READ: [Row; 24] = [
     (BOB, "PUTROOTFH ACCESS", "badxdr PUTROOTFH ok ACCESS badxdr"),
     (BOB, "PUTFH ~81", "badxdr PUTFH badxdr"),

@@ -79,7 +79,7 @@ fn pass(
     Ok(())
 }
 
-/// What the hub gives for a stream that is cut, at a second of its own for each piece.
+/// The answers of the hub to a stream that is cut, at a second of its own for each piece.
 fn replies(alloc: Global, hub: &mut Hub, stream: &[u8]) -> Result<Vec<u8>, Fail> {
     let mut given = Vec::new(alloc);
     let conn = hub.connect()?;
@@ -142,7 +142,7 @@ fn see_replies(rt: &impl Abort, alloc: Global, given: &[u8], rows: &[Row]) -> Re
     Ok(())
 }
 
-/// What the hub gives for the calls of rows.
+/// The answers of the hub to the calls of rows.
 fn replies_to(alloc: Global, hub: &mut Hub, rows: &[Row]) -> Result<Vec<u8>, Fail> {
     let stream = stream_of(alloc, rows)?;
     replies(alloc, hub, &stream)

@@ -1,4 +1,4 @@
-//! What is remembered from one call to the next.
+//! Decisions that are remembered from one call to the next.
 
 use crate::servers::{ALICE, BOB, Row, Sight, on_sample, play, see_trail};
 use compound_run::Server;

@@ -1,4 +1,4 @@
-//! What has too little room: a COMPOUND gives at most 65,536 bytes, its header of 24 included, of which 16 stay free.
+//! COMPOUNDs with too little room: one gives at most 65,536 bytes, its header of 24 included, of which 16 stay free.
 
 use crate::servers::{BOB, Row, Sight, on, play, see_text, see_trail, server_of};
 use crate::trees::{ALL, add, root_of};

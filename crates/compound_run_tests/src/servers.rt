@@ -44,7 +44,7 @@ pub fn sample_server(alloc: Global, hasher: RandomState) -> Result<Server, Alloc
     server_of(alloc, Book::default(alloc), Tree::sample(alloc)?, hasher)
 }
 
-/// What is seen on a server.
+/// A look at a server.
 pub trait Sight {
     fn see(rt: &impl Abort, alloc: Global, server: &mut Server) -> Result<(), Fail>;
 }

@@ -235,7 +235,7 @@ static ROOMS: [Row; 8] = [
     ),
 ];
 
-/// What is refused before a session is there, and what a small session refuses.
+/// Calls that are refused before a session is there, and calls that a small session refuses.
 static REFUSALS: [Row; 25] = [
     (
         ALICE,

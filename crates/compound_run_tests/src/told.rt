@@ -208,7 +208,7 @@ fn all_of_a_link() -> &'static [Row] {
     &ALL_OF_A_LINK
 }
 
-/// What isn't supported is left out.
+/// An attribute that isn't supported is left out.
 static ASKED: [Row; 7] = [
     (BOB, "GETATTR", "badxdr GETATTR badxdr"),
     (BOB, "GETATTR 9 0 0 0 0 0 0 0 0 0", "badxdr GETATTR badxdr"),
@@ -235,7 +235,7 @@ fn asked() -> &'static [Row] {
     &ASKED
 }
 
-/// What is sent is compared byte for byte with what GETATTR gives, be it spelled well or not (RFC 8881, sections 18.15 and 18.31).
+/// VERIFY compares the bytes that are sent with those of GETATTR, be they spelled well or not (RFC 8881, sections 18.15 and 18.31).
 static COMPARED: [Row; 42] = [
     (BOB, "PUTFH @2 VERIFY 0 0", "ok PUTFH ok VERIFY ok"),
     (BOB, "PUTFH @2 NVERIFY 0 0", "same PUTFH ok NVERIFY same"),

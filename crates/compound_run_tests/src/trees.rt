@@ -90,7 +90,7 @@ fn root<A: Allocator + Copy>(alloc: A, list: &[Entry]) -> Result<Tree<A>, TreeFa
     Ok(Tree::new(alloc, 0, 0, list, 0)?)
 }
 
-/// The same, of the entries that are spelled so.
+/// A root of owner 0 and group 0 with the list of these entries, which stand there as text.
 pub fn root_of(alloc: Global, words: &str) -> Result<Tree, Fail> {
     let list = list_of(alloc, words)?;
     Ok(root(alloc, list.as_slice())?)

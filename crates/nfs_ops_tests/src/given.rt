@@ -1,9 +1,9 @@
-//! What the tests call: functions with no contract, so that the prover doesn't compute on a test's bytes.
+//! Functions that the tests call. They have no contract, so that the prover doesn't compute on a test's bytes.
 use nfs_ops::{Op, OpResult, next_op, read_result, write_op, write_result};
 use std::alloc::{AllocError, Global};
 use xdr_wire::{Full, Reader, Writer};
 
-/// What was read.
+/// An operation as it was read.
 #[derive(Clone, Copy, Debug, PartialEq, Eq)]
 pub enum Kind {
     Operation(u32),
@@ -21,14 +21,14 @@ fn kind_of(op: &Op) -> Kind {
     }
 }
 
-/// What `next_op` gives of the bytes, and how many are left.
+/// The answer of `next_op` to the bytes, and how many are left.
 pub fn read(bytes: &[u8]) -> (Kind, usize) {
     let mut reader = Reader::new(bytes);
     let op = next_op(&mut reader);
     (kind_of(&op), reader.len())
 }
 
-/// What is written of the operation that the bytes spell, and the answer.
+/// The bytes that are written of the operation that the bytes spell, and the answer.
 pub fn again(
     alloc: Global,
     room: usize,
@@ -39,7 +39,7 @@ pub fn again(
     Ok((writer.into_bytes(), answer))
 }
 
-/// What is written of a result, and the answer.
+/// The bytes that are written of a result, and the answer.
 pub fn written(
     alloc: Global,
     room: usize,
@@ -55,7 +55,7 @@ pub fn number_of(bytes: &[u8]) -> u32 {
     Reader::new(bytes).u32().unwrap_or(0)
 }
 
-/// What is written of the result that the bytes spell, nothing where they spell none.
+/// The bytes that are written of the result that the bytes spell, nothing where they spell none.
 pub fn result_again(alloc: Global, bytes: &[u8]) -> Result<Vec<u8>, AllocError> {
     let mut writer = Writer::new(alloc, bytes.len())?;
     if let Ok(outcome) = read_result(&mut Reader::new(bytes)) {

@@ -1,4 +1,4 @@
-//! What READDIR gives of small directories, by hand (RFC 8881, section 18.23, and RFC 5662).
+//! READDIR of small directories, by hand (RFC 8881, section 18.23, and RFC 5662).
 use crate::children::{Child, Children};
 use acl_list::Kind;
 use nfs_ops::{ListFault, write_readdir};
@@ -28,7 +28,7 @@ const END: &[u8] = b"\0\0\0\0\0\0\0\x01";
 pub enum Ending {
     /// This many entries, and whether they are all.
     Given(usize, bool),
-    /// What refuses an entry.
+    /// The fault that refuses an entry.
     Refused(u32),
     TooSmall,
 }
@@ -145,7 +145,7 @@ fn write_listing(mut children: Children<'_>, case: Case, writer: &mut Writer) ->
     }
 }
 
-/// What is written of a case, and how it ends.
+/// The bytes that are written of a case, and how it ends.
 pub fn listed(alloc: Global, case: Case) -> Result<(Vec<u8>, Option<Ending>), AllocError> {
     let mut writer = Writer::new(alloc, case.room)?;
     let book = Book::default(alloc);

@@ -32,7 +32,7 @@ fn cut(rt: HostRuntime) {
     }
 }
 
-/// What isn't supported, what is illegal and what is bad.
+/// Operations that aren't supported, that are illegal and that are bad.
 #[test]
 fn others(rt: HostRuntime) {
     for (bytes, want) in vectors::others() {
@@ -72,7 +72,7 @@ fn lent(rt: HostRuntime) -> Result<(), Fail> {
     Ok(())
 }
 
-/// What is no result: a number of no operation that is OK, a status that isn't one, a change that isn't atomic, and no bytes.
+/// Bytes that are no result: a number of no operation that is OK, a status that isn't one, a change that isn't atomic, and none.
 #[test]
 fn no_results(rt: HostRuntime) -> Result<(), Fail> {
     for bytes in vectors::no_results() {

@@ -78,7 +78,7 @@ pub fn operations() -> [&'static [u8]; 38] {
     ]
 }
 
-/// What is no operation, and borders of what is.
+/// Bytes that are no operation, and borders of those that are.
 pub fn others() -> [(&'static [u8], Kind); 34] {
     [
         // a number without a row, whatever is behind it

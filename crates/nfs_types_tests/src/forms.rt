@@ -50,7 +50,7 @@ fn see_long_handle(rt: &impl Abort, alloc: Global) -> Result<(), Fail> {
     Ok(())
 }
 
-/// What handles name that are sent, and this server's own are written.
+/// Handles that are sent name these objects, and this server's own are written.
 #[test]
 fn handles(rt: HostRuntime) -> Result<(), Fail> {
     for (words, names) in cases_of_handles() {
@@ -100,7 +100,7 @@ fn stateids(rt: HostRuntime) -> Result<(), Fail> {
     Ok(())
 }
 
-/// What is read, and the words that are written of it.
+/// A bitmap that is read, and the words that are written of it.
 static BITMAPS: [(&[u32], &[u32]); 5] = [
     (&[0], &[0]),
     (&[1, 0], &[0]),

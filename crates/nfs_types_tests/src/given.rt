@@ -1,4 +1,4 @@
-//! What the tests call: functions with no contract, so that the prover doesn't compute on a test's words.
+//! Functions that the tests call. They have no contract, so that the prover doesn't compute on a test's words.
 use acl_list::Kind;
 use nfs_types::{Attributes, Attrs, AttrsFault, Bitmap, Status, read_attrs};
 use std::alloc::{AllocError, Allocator, Global};
@@ -14,14 +14,14 @@ pub fn bytes(alloc: Global, words: &[u32]) -> Result<Vec<u8>, AllocError> {
     Ok(writer.into_bytes())
 }
 
-/// What `read` gives of the bytes, and how many are left.
+/// The answer of `read` to the bytes, and how many are left.
 pub fn read<'a, T: Wire<'a>>(bytes: &'a [u8]) -> (Result<T, XdrFault>, usize) {
     let mut reader = Reader::new(bytes);
     let read = T::read(&mut reader);
     (read, reader.len())
 }
 
-/// What is written of a value into a buffer of this room, and the answer.
+/// The bytes that are written of a value into a buffer of this room, and the answer.
 pub fn written<T: Spell>(
     alloc: Global,
     room: usize,
@@ -55,7 +55,7 @@ pub fn only(number: u32) -> Bitmap {
     }
 }
 
-/// What attributes that are sent set, or why they don't. What is no `fattr4` is `BadXdr` here too.
+/// The changes that attributes ask which are sent, or the fault. Bytes that are no `fattr4` are `BadXdr` here too.
 pub fn attrs<A: Allocator>(
     alloc: A,
     book: &Book,

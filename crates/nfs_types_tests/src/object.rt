@@ -1,4 +1,4 @@
-//! What is given of an object, attribute by attribute.
+//! The values that are given of an object, attribute by attribute.
 use crate::given;
 use acl_list::{Entry, EntryKind, Kind, Who};
 use nfs_types::{Bitmap, GivenAttributes, Moment, ObjectFacts, Status};

@@ -10,7 +10,7 @@ use std::test::Fail;
 use who_book::Book;
 use xdr_wire::{Full, Opaque, Writer, XdrFault};
 
-/// What a client sees of an `fattr4`.
+/// An `fattr4` as a client sees it.
 fn seen(bytes: &[u8]) -> Result<SeenAttributes<'_>, XdrFault> {
     match given::read::<Attributes>(bytes) {
         (Ok(sent), _) => read_given(&sent),
@@ -18,7 +18,7 @@ fn seen(bytes: &[u8]) -> Result<SeenAttributes<'_>, XdrFault> {
     }
 }
 
-/// What a client writes into a buffer of this room, with its set before it.
+/// The bytes that a client writes into a buffer of this room, with its set before it.
 fn shown(
     alloc: Global,
     room: usize,
@@ -61,7 +61,7 @@ fn seven_numbers() -> Bitmap {
     asked
 }
 
-/// What a server gives is what a client reads.
+/// A client reads the values that a server gives.
 #[test]
 fn what_is_given_is_seen(rt: HostRuntime) -> Result<(), Fail> {
     let book = Book::default(rt.alloc());
@@ -144,7 +144,7 @@ fn see_set(rt: &impl Abort, alloc: Global, all: &ShownAttributes<'_>) -> Result<
     Ok(())
 }
 
-/// What a client writes, in the order of the numbers; with a byte less of room, nothing.
+/// A client writes values in the order of their numbers; with a byte less of room, nothing.
 #[test]
 fn what_is_shown(rt: HostRuntime) -> Result<(), Fail> {
     let aces = [Ace {

@@ -1,4 +1,4 @@
-//! What is set of attributes that are sent, and why they are refused.
+//! Attributes that are sent to be set, and the faults that refuse them.
 use crate::given;
 use acl_list::Kind;
 use linked_list_allocator::LocalHeap;
@@ -8,7 +8,7 @@ use std::process::Abort;
 use std::test::Fail;
 use who_book::Book;
 
-/// What is sent, and why it is refused.
+/// Attributes that are sent, and the fault that refuses them.
 static REFUSED: [(&str, &[u32], Status); 20] = [
     ("number 14", &[1, 0x4000, 0], Status::AttrNotSupp),
     (

@@ -1,4 +1,4 @@
-//! What tells this start of the client from an earlier one.
+//! The verifier that tells this start of the client from an earlier one.
 use std::rt::Clock;
 use std::time::{SystemTime, UNIX_EPOCH};
 

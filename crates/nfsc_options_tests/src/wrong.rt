@@ -1,4 +1,4 @@
-//! What is said of words that are no command.
+//! The answers to words that are no command.
 use clap::error::ErrorKind;
 use nfsc_options::wrong_command;
 use std::alloc::Global;

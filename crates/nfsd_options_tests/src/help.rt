@@ -13,7 +13,7 @@ fn help(alloc: Global) -> Result<String, AllocError> {
     }
 }
 
-/// What stands between two texts of a text, where both stand in it.
+/// The part of a text between two texts, where both stand in it.
 fn between<'a>(text: &'a str, front: &str, back: &str) -> Option<&'a str> {
     let (_, behind) = text.split_once(front)?;
     let (found, _) = behind.split_once(back)?;

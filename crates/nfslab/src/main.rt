@@ -15,7 +15,7 @@ use std::rt::Files;
 use std::{env, fs, io};
 use who_book::{Book, BookFault};
 
-/// What keeps `nfslab` from running a script to its end, in the order in which it is found.
+/// A fault that keeps `nfslab` from running a script to its end. Faults are found in this order.
 #[derive(Debug, Drop, thiserror::Error)]
 enum Fault {
     /// The book's file can't be read, or isn't UTF-8.

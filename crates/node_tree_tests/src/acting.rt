@@ -8,7 +8,7 @@ use acl_shape::is_bounded;
 use node_tree::{At, Moment, NewObject, Tree, TreeFault};
 use std::alloc::Allocator;
 
-/// What came of a call.
+/// The outcome of a call.
 #[derive(Clone, Copy, Debug, PartialEq, Eq)]
 pub enum Outcome {
     /// It was done.

@@ -22,7 +22,7 @@ fn see_times(
     Ok(())
 }
 
-/// What is listed after a cookie of a directory.
+/// The entries that are listed after a cookie of a directory.
 fn see_names(
     rt: &impl Abort,
     tree: &Tree<Global>,
@@ -38,7 +38,7 @@ fn see_names(
     Ok(())
 }
 
-/// What is read of a file at an offset, with zeros behind it.
+/// The bytes that are read of a file at an offset, with zeros behind them.
 fn see_bytes(
     rt: &impl Abort,
     tree: &Tree<Global>,

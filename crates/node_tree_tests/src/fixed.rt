@@ -60,7 +60,7 @@ fn there(dice: &mut Dice, plain: &Plain) -> (u64, Label) {
     }
 }
 
-/// What a call came to, in the tree and in the plain program.
+/// The outcome of a call, in the tree and in the plain program.
 type Both = (Outcome, Outcome);
 
 fn make(

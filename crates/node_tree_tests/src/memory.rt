@@ -7,7 +7,7 @@ use linked_list_allocator::LocalHeap;
 use node_tree::{Kind, Tree, TreeFault};
 use std::test::Fail;
 
-/// What is looked at before and after a call: the counters, and of each object how it stands.
+/// The parts of a tree that are looked at before and after a call: the counters, and of each object how it stands.
 #[derive(Debug, Drop, PartialEq, Eq)]
 struct Picture {
     tick: u64,

@@ -1,4 +1,4 @@
-//! What records answer to a call.
+//! The replies of records to a call.
 
 use crate::words::bytes_of;
 use rpc_record::{ReplyFault, read_reply};

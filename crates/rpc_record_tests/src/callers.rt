@@ -9,7 +9,7 @@ use std::test::Fail;
 /// A group, the further ones, and the groups that they come to.
 type Sent = (u32, &'static [u32], &'static [u32]);
 
-/// What is sent for uid 1001, and the groups that it comes to.
+/// The groups that are sent for uid 1001, and the set that they come to.
 static SENT: [Sent; 9] = [
     (100, &[], &[100]),
     (100, &[7], &[7, 100]),
@@ -84,7 +84,7 @@ fn see_others(rt: &impl Abort, sent: Caller) {
     }
 }
 
-/// What is found by two keys in a map of one caller.
+/// The values that are found by two keys in a map of one caller.
 fn found(
     alloc: Global,
     sent: Caller,

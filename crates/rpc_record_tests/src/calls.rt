@@ -1,4 +1,4 @@
-//! What records ask, and their faults.
+//! The calls of records, and their faults.
 
 use crate::words::{NULL_CALL, bytes_of, lookup_record};
 use rpc_record::{CallFault, Caller, MOST_FURTHER, Procedure, read_call};

@@ -237,7 +237,7 @@ fn feed_in_pieces(
     Ok(())
 }
 
-/// What is answered to a stream that comes in pieces of `cut` bytes, and whether it breaks.
+/// The answers to a stream that comes in pieces of `cut` bytes, and whether it breaks.
 fn answered(alloc: Global, stream: &[u8], cut: usize) -> Result<(Vec<u8>, bool), Fail> {
     let mut connection = Connection::new(alloc);
     feed_in_pieces(alloc, &mut connection, stream, cut)?;

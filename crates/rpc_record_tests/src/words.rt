@@ -35,12 +35,12 @@ static LOOKUP_CALL: [u32; 26] = [
     0x2d,
 ];
 
-/// That call, with its mark.
+/// The call of LOOKUP, with its mark.
 pub fn lookup_call() -> &'static [u32] {
     &LOOKUP_CALL
 }
 
-/// The same call, without its mark.
+/// The call of LOOKUP without its mark.
 pub fn lookup_record() -> &'static [u32] {
     &LOOKUP_CALL[1..]
 }

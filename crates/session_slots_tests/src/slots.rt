@@ -106,7 +106,7 @@ fn see_groups_are_a_set(rt: &impl Abort, clients: &mut Clients) {
     assert_eq!(rt; run(clients, 1, call(0, 1, b"", &other), b""), Repeat);
 }
 
-/// The same groups in another order are the same caller.
+/// Two calls with equal groups in another order are by equal callers.
 #[test]
 fn groups_are_a_set(rt: HostRuntime) {
     let mut clients = eight_slots(rt.alloc());

@@ -1,4 +1,4 @@
-//! What books say, and how users, groups and whos are spelled by them.
+//! The contents of books, and how users, groups and whos are spelled by them.
 use acl_list::Who;
 use std::alloc::{AllocError, Global};
 use std::process::Abort;

@@ -1,7 +1,7 @@
 use std::alloc::Allocator;
 use xdr_wire::{AtMostOne, Full, Reader, Spell, Wire, Writer, XdrFault};
 
-/// What one direction of a session carries (RFC 8881, section 18.36, `channel_attrs4`): a struct of seven fields.
+/// One direction of a session (RFC 8881, section 18.36, `channel_attrs4`): a struct of seven fields.
 #[derive(Clone, Copy, Debug, PartialEq, Eq)]
 pub struct Channel {
     pub padding: u32,

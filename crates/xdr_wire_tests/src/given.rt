@@ -1,38 +1,38 @@
-//! What the tests call: functions with no contract, so that the prover doesn't compute on a test's bytes.
+//! Functions that the tests call. They have no contract, so that the prover doesn't compute on a test's bytes.
 use std::alloc::{AllocError, Global};
 use std::process::Abort;
 use std::test::Fail;
 use xdr_wire::{Full, Reader, Spell, Wire, Writer, XdrFault};
 
-/// What `read` gives of the bytes, and how many are left.
+/// The answer of `read` to the bytes, and how many are left.
 pub fn read<'a, T: Wire<'a>>(bytes: &'a [u8]) -> (Result<T, XdrFault>, usize) {
     let mut reader = Reader::new(bytes);
     let read = T::read(&mut reader);
     (read, reader.len())
 }
 
-/// What `fixed` gives of the bytes, and how many are left.
+/// The answer of `fixed` to the bytes, and how many are left.
 pub fn fixed(n: usize, bytes: &[u8]) -> (Result<&[u8], XdrFault>, usize) {
     let mut reader = Reader::new(bytes);
     let read = reader.fixed(n);
     (read, reader.len())
 }
 
-/// What `opaque` gives of the bytes, and how many are left.
+/// The answer of `opaque` to the bytes, and how many are left.
 pub fn opaque(max: usize, bytes: &[u8]) -> (Result<&[u8], XdrFault>, usize) {
     let mut reader = Reader::new(bytes);
     let read = reader.opaque(max);
     (read, reader.len())
 }
 
-/// What `count` gives of the bytes, and how many are left.
+/// The answer of `count` to the bytes, and how many are left.
 pub fn count(max: usize, bytes: &[u8]) -> (Result<u32, XdrFault>, usize) {
     let mut reader = Reader::new(bytes);
     let read = reader.count(max);
     (read, reader.len())
 }
 
-/// What is written of a value into a buffer of this room, and the answer.
+/// The bytes that are written of a value into a buffer of this room, and the answer.
 pub fn written<T: Spell>(
     alloc: Global,
     room: usize,

@@ -39,7 +39,7 @@ fn file_is_written(rt: HostRuntime) -> Result<(), Fail> {
     Ok(())
 }
 
-/// The same example, read.
+/// The example of RFC 4506, section 7, read item by item.
 #[test]
 fn file_is_read(rt: HostRuntime) -> Result<(), Fail> {
     let (read, left) = given::read::<(Text, (u32, (Text, (Text, Text))))>(file_bytes());
@@ -105,7 +105,7 @@ fn full(rt: HostRuntime) -> Result<(), Fail> {
     Ok(())
 }
 
-/// What was written is cut off, and there is room for it again.
+/// Bytes that were written are cut off, and there is room for them again.
 #[test]
 fn truncated(rt: HostRuntime) -> Result<(), Fail> {
     let mut writer = Writer::new(rt.alloc(), 7)?;

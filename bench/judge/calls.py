@@ -1,0 +1,363 @@
+#!/usr/bin/env python3
+"""Random calls to nfsd and to the plain program of `model.py`, side by side.
+
+    calls.py NFSD bare|net FIRST SEEDS CALLS [BOOK]
+
+Each seed from FIRST on begins a server, over standard input and output (bare) or over 127.0.0.1 with sessions (net), and makes that many calls. A reply that
+differs in a byte is printed, and the status is 1. Times aren't asked for, since the server's clock is its own.
+"""
+import random, socket, subprocess, sys, time, os
+sys.path.insert(0, os.path.dirname(os.path.abspath(__file__)))
+import model
+from model import u, U, I, o, M, Rd
+NAMES = [b'a', b'b', b'c', b'd', b'notes', b'pub', b'e', b'f']
+ODD = [b'', b'.', b'..', b'x/y', b'z\x00', b'\xff\xfe', b'n' * 255, b'n' * 256, 'é'.encode(), b'q' * 300]
+UIDS = [0, 1001, 1002, 5]
+GIDS = [0, 100, 7]
+WHOS = [b'OWNER@', b'GROUP@', b'EVERYONE@', b'1001', b'1002', b'0', b'100', b'7', b'01', b'nobody', b'alice@example.org', b'staff@example.org', b'alice@localdomain', b'owner@']
+ANON = (0, bytes(12))
+BYP = (0xffffffff, b'\xff' * 12)
+
+
+class Gen:
+    def __init__(self, rng, srv):
+        self.r = rng
+        self.s = srv
+        self.sids = []
+
+    def name(self):
+        return self.r.choice(ODD) if self.r.random() < 0.06 else self.r.choice(NAMES)
+
+    def S(self):
+        r = self.r
+        x = r.random()
+        if x < 0.45:
+            return ANON
+        if x < 0.5:
+            return BYP
+        if x < 0.53:
+            return (r.choice([0, 1, 0xffffffff]), r.choice([bytes(12), b'\xff' * 12]))
+        ids = list(self.s.opens) or [1]
+        n = r.choice(ids)
+        q = self.s.opens.get(n)
+        seq = q['seq'] if q else 1
+        return (r.choice([0, seq, seq, seq, max(0, seq - 1), seq + 1]), bytes(4) + U(n + (r.random() < 0.05)))
+
+    def want(self):
+        r = self.r
+        x = r.random()
+        if x < 0.2:
+            return set()
+        if x < 0.3:
+            return {1, 11, 33}
+        if x < 0.4:
+            return model.SUPP - {52, 53}
+        return {a for a in r.sample(range(0, 80), r.randint(1, 8)) if a not in (52, 53)} | ({11} if r.random() < 0.4 else set()) | ({12} if r.random() < 0.2 else set()) | ({33} if r.random() < 0.3 else set())
+
+    def ace(self):
+        r = self.r
+        t = r.choice([0] * 6 + [1] * 4 + [2, 3] + ([4] if r.random() < 0.05 else []))
+        f = r.choice([0, 0, 0, 3, 1, 2, 11, 8, 4, 7, 16, 32, 0x30, 64, 0x80]) if r.random() < 0.98 else 256
+        m = r.choice([0x1f01ff & model.DEFINED, 1, 2, 4, 32, 64, 0x80, 65536, 0x20000, 0x40000, 0x80000, 0x1200a9, 0xe0187, r.getrandbits(21) & model.DEFINED, 0])
+        if r.random() < 0.01:
+            m = 0x800
+        w = r.choice(WHOS[:8]) if r.random() < 0.9 else r.choice(WHOS)
+        return u(t) + u(f) + u(m) + o(w)
+
+    def acl(self):
+        r = self.r
+        n = r.choice([0, 1, 2, 3, 4, 5, 6]) if r.random() < 0.97 else r.choice([58, 59, 60])
+        es = [self.ace() for _ in range(n)]
+        if r.random() < 0.6:
+            es.append(u(0) + u(r.choice([0, 3])) + u(0x1f01ff & model.DEFINED) + o(b'EVERYONE@'))
+        return u(len(es)) + b''.join(es)
+
+    def F(self, size=0.1):
+        r = self.r
+        d = {}
+        if r.random() < size:
+            d[4] = U(r.choice([0, 0, 0, 1, 3, 10, 5000, 1048576, 1048577, 2 ** 40]))
+        if r.random() < 0.25:
+            d[12] = self.acl()
+        if r.random() < 0.3:
+            d[33] = u(r.choice([0o755, 0o644, 0o600, 0o777, 4095, 0, 4096, r.getrandbits(12)]))
+        if r.random() < 0.08:
+            d[36] = o(r.choice([b'1001', b'0', b'1002', b'alice@example.org', b'x']))
+        if r.random() < 0.08:
+            d[37] = o(r.choice([b'100', b'0', b'7', b'staff@example.org', b'x']))
+        if r.random() < 0.03:
+            d[r.choice([3, 1, 14, 54, 75, 58])] = u(1)
+        b = b''.join((d[k] for k in sorted(d)))
+        if r.random() < 0.02:
+            b += b'\x00\x00\x00\x00'
+        if r.random() < 0.01:
+            b = b[:-4]
+        return M(set(d)) + o(b)
+
+    def op(self):
+        r = self.r
+        n = r.choices([3, 4, 5, 6, 9, 10, 11, 15, 16, 17, 18, 22, 24, 25, 26, 27, 28, 29, 31, 32, 34, 37, 38, 2, 59, 7, 53, 42, 43, 44, 57, 58], [4, 4, 1, 8, 7, 2, 4, 12, 3, 2, 10, 5, 6, 6, 6, 2, 5, 7, 4, 6, 8, 2, 8, 0.2, 0.2, 0.4, 0.2, 0.1, 0.1, 0.1, 0.1, 0.5])[0]
+        return self.enc(n)
+
+    def F_at(self, x):
+        """attributes as they are, mostly"""
+        w = {a for a in self.r.sample(sorted(model.SUPP - {52, 53, 11}), 3)}
+        b = b''.join((self.s.value(x, a) for a in sorted(w)))
+        if self.r.random() < 0.3 and b:
+            b = b[:-1] + bytes([b[-1] ^ 1])
+        if self.r.random() < 0.05:
+            w = w | {11}
+        if self.r.random() < 0.05:
+            w = w | {14}
+        return M(w) + o(b)
+
+    def enc(self, n):
+        r = self.r
+        if n == 3:
+            a = u(r.choice([63, 63, 0, 1, 0xffffffff, r.getrandbits(6)]))
+        elif n == 4:
+            s = self.S()
+            a = u(0) + u(s[0]) + s[1]
+        elif n == 5:
+            a = U(0) + u(0)
+        elif n == 6:
+            t = r.choice([2, 2, 2, 5, 5, 1, 3, 6, 9, 0, 10] if r.random() < 0.2 else [2, 2, 5])
+            a = u(t) + (o(r.choice([b'text', b'', b't' * 1024, b't' * 1025]) if r.random() < 0.2 else b'go/here') if t == 5 else u(1) + u(2) if t in (3, 4) else b'') + o(self.name()) + self.F(0.03)
+        elif n == 9:
+            a = M(self.want())
+        elif n in (10, 16, 24, 27, 31, 32):
+            a = b''
+        elif n in (11, 15, 28):
+            a = o(self.name())
+        elif n in (17, 37):
+            a = self.F_at(self.s.objs[r.choice(sorted(self.s.objs))])
+        elif n == 18:
+            how = r.random() < 0.6
+            cl = r.choice([0, 0, 0, 0, 0, 0, 0, 4, 4] if r.random() < 0.97 else [1, 2, 7])
+            a = u(r.getrandbits(32)) + u(r.choice([1, 2, 3, 3, 0, 4, 0x101]) if r.random() < 0.3 else r.choice([1, 2, 3])) + u(r.choice([0] * 20 + [1, 3, 4])) + U(9) + o(r.choice([b'o1', b'o2', b'']))
+            if how and (cl == 0 or r.random() < 0.1):
+                md = r.choice([0, 0, 0, 1] if r.random() < 0.97 else [2, 3, 4])
+                a += u(1) + u(md) + self.F(0.3)
+            else:
+                a += u(0)
+            a += u(cl) + (o(self.name()) if cl == 0 else b'')
+        elif n == 22:
+            k = r.choice(sorted(self.s.objs)) if r.random() < 0.9 else r.randint(1, self.s.num + 1)
+            a = o(model.as_handle(k)) if r.random() < 0.97 else o(r.choice([b'', b'x' * 16, bytes(15), b'1' * 129]))
+        elif n == 25:
+            s = self.S()
+            a = u(s[0]) + s[1] + U(r.choice([0, 0, 1, 2, 100, 2 ** 63, 2 ** 64 - 1])) + u(r.choice([0, 1, 10, 4096, 32768, 2 ** 32 - 1]))
+        elif n == 26:
+            a = U(r.choice([0, 0, 0, 0, 1, 2, 3, 4, 5, 2 ** 64 - 1] + [ck for d in self.s.names.values() for _, ck in d.values()][:6])) + bytes(8) + u(0) + u(r.choice([0, 15, 16, 40, 56, 64, 100, 200, 1000, 60000, 2 ** 32 - 1])) + M(self.want())
+        elif n == 29:
+            a = o(self.name()) + o(self.name())
+        elif n == 34:
+            s = self.S()
+            a = u(s[0]) + s[1] + self.F(0.2)
+        elif n == 38:
+            s = self.S()
+            a = u(s[0]) + s[1] + U(r.choice([0, 0, 1, 2, 3, 5, 100, 1048575, 1048576, 2 ** 64 - 1])) + u(r.choice([0, 1, 2, 2, 2, 3]) if r.random() < 0.1 else 2) + o(r.choice([b'', b'x', b'hello', b'y' * 100, b'z' * 3000]))
+        elif n == 53:
+            a = bytes(8) + U(1) + u(1) + u(0) + u(0) + u(0)
+        elif n == 42:
+            a = bytes(8) + o(b'own') + u(0) + u(0) + u(0)
+        elif n == 43:
+            a = U(1) + u(1) + u(0) + (u(0) + u(65536) * 3 + u(8) + u(8) + u(0)) * 2 + u(0) + u(0)
+        elif n == 44:
+            a = bytes(8) + U(1)
+        elif n == 57:
+            a = U(1)
+        elif n == 58:
+            a = u(r.choice([0, 1]))
+        else:
+            a = b''
+        if a and r.random() < 0.003:
+            a = a[:-4]
+        if a and r.random() < 0.003:
+            k = r.randrange(len(a))
+            a = a[:k] + bytes([a[k] ^ 1 << r.randrange(8)]) + a[k + 1:]
+        return u(n) + a
+
+    def open_up(self):
+        return (self.enc(24) + b'', u(34) + u(0) + bytes(12) + M({12}) + o(u(1) + u(0) + u(3) + u(model.DEFINED) + o(b'EVERYONE@')))
+
+    def ops(self, most):
+        r = self.r
+        k = r.choice([1, 2, 3, 4, 5, 6, 8, 10, most])
+        k = min(k, most)
+        out = []
+        x = r.random()
+        if x < 0.4:
+            out.append(self.enc(24))
+        elif x < 0.97:
+            out.append(self.enc(22))
+        if x < 0.25:
+            out += [self.enc(32), self.enc(22)]
+        while len(out) < k:
+            out.append(self.op())
+        return out[:k] if out else [self.op()]
+
+    def cred(self):
+        r = self.r
+        uid = r.choice(UIDS)
+        gid = r.choice(GIDS)
+        g = r.sample(GIDS, r.randint(0, 2))
+        b = u(0) + o(b'host') + u(uid) + u(gid) + u(len(g)) + b''.join(map(u, g))
+        return u(1) + o(b) + u(0) + u(0)
+
+    def call(self, ops, count=None, tag=b'', minor=1, cred=None, xid=None):
+        self.last_cred = cred or self.cred()
+        return u(self.r.getrandbits(32) if xid is None else xid) + u(0) + u(2) + u(100003) + u(4) + u(1) + self.last_cred + o(tag) + u(minor) + u(len(ops) if count is None else count) + b''.join(ops)
+
+    def chan(self):
+        r = self.r
+        return u(0) + u(r.choice([65536, 1049620, 8192, 500])) + u(r.choice([65536, 1049480, 4096, 4096, 4095, 8000])) + u(r.choice([65536, 100])) + u(r.choice([16, 8, 64, 0, 3])) + u(r.choice([1, 8, 64, 0, 2])) + u(0)
+
+    def session_call(self):
+        r = self.r
+        s = self.s
+        x = r.random()
+        sess = sorted(s.sessions)
+        if x < 0.05 or not s.clients:
+            e = u(42) + r.choice([b'v' * 8, b'v' * 8, b'w' * 8]) + o(r.choice([b'own1', b'own2', b'own3', b'own%d' % r.randint(4, 80)])) + u(r.choice([0, 0, 0, 0, 0x80000000, 0x40000000, 0xc0000000, 3])) + u(r.choice([0] * 20 + [1, 3])) + (u(0) if r.random() < 0.8 else u(1) + o(b'd') + o(b'n') + I(5) + u(7))
+            return self.call([e])
+        if x < 0.12 or not sess:
+            n = r.choice(sorted(s.clients)) if r.random() < 0.9 else r.randint(1, s.cnum)
+            q = s.clients.get(n)
+            sq = ((q['seq'] if q else 0) + r.choice([1, 1, 1, 1, 0, 2])) % 2 ** 32
+            e = u(43) + U(n) + u(sq) + u(r.choice([0, 3])) + self.chan() + self.chan() + u(1) + r.choice([u(0), u(1) + u(0), u(1) + u(1) + u(0) + o(b'h') + u(1) + u(1) + u(0)])
+            return self.call([e])
+        if x < 0.13:
+            return self.call([u(44) + bytes(8) + U(r.choice(sess + [s.snum]))])
+        if x < 0.14:
+            return self.call([u(57) + U(r.randint(1, s.cnum))])
+        if x < 0.16:
+            return self.call(self.ops(4))
+        if x < 0.17:
+            return self.call([self.enc(r.choice([42, 43, 44, 57]))] + self.ops(3))
+        n = r.choice(sess)
+        q = s.sessions[n]
+        k = r.randrange(len(q['slots']))
+        sl = q['slots'][k]
+        if x < 0.24 and sl['used'] and hasattr(self, 'hist') and ((n, k) in self.hist):
+            rec, cred = self.hist[n, k]
+            if r.random() < 0.8:
+                return u(r.getrandbits(32)) + rec[4:]
+            rest = rec[24 + len(cred):]
+            cr2 = self.cred()
+            return u(7) + rec[4:24] + cr2 + rest
+        seq = u(53) + bytes(8) + U(n if r.random() < 0.99 else s.snum) + u((sl['last'] + r.choice([1] * 30 + [0, 2])) % 2 ** 32) + u(k if r.random() < 0.98 else r.choice([8, 1, 7])) + u(r.choice([0] * 20 + [len(q['slots']) - 1, 8])) + u(r.choice([0, 1]))
+        ops = self.ops(r.choice([q['ops'], q['ops'] + 1]) - 1 if q['ops'] > 1 else 0) if q['ops'] > 1 else []
+        if r.random() < 0.02:
+            ops.insert(0, u(58) + u(0))
+        rec = self.call([seq] + ops, tag=r.choice([b'', b'', b'tag']))
+        return rec
+
+    def bare_call(self):
+        r = self.r
+        return self.call(self.ops(16), tag=r.choice([b'', b'', b'', b'tag', b'\xff']), minor=r.choice([1] * 50 + [0, 2]))
+
+
+def head(rec):
+    return u(0x80000000 | len(rec)) + rec
+
+
+def caller_of(rec):
+    r = Rd(rec, 24)
+    r.u()
+    b = Rd(r.o())
+    b.u()
+    b.o()
+    uid = b.u()
+    gid = b.u()
+    g = [b.u() for _ in range(b.u())]
+    return (uid, frozenset([gid] + g), gid)
+
+
+def run(seed, n, nfsd, bare, book=None, trailfile=None):
+    rng = random.Random(seed)
+    bk = model.Book('example.org', {'root': 0, 'alice': 1001}, {'wheel': 0, 'staff': 100}, 0, 0, 0o755) if book else model.Book()
+    srv = model.Server(bk, bare)
+    g = Gen(rng, srv)
+    g.hist = {}
+    if bare:
+        p = subprocess.Popen([nfsd, '--bare'], stdin=subprocess.PIPE, stdout=subprocess.PIPE)
+        wr = p.stdin
+        rd = p.stdout
+    else:
+        port = rng.randint(20000, 40000)
+        p = subprocess.Popen([nfsd, '--port', str(port), '--connections', '1'] + (['--book', book] if book else []) + (['--trail', trailfile] if trailfile else []), stdout=subprocess.PIPE)
+        p.stdout.readline()
+        sk = socket.create_connection(('127.0.0.1', port))
+        wr = sk.makefile('wb')
+        rd = sk.makefile('rb')
+    log = []
+    counts = {}
+    opened = False
+    for i in range(n):
+        rec = g.bare_call() if bare else g.session_call()
+        if bare and i == 0 and seed % 4:
+            rec = g.call(list(g.open_up()), cred=u(1) + o(u(0) + o(b'h') + u(0) + u(0) + u(0)) + u(0) + u(0))
+        if not bare and srv.sessions and (not opened) and seed % 4:
+            k = min(srv.sessions)
+            sl = srv.sessions[k]['slots'][0]
+            opened = True
+            if srv.sessions[k]['ops'] >= 3:
+                rec = g.call([u(53) + bytes(8) + U(k) + u((sl['last'] + 1) % 2 ** 32) + u(0) * 3, *g.open_up()], cred=u(1) + o(u(0) + o(b'h') + u(0) + u(0) + u(0)) + u(0) + u(0))
+            else:
+                opened = False
+        want = srv.record(rec, (0, 0))
+        wr.write(head(rec))
+        wr.flush()
+        h = rd.read(4)
+        m = int.from_bytes(h, 'big') & 0x7fffffff
+        got = rd.read(m)
+        if not bare:
+            for k, s in srv.sessions.items():
+                for j, sl in enumerate(s['slots']):
+                    if sl.get('args') and (k, j) not in g.hist or (sl.get('args') is not None and sl['args'] == rec[24 + len(g.last_cred):] and (len(rec) > 24)):
+                        if sl['args'] == rec[24 + len(g.last_cred):]:
+                            g.hist[k, j] = (rec, g.last_cred)
+        r = Rd(want, 28) if len(want) > 28 else None
+        if r:
+            st = int.from_bytes(want[24:28], 'big')
+            counts[st] = counts.get(st, 0) + 1
+        if got != want:
+            print('seed', seed, 'call', i, 'differs')
+            print('call', rec.hex())
+            print('want', want.hex())
+            print('got ', got.hex())
+            p.kill()
+            return (counts, False)
+    if bare:
+        p.stdin.close()
+    else:
+        wr.close()
+        rd.close()
+        sk.close()
+    p.wait()
+    if trailfile:
+        lines = open(trailfile).read().split('\n')[:-1]
+        if lines != srv.trail:
+            for k, (a, b) in enumerate(zip(lines + [None] * 9, srv.trail + [None] * 9)):
+                if a != b:
+                    print('seed', seed, 'trail line', k, 'file', a, 'model', b)
+                    break
+            return (counts, False)
+    return (counts, True)
+if __name__ == '__main__':
+    nfsd, mode, first, seeds, n = (sys.argv[1], sys.argv[2], int(sys.argv[3]), int(sys.argv[4]), int(sys.argv[5]))
+    book = sys.argv[6] if len(sys.argv) > 6 else None
+    tot = {}
+    bad = 0
+    t0 = time.time()
+    for s in range(first, first + seeds):
+        c, ok = run(s, n, nfsd, mode == 'bare', book)
+        bad += not ok
+        for k, v in c.items():
+            tot[k] = tot.get(k, 0) + v
+        if bad > 3:
+            break
+    inv = {v: k for k, v in model.ST.items()}
+    print(seeds, 'seeds of', n, 'calls,', bad, 'differ,', round(time.time() - t0), 's;', {inv.get(k, k): v for k, v in sorted(tot.items())})
+    sys.exit(1 if bad else 0)
