@@ -34,68 +34,91 @@ fn bits(object: u64, mask: u32) -> Demand {
     Demand::Bits { object, mask }
 }
 
+/// Sees that user 1002 in group 100 is granted bits of an object.
+fn see_granted(rt: &impl Abort, guarded: &mut GuardedTree, demand: Demand, operation: u32)
+    requires { guarded.old.log.held ≡ [] }
+    ensures { guarded.new.log.held ≡ [] }
+{
+    let caller = Caller::new(1002, 100, &[]);
+    assert_eq!(rt; decide(guarded, demand, &caller, operation), Granted);
+}
+
+/// Sees that these decisions are remembered, the one asked last first.
+fn see_remembered(
+    rt: &impl Abort,
+    alloc: Global,
+    guard: &Guard,
+    want: &[(u64, Summary)],
+) -> Result<(), Fail> {
+    let pairs = remembered(alloc, guard)?;
+    assert_eq!(rt; pairs.as_slice(), want);
+    Ok(())
+}
+
+/// Sees how many entries were looked at so far.
+fn see_examined(rt: &impl Abort, guard: &Guard, want: u64) {
+    assert_eq!(rt; guard.examined(), want);
+}
+
+/// Asks for four decisions where two are remembered, one of them twice.
+fn ask_four(rt: &impl Abort, guarded: &mut GuardedTree)
+    requires { guarded.old.log.held ≡ [] }
+    ensures { guarded.new.log.held ≡ [] }
+{
+    see_granted(rt, guarded, bits(1, 0x20), LOOKUP);
+    see_granted(rt, guarded, bits(2, 0x1), LOOKUP);
+    let examined = guarded.guard().examined();
+    see_granted(rt, guarded, bits(1, 0x20), LOOKUP);
+    see_examined(rt, guarded.guard(), examined);
+    see_granted(rt, guarded, bits(3, 0x20), LOOKUP);
+}
+
 #[test]
 fn the_one_asked_last_stands_first(rt: HostRuntime) -> Result<(), Fail> {
     let alloc = rt.alloc();
     let mut guarded = guarded(alloc, sample(alloc)?, 2, RandomState::new(&rt)?)?;
-    let caller = Caller::new(1002, 100, &[]);
-    assert_eq!(rt;
-        decide(&mut guarded, bits(1, 0x20), &caller, LOOKUP),
-        Granted
-    );
-    assert_eq!(rt;
-        decide(&mut guarded, bits(2, 0x1), &caller, LOOKUP),
-        Granted
-    );
-    let examined = guarded.guard().examined();
-    assert_eq!(rt;
-        decide(&mut guarded, bits(1, 0x20), &caller, LOOKUP),
-        Granted
-    );
-    assert_eq!(rt; guarded.guard().examined(), examined);
-    assert_eq!(rt;
-        decide(&mut guarded, bits(3, 0x20), &caller, LOOKUP),
-        Granted
-    );
-    let pairs = remembered(alloc, guarded.guard())?;
-    assert_eq!(rt;
-        pairs.as_slice(),
-        [(3, sum(0x12_00e7)), (1, sum(0x12_00a1))].as_slice()
-    );
-    Ok(())
+    ask_four(&rt, &mut guarded);
+    let last = [(3, sum(0x12_00e7)), (1, sum(0x12_00a1))];
+    see_remembered(&rt, alloc, guarded.guard(), &last)
+}
+
+/// Asks twice for the bits of `notes`, whose list has five entries, and once for a removal.
+fn ask_again(rt: &impl Abort, guarded: &mut GuardedTree)
+    requires { guarded.old.log.held ≡ [] }
+{
+    see_granted(rt, guarded, bits(2, 0x1), READ);
+    see_examined(rt, guarded.guard(), 5);
+    see_granted(rt, guarded, bits(2, 0x1), READ);
+    see_examined(rt, guarded.guard(), 5);
+    let removal = Demand::Removal {
+        parent: 1,
+        target: 2,
+    };
+    let _ = decide(guarded, removal, &Caller::new(1002, 100, &[]), READ);
 }
 
 #[test]
 fn a_second_equal_call_walks_no_list(rt: HostRuntime) -> Result<(), Fail> {
     let alloc = rt.alloc();
     let mut guarded = guarded(alloc, sample(alloc)?, 1, RandomState::new(&rt)?)?;
-    let caller = Caller::new(1002, 100, &[]);
-    assert_eq!(rt; decide(&mut guarded, bits(2, 0x1), &caller, READ), Granted);
-    let examined = guarded.guard().examined();
-    assert_eq!(rt; examined, 5);
-    assert_eq!(rt; decide(&mut guarded, bits(2, 0x1), &caller, READ), Granted);
-    assert_eq!(rt; guarded.guard().examined(), examined);
-    let removal = Demand::Removal {
-        parent: 1,
-        target: 2,
-    };
-    let _ = decide(&mut guarded, removal, &caller, READ);
-    let pairs = remembered(alloc, guarded.guard())?;
-    assert_eq!(rt; pairs.as_slice(), [(1, sum(0x12_00a1))].as_slice());
-    Ok(())
+    ask_again(&rt, &mut guarded);
+    see_remembered(&rt, alloc, guarded.guard(), &[(1, sum(0x12_00a1))])
 }
 
-/// The bits of `pub`, whose list has five entries, are looked up once and remembered, and nothing else is.
+/// Asks for the bits of `pub`, whose list has five entries.
+fn ask_grants(rt: &impl Abort, guarded: &mut GuardedTree) {
+    let caller = Caller::new(1002, 100, &[]);
+    assert_eq!(rt; guarded.grants(3, &caller), 0x12_00e7);
+    see_examined(rt, guarded.guard(), 5);
+}
+
+/// The bits of an object are looked up once and remembered, and nothing else is.
 #[test]
 fn grants_look_up_their_object_alone(rt: HostRuntime) -> Result<(), Fail> {
     let alloc = rt.alloc();
     let mut guarded = guarded(alloc, sample(alloc)?, 2, RandomState::new(&rt)?)?;
-    let caller = Caller::new(1002, 100, &[]);
-    assert_eq!(rt; guarded.grants(3, &caller), 0x12_00e7);
-    assert_eq!(rt; guarded.guard().examined(), 5);
-    let pairs = remembered(alloc, guarded.guard())?;
-    assert_eq!(rt; pairs.as_slice(), [(3, sum(0x12_00e7))].as_slice());
-    Ok(())
+    ask_grants(&rt, &mut guarded);
+    see_remembered(&rt, alloc, guarded.guard(), &[(3, sum(0x12_00e7))])
 }
 
 /// Asks for READ_DATA on the object.

@@ -1,9 +1,9 @@
 //! The calls of the tables of outcomes once more, each behind a SEQUENCE, and again as a repeat (RFC 8881, sections 2.10.6.1.3 and 18.46).
 
 use crate::outcomes::{see_lines, tables};
-use crate::servers::{ALICE, Row, Sight, on_sample, play_in_session};
-use crate::turns::{Turn, see_turn};
+use call_texts::{ALICE, Row};
 use compound_run::Server;
+use sample_servers::{Sight, Turn, on_sample, play_in_session, see_turn};
 use std::alloc::Global;
 use std::hash::RandomState;
 use std::process::Abort;
@@ -33,19 +33,13 @@ fn is_of_sessions(call: &str) -> bool {
 }
 
 /// Sees the rows that have no operation of sessions, from this turn on, each at the second of its place, and gives the next turn.
-fn see_rows(
-    rt: &impl Abort,
-    alloc: Global,
-    server: &mut Server,
-    first: Turn,
-    rows: &[Row],
-) -> Result<Turn, Fail> {
+fn see_rows(alloc: Global, server: &mut Server, first: Turn, rows: &[Row]) -> Result<Turn, Fail> {
     let mut turn = first;
     let mut seconds = 0i64;
     for row in rows {
         seconds = seconds.saturating_add(1);
         if !is_of_sessions(row.1) {
-            see_turn(rt, alloc, server, turn, seconds, *row)?;
+            see_turn(alloc, server, turn, seconds, *row)?;
             turn = turn.next();
         }
     }
@@ -54,9 +48,9 @@ fn see_rows(
 
 struct BehindSequence;
 
-impl Sight for BehindSequence {
-    fn see(rt: &impl Abort, alloc: Global, server: &mut Server) -> Result<(), Fail> {
-        play_in_session(rt, alloc, server, come())?;
+impl<R: Abort> Sight<R> for BehindSequence {
+    fn see(rt: &R, alloc: Global, server: &mut Server) -> Result<(), Fail> {
+        play_in_session(alloc, server, come())?;
         let mut turn = Turn {
             session: 1,
             number: 1,
@@ -64,15 +58,15 @@ impl Sight for BehindSequence {
             keeps: 0,
         };
         for rows in tables() {
-            turn = see_rows(rt, alloc, server, turn, rows)?;
+            turn = see_rows(alloc, server, turn, rows)?;
         }
         // six of the 295 calls have operations of sessions
         assert_eq!(rt; turn.number, 290);
-        see_lines(rt, alloc, server)
+        see_lines(alloc, server)
     }
 }
 
 #[test]
 fn outcomes_are_told_behind_sequence(rt: HostRuntime) -> Result<(), Fail> {
-    on_sample::<BehindSequence>(&rt, rt.alloc(), RandomState::new(&rt)?)
+    on_sample::<HostRuntime, BehindSequence>(&rt, rt.alloc(), RandomState::new(&rt)?)
 }

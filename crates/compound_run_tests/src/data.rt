@@ -1,7 +1,8 @@
 //! READ, WRITE, COMMIT and CLOSE: what calls can bring about where nothing is open.
 
-use crate::servers::{ALICE, BOB, CAROL, Row, Sight, on_sample, play, see_trail};
+use call_texts::{ALICE, BOB, CAROL, Row};
 use compound_run::Server;
+use sample_servers::{Sight, on_sample, play, see_trail};
 use std::alloc::Global;
 use std::hash::RandomState;
 use std::process::Abort;
@@ -270,17 +271,17 @@ fn lines() -> &'static str {
 
 struct Data;
 
-impl Sight for Data {
-    fn see(rt: &impl Abort, alloc: Global, server: &mut Server) -> Result<(), Fail> {
-        play(rt, alloc, server, reads())?;
-        play(rt, alloc, server, refused())?;
-        play(rt, alloc, server, written())?;
-        play(rt, alloc, server, others())?;
-        see_trail(rt, alloc, server, 8, lines())
+impl<R: Abort> Sight<R> for Data {
+    fn see(rt: &R, alloc: Global, server: &mut Server) -> Result<(), Fail> {
+        play(alloc, server, reads())?;
+        play(alloc, server, refused())?;
+        play(alloc, server, written())?;
+        play(alloc, server, others())?;
+        see_trail(alloc, server, 8, lines())
     }
 }
 
 #[test]
 fn bytes_are_read_and_written(rt: HostRuntime) -> Result<(), Fail> {
-    on_sample::<Data>(&rt, rt.alloc(), RandomState::new(&rt)?)
+    on_sample::<HostRuntime, Data>(&rt, rt.alloc(), RandomState::new(&rt)?)
 }

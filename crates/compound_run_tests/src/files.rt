@@ -1,8 +1,8 @@
 //! OPEN, stateids of opens, CLOSE and READDIR, by hand.
 
-use crate::servers::{ALICE, BOB, Row, Sight, on_sample, play, run};
-use crate::spelling::call_of;
+use call_texts::{ALICE, BOB, Row, call_of};
 use compound_run::Server;
+use sample_servers::{Sight, on_sample, play, run};
 use std::alloc::Global;
 use std::hash::RandomState;
 use std::process::Abort;
@@ -157,18 +157,18 @@ fn see_opens(rt: &impl Abort, server: &Server, wanted: &[u64]) -> Result<(), Fai
 
 struct Files;
 
-impl Sight for Files {
-    fn see(rt: &impl Abort, alloc: Global, server: &mut Server) -> Result<(), Fail> {
-        play(rt, alloc, server, opens())?;
+impl<R: Abort> Sight<R> for Files {
+    fn see(rt: &R, alloc: Global, server: &mut Server) -> Result<(), Fail> {
+        play(alloc, server, opens())?;
         see_opens(rt, server, &[1, 3])?;
-        play(rt, alloc, server, listed())?;
+        play(alloc, server, listed())?;
         see_opens(rt, server, &[1, 3, 5])
     }
 }
 
 #[test]
 fn files_are_opened_and_listed(rt: HostRuntime) -> Result<(), Fail> {
-    on_sample::<Files>(&rt, rt.alloc(), RandomState::new(&rt)?)
+    on_sample::<HostRuntime, Files>(&rt, rt.alloc(), RandomState::new(&rt)?)
 }
 
 /// Behind 4,096 opens of `notes` by as many owners: no owner more has one, of no file, until one is closed.
@@ -229,10 +229,10 @@ fn open_often(alloc: Global, server: &mut Server, count: u32) -> Result<u32, Fai
 
 struct Limited;
 
-impl Sight for Limited {
-    fn see(rt: &impl Abort, alloc: Global, server: &mut Server) -> Result<(), Fail> {
+impl<R: Abort> Sight<R> for Limited {
+    fn see(rt: &R, alloc: Global, server: &mut Server) -> Result<(), Fail> {
         assert_eq!(rt; open_often(alloc, server, 4097)?, 4096);
-        play(rt, alloc, server, more())?;
+        play(alloc, server, more())?;
         assert_eq!(rt; server.opens().len(), 4096);
         Ok(())
     }
@@ -240,5 +240,5 @@ impl Sight for Limited {
 
 #[test]
 fn opens_are_limited(rt: HostRuntime) -> Result<(), Fail> {
-    on_sample::<Limited>(&rt, rt.alloc(), RandomState::new(&rt)?)
+    on_sample::<HostRuntime, Limited>(&rt, rt.alloc(), RandomState::new(&rt)?)
 }

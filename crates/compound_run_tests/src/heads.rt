@@ -1,8 +1,8 @@
 //! The parts of a COMPOUND around its operations: tag, minor version, count, and the most that they give.
 
-use crate::servers::{BOB, Row, Sight, on_sample, play, run, see_trail};
-use crate::spelling::bytes_of;
+use call_texts::{BOB, Row, bytes_of};
 use compound_run::Server;
+use sample_servers::{Sight, on_sample, play, run, see_trail};
 use std::alloc::Global;
 use std::hash::RandomState;
 use std::process::Abort;
@@ -133,18 +133,18 @@ fn most() -> &'static [(&'static str, &'static str)] {
 
 struct HeadWords;
 
-impl Sight for HeadWords {
-    fn see(rt: &impl Abort, alloc: Global, server: &mut Server) -> Result<(), Fail> {
+impl<R: Abort> Sight<R> for HeadWords {
+    fn see(rt: &R, alloc: Global, server: &mut Server) -> Result<(), Fail> {
         see_all(rt, alloc, server, heads())?;
         see_garbage(rt, alloc, server, garbage())?;
-        play(rt, alloc, server, long_link())?;
+        play(alloc, server, long_link())?;
         see_all(rt, alloc, server, most())?;
         assert_eq!(rt; server.opens().len(), 0);
-        see_trail(rt, alloc, server, 0, "")
+        see_trail(alloc, server, 0, "")
     }
 }
 
 #[test]
 fn heads_are_read_and_written(rt: HostRuntime) -> Result<(), Fail> {
-    on_sample::<HeadWords>(&rt, rt.alloc(), RandomState::new(&rt)?)
+    on_sample::<HostRuntime, HeadWords>(&rt, rt.alloc(), RandomState::new(&rt)?)
 }

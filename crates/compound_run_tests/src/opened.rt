@@ -1,6 +1,6 @@
 //! The outcomes of the operations on data, attributes, opens and listings, behind those of `outcomes.rt`, which plays all.
 
-use crate::servers::{ALICE, BOB, Row};
+use call_texts::{ALICE, BOB, Row};
 
 /// In `pub`, 3, bob makes the file `y`, 13, whose list gives READ_DATA alone, and `z`, 14, whose list gives all; both stay open. Then what data and
 /// attributes are refused for, in the order of the questions: a refused WRITE or SETATTR takes no tick.

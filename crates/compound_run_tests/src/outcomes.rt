@@ -1,8 +1,9 @@
 //! Each outcome of each operation that calls can bring about.
 
 use crate::opened::{data, listings, opens};
-use crate::servers::{ALICE, BOB, CAROL, ROOT, Row, Sight, on_sample, play, see_trail};
+use call_texts::{ALICE, BOB, CAROL, ROOT, Row};
 use compound_run::Server;
+use sample_servers::{Sight, on_sample, play, see_trail};
 use std::alloc::Global;
 use std::hash::RandomState;
 use std::process::Abort;
@@ -759,22 +760,22 @@ fn lines() -> &'static str {
 }
 
 /// Sees the trail that the tables leave.
-pub fn see_lines(rt: &impl Abort, alloc: Global, server: &Server) -> Result<(), Fail> {
-    see_trail(rt, alloc, server, 28, lines())
+pub fn see_lines(alloc: Global, server: &Server) -> Result<(), Fail> {
+    see_trail(alloc, server, 28, lines())
 }
 
 struct Outcomes;
 
-impl Sight for Outcomes {
-    fn see(rt: &impl Abort, alloc: Global, server: &mut Server) -> Result<(), Fail> {
+impl<R: Abort> Sight<R> for Outcomes {
+    fn see(rt: &R, alloc: Global, server: &mut Server) -> Result<(), Fail> {
         for rows in tables() {
-            play(rt, alloc, server, rows)?;
+            play(alloc, server, rows)?;
         }
-        see_lines(rt, alloc, server)
+        see_lines(alloc, server)
     }
 }
 
 #[test]
 fn outcomes_are_told(rt: HostRuntime) -> Result<(), Fail> {
-    on_sample::<Outcomes>(&rt, rt.alloc(), RandomState::new(&rt)?)
+    on_sample::<HostRuntime, Outcomes>(&rt, rt.alloc(), RandomState::new(&rt)?)
 }

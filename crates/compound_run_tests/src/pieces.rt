@@ -2,10 +2,10 @@
 //! record and the front of the next.
 
 use crate::outcomes::{see_lines, tables};
-use crate::servers::{Row, see_answer};
-use crate::spelling::{bytes_of, call_of};
+use call_texts::{Row, bytes_of, call_of};
 use nfs_hub::{ConnId, Hub};
 use node_tree::Moment;
+use sample_servers::see_answer;
 use std::alloc::Global;
 use std::hash::RandomState;
 use std::process::Abort;
@@ -126,7 +126,7 @@ fn see_reply<'a>(
         return Err(Fail::new("no reply"));
     };
     see_header(rt, alloc, content, xid)?;
-    see_answer(rt, alloc, content.get(HEADER..), i64::from(xid), row)?;
+    see_answer(alloc, content.get(HEADER..), i64::from(xid), row)?;
     Ok(rest)
 }
 
@@ -160,7 +160,7 @@ fn see_all_rows(rt: &impl Abort, alloc: Global, hub: &mut Hub) -> Result<(), Fai
 
 fn see_outcomes(rt: &impl Abort, alloc: Global, hub: &mut Hub) -> Result<(), Fail> {
     see_all_rows(rt, alloc, hub)?;
-    see_lines(rt, alloc, hub.server())
+    see_lines(alloc, hub.server())
 }
 
 fn bare_hub(alloc: Global, hasher: RandomState) -> Result<Hub, Fail> {

@@ -1,7 +1,8 @@
 //! GETATTR, VERIFY and NVERIFY on the sample tree.
 
-use crate::servers::{BOB, Row, Sight, on_sample, play, see_text, see_trail};
+use call_texts::{BOB, Row};
 use compound_run::Server;
+use sample_servers::{Sight, on_sample, play, see_text, see_trail};
 use std::alloc::Global;
 use std::hash::RandomState;
 use std::process::Abort;
@@ -407,7 +408,6 @@ fn compared() -> &'static [Row] {
 
 /// Sees an attribute of an object.
 fn see_value(
-    rt: &impl Abort,
     alloc: Global,
     server: &mut Server,
     object: u64,
@@ -415,41 +415,40 @@ fn see_value(
 ) -> Result<(), Fail> {
     let call = format!(in alloc; "PUTFH @{object} GETATTR +{number}")?;
     let answer = format!(in alloc; "ok PUTFH ok GETATTR ok +{number} ( {value} )")?;
-    see_text(rt, alloc, server, call.as_str(), answer.as_str())
+    see_text(alloc, server, call.as_str(), answer.as_str())
 }
 
 /// Sees each attribute of an object alone.
 fn see_values(
-    rt: &impl Abort,
     alloc: Global,
     server: &mut Server,
     object: u64,
     values: &[(u32, &str)],
 ) -> Result<(), Fail> {
     for value in values {
-        see_value(rt, alloc, server, object, *value)?;
+        see_value(alloc, server, object, *value)?;
     }
     Ok(())
 }
 
 struct Told;
 
-impl Sight for Told {
-    fn see(rt: &impl Abort, alloc: Global, server: &mut Server) -> Result<(), Fail> {
-        see_values(rt, alloc, server, 2, notes())?;
-        see_values(rt, alloc, server, 1, root_directory())?;
-        see_values(rt, alloc, server, 3, pub_directory())?;
-        play(rt, alloc, server, all_at_once())?;
-        play(rt, alloc, server, made())?;
-        see_values(rt, alloc, server, 4, link())?;
-        play(rt, alloc, server, all_of_a_link())?;
-        play(rt, alloc, server, asked())?;
-        play(rt, alloc, server, compared())?;
-        see_trail(rt, alloc, server, 0, "")
+impl<R: Abort> Sight<R> for Told {
+    fn see(rt: &R, alloc: Global, server: &mut Server) -> Result<(), Fail> {
+        see_values(alloc, server, 2, notes())?;
+        see_values(alloc, server, 1, root_directory())?;
+        see_values(alloc, server, 3, pub_directory())?;
+        play(alloc, server, all_at_once())?;
+        play(alloc, server, made())?;
+        see_values(alloc, server, 4, link())?;
+        play(alloc, server, all_of_a_link())?;
+        play(alloc, server, asked())?;
+        play(alloc, server, compared())?;
+        see_trail(alloc, server, 0, "")
     }
 }
 
 #[test]
 fn attributes_are_told(rt: HostRuntime) -> Result<(), Fail> {
-    on_sample::<Told>(&rt, rt.alloc(), RandomState::new(&rt)?)
+    on_sample::<HostRuntime, Told>(&rt, rt.alloc(), RandomState::new(&rt)?)
 }

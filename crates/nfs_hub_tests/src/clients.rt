@@ -4,7 +4,7 @@
 use crate::pictures::{trail_text, tree_text};
 use crate::plain::{connect, feed_at, take_out};
 use crate::scenes::{new_hub, see_replies, told};
-use crate::spelling::{ALICE, BOB, Caller, ROOT, Row, calls_of, put_call_record};
+use call_texts::{ALICE, BOB, Caller, ROOT, Row, calls_of, put_call_record};
 use nfs_hub::{ConnId, Hub};
 use std::alloc::Global;
 use std::hash::RandomState;

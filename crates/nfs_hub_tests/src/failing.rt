@@ -3,7 +3,7 @@
 use crate::plain::serve_all;
 use crate::scenes::{Scene, new_hub, rows_of};
 use crate::serving::Failing;
-use crate::spelling::{ROOT, Row, calls_of, put_call_record, reply_of};
+use call_texts::{ROOT, Row, calls_of, put_call_record, reply_of};
 use nfs_hub::{Hub, ServeEnd};
 use std::alloc::Global;
 use std::hash::RandomState;

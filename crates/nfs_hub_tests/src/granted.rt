@@ -1,7 +1,7 @@
 //! Lists that grant and refuse in a session: names that go and move, modes and lists that are set, data, listings and owners.
 
 use crate::scenes::{Scene, see_scenes};
-use crate::spelling::{ALICE, BOB, ROOT, Row};
+use call_texts::{ALICE, BOB, ROOT, Row};
 use std::hash::RandomState;
 use std::test::Fail;
 

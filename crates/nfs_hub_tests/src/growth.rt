@@ -4,8 +4,8 @@
 use crate::pictures::{trail_text, tree_text};
 use crate::plain::{close, connect, feed, take_out, with_sessions};
 use crate::scenes::{Scene, new_hub};
-use crate::spelling::{ROOT, Row, put_call_record, reply_of};
 use crate::{granted, sessions};
+use call_texts::{ROOT, Row, put_call_record, reply_of};
 use linked_list_allocator::LocalHeap;
 use nfs_hub::{ConnId, Hub, HubFault};
 use std::alloc::{Allocator, Global};

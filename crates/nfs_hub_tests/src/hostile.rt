@@ -4,8 +4,8 @@
 use crate::plain::{bare, connect, feed, serve_all, take_out};
 use crate::scenes::{Scene, new_hub, rows_of, see_replies, told};
 use crate::serving::Pieces;
-use crate::spelling::{ALICE, BOB, ROOT, Row, calls_of};
 use crate::words::{NULL, bytes_of};
+use call_texts::{ALICE, BOB, ROOT, Row, calls_of};
 use nfs_hub::{Hub, HubFault, ServeEnd};
 use std::alloc::Global;
 use std::hash::RandomState;

@@ -2,7 +2,7 @@
 //! 1,048,576 bytes, bitmaps of 8 words, 16 operations, and records of 65,536 bytes. None is delayed, and no piece wants memory.
 
 use crate::scenes::{Scene, see_scenes};
-use crate::spelling::{Caller, ROOT, Row};
+use call_texts::{Caller, ROOT, Row};
 use std::hash::RandomState;
 use std::test::Fail;
 

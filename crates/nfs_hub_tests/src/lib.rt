@@ -32,8 +32,6 @@ mod serving;
 #[cfg(test)]
 mod sessions;
 #[cfg(test)]
-mod spelling;
-#[cfg(test)]
 mod statuses;
 #[cfg(test)]
 mod words;

@@ -2,7 +2,7 @@
 
 use crate::plain::{connect, feed, take_out};
 use crate::scenes::{SESSION, new_hub, see_bytes, see_replies, told};
-use crate::spelling::{ROOT, calls_of, put_call_record, reply_of};
+use call_texts::{ROOT, calls_of, put_call_record, reply_of};
 use nfs_hub::{ConnId, Hub};
 use std::alloc::Global;
 use std::hash::RandomState;

@@ -2,7 +2,7 @@
 
 use crate::pictures::{file_text, trail_text};
 use crate::plain::{close, connect, feed, take_out, with_sessions};
-use crate::spelling::{ROOT, Row, calls_of, reply_of};
+use call_texts::{ROOT, Row, calls_of, reply_of};
 use nfs_hub::{ConnId, Hub};
 use std::alloc::Global;
 use std::hash::RandomState;

@@ -1,7 +1,7 @@
 //! Clients, sessions and slots (RFC 8881, sections 2.10, 18.35 to 18.37, 18.46, 18.50 and 18.51).
 
 use crate::scenes::{Scene, see_scenes};
-use crate::spelling::{ALICE, BOB, ROOT, Row};
+use call_texts::{ALICE, BOB, ROOT, Row};
 use std::hash::RandomState;
 use std::test::Fail;
 

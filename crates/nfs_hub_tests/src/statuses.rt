@@ -4,7 +4,7 @@
 use crate::plain::{connect, feed, take_out};
 use crate::scenes::{Scene, new_hub, see_bytes, see_scenes};
 use crate::sessions::SMALL_SESSION;
-use crate::spelling::{BOB, ROOT, Row, put_call_record, reply_of};
+use call_texts::{BOB, ROOT, Row, put_call_record, reply_of};
 use nfs_hub::{ConnId, Hub};
 use std::alloc::Global;
 use std::hash::RandomState;

@@ -6,6 +6,8 @@ mod asking;
 #[cfg(test)]
 mod catting;
 #[cfg(test)]
+mod examples;
+#[cfg(test)]
 mod failing;
 #[cfg(test)]
 mod listing;

@@ -33,35 +33,47 @@ fn next(index: u64) -> u64 {
     index.saturating_add(1) % DIRECTORIES
 }
 
-/// Fills the root with directories, each of them with three files, and `pub` with the five files that are left to 16,384 objects.
-fn make(rt: &impl Abort, alloc: Global, tree: &mut Tree<Global>) -> Result<(), Fail> {
-    for index in 0..DIRECTORIES {
-        let made = add(tree, alloc, 1, &name_of(index), Kind::Directory);
-        assert_eq!(rt; made, Outcome::Made(directory(index)));
-    }
+/// Adds an object to a directory, and sees what comes of it.
+fn see_added(
+    rt: &impl Abort,
+    alloc: Global,
+    tree: &mut Tree<Global>,
+    (directory, name, kind): (u64, &[u8], Kind),
+    want: Outcome,
+) {
+    assert_eq!(rt; add(tree, alloc, directory, name, kind), want);
+}
+
+/// Sees that no file more can be added to a directory.
+fn see_full(rt: &impl Abort, alloc: Global, tree: &mut Tree<Global>, directory: u64) {
     let full = Outcome::Refused(TreeFault::NoSpc);
-    assert_eq!(rt; add(tree, alloc, 1, b"more", Kind::File), full);
+    see_added(rt, alloc, tree, (directory, b"more", Kind::File), full);
+}
+
+/// Adds the three files of a directory.
+fn make_three(rt: &impl Abort, alloc: Global, tree: &mut Tree<Global>, index: u64) {
+    let own = directory(index);
+    for (place, name) in [b"a", b"b", b"c"].iter().enumerate() {
+        let made = Outcome::Made(file(index, place as u64));
+        see_added(rt, alloc, tree, (own, name.as_slice(), Kind::File), made);
+    }
+}
+
+/// Fills the root with directories, each of them with three files, and `pub` with the five files that are left to 16,384 objects.
+fn make(rt: &impl Abort, alloc: Global, tree: &mut Tree<Global>) {
     for index in 0..DIRECTORIES {
-        let own = directory(index);
-        assert_eq!(rt;
-            add(tree, alloc, own, b"a", Kind::File),
-            Outcome::Made(file(index, 0))
-        );
-        assert_eq!(rt;
-            add(tree, alloc, own, b"b", Kind::File),
-            Outcome::Made(file(index, 1))
-        );
-        assert_eq!(rt;
-            add(tree, alloc, own, b"c", Kind::File),
-            Outcome::Made(file(index, 2))
-        );
+        let made = Outcome::Made(directory(index));
+        see_added(rt, alloc, tree, (1, &name_of(index), Kind::Directory), made);
+    }
+    see_full(rt, alloc, tree, 1);
+    for index in 0..DIRECTORIES {
+        make_three(rt, alloc, tree, index);
     }
     for place in 0..5 {
-        let made = add(tree, alloc, 3, &name_of(place), Kind::File);
-        assert_eq!(rt; made, Outcome::Made(file(DIRECTORIES, place)));
+        let made = Outcome::Made(file(DIRECTORIES, place));
+        see_added(rt, alloc, tree, (3, &name_of(place), Kind::File), made);
     }
-    assert_eq!(rt; add(tree, alloc, 3, b"more", Kind::File), full);
-    Ok(())
+    see_full(rt, alloc, tree, 3);
 }
 
 /// The first two children of a directory by rising cookie, and whether there is a third.
@@ -76,24 +88,57 @@ fn listed(tree: &Tree<Global>, directory: u64) -> (Option<u64>, Option<u64>, boo
     (Some(first), Some(second), third)
 }
 
+/// Sees the first two children of a directory, and whether there is a third.
+fn see_listed(
+    rt: &impl Abort,
+    tree: &Tree<Global>,
+    directory: u64,
+    want: (Option<u64>, Option<u64>, bool),
+) {
+    assert_eq!(rt; listed(tree, directory), want);
+}
+
+/// Gives a name of a directory to another place.
+fn see_renamed(
+    rt: &impl Abort,
+    tree: &mut Tree<Global>,
+    (from, old): (u64, &[u8]),
+    (to, new): (u64, &[u8]),
+) {
+    assert_eq!(rt; rename(tree, from, old, to, new), Outcome::Done);
+}
+
+/// Moves the first file of a directory to the next one, and its second to the name of its third, which goes.
+fn rename_two(rt: &impl Abort, tree: &mut Tree<Global>, index: u64) {
+    let (own, other) = (directory(index), directory(next(index)));
+    see_listed(
+        rt,
+        tree,
+        own,
+        (Some(file(index, 0)), Some(file(index, 1)), true),
+    );
+    see_renamed(rt, tree, (own, b"a"), (other, b"d"));
+    see_renamed(rt, tree, (own, b"b"), (own, b"c"));
+    assert_eq!(rt; tree.links(file(index, 2)), 0);
+}
+
+/// Sees what stands in the directory behind the one of this index then.
+fn see_next(rt: &impl Abort, tree: &Tree<Global>, index: u64) {
+    let other = directory(next(index));
+    assert_eq!(rt; tree.find(other, b"d"), Some(file(index, 0)));
+    assert_eq!(rt; tree.find(other, b"c"), Some(file(next(index), 1)));
+    assert_eq!(rt; tree.parent(other), Some(1));
+    assert!(rt; !listed(tree, other).2);
+}
+
 /// Moves each first file to the next directory, and each second one to the name of the third, which goes.
-fn rename_all(rt: &impl Abort, tree: &mut Tree<Global>) -> Result<(), Fail> {
+fn rename_all(rt: &impl Abort, tree: &mut Tree<Global>) {
     for index in 0..DIRECTORIES {
-        let (own, other) = (directory(index), directory(next(index)));
-        let both = (Some(file(index, 0)), Some(file(index, 1)), true);
-        assert_eq!(rt; listed(tree, own), both);
-        assert_eq!(rt; rename(tree, own, b"a", other, b"d"), Outcome::Done);
-        assert_eq!(rt; rename(tree, own, b"b", own, b"c"), Outcome::Done);
-        assert_eq!(rt; tree.links(file(index, 2)), 0);
+        rename_two(rt, tree, index);
     }
     for index in 0..DIRECTORIES {
-        let other = directory(next(index));
-        assert_eq!(rt; tree.find(other, b"d"), Some(file(index, 0)));
-        assert_eq!(rt; tree.find(other, b"c"), Some(file(next(index), 1)));
-        assert_eq!(rt; tree.parent(other), Some(1));
-        assert!(rt; !listed(tree, other).2);
+        see_next(rt, tree, index);
     }
-    Ok(())
 }
 
 /// Takes away what was moved from the first directory on, what was renamed from the last one on, and the directories in steps of 1,001.
@@ -115,18 +160,24 @@ fn remove_all(rt: &impl Abort, tree: &mut Tree<Global>) -> Result<(), Fail> {
 
 /// Six rounds of 4,094 changes and 12,287 new files take a tick each, and leave the sample tree with five files in `pub`. No number
 /// comes again.
+fn fill_and_empty(rt: &impl Abort, alloc: Global, tree: &mut Tree<Global>) -> Result<(), Fail> {
+    make(rt, alloc, tree);
+    rename_all(rt, tree);
+    remove_all(rt, tree)?;
+    assert_eq!(rt; tree.next_tick(), 36_855);
+    see_listed(rt, tree, 1, (Some(2), Some(3), false));
+    assert_eq!(rt; tree.links(2), 1);
+    assert_eq!(rt; tree.links(3), 1);
+    assert_eq!(rt; tree.links(4), 0);
+    let last = (1, b"new".as_slice(), Kind::Directory);
+    see_added(rt, alloc, tree, last, Outcome::Made(16_385));
+    Ok(())
+}
+
 #[test]
 fn a_full_tree_empties(rt: HostRuntime) -> Result<(), Fail> {
     let mut tree = Tree::sample(rt.alloc())?;
-    make(&rt, rt.alloc(), &mut tree)?;
-    rename_all(&rt, &mut tree)?;
-    remove_all(&rt, &mut tree)?;
-    assert_eq!(rt; tree.next_tick(), 36_855);
-    assert_eq!(rt; listed(&tree, 1), (Some(2), Some(3), false));
-    assert_eq!(rt; (tree.links(2), tree.links(3), tree.links(4)), (1, 1, 0));
-    let made = add(&mut tree, rt.alloc(), 1, b"new", Kind::Directory);
-    assert_eq!(rt; made, Outcome::Made(16_385));
-    Ok(())
+    fill_and_empty(&rt, rt.alloc(), &mut tree)
 }
 
 /// The names that a directory may have.
@@ -135,15 +186,14 @@ const NAMES: u64 = 4096;
 /// Fills `pub` with files, and gives each another name, in steps of 1,001.
 fn fill(rt: &impl Abort, alloc: Global, tree: &mut Tree<Global>) -> Result<(), Fail> {
     for number in 0..NAMES {
-        let made = add(tree, alloc, 3, &name_of(number), Kind::File);
-        assert_eq!(rt; made, Outcome::Made(number.saturating_add(4)));
+        let made = Outcome::Made(number.saturating_add(4));
+        see_added(rt, alloc, tree, (3, &name_of(number), Kind::File), made);
     }
-    let full = Outcome::Refused(TreeFault::NoSpc);
-    assert_eq!(rt; add(tree, alloc, 3, b"more", Kind::File), full);
+    see_full(rt, alloc, tree, 3);
     for index in 0..NAMES {
         let number = index.saturating_mul(1001) % NAMES;
         let (old, new) = (name_of(number), name_of(number.saturating_add(NAMES)));
-        assert_eq!(rt; rename(tree, 3, &old, 3, &new), Outcome::Done);
+        see_renamed(rt, tree, (3, &old), (3, &new));
     }
     Ok(())
 }
@@ -194,10 +244,10 @@ fn empty_out(rt: &impl Abort, alloc: Global, tree: &mut Tree<Global>) -> Result<
     fill(rt, alloc, tree)?;
     list(rt, tree)?;
     take_all(rt, tree)?;
-    assert_eq!(rt; listed(tree, 3), (None, None, false));
+    see_listed(rt, tree, 3, (None, None, false));
     assert_eq!(rt; tree.next_tick(), 12_292);
-    let made = add(tree, alloc, 3, b"new", Kind::File);
-    assert_eq!(rt; made, Outcome::Made(4100));
+    let last = (3, b"new".as_slice(), Kind::File);
+    see_added(rt, alloc, tree, last, Outcome::Made(4100));
     Ok(())
 }
 

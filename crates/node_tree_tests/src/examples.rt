@@ -88,11 +88,8 @@ const GROWN_AGAIN: &[(Step, Outcome)] = &[
 
 const GONE: &[(Step, Outcome)] = &[(Unlink(1, b"notes"), Done), (Create(1, b"notes"), Made(4))];
 
-/// Each byte of a file over the border of two blocks; what a cut took away is zero; the number of a file that has gone stays free.
-#[test]
-fn a_file_goes_over_a_border(rt: HostRuntime) -> Result<(), Fail> {
-    let mut tree = Tree::sample(rt.alloc())?;
-    walk(&rt, rt.alloc(), &mut tree, OVER_A_BORDER)?;
+/// Sees the first bytes of `notes`: `a`, zeros, `xy` over the border of two blocks, and nothing behind that.
+fn see_border(rt: &impl Abort, tree: &Tree<Global>) {
     let mut bytes = [9u8; 4098];
     assert_eq!(rt; tree.read(2, 0, &mut bytes), 4097);
     for (place, byte) in bytes.iter().enumerate() {
@@ -105,12 +102,28 @@ fn a_file_goes_over_a_border(rt: HostRuntime) -> Result<(), Fail> {
         };
         assert_eq!(rt; *byte, want, "at {place}");
     }
-    walk(&rt, rt.alloc(), &mut tree, GROWN_AGAIN)?;
-    see_bytes(&rt, &tree, &[(4095, 4, [b'x', 0, 0, 0])])?;
-    see_bytes(&rt, &tree, &[(1_048_574, 2, [0, b'z', 0, 0])])?;
-    walk(&rt, rt.alloc(), &mut tree, GONE)?;
+}
+
+const BYTES_BEHIND: &[(u64, usize, [u8; 4])] = &[
+    (4095, 4, [b'x', 0, 0, 0]),
+    (1_048_574, 2, [0, b'z', 0, 0]),
+];
+
+fn go_over_a_border(rt: &impl Abort, alloc: Global, tree: &mut Tree<Global>) -> Result<(), Fail> {
+    walk(rt, alloc, tree, OVER_A_BORDER)?;
+    see_border(rt, tree);
+    walk(rt, alloc, tree, GROWN_AGAIN)?;
+    see_bytes(rt, tree, BYTES_BEHIND)?;
+    walk(rt, alloc, tree, GONE)?;
     assert!(rt; tree.object(2).is_none());
     Ok(())
+}
+
+/// Each byte of a file over the border of two blocks; what a cut took away is zero; the number of a file that has gone stays free.
+#[test]
+fn a_file_goes_over_a_border(rt: HostRuntime) -> Result<(), Fail> {
+    let mut tree = Tree::sample(rt.alloc())?;
+    go_over_a_border(&rt, rt.alloc(), &mut tree)
 }
 
 const LAST_NAMES: &[(Step, Outcome)] = &[
@@ -123,17 +136,24 @@ const LAST_NAMES: &[(Step, Outcome)] = &[
     (Create(1, b"notes"), Refused(Exist)),
 ];
 
+const TIMES_AFTER_THEM: &[(u64, Option<(i64, i64)>)] = &[
+    (1, Some((7, 7))),
+    (2, None),
+    (3, Some((6, 6))),
+];
+
+const NAMES_AFTER_THEM: &[(u64, u64, Option<(u64, u64)>)] = &[
+    (1, 0, Some((4, 3))),
+    (1, 4, Some((6, 4))),
+];
+
 /// An object goes with its last name, and its number is never another's.
 #[test]
 fn objects_go_with_their_last_name(rt: HostRuntime) -> Result<(), Fail> {
     let mut tree = Tree::sample(rt.alloc())?;
     walk(&rt, rt.alloc(), &mut tree, LAST_NAMES)?;
-    see_times(
-        &rt,
-        &tree,
-        &[(1, Some((7, 7))), (2, None), (3, Some((6, 6)))],
-    )?;
-    see_names(&rt, &tree, &[(1, 0, Some((4, 3))), (1, 4, Some((6, 4)))])
+    see_times(&rt, &tree, TIMES_AFTER_THEM)?;
+    see_names(&rt, &tree, NAMES_AFTER_THEM)
 }
 
 const MOVES: &[(Step, Outcome)] = &[
@@ -150,36 +170,44 @@ const MOVES: &[(Step, Outcome)] = &[
     (Rename(1, b"notes", 5, b"n"), Done),
 ];
 
+const TIMES_AFTER_MOVES: &[(u64, Option<(i64, i64)>)] = &[
+    (1, Some((7, 7))),
+    (2, Some((0, 7))),
+    (3, Some((6, 6))),
+    (4, None),
+    (5, Some((7, 7))),
+];
+
+const NAMES_AFTER_MOVES: &[(u64, u64, Option<(u64, u64)>)] = &[
+    (3, 0, Some((7, 5))),
+    (5, 0, Some((8, 2))),
+    (1, 3, Some((4, 3))),
+];
+
+fn see_parents(rt: &impl Abort, tree: &Tree<Global>) {
+    assert_eq!(rt; tree.parent(5), Some(3));
+    assert_eq!(rt; tree.parent(1), None);
+    assert_eq!(rt; tree.parent(2), None);
+}
+
 /// The rows of the table of `rename`. Nothing was changed by tick 6 but the directory that replaced another.
 #[test]
 fn names_change_or_are_refused(rt: HostRuntime) -> Result<(), Fail> {
     let mut tree = Tree::sample(rt.alloc())?;
     walk(&rt, rt.alloc(), &mut tree, MOVES)?;
-    see_times(
-        &rt,
-        &tree,
-        &[
-            (1, Some((7, 7))),
-            (2, Some((0, 7))),
-            (3, Some((6, 6))),
-            (4, None),
-            (5, Some((7, 7))),
-        ],
-    )?;
-    see_names(
-        &rt,
-        &tree,
-        &[
-            (3, 0, Some((7, 5))),
-            (5, 0, Some((8, 2))),
-            (1, 3, Some((4, 3))),
-        ],
-    )?;
-    assert_eq!(rt;
-        (tree.parent(5), tree.parent(1), tree.parent(2)),
-        (Some(3), None, None)
-    );
+    see_times(&rt, &tree, TIMES_AFTER_MOVES)?;
+    see_names(&rt, &tree, NAMES_AFTER_MOVES)?;
+    see_parents(&rt, &tree);
     Ok(())
+}
+
+const TIMES_AFTER_STAMPS: &[(u64, Option<(i64, i64)>)] = &[(1, Some((0, 0))), (2, Some((0, 6)))];
+
+fn take_stamps(rt: &impl Abort, alloc: Global, tree: &mut Tree<Global>) {
+    assert_eq!(rt; set_list(tree, 2, AclList::new(alloc)), Done);
+    assert_eq!(rt; stamp(tree, 2), Some(4));
+    assert_eq!(rt; set_owner(tree, 2, 5, 6), Done);
+    assert_eq!(rt; stamp(tree, 2), Some(5));
 }
 
 /// A list is the object's, whatever the name; list and owner take a stamp each, and the object has the later one.
@@ -187,9 +215,6 @@ fn names_change_or_are_refused(rt: HostRuntime) -> Result<(), Fail> {
 fn lists_and_owners_take_stamps(rt: HostRuntime) -> Result<(), Fail> {
     let mut tree = Tree::sample(rt.alloc())?;
     walk(&rt, rt.alloc(), &mut tree, &[(Link(3, b"b", 2), Done)])?;
-    assert_eq!(rt; set_list(&mut tree, 2, AclList::new(rt.alloc())), Done);
-    assert_eq!(rt; stamp(&tree, 2), Some(4));
-    assert_eq!(rt; set_owner(&mut tree, 2, 5, 6), Done);
-    assert_eq!(rt; stamp(&tree, 2), Some(5));
-    see_times(&rt, &tree, &[(1, Some((0, 0))), (2, Some((0, 6)))])
+    take_stamps(&rt, rt.alloc(), &mut tree);
+    see_times(&rt, &tree, TIMES_AFTER_STAMPS)
 }

@@ -1,9 +1,8 @@
 //! The lists and the modes of what is made.
 
-use crate::pictures::list_text;
-use crate::servers::{BOB, Caller, Row, Sight, on, on_sample, play, see_trail, server_of};
-use crate::trees::root_of;
+use call_texts::{BOB, Caller, Row};
 use compound_run::Server;
+use sample_servers::{Sight, list_text, on, on_sample, play, root_of, see_trail, server_of};
 use std::alloc::Global;
 use std::hash::RandomState;
 use std::process::Abort;
@@ -84,7 +83,7 @@ fn see_made(
     rows: &[Row],
     wanted: &[&str],
 ) -> Result<(), Fail> {
-    play(rt, alloc, server, rows)?;
+    play(alloc, server, rows)?;
     see_lists(rt, alloc, server, wanted)
 }
 
@@ -229,8 +228,8 @@ fn set() -> &'static [&'static str] {
 
 struct SetLists;
 
-impl Sight for SetLists {
-    fn see(rt: &impl Abort, alloc: Global, server: &mut Server) -> Result<(), Fail> {
+impl<R: Abort> Sight<R> for SetLists {
+    fn see(rt: &R, alloc: Global, server: &mut Server) -> Result<(), Fail> {
         see_made(rt, alloc, server, settings(), set())
     }
 }
@@ -239,7 +238,7 @@ impl Sight for SetLists {
 fn modes_and_lists_are_set(rt: HostRuntime) -> Result<(), Fail> {
     let list = "A:b:27:1002 A:0:67:EVERYONE@";
     let server = server(rt.alloc(), RandomState::new(&rt)?, list)?;
-    on::<SetLists>(&rt, rt.alloc(), server)
+    on::<HostRuntime, SetLists>(&rt, rt.alloc(), server)
 }
 
 /// User 1002 in group 100.
@@ -298,16 +297,16 @@ fn first_lists() -> &'static [&'static str] {
 
 struct FirstDirectory;
 
-impl Sight for FirstDirectory {
-    fn see(rt: &impl Abort, alloc: Global, server: &mut Server) -> Result<(), Fail> {
+impl<R: Abort> Sight<R> for FirstDirectory {
+    fn see(rt: &R, alloc: Global, server: &mut Server) -> Result<(), Fail> {
         let line = "DENY uid=1002 op=REMOVE obj=1 mask=00000002 missing=00000002\n";
         see_made(rt, alloc, server, first(), first_lists())?;
-        see_trail(rt, alloc, server, 1, line)
+        see_trail(alloc, server, 1, line)
     }
 }
 
 /// The sample tree, in which nothing is inherited.
 #[test]
 fn a_first_directory_is_made(rt: HostRuntime) -> Result<(), Fail> {
-    on_sample::<FirstDirectory>(&rt, rt.alloc(), RandomState::new(&rt)?)
+    on_sample::<HostRuntime, FirstDirectory>(&rt, rt.alloc(), RandomState::new(&rt)?)
 }

@@ -1,7 +1,8 @@
 //! Decisions that are remembered from one call to the next.
 
-use crate::servers::{ALICE, BOB, Row, Sight, on_sample, play, see_trail};
+use call_texts::{ALICE, BOB, Row};
 use compound_run::Server;
+use sample_servers::{Sight, on_sample, play, see_trail};
 use std::alloc::Global;
 use std::hash::RandomState;
 use std::process::Abort;
@@ -16,13 +17,13 @@ fn once() -> &'static [Row] {
 /// The second of two equal calls looks at no list: the guard remembers what the first one learnt.
 struct Remembered;
 
-impl Sight for Remembered {
-    fn see(rt: &impl Abort, alloc: Global, server: &mut Server) -> Result<(), Fail> {
-        play(rt, alloc, server, once())?;
+impl<R: Abort> Sight<R> for Remembered {
+    fn see(rt: &R, alloc: Global, server: &mut Server) -> Result<(), Fail> {
+        play(alloc, server, once())?;
         let examined = server.guard().examined();
         assert!(rt; examined >= 5);
         assert!(rt; server.guard().remembered().next().is_some());
-        play(rt, alloc, server, once())?;
+        play(alloc, server, once())?;
         assert_eq!(rt; server.guard().examined(), examined);
         Ok(())
     }
@@ -30,7 +31,7 @@ impl Sight for Remembered {
 
 #[test]
 fn decisions_are_remembered(rt: HostRuntime) -> Result<(), Fail> {
-    on_sample::<Remembered>(&rt, rt.alloc(), RandomState::new(&rt)?)
+    on_sample::<HostRuntime, Remembered>(&rt, rt.alloc(), RandomState::new(&rt)?)
 }
 
 /// In `pub`, alice gives everyone READ_DATA, and then no more. She removes it, and makes another under its name, which bob reads; the old filehandle
@@ -73,14 +74,14 @@ fn refused() -> &'static str {
 
 struct Another;
 
-impl Sight for Another {
-    fn see(rt: &impl Abort, alloc: Global, server: &mut Server) -> Result<(), Fail> {
-        play(rt, alloc, server, replaced())?;
-        see_trail(rt, alloc, server, 1, refused())
+impl<R: Abort> Sight<R> for Another {
+    fn see(rt: &R, alloc: Global, server: &mut Server) -> Result<(), Fail> {
+        play(alloc, server, replaced())?;
+        see_trail(alloc, server, 1, refused())
     }
 }
 
 #[test]
 fn decisions_follow_the_lists(rt: HostRuntime) -> Result<(), Fail> {
-    on_sample::<Another>(&rt, rt.alloc(), RandomState::new(&rt)?)
+    on_sample::<HostRuntime, Another>(&rt, rt.alloc(), RandomState::new(&rt)?)
 }

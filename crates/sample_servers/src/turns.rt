@@ -1,10 +1,9 @@
 //! Calls behind a SEQUENCE on slot 0, each of which comes again.
 
-use crate::servers::{Caller, run_in_session, see_bytes};
-use crate::spelling::{answer_of, call_of};
+use crate::servers::{run_in_session, see_bytes};
+use call_texts::{Caller, answer_of, call_of};
 use compound_run::Server;
 use std::alloc::Global;
-use std::process::Abort;
 use std::test::Fail;
 
 /// A SEQUENCE: its session, its number, the highest slot that is asked and granted, and whether the reply is to be kept, 0 or 1.
@@ -53,7 +52,6 @@ fn answer_words(alloc: Global, turn: Turn, answer: &str) -> Result<String, Fail>
 
 /// Sees what a caller is answered at a second; its operations are told otherwise.
 fn see_at(
-    rt: &impl Abort,
     alloc: Global,
     server: &mut Server,
     seconds: i64,
@@ -62,13 +60,11 @@ fn see_at(
 ) -> Result<(), Fail> {
     let given = run_in_session(alloc, server, who, seconds, call)?;
     let given = given.as_ref().map(|given| given.as_slice());
-    see_bytes(rt, given, wanted, seconds, operations);
-    Ok(())
+    see_bytes(given, wanted, seconds, operations)
 }
 
 /// Sees that a caller's operations behind a SEQUENCE have these results, at this second and again at another.
 pub fn see_turn(
-    rt: &impl Abort,
     alloc: Global,
     server: &mut Server,
     turn: Turn,
@@ -80,6 +76,6 @@ pub fn see_turn(
     let call = call_of(alloc, call.as_str())?;
     let wanted = answer_of(alloc, answer.as_str())?;
     let (told, bytes) = ((who, operations), (call.as_slice(), wanted.as_slice()));
-    see_at(rt, alloc, server, seconds, told, bytes)?;
-    see_at(rt, alloc, server, seconds.saturating_add(1000), told, bytes)
+    see_at(alloc, server, seconds, told, bytes)?;
+    see_at(alloc, server, seconds.saturating_add(1000), told, bytes)
 }

@@ -1,9 +1,8 @@
 //! Calls of three clients, and some of them again at a later moment, beside the same calls made once (RFC 8881, sections 2.10.6.1.3 and 18.36.4).
 
-use crate::pictures::{trail_text, tree_text};
-use crate::servers::{ALICE, BOB, CAROL, Caller, run_in_session, sample_server};
-use crate::spelling::{bytes_of, call_of};
+use call_texts::{ALICE, BOB, CAROL, Caller, bytes_of, call_of};
 use compound_run::Server;
+use sample_servers::{run_in_session, sample_server, trail_text, tree_text};
 use std::alloc::Global;
 use std::hash::RandomState;
 use std::process::Abort;
@@ -304,13 +303,11 @@ fn all_steps(alloc: Global) -> Result<Vec<Step>, Fail> {
     Ok(steps)
 }
 
-/// The results of a call at a second.
+/// The results of a call at a second; nothing where its arguments are garbage.
 fn results(alloc: Global, server: &mut Server, seconds: i64, step: &Step) -> Result<Vec<u8>, Fail> {
     let bytes = call_of(alloc, step.1)?;
-    match run_in_session(alloc, server, step.0, seconds, &bytes)? {
-        Some(results) => Ok(results),
-        None => Err(Fail::new("garbage")),
-    }
+    let given = run_in_session(alloc, server, step.0, seconds, &bytes)?;
+    Ok(given.unwrap_or(Vec::new(alloc)))
 }
 
 fn see_same(rt: &impl Abort, given: &[u8], wanted: &[u8], call: &str) {
@@ -391,18 +388,24 @@ fn see_steps(
     Ok(())
 }
 
-/// Sees an equal tree, an equal trail and as many opens.
-fn see_alike(rt: &impl Abort, alloc: Global, one: &Server, other: &Server) -> Result<(), Fail> {
-    assert_eq!(rt;
-        tree_text(alloc, one.tree(), 32)?,
-        tree_text(alloc, other.tree(), 32)?
-    );
-    assert_eq!(rt;
-        trail_text(alloc, one.guard())?,
-        trail_text(alloc, other.guard())?
-    );
+/// The tree and the trail of a server as text.
+fn picture(alloc: Global, server: &Server) -> Result<Vec<u8>, Fail> {
+    let mut text = tree_text(alloc, server.tree(), 32)?;
+    text.extend_from_slice(&trail_text(alloc, server.guard())?)?;
+    Ok(text)
+}
+
+fn see_counts(rt: &impl Abort, one: &Server, other: &Server) {
     assert_eq!(rt; one.guard().total(), other.guard().total());
     assert_eq!(rt; one.opens().len(), other.opens().len());
+}
+
+/// Sees an equal tree, an equal trail and as many opens.
+fn see_alike(rt: &impl Abort, alloc: Global, one: &Server, other: &Server) -> Result<(), Fail> {
+    let given = picture(alloc, one)?;
+    let wanted = picture(alloc, other)?;
+    see_same(rt, &given, &wanted, "the tree and the trail");
+    see_counts(rt, one, other);
     Ok(())
 }
 

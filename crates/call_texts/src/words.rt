@@ -5,15 +5,18 @@
 //! | the name of an operation or of a status | its number |
 //! | hexadecimal digits | that number |
 //! | `'x` | the bytes `x` with their length and padding |
-//! | `~n` | the same of so many letters `a` |
+//! | `~n` | so many letters `a` in the same form |
 //! | `@n` | the filehandle of an object |
 //! | `a>b` | a directory's change before and after |
 //! | `^n` | a number of 8 bytes |
 //! | `+a+b` | the bitmap of these attributes, whose numbers are decimal |
-//! | `#n` | attributes: a list of so many entries that allow user 5 to read |
-//! | `*n` | such entries |
+//! | `TYPE:FLAGS:MASK:WHO` | an entry of a list, of type A, D, U or L |
+//! | `*n` | so many entries that allow user 5 to read |
+//! | `#n` | attributes: a list of such entries |
 //! | `( words )` | the bytes of words with their length |
 //! | `anon`, `bypass`, `closed` | the special stateids, and that of an open that has ended |
+//! | `$s.n` | SEQUENCE of session s, whose slot 0 has the call of this number |
+//! | `=s.n` | the result of it, where the session has 8 slots |
 
 use std::alloc::Global;
 use std::test::Fail;
@@ -70,14 +73,16 @@ static STATUSES: [(&str, u32); 51] = [
     ("notempty", 66),
     ("stale", 70),
     ("badhandle", 10001),
-    ("notsupp", 10004),
     ("badcookie", 10003),
+    ("notsupp", 10004),
     ("toosmall", 10005),
     ("badtype", 10007),
     ("delay", 10008),
     ("same", 10009),
+    ("clidinuse", 10017),
     ("nofilehandle", 10020),
     ("minorvers", 10021),
+    ("staleclientid", 10022),
     ("oldstateid", 10024),
     ("badstateid", 10025),
     ("notsame", 10027),
@@ -89,17 +94,15 @@ static STATUSES: [(&str, u32); 51] = [
     ("badchar", 10040),
     ("badname", 10041),
     ("illegal", 10044),
-    ("reptoobig", 10066),
-    ("toomanyops", 10070),
-    ("clidinuse", 10017),
-    ("staleclientid", 10022),
     ("badsession", 10052),
     ("badslot", 10053),
     ("completealready", 10054),
     ("seqmisordered", 10063),
     ("sequencepos", 10064),
     ("reqtoobig", 10065),
+    ("reptoobig", 10066),
     ("reptoobigtocache", 10067),
+    ("toomanyops", 10070),
     ("opnotinsession", 10071),
     ("clientidbusy", 10074),
     ("seqfalseretry", 10076),
@@ -108,7 +111,7 @@ static STATUSES: [(&str, u32); 51] = [
     ("wrongtype", 10083),
 ];
 
-/// Stateids (RFC 8881, sections 8.2.3 and 18.2).
+/// Stateids (RFC 8881, section 8.2.3).
 static STATEIDS: [(&str, [u32; 4]); 3] = [
     ("anon", [0, 0, 0, 0]),
     ("bypass", [0xffff_ffff; 4]),
@@ -137,12 +140,12 @@ fn hex(word: &str) -> Result<u32, Fail> {
     Ok(u32::from_str_radix(word, 16)?)
 }
 
-fn put(out: &mut Vec<u8>, number: u32) -> Result<(), Fail> {
+pub(crate) fn put(out: &mut Vec<u8>, number: u32) -> Result<(), Fail> {
     out.extend_from_slice(&number.to_be_bytes())?;
     Ok(())
 }
 
-fn put_all(out: &mut Vec<u8>, numbers: &[u32]) -> Result<(), Fail> {
+pub(crate) fn put_all(out: &mut Vec<u8>, numbers: &[u32]) -> Result<(), Fail> {
     for number in numbers {
         put(out, *number)?;
     }
@@ -181,6 +184,24 @@ fn put_list(out: &mut Vec<u8>, count: u32) -> Result<(), Fail> {
     put_entries(out, count)
 }
 
+/// The number of an entry's type.
+fn type_of(letter: &str) -> u32 {
+    match letter {
+        "A" => 0,
+        "D" => 1,
+        "U" => 2,
+        _ => 3,
+    }
+}
+
+/// Puts an entry of this type, of which the rest is spelled so.
+fn put_entry(out: &mut Vec<u8>, letter: &str, rest: &str) -> Result<(), Fail> {
+    let (flags, rest) = rest.split_once(':').unwrap_or((rest, ""));
+    let (mask, who) = rest.split_once(':').unwrap_or((rest, ""));
+    put_all(out, &[type_of(letter), hex(flags)?, hex(mask)?])?;
+    put_text(out, who.as_bytes())
+}
+
 fn put_long(out: &mut Vec<u8>, digits: &str) -> Result<(), Fail> {
     let number = u64::from_str_radix(digits, 16)?;
     out.extend_from_slice(&number.to_be_bytes())?;
@@ -209,7 +230,7 @@ fn put_bits(out: &mut Vec<u8>, numbers: &str) -> Result<(), Fail> {
 }
 
 /// Sets the length that stands before what follows it.
-fn close(out: &mut Vec<u8>, start: usize) -> Result<(), Fail> {
+pub(crate) fn close(out: &mut Vec<u8>, start: usize) -> Result<(), Fail> {
     let len = out.len().saturating_sub(start).saturating_sub(4);
     let bytes = u32::try_from(len)?.to_be_bytes();
     for (index, byte) in bytes.iter().enumerate() {
@@ -220,39 +241,49 @@ fn close(out: &mut Vec<u8>, start: usize) -> Result<(), Fail> {
     Ok(())
 }
 
-/// Puts the bytes of a word that stands for attributes. `false`: it is another.
-fn put_attributes(out: &mut Vec<u8>, word: &str) -> Result<bool, Fail> {
-    if let Some(count) = word.strip_prefix('#') {
-        put_list(out, hex(count)?)?;
+/// The session and the number of a word for SEQUENCE, behind its sign.
+fn numbered(word: &str) -> Result<(u32, u32), Fail> {
+    let (session, number) = word.split_once('.').unwrap_or((word, "0"));
+    Ok((hex(session)?, hex(number)?))
+}
+
+/// Puts SEQUENCE, or the result of it.
+fn put_sequence(out: &mut Vec<u8>, word: &str) -> Result<(), Fail> {
+    if let Some(call) = word.strip_prefix('$') {
+        let (session, number) = numbered(call)?;
+        return put_all(out, &[53, 0, 0, 0, session, number, 0, 0, 0]);
+    }
+    let (session, number) = numbered(word.trim_start_matches('='))?;
+    put_all(out, &[53, 0, 0, 0, 0, session, number, 0, 7, 7, 0])
+}
+
+/// Whether a word stands for SEQUENCE or the result of it.
+fn is_sequence(word: &str) -> bool {
+    word.starts_with('$') || word.starts_with('=')
+}
+
+/// Puts the bytes of a word with a sign of its own. `false`: it has none.
+fn put_signed(out: &mut Vec<u8>, word: &str) -> Result<bool, Fail> {
+    if let Some(count) = word.strip_prefix('~') {
+        put_letters(out, hex(count)?)?;
     } else if let Some(count) = word.strip_prefix('*') {
         put_entries(out, hex(count)?)?;
+    } else if let Some(count) = word.strip_prefix('#') {
+        put_list(out, hex(count)?)?;
     } else if let Some(numbers) = word.strip_prefix('+') {
         put_bits(out, numbers)?;
     } else if let Some(digits) = word.strip_prefix('^') {
         put_long(out, digits)?;
+    } else if let Some(object) = word.strip_prefix('@') {
+        put_all(out, &[16, 0, 0, 0, hex(object)?])?;
     } else {
         return Ok(false);
     }
     Ok(true)
 }
 
-/// Puts the bytes of a word.
-fn put_word(out: &mut Vec<u8>, word: &str) -> Result<(), Fail> {
-    if let Some(text) = word.strip_prefix('\'') {
-        return put_text(out, text.as_bytes());
-    }
-    if let Some(count) = word.strip_prefix('~') {
-        return put_letters(out, hex(count)?);
-    }
-    if put_attributes(out, word)? {
-        return Ok(());
-    }
-    if let Some(object) = word.strip_prefix('@') {
-        return put_all(out, &[16, 0, 0, 0, hex(object)?]);
-    }
-    if let Some((before, after)) = word.split_once('>') {
-        return put_all(out, &[1, 0, hex(before)?, 0, hex(after)?]);
-    }
+/// Puts the bytes of a word that is a name or a number.
+fn put_plain(out: &mut Vec<u8>, word: &str) -> Result<(), Fail> {
     if let Some(stateid) = stateid_of(word) {
         return put_all(out, &stateid);
     }
@@ -262,11 +293,31 @@ fn put_word(out: &mut Vec<u8>, word: &str) -> Result<(), Fail> {
     put(out, hex(word)?)
 }
 
+/// Puts the bytes of a word.
+fn put_word(out: &mut Vec<u8>, word: &str) -> Result<(), Fail> {
+    if let Some(text) = word.strip_prefix('\'') {
+        return put_text(out, text.as_bytes());
+    }
+    if is_sequence(word) {
+        return put_sequence(out, word);
+    }
+    if put_signed(out, word)? {
+        return Ok(());
+    }
+    if let Some((letter, rest)) = word.split_once(':') {
+        return put_entry(out, letter, rest);
+    }
+    if let Some((before, after)) = word.split_once('>') {
+        return put_all(out, &[1, 0, hex(before)?, 0, hex(after)?]);
+    }
+    put_plain(out, word)
+}
+
 /// How many operations words name.
 fn count_of(words: &str) -> u32 {
     let mut count = 0u32;
     for word in words.split_whitespace() {
-        if number_of(&OPERATIONS, word).is_some() {
+        if is_sequence(word) || number_of(&OPERATIONS, word).is_some() {
             count = count.saturating_add(1);
         }
     }
@@ -290,13 +341,13 @@ pub fn spell(out: &mut Vec<u8>, words: &str) -> Result<(), Fail> {
 }
 
 /// Puts the arguments of a COMPOUND of these operations, without a tag.
-fn put_call(out: &mut Vec<u8>, operations: &str) -> Result<(), Fail> {
+pub(crate) fn put_call(out: &mut Vec<u8>, operations: &str) -> Result<(), Fail> {
     put_all(out, &[0, 1, count_of(operations)])?;
     spell(out, operations)
 }
 
 /// Puts the results of a COMPOUND without a tag: its status, and those of its operations.
-fn put_answer(out: &mut Vec<u8>, results: &str) -> Result<(), Fail> {
+pub(crate) fn put_answer(out: &mut Vec<u8>, results: &str) -> Result<(), Fail> {
     let (status, results) = results.split_once(' ').unwrap_or((results, ""));
     put_word(out, status)?;
     put_all(out, &[0, count_of(results)])?;
@@ -310,14 +361,14 @@ pub fn bytes_of(alloc: Global, words: &str) -> Result<Vec<u8>, Fail> {
     Ok(out)
 }
 
-/// The arguments of a COMPOUND.
+/// The arguments of a COMPOUND of these operations, without a tag.
 pub fn call_of(alloc: Global, operations: &str) -> Result<Vec<u8>, Fail> {
     let mut out = Vec::new(alloc);
     put_call(&mut out, operations)?;
     Ok(out)
 }
 
-/// The results of a COMPOUND.
+/// The results of a COMPOUND without a tag: its status, and those of its operations.
 pub fn answer_of(alloc: Global, results: &str) -> Result<Vec<u8>, Fail> {
     let mut out = Vec::new(alloc);
     put_answer(&mut out, results)?;

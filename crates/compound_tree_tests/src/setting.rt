@@ -1,8 +1,8 @@
 //! SETATTR on the sample tree (RFC 8881, section 18.30).
 
-use crate::pictures::{list_text, tree_text};
-use crate::servers::{ALICE, BOB, CAROL, ROOT, Row, Sight, on_sample, play, see_trail};
+use call_texts::{ALICE, BOB, CAROL, ROOT, Row};
 use compound_run::Server;
+use sample_servers::{Sight, list_text, on_sample, play, see_trail, tree_text};
 use std::alloc::Global;
 use std::hash::RandomState;
 use std::process::Abort;
@@ -337,44 +337,44 @@ fn see_pub(rt: &impl Abort, alloc: Global, server: &Server) -> Result<(), Fail> 
 
 struct Setting;
 
-impl Sight for Setting {
-    fn see(rt: &impl Abort, alloc: Global, server: &mut Server) -> Result<(), Fail> {
-        play(rt, alloc, server, settings())?;
+impl<R: Abort> Sight<R> for Setting {
+    fn see(rt: &R, alloc: Global, server: &mut Server) -> Result<(), Fail> {
+        play(alloc, server, settings())?;
         see_left(rt, alloc, server)?;
         see_pub(rt, alloc, server)?;
-        see_trail(rt, alloc, server, 0, "")
+        see_trail(alloc, server, 0, "")
     }
 }
 
 #[test]
 fn attributes_are_set(rt: HostRuntime) -> Result<(), Fail> {
-    on_sample::<Setting>(&rt, rt.alloc(), RandomState::new(&rt)?)
+    on_sample::<HostRuntime, Setting>(&rt, rt.alloc(), RandomState::new(&rt)?)
 }
 
 struct Refusals;
 
-impl Sight for Refusals {
-    fn see(rt: &impl Abort, alloc: Global, server: &mut Server) -> Result<(), Fail> {
-        play(rt, alloc, server, refused())?;
-        see_trail(rt, alloc, server, 8, lines())
+impl<R: Abort> Sight<R> for Refusals {
+    fn see(rt: &R, alloc: Global, server: &mut Server) -> Result<(), Fail> {
+        play(alloc, server, refused())?;
+        see_trail(alloc, server, 8, lines())
     }
 }
 
 #[test]
 fn settings_are_refused(rt: HostRuntime) -> Result<(), Fail> {
-    on_sample::<Refusals>(&rt, rt.alloc(), RandomState::new(&rt)?)
+    on_sample::<HostRuntime, Refusals>(&rt, rt.alloc(), RandomState::new(&rt)?)
 }
 
 struct LongestList;
 
-impl Sight for LongestList {
-    fn see(rt: &impl Abort, alloc: Global, server: &mut Server) -> Result<(), Fail> {
-        play(rt, alloc, server, longest())?;
-        see_trail(rt, alloc, server, 0, "")
+impl<R: Abort> Sight<R> for LongestList {
+    fn see(rt: &R, alloc: Global, server: &mut Server) -> Result<(), Fail> {
+        play(alloc, server, longest())?;
+        see_trail(alloc, server, 0, "")
     }
 }
 
 #[test]
 fn the_longest_list_is_set(rt: HostRuntime) -> Result<(), Fail> {
-    on_sample::<LongestList>(&rt, rt.alloc(), RandomState::new(&rt)?)
+    on_sample::<HostRuntime, LongestList>(&rt, rt.alloc(), RandomState::new(&rt)?)
 }

@@ -1,10 +1,10 @@
 //! Refusals by the lists of files, of their data and their attributes, and the lines that are written.
 
-use crate::servers::{BOB, Row, Sight, on, play, see_trail, server_of};
-use crate::trees::{ALL, add, root_of};
 use acl_list::Kind;
+use call_texts::{BOB, Row};
 use compound_run::Server;
 use node_tree::Tree;
+use sample_servers::{ALL, Sight, add, on, play, root_of, see_trail, server_of};
 use std::alloc::Global;
 use std::hash::RandomState;
 use std::process::Abort;
@@ -248,16 +248,16 @@ fn files_server(alloc: Global, hasher: RandomState) -> Result<Server, Fail> {
 
 struct Judged;
 
-impl Sight for Judged {
-    fn see(rt: &impl Abort, alloc: Global, server: &mut Server) -> Result<(), Fail> {
-        play(rt, alloc, server, asks())?;
-        play(rt, alloc, server, appended())?;
-        see_trail(rt, alloc, server, 25, lines())
+impl<R: Abort> Sight<R> for Judged {
+    fn see(rt: &R, alloc: Global, server: &mut Server) -> Result<(), Fail> {
+        play(alloc, server, asks())?;
+        play(alloc, server, appended())?;
+        see_trail(alloc, server, 25, lines())
     }
 }
 
 #[test]
 fn files_are_judged(rt: HostRuntime) -> Result<(), Fail> {
     let server = files_server(rt.alloc(), RandomState::new(&rt)?)?;
-    on::<Judged>(&rt, rt.alloc(), server)
+    on::<HostRuntime, Judged>(&rt, rt.alloc(), server)
 }

@@ -1,12 +1,11 @@
 //! How a COMPOUND begins where sessions are in use: tag, minor version, count, and the first operation (RFC 8881, sections 2.10.6.2 and 16.2.3).
 
-use crate::rooms::{operations, tail_of};
-use crate::servers::{
-    ALICE, BOB, Row, Sight, on_sample, play_in_session, run_in_session, see_trail,
-    see_words_in_session,
-};
-use crate::spelling::bytes_of;
+use call_texts::{ALICE, BOB, Row, bytes_of};
 use compound_run::Server;
+use sample_servers::{
+    Sight, on_sample, operations, play_in_session, run_in_session, see_trail, see_words_in_session,
+    tail_of,
+};
 use std::alloc::Global;
 use std::hash::RandomState;
 use std::process::Abort;
@@ -227,14 +226,9 @@ fn still_there() -> &'static [Row] {
     STANDS.get(1..).unwrap_or(&[])
 }
 
-fn see_heads(
-    rt: &impl Abort,
-    alloc: Global,
-    server: &mut Server,
-    rows: &[(&str, &str)],
-) -> Result<(), Fail> {
+fn see_heads(alloc: Global, server: &mut Server, rows: &[(&str, &str)]) -> Result<(), Fail> {
     for (words, results) in rows {
-        see_words_in_session(rt, alloc, server, BOB, words, results)?;
+        see_words_in_session(alloc, server, BOB, words, results)?;
     }
     Ok(())
 }
@@ -266,7 +260,6 @@ fn see_garbage(
 
 /// Sees that the first of so many operations has this status, and that no other is run.
 fn see_first(
-    rt: &impl Abort,
     alloc: Global,
     server: &mut Server,
     count: u32,
@@ -276,35 +269,24 @@ fn see_first(
     let tail = tail_of(operation);
     let words = format!(in alloc; "0 1 {count:x} {operation} {arguments}")?;
     let results = format!(in alloc; "{status} 0 1 {operation} {status} {tail}")?;
-    see_words_in_session(rt, alloc, server, ALICE, words.as_str(), results.as_str())
+    see_words_in_session(alloc, server, ALICE, words.as_str(), results.as_str())
 }
 
 /// Sees that each operation is refused that is first without a session, also where it is the only one.
-fn see_firsts(
-    rt: &impl Abort,
-    alloc: Global,
-    server: &mut Server,
-    operations: &[(&str, &str)],
-) -> Result<(), Fail> {
+fn see_firsts(alloc: Global, server: &mut Server, operations: &[(&str, &str)]) -> Result<(), Fail> {
     for operation in operations {
-        see_first(rt, alloc, server, 1, *operation, "opnotinsession")?;
-        see_first(rt, alloc, server, 3, *operation, "opnotinsession")?;
+        see_first(alloc, server, 1, *operation, "opnotinsession")?;
+        see_first(alloc, server, 3, *operation, "opnotinsession")?;
     }
     Ok(())
 }
 
 /// Sees the status of a first operation that isn't built, alone and among several.
-fn see_unsupported(
-    rt: &impl Abort,
-    alloc: Global,
-    server: &mut Server,
-    numbers: &[u32],
-) -> Result<(), Fail> {
+fn see_unsupported(alloc: Global, server: &mut Server, numbers: &[u32]) -> Result<(), Fail> {
     for number in numbers {
         let operation = format!(in alloc; "{number:x}")?;
-        see_first(rt, alloc, server, 1, (operation.as_str(), ""), "notsupp")?;
+        see_first(alloc, server, 1, (operation.as_str(), ""), "notsupp")?;
         see_first(
-            rt,
             alloc,
             server,
             2,
@@ -316,40 +298,22 @@ fn see_unsupported(
 }
 
 /// Sees the status of a first operation that has a fault, alone and among several.
-fn see_faults(
-    rt: &impl Abort,
-    alloc: Global,
-    server: &mut Server,
-    rows: &[(&str, &str, &str)],
-) -> Result<(), Fail> {
+fn see_faults(alloc: Global, server: &mut Server, rows: &[(&str, &str, &str)]) -> Result<(), Fail> {
     for (operation, arguments, status) in rows {
         let call = (*operation, *arguments);
-        see_first(rt, alloc, server, 1, call, status)?;
-        see_first(rt, alloc, server, 3, call, status)?;
-        see_first(rt, alloc, server, 0xffff_ffff, call, status)?;
+        see_first(alloc, server, 1, call, status)?;
+        see_first(alloc, server, 3, call, status)?;
+        see_first(alloc, server, 0xffff_ffff, call, status)?;
     }
     Ok(())
 }
 
 /// Sees that an operation that is to be the only one is refused in front of another, however many there are.
-fn see_lone(
-    rt: &impl Abort,
-    alloc: Global,
-    server: &mut Server,
-    rows: &[(&str, &str)],
-) -> Result<(), Fail> {
+fn see_lone(alloc: Global, server: &mut Server, rows: &[(&str, &str)]) -> Result<(), Fail> {
     for (operation, arguments) in rows {
         let more = format!(in alloc; "{arguments} PUTROOTFH")?;
+        see_first(alloc, server, 2, (operation, more.as_str()), "notonlyop")?;
         see_first(
-            rt,
-            alloc,
-            server,
-            2,
-            (operation, more.as_str()),
-            "notonlyop",
-        )?;
-        see_first(
-            rt,
             alloc,
             server,
             0xffff_ffff,
@@ -362,7 +326,6 @@ fn see_lone(
 
 /// Sees that an operation behind the SEQUENCE of this number has this status, and so it has behind a PUTROOTFH more, at the next number.
 fn see_behind(
-    rt: &impl Abort,
     alloc: Global,
     server: &mut Server,
     number: u32,
@@ -375,19 +338,18 @@ fn see_behind(
     let results = format!(in alloc;
         "{status} 0 2 SEQUENCE ok ^0 ^1 {number:x} 0 0 0 0 {operation} {status} {tail}"
     )?;
-    see_words_in_session(rt, alloc, server, ALICE, words.as_str(), results.as_str())?;
+    see_words_in_session(alloc, server, ALICE, words.as_str(), results.as_str())?;
     let words = format!(in alloc;
         "0 1 10 SEQUENCE ^0 ^1 {next:x} 0 0 0 PUTROOTFH {operation} {arguments}"
     )?;
     let results = format!(in alloc;
         "{status} 0 3 SEQUENCE ok ^0 ^1 {next:x} 0 0 0 0 PUTROOTFH ok {operation} {status} {tail}"
     )?;
-    see_words_in_session(rt, alloc, server, ALICE, words.as_str(), results.as_str())
+    see_words_in_session(alloc, server, ALICE, words.as_str(), results.as_str())
 }
 
 /// Sees that each operation has this status behind a SEQUENCE, from this number on, and gives the next number.
 fn see_all_behind(
-    rt: &impl Abort,
     alloc: Global,
     server: &mut Server,
     number: u32,
@@ -396,7 +358,7 @@ fn see_all_behind(
 ) -> Result<u32, Fail> {
     let mut number = number;
     for operation in operations {
-        see_behind(rt, alloc, server, number, *operation, status)?;
+        see_behind(alloc, server, number, *operation, status)?;
         number = number.saturating_add(2);
     }
     Ok(number)
@@ -404,7 +366,6 @@ fn see_all_behind(
 
 /// Sees the status of operations that have a fault behind a SEQUENCE, from this number on, and gives the next number.
 fn see_faults_behind(
-    rt: &impl Abort,
     alloc: Global,
     server: &mut Server,
     number: u32,
@@ -412,7 +373,7 @@ fn see_faults_behind(
 ) -> Result<u32, Fail> {
     let mut number = number;
     for (operation, arguments, status) in rows {
-        see_behind(rt, alloc, server, number, (operation, arguments), status)?;
+        see_behind(alloc, server, number, (operation, arguments), status)?;
         number = number.saturating_add(2);
     }
     Ok(number)
@@ -420,48 +381,47 @@ fn see_faults_behind(
 
 struct FirstOperations;
 
-impl Sight for FirstOperations {
-    fn see(rt: &impl Abort, alloc: Global, server: &mut Server) -> Result<(), Fail> {
-        see_heads(rt, alloc, server, heads())?;
+impl<R: Abort> Sight<R> for FirstOperations {
+    fn see(rt: &R, alloc: Global, server: &mut Server) -> Result<(), Fail> {
+        see_heads(alloc, server, heads())?;
         see_garbage(rt, alloc, server, garbage())?;
-        see_firsts(rt, alloc, server, operations())?;
-        see_unsupported(rt, alloc, server, unsupported())?;
-        see_faults(rt, alloc, server, faults())?;
-        play_in_session(rt, alloc, server, come())?;
-        see_lone(rt, alloc, server, lone())?;
-        play_in_session(rt, alloc, server, stands())?;
-        see_trail(rt, alloc, server, 0, "")
+        see_firsts(alloc, server, operations())?;
+        see_unsupported(alloc, server, unsupported())?;
+        see_faults(alloc, server, faults())?;
+        play_in_session(alloc, server, come())?;
+        see_lone(alloc, server, lone())?;
+        play_in_session(alloc, server, stands())?;
+        see_trail(alloc, server, 0, "")
     }
 }
 
 struct Behind;
 
-impl Sight for Behind {
-    fn see(rt: &impl Abort, alloc: Global, server: &mut Server) -> Result<(), Fail> {
-        play_in_session(rt, alloc, server, come())?;
-        let number = see_all_behind(rt, alloc, server, 1, lone(), "notonlyop")?;
-        let number = see_all_behind(rt, alloc, server, number, second(), "sequencepos")?;
-        let number = see_faults_behind(rt, alloc, server, number, faults())?;
+impl<R: Abort> Sight<R> for Behind {
+    fn see(rt: &R, alloc: Global, server: &mut Server) -> Result<(), Fail> {
+        play_in_session(alloc, server, come())?;
+        let number = see_all_behind(alloc, server, 1, lone(), "notonlyop")?;
+        let number = see_all_behind(alloc, server, number, second(), "sequencepos")?;
+        let number = see_faults_behind(alloc, server, number, faults())?;
         // so many calls came before
         assert_eq!(rt; number, 71);
         see_words_in_session(
-            rt,
             alloc,
             server,
             ALICE,
             "0 1 1 SEQUENCE ^0 ^1 47 0 0 0",
             "ok 0 1 SEQUENCE ok ^0 ^1 47 0 0 0 0",
         )?;
-        play_in_session(rt, alloc, server, still_there())
+        play_in_session(alloc, server, still_there())
     }
 }
 
 #[test]
 fn a_first_operation_has_its_place(rt: HostRuntime) -> Result<(), Fail> {
-    on_sample::<FirstOperations>(&rt, rt.alloc(), RandomState::new(&rt)?)
+    on_sample::<HostRuntime, FirstOperations>(&rt, rt.alloc(), RandomState::new(&rt)?)
 }
 
 #[test]
 fn a_later_operation_has_its_place(rt: HostRuntime) -> Result<(), Fail> {
-    on_sample::<Behind>(&rt, rt.alloc(), RandomState::new(&rt)?)
+    on_sample::<HostRuntime, Behind>(&rt, rt.alloc(), RandomState::new(&rt)?)
 }

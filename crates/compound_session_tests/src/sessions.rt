@@ -1,7 +1,8 @@
 //! Clients, sessions and slots, by hand (RFC 8881, sections 2.10, 18.35 to 18.37, 18.46, 18.50 and 18.51).
 
-use crate::servers::{ALICE, BOB, ROOT, Row, Sight, on_sample, play_in_session};
+use call_texts::{ALICE, BOB, ROOT, Row};
 use compound_run::Server;
+use sample_servers::{Sight, on_sample, play_in_session};
 use std::alloc::Global;
 use std::hash::RandomState;
 use std::process::Abort;
@@ -415,9 +416,9 @@ fn anew() -> &'static [Row] {
 
 struct Clients;
 
-impl Sight for Clients {
-    fn see(rt: &impl Abort, alloc: Global, server: &mut Server) -> Result<(), Fail> {
-        play_in_session(rt, alloc, server, client())?;
+impl<R: Abort> Sight<R> for Clients {
+    fn see(rt: &R, alloc: Global, server: &mut Server) -> Result<(), Fail> {
+        play_in_session(alloc, server, client())?;
         assert!(rt; server.opens().is_empty());
         Ok(())
     }
@@ -425,9 +426,9 @@ impl Sight for Clients {
 
 struct OneSlot;
 
-impl Sight for OneSlot {
-    fn see(rt: &impl Abort, alloc: Global, server: &mut Server) -> Result<(), Fail> {
-        play_in_session(rt, alloc, server, slots())?;
+impl<R: Abort> Sight<R> for OneSlot {
+    fn see(rt: &R, alloc: Global, server: &mut Server) -> Result<(), Fail> {
+        play_in_session(alloc, server, slots())?;
         // the line of bob's LOOKUP, once
         assert_eq!(rt; server.guard().total(), 1);
         Ok(())
@@ -436,25 +437,25 @@ impl Sight for OneSlot {
 
 struct SmallReply;
 
-impl Sight for SmallReply {
-    fn see(rt: &impl Abort, alloc: Global, server: &mut Server) -> Result<(), Fail> {
-        play_in_session(rt, alloc, server, rooms())
+impl<R: Abort> Sight<R> for SmallReply {
+    fn see(rt: &R, alloc: Global, server: &mut Server) -> Result<(), Fail> {
+        play_in_session(alloc, server, rooms())
     }
 }
 
 struct Refused;
 
-impl Sight for Refused {
-    fn see(rt: &impl Abort, alloc: Global, server: &mut Server) -> Result<(), Fail> {
-        play_in_session(rt, alloc, server, refusals())
+impl<R: Abort> Sight<R> for Refused {
+    fn see(rt: &R, alloc: Global, server: &mut Server) -> Result<(), Fail> {
+        play_in_session(alloc, server, refusals())
     }
 }
 
 struct ComesAnew;
 
-impl Sight for ComesAnew {
-    fn see(rt: &impl Abort, alloc: Global, server: &mut Server) -> Result<(), Fail> {
-        play_in_session(rt, alloc, server, anew())?;
+impl<R: Abort> Sight<R> for ComesAnew {
+    fn see(rt: &R, alloc: Global, server: &mut Server) -> Result<(), Fail> {
+        play_in_session(alloc, server, anew())?;
         assert!(rt; server.opens().is_empty());
         Ok(())
     }
@@ -462,25 +463,25 @@ impl Sight for ComesAnew {
 
 #[test]
 fn a_client_comes_and_another_takes_its_place(rt: HostRuntime) -> Result<(), Fail> {
-    on_sample::<Clients>(&rt, rt.alloc(), RandomState::new(&rt)?)
+    on_sample::<HostRuntime, Clients>(&rt, rt.alloc(), RandomState::new(&rt)?)
 }
 
 #[test]
 fn a_slot_takes_each_number_once(rt: HostRuntime) -> Result<(), Fail> {
-    on_sample::<OneSlot>(&rt, rt.alloc(), RandomState::new(&rt)?)
+    on_sample::<HostRuntime, OneSlot>(&rt, rt.alloc(), RandomState::new(&rt)?)
 }
 
 #[test]
 fn a_small_reply_leaves_the_name(rt: HostRuntime) -> Result<(), Fail> {
-    on_sample::<SmallReply>(&rt, rt.alloc(), RandomState::new(&rt)?)
+    on_sample::<HostRuntime, SmallReply>(&rt, rt.alloc(), RandomState::new(&rt)?)
 }
 
 #[test]
 fn what_a_session_refuses(rt: HostRuntime) -> Result<(), Fail> {
-    on_sample::<Refused>(&rt, rt.alloc(), RandomState::new(&rt)?)
+    on_sample::<HostRuntime, Refused>(&rt, rt.alloc(), RandomState::new(&rt)?)
 }
 
 #[test]
 fn a_client_comes_anew(rt: HostRuntime) -> Result<(), Fail> {
-    on_sample::<ComesAnew>(&rt, rt.alloc(), RandomState::new(&rt)?)
+    on_sample::<HostRuntime, ComesAnew>(&rt, rt.alloc(), RandomState::new(&rt)?)
 }

@@ -1,11 +1,12 @@
 //! Names that go or move over trees with lists of their own, and the lines that are written.
 
-use crate::pictures::tree_text;
-use crate::servers::{BOB, Row, Sight, on, on_sample, play, see_trail, server_of};
-use crate::trees::{add, link, root_of, set_list};
 use acl_list::Kind;
+use call_texts::{BOB, Row};
 use compound_run::Server;
 use node_tree::Tree;
+use sample_servers::{
+    Sight, add, link, on, on_sample, play, root_of, see_trail, server_of, set_list, tree_text,
+};
 use std::alloc::Global;
 use std::hash::RandomState;
 use std::process::Abort;
@@ -33,26 +34,21 @@ fn files_server(alloc: Global, hasher: RandomState, case: &Case) -> Result<Serve
     Ok(server_of(alloc, Book::default(alloc), tree, hasher)?)
 }
 
-fn see_call(rt: &impl Abort, alloc: Global, server: &mut Server, case: &Case) -> Result<(), Fail> {
+fn see_call(alloc: Global, server: &mut Server, case: &Case) -> Result<(), Fail> {
     let (call, answer) = case.1;
     let (total, lines) = case.2;
-    play(rt, alloc, server, &[(BOB, call, answer)])?;
-    see_trail(rt, alloc, server, total, lines)
+    play(alloc, server, &[(BOB, call, answer)])?;
+    see_trail(alloc, server, total, lines)
 }
 
-fn see(rt: &impl Abort, alloc: Global, hasher: RandomState, case: &Case) -> Result<(), Fail> {
+fn see(alloc: Global, hasher: RandomState, case: &Case) -> Result<(), Fail> {
     let mut server = files_server(alloc, hasher, case)?;
-    see_call(rt, alloc, &mut server, case)
+    see_call(alloc, &mut server, case)
 }
 
-fn see_all(
-    rt: &impl Abort,
-    alloc: Global,
-    hasher: RandomState,
-    cases: &[Case],
-) -> Result<(), Fail> {
+fn see_all(alloc: Global, hasher: RandomState, cases: &[Case]) -> Result<(), Fail> {
     for case in cases {
-        see(rt, alloc, hasher, case)?;
+        see(alloc, hasher, case)?;
     }
     Ok(())
 }
@@ -293,9 +289,9 @@ fn told() -> &'static [Case] {
 #[test]
 fn names_go_and_are_told(rt: HostRuntime) -> Result<(), Fail> {
     let hasher = RandomState::new(&rt)?;
-    see_all(&rt, rt.alloc(), hasher, removals())?;
-    see_all(&rt, rt.alloc(), hasher, watched())?;
-    see_all(&rt, rt.alloc(), hasher, told())
+    see_all(rt.alloc(), hasher, removals())?;
+    see_all(rt.alloc(), hasher, watched())?;
+    see_all(rt.alloc(), hasher, told())
 }
 
 /// Each call is at the second of its place. What is moved, and what loses a name and keeps others, has its metadata changed.
@@ -361,17 +357,17 @@ fn see_tree(rt: &impl Abort, alloc: Global, server: &Server, wanted: &str) -> Re
 
 struct DatedMoves;
 
-impl Sight for DatedMoves {
-    fn see(rt: &impl Abort, alloc: Global, server: &mut Server) -> Result<(), Fail> {
-        play(rt, alloc, server, moves())?;
+impl<R: Abort> Sight<R> for DatedMoves {
+    fn see(rt: &R, alloc: Global, server: &mut Server) -> Result<(), Fail> {
+        play(alloc, server, moves())?;
         see_tree(rt, alloc, server, moved())?;
-        see_trail(rt, alloc, server, 0, "")
+        see_trail(alloc, server, 0, "")
     }
 }
 
 #[test]
 fn moves_are_dated(rt: HostRuntime) -> Result<(), Fail> {
-    on_sample::<DatedMoves>(&rt, rt.alloc(), RandomState::new(&rt)?)
+    on_sample::<HostRuntime, DatedMoves>(&rt, rt.alloc(), RandomState::new(&rt)?)
 }
 
 /// The list of a link with two names.
@@ -420,10 +416,10 @@ fn two_names_server(alloc: Global, hasher: RandomState) -> Result<Server, Fail> 
 
 struct TwoNames;
 
-impl Sight for TwoNames {
-    fn see(rt: &impl Abort, alloc: Global, server: &mut Server) -> Result<(), Fail> {
-        play(rt, alloc, server, two_names())?;
-        see_trail(rt, alloc, server, 2, two_refusals())
+impl<R: Abort> Sight<R> for TwoNames {
+    fn see(rt: &R, alloc: Global, server: &mut Server) -> Result<(), Fail> {
+        play(alloc, server, two_names())?;
+        see_trail(alloc, server, 2, two_refusals())
     }
 }
 
@@ -431,5 +427,5 @@ impl Sight for TwoNames {
 #[test]
 fn a_list_has_no_name(rt: HostRuntime) -> Result<(), Fail> {
     let server = two_names_server(rt.alloc(), RandomState::new(&rt)?)?;
-    on::<TwoNames>(&rt, rt.alloc(), server)
+    on::<HostRuntime, TwoNames>(&rt, rt.alloc(), server)
 }

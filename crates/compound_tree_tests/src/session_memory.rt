@@ -1,12 +1,12 @@
 //! Every growth of clients and of sessions refused.
 
 use crate::memory::{Site, build, look, see_unchanged};
-use crate::servers::{ALICE, BOB, Caller, Row, see_bytes};
-use crate::spelling::{answer_of, call_of};
+use call_texts::{ALICE, BOB, Caller, Row, answer_of, call_of};
 use compound_run::{Args, MAX_RESULTS, RunEnd};
 use linked_list_allocator::LocalHeap;
 use node_tree::EPOCH;
 use rpc_record::Caller as Identity;
+use sample_servers::see_bytes;
 use std::alloc::Global;
 use std::hash::RandomState;
 use std::process::Abort;
@@ -342,20 +342,18 @@ fn results(alloc: Global, site: &mut Site<'_>, who: Caller, call: &str) -> Resul
 
 /// Sees the answer to a call.
 fn see(
-    rt: &impl Abort,
     alloc: Global,
     site: &mut Site<'_>,
     (who, call, answer): (Caller, &str, &str),
 ) -> Result<(), Fail> {
     let wanted = answer_of(alloc, answer)?;
     let given = results(alloc, site, who, call)?;
-    see_bytes(rt, Some(&given), &wanted, 0, call);
-    Ok(())
+    see_bytes(Some(&given), &wanted, 0, call)
 }
 
-fn see_all(rt: &impl Abort, alloc: Global, site: &mut Site<'_>, rows: &[Row]) -> Result<(), Fail> {
+fn see_all(alloc: Global, site: &mut Site<'_>, rows: &[Row]) -> Result<(), Fail> {
     for row in rows {
-        see(rt, alloc, site, *row)?;
+        see(alloc, site, *row)?;
     }
     Ok(())
 }
@@ -381,7 +379,7 @@ fn is_answered(
         return Ok(true);
     }
     let wanted = delayed(alloc, call)?;
-    see_bytes(rt, Some(&given), &wanted, 0, call);
+    see_bytes(Some(&given), &wanted, 0, call)?;
     see_unchanged(rt, alloc, site, &before, call)?;
     Ok(false)
 }
@@ -402,7 +400,7 @@ fn see_until<'a>(
             return Ok(delays);
         }
         delays = delays.saturating_add(1);
-        see(rt, alloc, site, meanwhile)?;
+        see(alloc, site, meanwhile)?;
         taken.truncate(taken.len().saturating_sub(1));
     }
     Err(Fail::new("never answered"))
@@ -430,7 +428,7 @@ fn see_growths(
     growths: &[Growth],
 ) -> Result<(), Fail> {
     for (before, growth, meanwhile) in growths {
-        see(rt, alloc, site, *before)?;
+        see(alloc, site, *before)?;
         let delays = see_growth(rt, alloc, heap, site, *growth, *meanwhile)?;
         let least = if growth.1.starts_with("CREATE_SESSION") {
             150
@@ -485,7 +483,7 @@ fn see_full(
     rows: &[Row],
 ) -> Result<(), Fail> {
     let taken = take_all(alloc, heap)?;
-    see_all(rt, alloc, site, rows)?;
+    see_all(alloc, site, rows)?;
     assert!(rt; taken.len() > 0);
     Ok(())
 }
@@ -510,7 +508,7 @@ fn act(rt: &impl Abort, alloc: Global, heap: &LocalHeap, site: &mut Site<'_>) ->
     see_growths(rt, alloc, heap, site, growths())?;
     see_clients(rt, alloc, heap, site)?;
     see_full_unchanged(rt, alloc, heap, site, full())?;
-    see_all(rt, alloc, site, after())?;
+    see_all(alloc, site, after())?;
     see_full(rt, alloc, heap, site, ends())
 }
 

@@ -1,10 +1,10 @@
 //! Directories, links and trees that are full.
 
-use crate::servers::{BOB, Row, Sight, on, play, see_trail, server_of};
-use crate::trees::{ALL, add, fill, link_often, root_of};
 use acl_list::Kind;
+use call_texts::{BOB, Row};
 use compound_run::Server;
 use node_tree::Tree;
+use sample_servers::{ALL, Sight, add, fill, link_often, on, play, root_of, see_trail, server_of};
 use std::alloc::Global;
 use std::hash::RandomState;
 use std::process::Abort;
@@ -116,17 +116,17 @@ fn calls() -> &'static [Row] {
 
 struct FullDirectory;
 
-impl Sight for FullDirectory {
-    fn see(rt: &impl Abort, alloc: Global, server: &mut Server) -> Result<(), Fail> {
-        play(rt, alloc, server, calls())?;
-        see_trail(rt, alloc, server, 0, "")
+impl<R: Abort> Sight<R> for FullDirectory {
+    fn see(rt: &R, alloc: Global, server: &mut Server) -> Result<(), Fail> {
+        play(alloc, server, calls())?;
+        see_trail(alloc, server, 0, "")
     }
 }
 
 #[test]
 fn a_full_directory_is_told(rt: HostRuntime) -> Result<(), Fail> {
     let server = full_server(rt.alloc(), RandomState::new(&rt)?)?;
-    on::<FullDirectory>(&rt, rt.alloc(), server)
+    on::<HostRuntime, FullDirectory>(&rt, rt.alloc(), server)
 }
 
 /// Over 16,384 objects: the root, the directories `a` to `d`, 2 to 5, and what is in them, last of all the link `z` in `d`. A name more is no
@@ -195,9 +195,9 @@ fn last_calls() -> &'static [Row] {
 
 struct FullTree;
 
-impl Sight for FullTree {
-    fn see(rt: &impl Abort, alloc: Global, server: &mut Server) -> Result<(), Fail> {
-        play(rt, alloc, server, last_calls())
+impl<R: Abort> Sight<R> for FullTree {
+    fn see(rt: &R, alloc: Global, server: &mut Server) -> Result<(), Fail> {
+        play(alloc, server, last_calls())
     }
 }
 
@@ -205,5 +205,5 @@ impl Sight for FullTree {
 #[test]
 fn a_full_tree_is_told(rt: HostRuntime) -> Result<(), Fail> {
     let server = full_tree_server(rt.alloc(), RandomState::new(&rt)?)?;
-    on::<FullTree>(&rt, rt.alloc(), server)
+    on::<HostRuntime, FullTree>(&rt, rt.alloc(), server)
 }

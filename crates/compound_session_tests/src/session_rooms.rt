@@ -1,13 +1,12 @@
 //! Replies of a session that are full: a COMPOUND gives no more bytes than a reply was granted, its header of 24 included, of which 16 stay free; and
 //! all that it gives is kept (RFC 8881, sections 2.10.6.4 and 18.46).
 
-use crate::pictures::tree_text;
-use crate::rooms::{operations, tail_of};
-use crate::servers::{
-    ROOT, Row, Sight, on_sample, play_in_session, see_trail, see_words_in_session,
-};
-use crate::turns::{Turn, see_turn};
+use call_texts::{ROOT, Row};
 use compound_run::Server;
+use sample_servers::{
+    Sight, Turn, on_sample, operations, play_in_session, see_trail, see_turn, see_words_in_session,
+    tail_of, tree_text,
+};
 use std::alloc::Global;
 use std::hash::RandomState;
 use std::process::Abort;
@@ -368,7 +367,6 @@ fn words() -> &'static [(&'static str, &'static str)] {
 
 /// Sees rows, each first whether its reply is to be kept, from this turn on, and gives the next turn.
 fn see_rows(
-    rt: &impl Abort,
     alloc: Global,
     server: &mut Server,
     first: Turn,
@@ -380,7 +378,7 @@ fn see_rows(
             keeps: *keeps,
             ..turn
         };
-        see_turn(rt, alloc, server, turn, 1, *row)?;
+        see_turn(alloc, server, turn, 1, *row)?;
         turn = turn.next();
     }
     Ok(turn)
@@ -388,7 +386,6 @@ fn see_rows(
 
 /// Sees that an operation isn't run where 252 bytes are left.
 fn see_operation(
-    rt: &impl Abort,
     alloc: Global,
     server: &mut Server,
     turn: Turn,
@@ -399,12 +396,11 @@ fn see_operation(
     let call = format!(in alloc; "PUTFH @4 READ anon ^0 e8c {operation} {arguments}")?;
     let answer = format!(in alloc; "{status} PUTFH ok READ ok 0 ~e8c {operation} {status} {tail}")?;
     let row = (ROOT, call.as_str(), answer.as_str());
-    see_turn(rt, alloc, server, turn, 2, row)
+    see_turn(alloc, server, turn, 2, row)
 }
 
 /// Sees that no operation is run where 252 bytes are left, and what that is called, from this turn on; and gives the next turn.
 fn see_operations(
-    rt: &impl Abort,
     alloc: Global,
     server: &mut Server,
     first: Turn,
@@ -413,26 +409,21 @@ fn see_operations(
 ) -> Result<Turn, Fail> {
     let mut turn = first;
     for operation in operations {
-        see_operation(rt, alloc, server, turn, *operation, status)?;
+        see_operation(alloc, server, turn, *operation, status)?;
         turn = turn.next();
     }
     Ok(turn)
 }
 
 /// Sees that no operation is run, whether the reply is to be kept or not, and gives the next turn.
-fn see_refused(
-    rt: &impl Abort,
-    alloc: Global,
-    server: &mut Server,
-    first: Turn,
-) -> Result<Turn, Fail> {
+fn see_refused(alloc: Global, server: &mut Server, first: Turn) -> Result<Turn, Fail> {
     let reclaim = [("RECLAIM_COMPLETE", "0")];
     let turn = Turn { keeps: 0, ..first };
-    let turn = see_operations(rt, alloc, server, turn, "reptoobig", operations())?;
-    let turn = see_operations(rt, alloc, server, turn, "reptoobig", &reclaim)?;
+    let turn = see_operations(alloc, server, turn, "reptoobig", operations())?;
+    let turn = see_operations(alloc, server, turn, "reptoobig", &reclaim)?;
     let turn = Turn { keeps: 1, ..turn };
-    let turn = see_operations(rt, alloc, server, turn, "reptoobigtocache", operations())?;
-    see_operations(rt, alloc, server, turn, "reptoobigtocache", &reclaim)
+    let turn = see_operations(alloc, server, turn, "reptoobigtocache", operations())?;
+    see_operations(alloc, server, turn, "reptoobigtocache", &reclaim)
 }
 
 /// Sees that no operation is run, and that tree and opens are as before.
@@ -443,47 +434,42 @@ fn see_unchanged(
     first: Turn,
 ) -> Result<Turn, Fail> {
     let tree = tree_text(alloc, server.tree(), 16)?;
-    let turn = see_refused(rt, alloc, server, first)?;
+    let turn = see_refused(alloc, server, first)?;
     assert_eq!(rt; tree_text(alloc, server.tree(), 16)?, tree);
     assert_eq!(rt; server.opens().len(), 2);
     Ok(turn)
 }
 
 /// Sees calls, and each again.
-fn see_words(
-    rt: &impl Abort,
-    alloc: Global,
-    server: &mut Server,
-    rows: &[(&str, &str)],
-) -> Result<(), Fail> {
+fn see_words(alloc: Global, server: &mut Server, rows: &[(&str, &str)]) -> Result<(), Fail> {
     for (words, results) in rows {
-        see_words_in_session(rt, alloc, server, ROOT, words, results)?;
-        see_words_in_session(rt, alloc, server, ROOT, words, results)?;
+        see_words_in_session(alloc, server, ROOT, words, results)?;
+        see_words_in_session(alloc, server, ROOT, words, results)?;
     }
     Ok(())
 }
 
 struct Filled;
 
-impl Sight for Filled {
-    fn see(rt: &impl Abort, alloc: Global, server: &mut Server) -> Result<(), Fail> {
-        play_in_session(rt, alloc, server, come())?;
+impl<R: Abort> Sight<R> for Filled {
+    fn see(rt: &R, alloc: Global, server: &mut Server) -> Result<(), Fail> {
+        play_in_session(alloc, server, come())?;
         let turn = Turn {
             session: 1,
             number: 1,
             highest: 0,
             keeps: 0,
         };
-        let turn = see_rows(rt, alloc, server, turn, files())?;
-        let turn = see_rows(rt, alloc, server, turn, rooms())?;
+        let turn = see_rows(alloc, server, turn, files())?;
+        let turn = see_rows(alloc, server, turn, rooms())?;
         let turn = see_unchanged(rt, alloc, server, turn)?;
-        see_rows(rt, alloc, server, turn, reclaim())?;
-        see_words(rt, alloc, server, words())?;
-        see_trail(rt, alloc, server, 0, "")
+        see_rows(alloc, server, turn, reclaim())?;
+        see_words(alloc, server, words())?;
+        see_trail(alloc, server, 0, "")
     }
 }
 
 #[test]
 fn too_little_room_in_a_session_is_told(rt: HostRuntime) -> Result<(), Fail> {
-    on_sample::<Filled>(&rt, rt.alloc(), RandomState::new(&rt)?)
+    on_sample::<HostRuntime, Filled>(&rt, rt.alloc(), RandomState::new(&rt)?)
 }

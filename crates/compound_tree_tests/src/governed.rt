@@ -1,10 +1,10 @@
 //! Lists that are set, and what they then refuse.
 
-use crate::servers::{ALICE, BOB, CAROL, Row, Sight, on, on_sample, play, see_trail, server_of};
-use crate::trees::{ALL, add, root_of};
 use acl_list::Kind;
+use call_texts::{ALICE, BOB, CAROL, Row};
 use compound_run::Server;
 use node_tree::Tree;
+use sample_servers::{ALL, Sight, add, on, on_sample, play, root_of, see_trail, server_of};
 use std::alloc::Global;
 use std::hash::RandomState;
 use std::process::Abort;
@@ -163,29 +163,29 @@ fn files_server(alloc: Global, hasher: RandomState) -> Result<Server, Fail> {
 
 struct Governed;
 
-impl Sight for Governed {
-    fn see(rt: &impl Abort, alloc: Global, server: &mut Server) -> Result<(), Fail> {
-        play(rt, alloc, server, worked())?;
-        see_trail(rt, alloc, server, 5, lines())
+impl<R: Abort> Sight<R> for Governed {
+    fn see(rt: &R, alloc: Global, server: &mut Server) -> Result<(), Fail> {
+        play(alloc, server, worked())?;
+        see_trail(alloc, server, 5, lines())
     }
 }
 
 #[test]
 fn lists_that_are_set_govern(rt: HostRuntime) -> Result<(), Fail> {
     let server = files_server(rt.alloc(), RandomState::new(&rt)?)?;
-    on::<Governed>(&rt, rt.alloc(), server)
+    on::<HostRuntime, Governed>(&rt, rt.alloc(), server)
 }
 
 struct OneList;
 
-impl Sight for OneList {
-    fn see(rt: &impl Abort, alloc: Global, server: &mut Server) -> Result<(), Fail> {
-        play(rt, alloc, server, names())?;
-        see_trail(rt, alloc, server, 2, name_lines())
+impl<R: Abort> Sight<R> for OneList {
+    fn see(rt: &R, alloc: Global, server: &mut Server) -> Result<(), Fail> {
+        play(alloc, server, names())?;
+        see_trail(alloc, server, 2, name_lines())
     }
 }
 
 #[test]
 fn a_list_governs_each_name(rt: HostRuntime) -> Result<(), Fail> {
-    on_sample::<OneList>(&rt, rt.alloc(), RandomState::new(&rt)?)
+    on_sample::<HostRuntime, OneList>(&rt, rt.alloc(), RandomState::new(&rt)?)
 }

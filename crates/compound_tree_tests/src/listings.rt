@@ -1,11 +1,10 @@
 //! READDIR: what lists refuse of entries, and directories that areread over  many calls.
 
-use crate::servers::{BOB, Row, Sight, on, play, run, see_trail, server_of};
-use crate::spelling::{bytes_of, call_of};
-use crate::trees::{ALL, add, root_of};
 use acl_list::Kind;
+use call_texts::{BOB, Row, bytes_of, call_of};
 use compound_run::Server;
 use node_tree::Tree;
+use sample_servers::{ALL, Sight, add, on, play, root_of, run, see_trail, server_of};
 use std::alloc::Global;
 use std::hash::RandomState;
 use std::process::Abort;
@@ -125,17 +124,17 @@ fn judged_server(alloc: Global, hasher: RandomState) -> Result<Server, Fail> {
 
 struct Entries;
 
-impl Sight for Entries {
-    fn see(rt: &impl Abort, alloc: Global, server: &mut Server) -> Result<(), Fail> {
-        play(rt, alloc, server, judged())?;
-        see_trail(rt, alloc, server, 7, lines())
+impl<R: Abort> Sight<R> for Entries {
+    fn see(rt: &R, alloc: Global, server: &mut Server) -> Result<(), Fail> {
+        play(alloc, server, judged())?;
+        see_trail(alloc, server, 7, lines())
     }
 }
 
 #[test]
 fn entries_are_judged(rt: HostRuntime) -> Result<(), Fail> {
     let server = judged_server(rt.alloc(), RandomState::new(&rt)?)?;
-    on::<Entries>(&rt, rt.alloc(), server)
+    on::<HostRuntime, Entries>(&rt, rt.alloc(), server)
 }
 
 /// A directory of so many files, which are named for the numbers from 0 on, with four digits, listed by results of so many bytes at most. Where it
@@ -330,10 +329,10 @@ fn named_server(alloc: Global, hasher: RandomState) -> Result<Server, Fail> {
 
 struct Long;
 
-impl Sight for Long {
-    fn see(rt: &impl Abort, alloc: Global, server: &mut Server) -> Result<(), Fail> {
+impl<R: Abort> Sight<R> for Long {
+    fn see(rt: &R, alloc: Global, server: &mut Server) -> Result<(), Fail> {
         see_plans(rt, alloc, server, plans())?;
-        see_trail(rt, alloc, server, 0, "")
+        see_trail(alloc, server, 0, "")
     }
 }
 
@@ -341,5 +340,5 @@ impl Sight for Long {
 #[test]
 fn listings_are_complete(rt: HostRuntime) -> Result<(), Fail> {
     let server = named_server(rt.alloc(), RandomState::new(&rt)?)?;
-    on::<Long>(&rt, rt.alloc(), server)
+    on::<HostRuntime, Long>(&rt, rt.alloc(), server)
 }

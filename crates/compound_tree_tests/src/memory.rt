@@ -1,14 +1,12 @@
 //! Every growth refused.
 
-use crate::pictures::tree_text;
-use crate::servers::{BOB, server_of};
-use crate::spelling::call_of;
-use crate::trees::one_file;
 use acl_list::{Entry, EntryKind, Who};
+use call_texts::{BOB, call_of};
 use compound_run::{Args, MAX_RESULTS, RunEnd, Server};
 use linked_list_allocator::LocalHeap;
 use node_tree::EPOCH;
 use rpc_record::Caller;
+use sample_servers::{one_file, server_of, tree_text};
 use std::alloc::Global;
 use std::hash::RandomState;
 use std::process::Abort;

@@ -1,13 +1,12 @@
 //! The limits of clients, sessions and slots, and what a session is granted (RFC 8881, sections 2.10.6, 18.35, 18.36 and 18.46).
 
-use crate::servers::{
-    ALICE, BOB, Caller, Row, Sight, on_sample, play_in_session, see_bytes, see_text_in_session,
-    see_words_in_session,
-};
-use crate::spelling::{answer_of, call_of};
+use call_texts::{ALICE, BOB, Caller, Row, answer_of, call_of};
 use compound_run::{Args, MAX_RESULTS, Server};
 use node_tree::EPOCH;
 use rpc_record::Caller as Identity;
+use sample_servers::{
+    Sight, on_sample, play_in_session, see_bytes, see_text_in_session, see_words_in_session,
+};
 use std::alloc::Global;
 use std::hash::RandomState;
 use std::process::Abort;
@@ -569,59 +568,48 @@ fn short() -> (&'static str, &'static str) {
 }
 
 /// Sees that an owner gets the client of the next number.
-fn see_client(rt: &impl Abort, alloc: Global, server: &mut Server, owner: u32) -> Result<(), Fail> {
+fn see_client(alloc: Global, server: &mut Server, owner: u32) -> Result<(), Fail> {
     let client = owner.saturating_add(1);
     let call = format!(in alloc; "EXCHANGE_ID ^0 'c{owner:x} 0 0 0")?;
     let answer = format!(in alloc;
         "ok EXCHANGE_ID ok ^{client:x} 1 10000 0 ^0 'nfs41-lists 'nfs41-lists 0"
     )?;
-    see_text_in_session(rt, alloc, server, ALICE, call.as_str(), answer.as_str())
+    see_text_in_session(alloc, server, ALICE, call.as_str(), answer.as_str())
 }
 
-fn see_clients(rt: &impl Abort, alloc: Global, server: &mut Server) -> Result<(), Fail> {
+fn see_clients(alloc: Global, server: &mut Server) -> Result<(), Fail> {
     for owner in 0..64u32 {
-        see_client(rt, alloc, server, owner)?;
+        see_client(alloc, server, owner)?;
     }
     Ok(())
 }
 
 /// Sees that client 1 gets the session of this number by a CREATE_SESSION of the same number.
-fn see_session(
-    rt: &impl Abort,
-    alloc: Global,
-    server: &mut Server,
-    number: u32,
-) -> Result<(), Fail> {
+fn see_session(alloc: Global, server: &mut Server, number: u32) -> Result<(), Fail> {
     let call = format!(in alloc;
         "CREATE_SESSION ^1 {number:x} 0 0 40 1000 0 2 1 0 0 0 0 0 0 0 0 0 0"
     )?;
     let answer = format!(in alloc;
         "ok CREATE_SESSION ok ^0 ^{number:x} {number:x} 0 0 40 1000 1000 2 1 0 0 0 0 0 0 0 0"
     )?;
-    see_text_in_session(rt, alloc, server, ALICE, call.as_str(), answer.as_str())
+    see_text_in_session(alloc, server, ALICE, call.as_str(), answer.as_str())
 }
 
-fn see_sessions(rt: &impl Abort, alloc: Global, server: &mut Server) -> Result<(), Fail> {
+fn see_sessions(alloc: Global, server: &mut Server) -> Result<(), Fail> {
     for number in 1..65u32 {
-        see_session(rt, alloc, server, number)?;
+        see_session(alloc, server, number)?;
     }
     Ok(())
 }
 
 /// Sees that the first call of a slot makes a directory at the tick behind this one, or has made it.
-fn see_slot(
-    rt: &impl Abort,
-    alloc: Global,
-    server: &mut Server,
-    slot: u32,
-    tick: u32,
-) -> Result<(), Fail> {
+fn see_slot(alloc: Global, server: &mut Server, slot: u32, tick: u32) -> Result<(), Fail> {
     let next = tick.saturating_add(1);
     let call = format!(in alloc; "SEQUENCE ^0 ^1 1 {slot} 7 0 PUTFH @3 CREATE 2 'd{slot} 0 0")?;
     let answer = format!(in alloc;
         "ok SEQUENCE ok ^0 ^1 1 {slot} 7 7 0 PUTFH ok CREATE ok {tick:x}>{next:x} 0"
     )?;
-    see_text_in_session(rt, alloc, server, ALICE, call.as_str(), answer.as_str())
+    see_text_in_session(alloc, server, ALICE, call.as_str(), answer.as_str())
 }
 
 /// The tick that `pub` had before the first call of a slot: 3, and one more for each slot before it.
@@ -638,23 +626,21 @@ fn tick_of(order: &[u32; 8], slot: u32) -> u32 {
 
 /// Sees the first calls of slots in one order, and again in another.
 fn see_slots(
-    rt: &impl Abort,
     alloc: Global,
     server: &mut Server,
     [order, other]: &[[u32; 8]; 2],
 ) -> Result<(), Fail> {
     for slot in order {
-        see_slot(rt, alloc, server, *slot, tick_of(order, *slot))?;
+        see_slot(alloc, server, *slot, tick_of(order, *slot))?;
     }
     for slot in other {
-        see_slot(rt, alloc, server, *slot, tick_of(order, *slot))?;
+        see_slot(alloc, server, *slot, tick_of(order, *slot))?;
     }
     Ok(())
 }
 
 /// Sees the answer to a call whose record has so many bytes.
 fn see_record(
-    rt: &impl Abort,
     alloc: Global,
     server: &mut Server,
     record_len: usize,
@@ -674,106 +660,104 @@ fn see_record(
     };
     let mut out = Writer::new(alloc, MAX_RESULTS)?;
     server.run(args, &caller, EPOCH, &mut out);
-    see_bytes(rt, Some(out.bytes()), &wanted, 0, call);
-    Ok(())
+    see_bytes(Some(out.bytes()), &wanted, 0, call)
 }
 
 /// The whole record is counted, header and all: with 56 bytes the call is answered again, with 57 it is too long.
-fn see_records(rt: &impl Abort, alloc: Global, server: &mut Server) -> Result<(), Fail> {
+fn see_records(alloc: Global, server: &mut Server) -> Result<(), Fail> {
     let (call, results) = short();
     let too_big = "reqtoobig SEQUENCE reqtoobig";
-    see_record(rt, alloc, server, 52, call, results)?;
-    see_record(rt, alloc, server, 56, call, results)?;
-    see_record(rt, alloc, server, 57, call, too_big)?;
-    see_record(rt, alloc, server, 131_072, call, too_big)?;
-    see_record(rt, alloc, server, 56, call, results)
+    see_record(alloc, server, 52, call, results)?;
+    see_record(alloc, server, 56, call, results)?;
+    see_record(alloc, server, 57, call, too_big)?;
+    see_record(alloc, server, 131_072, call, too_big)?;
+    see_record(alloc, server, 56, call, results)
 }
 
 fn see_most(
-    rt: &impl Abort,
     alloc: Global,
     server: &mut Server,
     who: Caller,
     rows: &[(&str, &str)],
 ) -> Result<(), Fail> {
     for (words, results) in rows {
-        see_words_in_session(rt, alloc, server, who, words, results)?;
+        see_words_in_session(alloc, server, who, words, results)?;
     }
     Ok(())
 }
 
 struct ManyClients;
 
-impl Sight for ManyClients {
-    fn see(rt: &impl Abort, alloc: Global, server: &mut Server) -> Result<(), Fail> {
-        see_clients(rt, alloc, server)?;
-        play_in_session(rt, alloc, server, first_sessions())?;
-        play_in_session(rt, alloc, server, clients())
+impl<R: Abort> Sight<R> for ManyClients {
+    fn see(rt: &R, alloc: Global, server: &mut Server) -> Result<(), Fail> {
+        see_clients(alloc, server)?;
+        play_in_session(alloc, server, first_sessions())?;
+        play_in_session(alloc, server, clients())
     }
 }
 
 struct ManySessions;
 
-impl Sight for ManySessions {
-    fn see(rt: &impl Abort, alloc: Global, server: &mut Server) -> Result<(), Fail> {
-        play_in_session(rt, alloc, server, owner())?;
-        see_sessions(rt, alloc, server)?;
-        play_in_session(rt, alloc, server, sessions())
+impl<R: Abort> Sight<R> for ManySessions {
+    fn see(rt: &R, alloc: Global, server: &mut Server) -> Result<(), Fail> {
+        play_in_session(alloc, server, owner())?;
+        see_sessions(alloc, server)?;
+        play_in_session(alloc, server, sessions())
     }
 }
 
 struct EightSlots;
 
-impl Sight for EightSlots {
-    fn see(rt: &impl Abort, alloc: Global, server: &mut Server) -> Result<(), Fail> {
-        play_in_session(rt, alloc, server, owner())?;
-        play_in_session(rt, alloc, server, eight())?;
-        see_slots(rt, alloc, server, orders())?;
-        play_in_session(rt, alloc, server, slots())
+impl<R: Abort> Sight<R> for EightSlots {
+    fn see(rt: &R, alloc: Global, server: &mut Server) -> Result<(), Fail> {
+        play_in_session(alloc, server, owner())?;
+        play_in_session(alloc, server, eight())?;
+        see_slots(alloc, server, orders())?;
+        play_in_session(alloc, server, slots())
     }
 }
 
 struct FirstFaults;
 
-impl Sight for FirstFaults {
-    fn see(rt: &impl Abort, alloc: Global, server: &mut Server) -> Result<(), Fail> {
-        play_in_session(rt, alloc, server, owner())?;
-        play_in_session(rt, alloc, server, faults())?;
-        see_records(rt, alloc, server)
+impl<R: Abort> Sight<R> for FirstFaults {
+    fn see(rt: &R, alloc: Global, server: &mut Server) -> Result<(), Fail> {
+        play_in_session(alloc, server, owner())?;
+        play_in_session(alloc, server, faults())?;
+        see_records(alloc, server)
     }
 }
 
 struct Granted;
 
-impl Sight for Granted {
-    fn see(rt: &impl Abort, alloc: Global, server: &mut Server) -> Result<(), Fail> {
-        play_in_session(rt, alloc, server, owner())?;
-        play_in_session(rt, alloc, server, grants())?;
-        see_most(rt, alloc, server, ALICE, most())
+impl<R: Abort> Sight<R> for Granted {
+    fn see(rt: &R, alloc: Global, server: &mut Server) -> Result<(), Fail> {
+        play_in_session(alloc, server, owner())?;
+        play_in_session(alloc, server, grants())?;
+        see_most(alloc, server, ALICE, most())
     }
 }
 
 #[test]
 fn clients_are_limited(rt: HostRuntime) -> Result<(), Fail> {
-    on_sample::<ManyClients>(&rt, rt.alloc(), RandomState::new(&rt)?)
+    on_sample::<HostRuntime, ManyClients>(&rt, rt.alloc(), RandomState::new(&rt)?)
 }
 
 #[test]
 fn sessions_are_limited(rt: HostRuntime) -> Result<(), Fail> {
-    on_sample::<ManySessions>(&rt, rt.alloc(), RandomState::new(&rt)?)
+    on_sample::<HostRuntime, ManySessions>(&rt, rt.alloc(), RandomState::new(&rt)?)
 }
 
 #[test]
 fn slots_come_in_any_order(rt: HostRuntime) -> Result<(), Fail> {
-    on_sample::<EightSlots>(&rt, rt.alloc(), RandomState::new(&rt)?)
+    on_sample::<HostRuntime, EightSlots>(&rt, rt.alloc(), RandomState::new(&rt)?)
 }
 
 #[test]
 fn a_call_has_its_first_fault(rt: HostRuntime) -> Result<(), Fail> {
-    on_sample::<FirstFaults>(&rt, rt.alloc(), RandomState::new(&rt)?)
+    on_sample::<HostRuntime, FirstFaults>(&rt, rt.alloc(), RandomState::new(&rt)?)
 }
 
 #[test]
 fn so_much_is_granted(rt: HostRuntime) -> Result<(), Fail> {
-    on_sample::<Granted>(&rt, rt.alloc(), RandomState::new(&rt)?)
+    on_sample::<HostRuntime, Granted>(&rt, rt.alloc(), RandomState::new(&rt)?)
 }

@@ -1,8 +1,9 @@
 //! Each outcome of the operations of sessions that calls can bring about (RFC 8881, sections 18.35 to 18.37, 18.46, 18.50 and 18.51). What is answered
 //! is answered alike as it comes again, by what is kept, or since nothing has changed; but a client or a session is made or ended once.
 
-use crate::servers::{ALICE, BOB, CAROL, Row, Sight, on_sample, see_text_in_session, see_trail};
+use call_texts::{ALICE, BOB, CAROL, Row};
 use compound_run::Server;
+use sample_servers::{Sight, on_sample, see_text_in_session, see_trail};
 use std::alloc::Global;
 use std::hash::RandomState;
 use std::process::Abort;
@@ -609,39 +610,34 @@ fn is_once(answer: &str) -> bool {
 }
 
 /// Sees the answer to a call, and the answer as it comes again.
-fn see_twice(
-    rt: &impl Abort,
-    alloc: Global,
-    server: &mut Server,
-    (who, call, answer): &Row,
-) -> Result<(), Fail> {
-    see_text_in_session(rt, alloc, server, *who, call, answer)?;
+fn see_twice(alloc: Global, server: &mut Server, (who, call, answer): &Row) -> Result<(), Fail> {
+    see_text_in_session(alloc, server, *who, call, answer)?;
     if is_once(answer) {
         return Ok(());
     }
-    see_text_in_session(rt, alloc, server, *who, call, answer)
+    see_text_in_session(alloc, server, *who, call, answer)
 }
 
-fn see_rows(rt: &impl Abort, alloc: Global, server: &mut Server, rows: &[Row]) -> Result<(), Fail> {
+fn see_rows(alloc: Global, server: &mut Server, rows: &[Row]) -> Result<(), Fail> {
     for row in rows {
-        see_twice(rt, alloc, server, row)?;
+        see_twice(alloc, server, row)?;
     }
     Ok(())
 }
 
 struct SessionOutcomes;
 
-impl Sight for SessionOutcomes {
-    fn see(rt: &impl Abort, alloc: Global, server: &mut Server) -> Result<(), Fail> {
+impl<R: Abort> Sight<R> for SessionOutcomes {
+    fn see(rt: &R, alloc: Global, server: &mut Server) -> Result<(), Fail> {
         for rows in tables() {
-            see_rows(rt, alloc, server, rows)?;
+            see_rows(alloc, server, rows)?;
         }
         assert!(rt; server.opens().is_empty());
-        see_trail(rt, alloc, server, 0, "")
+        see_trail(alloc, server, 0, "")
     }
 }
 
 #[test]
 fn outcomes_of_sessions_are_told(rt: HostRuntime) -> Result<(), Fail> {
-    on_sample::<SessionOutcomes>(&rt, rt.alloc(), RandomState::new(&rt)?)
+    on_sample::<HostRuntime, SessionOutcomes>(&rt, rt.alloc(), RandomState::new(&rt)?)
 }

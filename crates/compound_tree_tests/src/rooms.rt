@@ -1,10 +1,12 @@
 //! COMPOUNDs with too little room: one gives at most 65,536 bytes, its header of 24 included, of which 16 stay free.
 
-use crate::servers::{BOB, Row, Sight, on, play, see_text, see_trail, server_of};
-use crate::trees::{ALL, add, root_of};
 use acl_list::Kind;
+use call_texts::{BOB, Row};
 use compound_run::Server;
 use node_tree::Tree;
+use sample_servers::{
+    ALL, Sight, add, on, operations, play, root_of, see_text, see_trail, server_of, tail_of,
+};
 use std::alloc::Global;
 use std::hash::RandomState;
 use std::process::Abort;
@@ -106,45 +108,8 @@ fn rooms() -> &'static [Row] {
     &ROOMS
 }
 
-/// The operations with their arguments.
-static OPERATIONS: [(&str, &str); 23] = [
-    ("ACCESS", "3f"),
-    ("CLOSE", "0 anon"),
-    ("COMMIT", "^0 0"),
-    ("CREATE", "2 'x 0 0"),
-    ("GETATTR", "0"),
-    ("GETFH", ""),
-    ("LINK", "'x"),
-    ("LOOKUP", "'x"),
-    ("LOOKUPP", ""),
-    ("NVERIFY", "0 0"),
-    ("OPEN", "0 1 0 0 0 'o 0 0 'x"),
-    ("PUTFH", "@1"),
-    ("PUTROOTFH", ""),
-    ("READ", "anon ^0 0"),
-    ("READDIR", "^0 0 0 0 1000 0"),
-    ("READLINK", ""),
-    ("REMOVE", "'x"),
-    ("RENAME", "'x 'y"),
-    ("RESTOREFH", ""),
-    ("SAVEFH", ""),
-    ("SETATTR", "anon 0 0"),
-    ("VERIFY", "0 0"),
-    ("WRITE", "anon ^0 0 0"),
-];
-
-pub fn operations() -> &'static [(&'static str, &'static str)] {
-    &OPERATIONS
-}
-
-/// A refused SETATTR alone gives more than its status: the empty set.
-pub fn tail_of(operation: &str) -> &'static str {
-    if operation == "SETATTR" { "0" } else { "" }
-}
-
 /// Sees that an operation isn't run where 252 bytes are left.
 fn see_operation(
-    rt: &impl Abort,
     alloc: Global,
     server: &mut Server,
     (operation, arguments): (&str, &str),
@@ -156,17 +121,16 @@ fn see_operation(
     let answer = format!(in alloc;
         "reptoobig PUTFH ok READ ok 0 ~8000 READ ok 0 ~7ea8 {operation} reptoobig {tail}"
     )?;
-    see_text(rt, alloc, server, call.as_str(), answer.as_str())
+    see_text(alloc, server, call.as_str(), answer.as_str())
 }
 
 fn see_operations(
-    rt: &impl Abort,
     alloc: Global,
     server: &mut Server,
     operations: &[(&str, &str)],
 ) -> Result<(), Fail> {
     for operation in operations {
-        see_operation(rt, alloc, server, *operation)?;
+        see_operation(alloc, server, *operation)?;
     }
     Ok(())
 }
@@ -194,16 +158,16 @@ fn file_server(alloc: Global, hasher: RandomState) -> Result<Server, Fail> {
 
 struct Filled;
 
-impl Sight for Filled {
-    fn see(rt: &impl Abort, alloc: Global, server: &mut Server) -> Result<(), Fail> {
-        play(rt, alloc, server, rooms())?;
-        see_operations(rt, alloc, server, operations())?;
-        see_trail(rt, alloc, server, 0, "")
+impl<R: Abort> Sight<R> for Filled {
+    fn see(rt: &R, alloc: Global, server: &mut Server) -> Result<(), Fail> {
+        play(alloc, server, rooms())?;
+        see_operations(alloc, server, operations())?;
+        see_trail(alloc, server, 0, "")
     }
 }
 
 #[test]
 fn too_little_room_is_told(rt: HostRuntime) -> Result<(), Fail> {
     let server = file_server(rt.alloc(), RandomState::new(&rt)?)?;
-    on::<Filled>(&rt, rt.alloc(), server)
+    on::<HostRuntime, Filled>(&rt, rt.alloc(), server)
 }

@@ -1,9 +1,8 @@
 //! A hundred calls of three callers, and the tree and the trail that they leave.
 
-use crate::pictures::tree_text;
-use crate::servers::{ALICE, BOB, ROOT, Row, Sight, on_sample, run, see_bytes, see_trail};
-use crate::spelling::{bytes_of, call_of};
+use call_texts::{ALICE, BOB, ROOT, Row, bytes_of, call_of};
 use compound_run::Server;
+use sample_servers::{Sight, on_sample, run, see_bytes, see_trail, tree_text};
 use std::alloc::Global;
 use std::hash::RandomState;
 use std::process::Abort;
@@ -190,27 +189,20 @@ DENY uid=0 op=LOOKUP obj=8 mask=00000020 missing=00000020
 ";
 
 /// Sees that a call at this second has this status.
-fn see(
-    rt: &impl Abort,
-    alloc: Global,
-    server: &mut Server,
-    seconds: i64,
-    row: &Row,
-) -> Result<(), Fail> {
+fn see(alloc: Global, server: &mut Server, seconds: i64, row: &Row) -> Result<(), Fail> {
     let (who, call, status) = row;
     let bytes = call_of(alloc, call)?;
     let wanted = bytes_of(alloc, status)?;
     let given = run(alloc, server, *who, seconds, &bytes)?;
     let given = given.as_ref().and_then(|given| given.get(..4));
-    see_bytes(rt, given, &wanted, seconds, call);
-    Ok(())
+    see_bytes(given, &wanted, seconds, call)
 }
 
-fn see_all(rt: &impl Abort, alloc: Global, server: &mut Server, rows: &[Row]) -> Result<(), Fail> {
+fn see_all(alloc: Global, server: &mut Server, rows: &[Row]) -> Result<(), Fail> {
     let mut seconds = 0i64;
     for row in rows {
         seconds = seconds.saturating_add(1);
-        see(rt, alloc, server, seconds, row)?;
+        see(alloc, server, seconds, row)?;
     }
     Ok(())
 }
@@ -238,15 +230,15 @@ fn see_tree(rt: &impl Abort, alloc: Global, server: &Server) -> Result<(), Fail>
 
 struct Script;
 
-impl Sight for Script {
-    fn see(rt: &impl Abort, alloc: Global, server: &mut Server) -> Result<(), Fail> {
-        see_all(rt, alloc, server, calls())?;
+impl<R: Abort> Sight<R> for Script {
+    fn see(rt: &R, alloc: Global, server: &mut Server) -> Result<(), Fail> {
+        see_all(alloc, server, calls())?;
         see_tree(rt, alloc, server)?;
-        see_trail(rt, alloc, server, 22, lines())
+        see_trail(alloc, server, 22, lines())
     }
 }
 
 #[test]
 fn a_hundred_calls_leave_this(rt: HostRuntime) -> Result<(), Fail> {
-    on_sample::<Script>(&rt, rt.alloc(), RandomState::new(&rt)?)
+    on_sample::<HostRuntime, Script>(&rt, rt.alloc(), RandomState::new(&rt)?)
 }

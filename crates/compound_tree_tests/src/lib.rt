@@ -1,0 +1,27 @@
+//! Tests of `compound_run` over trees of their own: lists, modes, listings, removals, limits, rooms of replies and small heaps.
+#![tactic(auto)]
+
+#[cfg(test)]
+mod governed;
+#[cfg(test)]
+mod judged;
+#[cfg(test)]
+mod limits;
+#[cfg(test)]
+mod listings;
+#[cfg(test)]
+mod memory;
+#[cfg(test)]
+mod modes;
+#[cfg(test)]
+mod remembered;
+#[cfg(test)]
+mod removals;
+#[cfg(test)]
+mod rooms;
+#[cfg(test)]
+mod script;
+#[cfg(test)]
+mod session_memory;
+#[cfg(test)]
+mod setting;
