@@ -194,7 +194,33 @@ fn replace(alloc: Global, guarded: &mut GuardedTree, list: &[Entry]) -> Result<u
     Ok(guarded.add(directory, b"f", new, at)?)
 }
 
+/// Sees what is decided of reading an object.
+fn see_read(rt: &impl Abort, guarded: &mut GuardedTree, object: u64, want: Decision)
+    requires { guarded.old.log.held ≡ [] }
+    ensures { guarded.new.log.held ≡ [] }
+{
+    assert_eq!(rt; read(guarded, object), want);
+}
+
 /// A file is read, loses a right, goes, and another is made directly after it.
+fn see_changes(
+    rt: &impl Abort,
+    alloc: Global,
+    guarded: &mut GuardedTree,
+    file: u64,
+) -> Result<(), Fail>
+    requires { guarded.old.log.held ≡ [] }
+{
+    see_read(rt, guarded, file, Granted);
+    set_list(alloc, guarded, file, &[owner()])?;
+    see_read(rt, guarded, file, refused(file, 0x1));
+    let new = replace(alloc, guarded, &[owner(), allow(0x1)])?;
+    see_read(rt, guarded, new, Granted);
+    see_read(rt, guarded, file, refused(file, 0));
+    Ok(())
+}
+
+/// It is so on a guard that remembers so many summaries.
 fn changes(
     rt: &impl Abort,
     alloc: Global,
@@ -202,22 +228,10 @@ fn changes(
     capacity: usize,
 ) -> Result<(), Fail> {
     let mut tree = root(alloc, &mode_755())?;
-    let file = add(
-        alloc,
-        &mut tree,
-        b"f",
-        Kind::File,
-        1001,
-        &[owner(), allow(0x1)],
-    )?;
+    let list = [owner(), allow(0x1)];
+    let file = add(alloc, &mut tree, b"f", Kind::File, 1001, &list)?;
     let mut guarded = guarded(alloc, tree, capacity, hasher)?;
-    assert_eq!(rt; read(&mut guarded, file), Granted);
-    set_list(alloc, &mut guarded, file, &[owner()])?;
-    assert_eq!(rt; read(&mut guarded, file), refused(file, 0x1));
-    let new = replace(alloc, &mut guarded, &[owner(), allow(0x1)])?;
-    assert_eq!(rt; read(&mut guarded, new), Granted);
-    assert_eq!(rt; read(&mut guarded, file), refused(file, 0));
-    Ok(())
+    see_changes(rt, alloc, &mut guarded, file)
 }
 
 #[test]

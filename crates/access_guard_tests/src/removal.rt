@@ -1,9 +1,11 @@
 //! Removals, worked out by hand from the table of RFC 8881, section 6.2.1.3.2.
+ghost use Rattle.std.specs.Prelude.{◌≡◌, []};
 
-use crate::trees::{REMOVE, add, allow, decide, deny, guarded, root, text};
+use crate::trail::see_lines;
+use crate::trees::{REMOVE, add, allow, decide, deny, guarded, root};
 use Cause::{ByEntry, Missing};
 use Decision::{Granted, Refused};
-use access_guard::{Cause, Decision, Demand};
+use access_guard::{Cause, Decision, Demand, GuardedTree};
 use acl_list::{Entry, Kind};
 use rpc_record::Caller;
 use std::alloc::Global;
@@ -19,6 +21,15 @@ fn refused(object: u64, mask: u32, cause: Cause) -> Decision {
     }
 }
 
+/// Sees what user 1002 in group 7 is told of the removal of an object.
+fn see_asked(rt: &impl Abort, guarded: &mut GuardedTree, target: u64, want: Decision, line: &str)
+    requires { guarded.old.log.held ≡ [] }
+{
+    let demand = Demand::Removal { parent: 1, target };
+    let caller = Caller::new(1002, 7, &[]);
+    assert_eq!(rt; decide(guarded, demand, &caller, REMOVE), want, "{line}");
+}
+
 /// Asks for the removal of file 2 from directory 1, which have these lists.
 fn ask(
     rt: &impl Abort,
@@ -32,16 +43,8 @@ fn ask(
     let mut tree = root(alloc, parent)?;
     let target = add(alloc, &mut tree, b"t", Kind::File, 0, target)?;
     let mut guarded = guarded(alloc, tree, 4, hasher)?;
-    let demand = Demand::Removal { parent: 1, target };
-    let caller = Caller::new(1002, 7, &[]);
-    assert_eq!(rt;
-        decide(&mut guarded, demand, &caller, REMOVE),
-        want,
-        "{line}"
-    );
-    let text = text(alloc, guarded.guard())?;
-    assert_eq!(rt; text.as_slice(), line.as_bytes());
-    Ok(())
+    see_asked(rt, &mut guarded, target, want, line);
+    see_lines(rt, alloc, guarded.guard(), line)
 }
 
 macro_rules! removals {

@@ -1,4 +1,5 @@
 //! Lines, and the trail that keeps the last.
+ghost use Rattle.std.specs.Prelude.{◌≡◌, []};
 
 use crate::trees::{
     LOOKUP, READ, WRITE, add, allow, decide, decide_on, entry, guard, guarded, mode_755, root,
@@ -6,7 +7,7 @@ use crate::trees::{
 };
 use Cause::{ByEntry, Missing};
 use Decision::{Granted, Refused};
-use access_guard::{Cause, Decision, Demand};
+use access_guard::{Cause, Decision, Demand, Guard, GuardedTree};
 use acl_list::{EntryKind, Kind, Who};
 use linked_list_allocator::LocalHeap;
 use node_tree::Tree;
@@ -20,6 +21,33 @@ fn bits(object: u64, mask: u32) -> Demand {
     Demand::Bits { object, mask }
 }
 
+/// Sees that user 1002 in this group gets this decision.
+fn see_decided(
+    rt: &impl Abort,
+    guarded: &mut GuardedTree,
+    asked: (Demand, u32, u32),
+    want: Decision,
+)
+    requires { guarded.old.log.held ≡ [] }
+    ensures { guarded.new.log.held ≡ [] }
+{
+    let (demand, gid, op) = asked;
+    let caller = Caller::new(1002, gid, &[]);
+    assert_eq!(rt; decide(guarded, demand, &caller, op), want);
+}
+
+/// Sees the lines of a trail.
+pub fn see_lines(rt: &impl Abort, alloc: Global, guard: &Guard, wanted: &str) -> Result<(), Fail> {
+    let text = text(alloc, guard)?;
+    assert_eq!(rt; text.as_slice(), wanted.as_bytes());
+    Ok(())
+}
+
+/// Sees how many lines there were.
+fn see_total(rt: &impl Abort, guard: &Guard, want: u64) {
+    assert_eq!(rt; guard.total(), want);
+}
+
 #[test]
 fn a_refusal_names_the_entry(rt: HostRuntime) -> Result<(), Fail> {
     let alloc = rt.alloc();
@@ -29,46 +57,44 @@ fn a_refusal_names_the_entry(rt: HostRuntime) -> Result<(), Fail> {
         mask: 2,
         cause: ByEntry(3),
     };
-    let caller = Caller::new(1002, 0, &[]);
-    assert_eq!(rt; decide(&mut guarded, bits(1, 2), &caller, LOOKUP), want);
-    let text = text(alloc, guarded.guard())?;
-    assert_eq!(rt;
-        text.as_slice(),
-        b"DENY uid=1002 op=LOOKUP obj=1 mask=00000002 entry=3\n".as_slice()
-    );
-    assert_eq!(rt; guarded.guard().total(), 1);
-    Ok(())
+    see_decided(&rt, &mut guarded, (bits(1, 2), 0, LOOKUP), want);
+    let line = "DENY uid=1002 op=LOOKUP obj=1 mask=00000002 entry=3\n";
+    see_total(&rt, guarded.guard(), 1);
+    see_lines(&rt, alloc, guarded.guard(), line)
 }
 
-#[test]
-fn audited_reads(rt: HostRuntime) -> Result<(), Fail> {
-    let alloc = rt.alloc();
+/// The file `f` of uid 1001, whose list audits and allows that it is read.
+fn audited(alloc: Global) -> Result<Tree, Fail> {
     let mut tree = root(alloc, &mode_755())?;
     let audit = entry(EntryKind::Audit, 0x30, 0x1, Who::Everyone);
-    add(
-        alloc,
-        &mut tree,
-        b"f",
-        Kind::File,
-        1001,
-        &[audit, allow(0x1)],
-    )?;
-    let mut guarded = guarded(alloc, tree, 1, RandomState::new(&rt)?)?;
-    let caller = Caller::new(1002, 7, &[]);
-    assert_eq!(rt; decide(&mut guarded, bits(2, 1), &caller, READ), Granted);
-    assert_eq!(rt; decide(&mut guarded, bits(2, 1), &caller, READ), Granted);
+    let list = [audit, allow(0x1)];
+    add(alloc, &mut tree, b"f", Kind::File, 1001, &list)?;
+    Ok(tree)
+}
+
+/// Reads the file twice, and doesn't write it.
+fn ask_audited(rt: &impl Abort, guarded: &mut GuardedTree)
+    requires { guarded.old.log.held ≡ [] }
+{
+    see_decided(rt, guarded, (bits(2, 1), 7, READ), Granted);
+    see_decided(rt, guarded, (bits(2, 1), 7, READ), Granted);
     let want = Refused {
         object: 2,
         mask: 2,
         cause: Missing(2),
     };
-    assert_eq!(rt; decide(&mut guarded, bits(2, 2), &caller, WRITE), want);
-    let text = text(alloc, guarded.guard())?;
-    assert_eq!(rt;
-        text.as_slice(),
-        b"AUDIT uid=1002 op=READ obj=2 mask=00000001 granted entry=0\nAUDIT uid=1002 op=READ obj=2 mask=00000001 granted entry=0\nDENY uid=1002 op=WRITE obj=2 mask=00000002 missing=00000002\n".as_slice()
-    );
-    Ok(())
+    see_decided(rt, guarded, (bits(2, 2), 7, WRITE), want);
+}
+
+const AUDITED: &str =
+    "AUDIT uid=1002 op=READ obj=2 mask=00000001 granted entry=0\nAUDIT uid=1002 op=READ obj=2 mask=00000001 granted entry=0\nDENY uid=1002 op=WRITE obj=2 mask=00000002 missing=00000002\n";
+
+#[test]
+fn audited_reads(rt: HostRuntime) -> Result<(), Fail> {
+    let alloc = rt.alloc();
+    let mut guarded = guarded(alloc, audited(alloc)?, 1, RandomState::new(&rt)?)?;
+    ask_audited(&rt, &mut guarded);
+    see_lines(&rt, alloc, guarded.guard(), AUDITED)
 }
 
 /// How far a guard came over a small heap: none could be made, or it answers and may have remembered nothing.

@@ -5,6 +5,8 @@ use AdmitFault::{AttrNotSupp, BadOwner, Inval};
 use Who::{Everyone, Group, GroupOf, Owner};
 use acl_list::{Entry, Kind, Who};
 use acl_shape::{AdmitFault, Raw, admit};
+use std::alloc::Global;
+use std::process::Abort;
 use std::test::Fail;
 
 macro_rules! raw {
@@ -38,18 +40,27 @@ static ON_A_FILE: [Entry; 3] = [
     allow!(0x40, 0, GroupOf(7)),
 ];
 
+/// Sees the list that is taken on an object of this kind, and how many entries a list of one that is to be inherited has there.
+fn see_taken(
+    rt: &impl Abort,
+    alloc: Global,
+    kind: Kind,
+    want: &[Entry],
+    inherited: usize,
+) -> Result<(), Fail> {
+    let list = admit(alloc, &ASKED, kind)?;
+    assert_eq!(rt; list.as_slice(), want, "{kind:?}");
+    let list = admit(alloc, &ASKED[1..2], kind)?;
+    assert_eq!(rt; list.len(), inherited, "{kind:?}");
+    Ok(())
+}
+
 /// A directory gets the list as it was sent, a file or a link without its parts that are there to be inherited.
 #[test]
 fn lists_that_are_taken(rt: HostRuntime) -> Result<(), Fail> {
-    let list = admit(rt.alloc(), &ASKED, Kind::Directory)?;
-    assert_eq!(rt; list.as_slice(), ON_A_DIRECTORY.as_slice());
-    for kind in [Kind::File, Kind::Link] {
-        let list = admit(rt.alloc(), &ASKED, kind)?;
-        assert_eq!(rt; list.as_slice(), ON_A_FILE.as_slice(), "{kind:?}");
-        let to_be_inherited = admit(rt.alloc(), &ASKED[1..2], kind)?;
-        assert!(rt; to_be_inherited.is_empty(), "{kind:?}");
-    }
-    Ok(())
+    see_taken(&rt, rt.alloc(), Kind::Directory, &ON_A_DIRECTORY, 1)?;
+    see_taken(&rt, rt.alloc(), Kind::File, &ON_A_FILE, 0)?;
+    see_taken(&rt, rt.alloc(), Kind::Link, &ON_A_FILE, 0)
 }
 
 static REFUSED: [(&str, &[Raw], AdmitFault); 12] = [

@@ -3,7 +3,23 @@
 use crate::entries::{allow, deny, entry};
 use acl_list::{AclList, Kind, Who};
 use acl_shape::{Raw, admit, is_bounded, set_mode};
+use std::alloc::Global;
+use std::process::Abort;
 use std::test::Fail;
+
+/// Sees that two modes on a list leave it with 64 entries.
+fn see_longest(rt: &impl Abort, alloc: Global, list: &AclList) -> Result<(), Fail> {
+    let new = set_mode(alloc, list, Kind::File, 0o640)?;
+    see_length(rt, &new);
+    let again = set_mode(alloc, &new, Kind::File, 0)?;
+    see_length(rt, &again);
+    Ok(())
+}
+
+fn see_length(rt: &impl Abort, list: &AclList) {
+    assert_eq!(rt; list.len(), 64);
+    assert!(rt; is_bounded(list));
+}
 
 /// As many named entries as may be, one of which gives WRITE_ACL, and then a mode.
 #[test]
@@ -17,12 +33,7 @@ fn a_mode_on_the_longest_list(rt: HostRuntime) -> Result<(), Fail> {
     let raws = [named; 59];
     let list = admit(rt.alloc(), &raws, Kind::File)?;
     assert_eq!(rt; list.len(), 59);
-    let new = set_mode(rt.alloc(), &list, Kind::File, 0o640)?;
-    assert_eq!(rt; new.len(), 64);
-    assert!(rt; is_bounded(&new));
-    let again = set_mode(rt.alloc(), &new, Kind::File, 0)?;
-    assert_eq!(rt; again.len(), 64);
-    Ok(())
+    see_longest(&rt, rt.alloc(), &list)
 }
 
 /// Plain entries, entries that a mode keeps, and whether a list may have them.

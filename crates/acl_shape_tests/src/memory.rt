@@ -4,6 +4,8 @@ use crate::entries::{allow, entry};
 use acl_list::{AclList, Kind, Who};
 use acl_shape::{Given, Raw, admit, changed_permissions, created_permissions, inherit, set_mode};
 use linked_list_allocator::LocalHeap;
+use std::alloc::Global;
+use std::process::Abort;
 use std::test::Fail;
 
 #[derive(Clone, Copy, Debug)]
@@ -41,6 +43,13 @@ fn made(call: Call, heap: &LocalHeap, list: &AclList, raws: &[Raw]) -> Option<us
     Some(new.len())
 }
 
+static RAWS: [Raw; 20] = [Raw {
+    kind: 0,
+    flags: 0x03,
+    mask: 1,
+    who: Some(Who::User(5)),
+}; 20];
+
 /// How long the list of each call is over a list of 20 entries, and over an empty one.
 static CALLS: [(Call, usize, usize); 7] = [
     (Call::SetMode, 25, 5),
@@ -52,33 +61,56 @@ static CALLS: [(Call, usize, usize); 7] = [
     (Call::Change(None), 20, 0),
 ];
 
+/// Whether a call over a heap of this size is refused, and else how long its list is; nothing is left behind.
+fn see_over(
+    rt: &impl Abort,
+    alloc: Global,
+    size: usize,
+    call: Call,
+    list: &AclList,
+    want: usize,
+) -> Result<bool, Fail> {
+    let heap = LocalHeap::new(alloc, size)?;
+    let len = made(call, &heap, list, &RAWS);
+    assert!(rt; len.is_none() || len == Some(want), "{call:?} at {size}");
+    assert_eq!(rt; heap.used(), 0, "{call:?} at {size}");
+    Ok(len.is_none())
+}
+
+/// How often a call is refused over each size of a heap.
+fn refusals(
+    rt: &impl Abort,
+    alloc: Global,
+    call: Call,
+    list: &AclList,
+    want: usize,
+) -> Result<u32, Fail> {
+    let mut refused = 0u32;
+    for size in 0..3072usize {
+        if see_over(rt, alloc, size, call, list, want)? {
+            refused = refused.saturating_add(1);
+        }
+    }
+    Ok(refused)
+}
+
 #[test]
 fn whole_or_refused(rt: HostRuntime) -> Result<(), Fail> {
     let full = AclList::from_slice(rt.alloc(), &[allow!(0x03, 1, Who::User(5)); 20])?;
+    for (call, of_full, _) in &CALLS {
+        let refused = refusals(&rt, rt.alloc(), *call, &full, *of_full)?;
+        assert!(rt; refused > 50 && refused < 2900, "{call:?}: {refused}");
+    }
+    Ok(())
+}
+
+/// With ample memory none is refused.
+#[test]
+fn whole_over_an_empty_list(rt: HostRuntime) -> Result<(), Fail> {
     let empty = AclList::new(rt.alloc());
-    let raws = [Raw {
-        kind: 0,
-        flags: 0x03,
-        mask: 1,
-        who: Some(Who::User(5)),
-    }; 20];
-    for (call, of_full, of_empty) in &CALLS {
-        let mut refused = 0u32;
-        for size in 0..3072usize {
-            let heap = LocalHeap::new(rt.alloc(), size)?;
-            match made(*call, &heap, &full, &raws) {
-                Some(len) => assert_eq!(rt; len, *of_full, "{call:?} at {size}"),
-                None => refused = refused.saturating_add(1),
-            }
-            assert_eq!(rt; heap.used(), 0, "{call:?} at {size}");
-        }
-        assert!(rt;
-            refused > 50 && refused < 2900,
-            "{call:?}: refused {refused}"
-        );
-        let heap = LocalHeap::new(rt.alloc(), 3072)?;
-        let len = made(*call, &heap, &empty, &raws);
-        assert_eq!(rt; len, Some(*of_empty), "{call:?}");
+    for (call, _, of_empty) in &CALLS {
+        let is_refused = see_over(&rt, rt.alloc(), 3072, *call, &empty, *of_empty)?;
+        assert!(rt; !is_refused, "{call:?}");
     }
     Ok(())
 }

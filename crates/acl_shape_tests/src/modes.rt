@@ -5,6 +5,8 @@ use Kind::{Directory, File, Link};
 use Who::{Everyone, Group, GroupOf, Owner, User};
 use acl_list::{AclList, Entry, Kind, Who};
 use acl_shape::{mode_of, set_mode};
+use std::alloc::Global;
+use std::process::Abort;
 use std::test::Fail;
 
 static LISTS: [(Kind, u32, &[Entry]); 8] = [
@@ -18,16 +20,30 @@ static LISTS: [(Kind, u32, &[Entry]); 8] = [
     (Directory, 0, &five!(0x1e0180, 0x67, 0, 0x67, 0x120080)),
 ];
 
-/// The lists for some modes, where there was none before. The high bits of a mode have no say.
+/// Sees a list, and its mode.
+fn see_list(rt: &impl Abort, list: &AclList, want: &[Entry], mode: u32) {
+    assert_eq!(rt; list.as_slice(), want, "{mode:o}");
+    assert_eq!(rt; mode_of(list), mode, "{mode:o}");
+}
+
+/// Sees the list for a mode, where there was none before. The high bits of a mode have no say.
+fn see_made(
+    rt: &impl Abort,
+    alloc: Global,
+    (kind, mode, want): (Kind, u32, &[Entry]),
+) -> Result<(), Fail> {
+    let none = AclList::new(alloc);
+    let list = set_mode(alloc, &none, kind, mode)?;
+    see_list(rt, &list, want, mode);
+    let high = set_mode(alloc, &none, kind, mode | 0o7000)?;
+    see_list(rt, &high, want, mode);
+    Ok(())
+}
+
 #[test]
 fn lists_for_modes(rt: HostRuntime) -> Result<(), Fail> {
-    let none = AclList::new(rt.alloc());
-    for (kind, mode, want) in &LISTS {
-        let list = set_mode(rt.alloc(), &none, *kind, *mode)?;
-        assert_eq!(rt; list.as_slice(), *want, "{kind:?} {mode:o}");
-        assert_eq!(rt; mode_of(&list), *mode, "{kind:?} {mode:o}");
-        let high = set_mode(rt.alloc(), &none, *kind, *mode | 0o7000)?;
-        assert_eq!(rt; high.as_slice(), *want, "{kind:?} 7{mode:o}");
+    for row in &LISTS {
+        see_made(&rt, rt.alloc(), *row)?;
     }
     Ok(())
 }
@@ -54,10 +70,9 @@ static AFTER: [Entry; 8] = [
 fn a_mode_on_the_list_of_a_directory(rt: HostRuntime) -> Result<(), Fail> {
     let list = AclList::from_slice(rt.alloc(), &BEFORE)?;
     let new = set_mode(rt.alloc(), &list, Directory, 0o640)?;
-    assert_eq!(rt; new.as_slice(), AFTER.as_slice());
-    assert_eq!(rt; mode_of(&new), 0o640);
+    see_list(&rt, &new, &AFTER, 0o640);
     let again = set_mode(rt.alloc(), &new, Directory, 0o640)?;
-    assert_eq!(rt; again.as_slice(), AFTER.as_slice());
+    see_list(&rt, &again, &AFTER, 0o640);
     Ok(())
 }
 
@@ -98,25 +113,41 @@ static KEPT: [(Entry, Option<Entry>); 14] = [
     (deny!(0x03, 0x27, User(5)), Some(deny!(0x03, 0x27, User(5)))),
 ];
 
+/// Sees what stands between the ends of a list, of which there are five entries beside the one that is kept.
+fn see_kept(
+    rt: &impl Abort,
+    new: &[Entry],
+    ends: &[Entry],
+    (before, after): (Entry, Option<Entry>),
+) {
+    let extra = if after.is_some() { 1 } else { 0 };
+    assert_eq!(rt; new.len(), 5 + extra, "{before:?}");
+    if after.is_some() {
+        assert_eq!(rt; new.get(2).copied(), after, "{before:?}");
+    }
+    assert_eq!(rt; new.first(), ends.first(), "{before:?}");
+    assert_eq!(rt; new.last(), ends.last(), "{before:?}");
+}
+
+fn see_one(
+    rt: &impl Abort,
+    alloc: Global,
+    ends: &[Entry],
+    row: (Entry, Option<Entry>),
+) -> Result<(), Fail> {
+    let list = AclList::from_slice(alloc, &[row.0])?;
+    let new = set_mode(alloc, &list, File, 0o640)?;
+    see_kept(rt, new.as_slice(), ends, row);
+    Ok(())
+}
+
 /// Each entry by itself, where the group may read alone and so lacks 0x26.
 #[test]
 fn what_a_mode_keeps(rt: HostRuntime) -> Result<(), Fail> {
     let none = AclList::new(rt.alloc());
     let ends = set_mode(rt.alloc(), &none, File, 0o640)?;
-    for (before, after) in &KEPT {
-        let list = AclList::from_slice(rt.alloc(), &[*before])?;
-        let new = set_mode(rt.alloc(), &list, File, 0o640)?;
-        let extra = if after.is_some() { 1 } else { 0 };
-        assert_eq!(rt; new.len(), 5 + extra, "{before:?}");
-        if after.is_some() {
-            assert_eq!(rt; new.as_slice().get(2).copied(), *after, "{before:?}");
-        }
-        assert_eq!(rt;
-            new.as_slice().first(),
-            ends.as_slice().first(),
-            "{before:?}"
-        );
-        assert_eq!(rt; new.as_slice().last(), ends.as_slice().last(), "{before:?}");
+    for row in &KEPT {
+        see_one(&rt, rt.alloc(), ends.as_slice(), *row)?;
     }
     Ok(())
 }
@@ -177,12 +208,21 @@ static MODES: [(&str, &[Entry], u32); 14] = [
     ),
 ];
 
+fn see_mode(
+    rt: &impl Abort,
+    alloc: Global,
+    (name, entries, mode): (&str, &[Entry], u32),
+) -> Result<(), Fail> {
+    let list = AclList::from_slice(alloc, entries)?;
+    assert_eq!(rt; mode_of(&list), mode, "{name}");
+    Ok(())
+}
+
 /// Modes counted by hand.
 #[test]
 fn modes_of_lists(rt: HostRuntime) -> Result<(), Fail> {
-    for (name, entries, mode) in &MODES {
-        let list = AclList::from_slice(rt.alloc(), entries)?;
-        assert_eq!(rt; mode_of(&list), *mode, "{name}");
+    for row in &MODES {
+        see_mode(&rt, rt.alloc(), *row)?;
     }
     Ok(())
 }

@@ -111,14 +111,19 @@ fn fragments_are_joined(rt: HostRuntime) -> Result<(), Fail> {
     Ok(())
 }
 
+/// Sees that a stream with a call of CREATE makes the directory `d` in `pub`.
+fn see_made(rt: &impl Abort, hub: &mut Hub, stream: &[u8]) {
+    assert_eq!(rt; answered(hub, stream), Ok(88));
+    assert_eq!(rt; hub.server().tree().find(3, b"d"), Some(4));
+    assert_eq!(rt; hub.server().guard().total(), 0);
+}
+
 /// The server behind the connections is the one that was changed.
 #[test]
 fn the_server_is_changed(rt: HostRuntime) -> Result<(), Fail> {
     let stream = bytes_of(rt.alloc(), CREATE_D)?;
     let mut hub = bare(rt.alloc(), rt.alloc(), RandomState::new(&rt)?)?;
-    assert_eq!(rt; answered(&mut hub, &stream), Ok(88));
-    assert_eq!(rt; hub.server().tree().find(3, b"d"), Some(4));
-    assert_eq!(rt; hub.server().guard().total(), 0);
+    see_made(&rt, &mut hub, &stream);
     Ok(())
 }
 

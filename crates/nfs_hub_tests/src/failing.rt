@@ -124,6 +124,18 @@ fn see_write(
     );
 }
 
+/// Sees it on a new hub.
+fn see_read_anew(
+    rt: &impl Abort,
+    alloc: Global,
+    hasher: RandomState,
+    served: &Served<'_>,
+    reads_left: usize,
+) -> Result<(), Fail> {
+    let mut hub = new_hub(alloc, hasher, "")?;
+    see_read(rt, alloc, &mut hub, served, reads_left)
+}
+
 /// Fails at each read of a stream.
 fn see_reads(
     rt: &impl Abort,
@@ -132,9 +144,21 @@ fn see_reads(
     served: &Served<'_>,
 ) -> Result<(), Fail> {
     for reads_left in 0..served.stream.len().div_ceil(5) {
-        let mut hub = new_hub(alloc, hasher, "")?;
-        see_read(rt, alloc, &mut hub, served, reads_left)?;
+        see_read_anew(rt, alloc, hasher, served, reads_left)?;
     }
+    Ok(())
+}
+
+/// Sees it on a new hub.
+fn see_write_anew(
+    rt: &impl Abort,
+    alloc: Global,
+    hasher: RandomState,
+    served: &Served<'_>,
+    writes_left: usize,
+) -> Result<(), Fail> {
+    let mut hub = new_hub(alloc, hasher, "")?;
+    see_write(rt, alloc, &mut hub, served, writes_left);
     Ok(())
 }
 
@@ -146,8 +170,7 @@ fn see_writes(
     served: &Served<'_>,
 ) -> Result<(), Fail> {
     for writes_left in 0..served.replies.len() / 3 {
-        let mut hub = new_hub(alloc, hasher, "")?;
-        see_write(rt, alloc, &mut hub, served, writes_left);
+        see_write_anew(rt, alloc, hasher, served, writes_left)?;
     }
     Ok(())
 }

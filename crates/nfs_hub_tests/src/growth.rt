@@ -232,11 +232,21 @@ fn answered(run: &Run, fate: Fate) -> (usize, u32) {
     }
 }
 
+/// What stands on a hub behind the first calls of a run.
+fn look_behind(
+    alloc: Global,
+    hub: &mut Hub,
+    run: &Run,
+    first: (usize, u32),
+) -> Result<Picture, Fail> {
+    make_first(alloc, hub, run, first)?;
+    look(alloc, hub)
+}
+
 /// The parts of a hub that are to be left by a run that ended so.
 fn wanted(alloc: Global, hasher: RandomState, run: &Run, fate: Fate) -> Result<Picture, Fail> {
     let mut hub = new_hub(alloc, hasher, "")?;
-    make_first(alloc, &mut hub, run, answered(run, fate))?;
-    look(alloc, &hub)
+    look_behind(alloc, &mut hub, run, answered(run, fate))
 }
 
 /// How many runs came to each end.

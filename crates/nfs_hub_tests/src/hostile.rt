@@ -146,6 +146,20 @@ fn see_served(
     assert_eq!(rt; written.as_slice(), wanted, "{name} in pieces of {piece}");
 }
 
+/// Sees what comes of a stream that is fed, and of the same one served.
+fn see_both(
+    rt: &impl Abort,
+    alloc: Global,
+    hub: &mut Hub,
+    name: &str,
+    (stream, wanted): (&[u8], &[u8]),
+    (end, piece): (ServeEnd, usize),
+) -> Result<(), Fail> {
+    see_fed(rt, hub, name, stream, wanted, end, piece)?;
+    see_served(rt, alloc, hub, name, stream, wanted, (end, piece));
+    Ok(())
+}
+
 /// Sees a stream fed to one new hub and served by another.
 fn see_stream(
     rt: &impl Abort,
@@ -156,9 +170,7 @@ fn see_stream(
     (end, piece): (ServeEnd, usize),
 ) -> Result<(), Fail> {
     let mut hub = bare(alloc, alloc, hasher)?;
-    see_fed(rt, &mut hub, name, stream, wanted, end, piece)?;
-    see_served(rt, alloc, &mut hub, name, stream, wanted, (end, piece));
-    Ok(())
+    see_both(rt, alloc, &mut hub, name, (stream, wanted), (end, piece))
 }
 
 fn see_in_pieces(
@@ -296,6 +308,17 @@ fn see_rows_served(
     see_replies(rt, alloc, &written, "served", rows)
 }
 
+fn see_rows_both(
+    rt: &impl Abort,
+    alloc: Global,
+    hub: &mut Hub,
+    rows: &[Row],
+    piece: usize,
+) -> Result<(), Fail> {
+    see_rows_fed(rt, alloc, hub, rows, piece)?;
+    see_rows_served(rt, alloc, hub, rows, piece)
+}
+
 fn see_beliefs(
     rt: &impl Abort,
     alloc: Global,
@@ -303,8 +326,7 @@ fn see_beliefs(
     piece: usize,
 ) -> Result<(), Fail> {
     let mut hub = bare(alloc, alloc, hasher)?;
-    see_rows_fed(rt, alloc, &mut hub, beliefs(), piece)?;
-    see_rows_served(rt, alloc, &mut hub, beliefs(), piece)
+    see_rows_both(rt, alloc, &mut hub, beliefs(), piece)
 }
 
 fn see_numbers_fed(

@@ -5,6 +5,7 @@ use nfs_tool::{Client, Local, ToolFault};
 use std::alloc::{AllocError, Global};
 use std::hash::RandomState;
 use std::io::{self, ErrorKind, Read, Write};
+use std::process::Abort;
 use std::test::Fail;
 use who_book::Book;
 
@@ -52,9 +53,46 @@ fn behind(bytes: &[u8], count: usize) -> &[u8] {
     &bytes[count.min(bytes.len())..]
 }
 
-/// Bytes are these.
-fn are(bytes: &[u8], wanted: &[u8]) -> bool {
-    bytes == wanted
+/// Sees that these are the bytes.
+fn see(rt: &impl Abort, bytes: &[u8], wanted: &[u8]) {
+    assert_eq!(rt; bytes, wanted);
+}
+
+/// Sees what comes of writing bytes to a connection.
+fn see_written(
+    rt: &impl Abort,
+    hub: &mut Hub,
+    conn: ConnId,
+    bytes: &[u8],
+    wanted: Result<usize, ErrorKind>,
+) {
+    assert_eq!(rt; written(hub, conn, bytes), wanted);
+}
+
+/// Sees what comes of reading a connection.
+fn see_read(
+    rt: &impl Abort,
+    hub: &mut Hub,
+    conn: ConnId,
+    buf: &mut [u8],
+    wanted: Result<usize, ErrorKind>,
+) {
+    assert_eq!(rt; read(hub, conn, buf), wanted);
+}
+
+/// Sees that a reply comes behind its whole call alone, in two reads of at most 20 bytes.
+fn see_pieces(rt: &impl Abort, hub: &mut Hub, conn: ConnId, call: &[u8], reply: &[u8]) {
+    let mut buf = [9; 20];
+    see_read(rt, hub, conn, &mut buf, Ok(0));
+    see_written(rt, hub, conn, front(call, 7), Ok(7));
+    see_read(rt, hub, conn, &mut buf, Ok(0));
+    see_written(rt, hub, conn, behind(call, 7), Ok(37));
+    see_read(rt, hub, conn, &mut buf, Ok(20));
+    see(rt, &buf, front(reply, 20));
+    see_read(rt, hub, conn, &mut buf, Ok(8));
+    see(rt, front(&buf, 8), behind(reply, 20));
+    see(rt, behind(&buf, 8), behind(front(reply, 20), 8));
+    see_read(rt, hub, conn, &mut buf, Ok(0));
 }
 
 #[test]
@@ -64,61 +102,60 @@ fn a_reply_is_read_in_pieces(rt: HostRuntime) -> Result<(), Fail> {
     let reply = bytes_of(alloc, DONE)?;
     let mut hub = sample(alloc, RandomState::new(&rt)?)?;
     let conn = connect(&mut hub)?;
-    let mut buf = [9; 20];
-    assert_eq!(rt; read(&mut hub, conn, &mut buf), Ok(0));
-    assert_eq!(rt; written(&mut hub, conn, front(&call, 7)), Ok(7));
-    assert_eq!(rt; read(&mut hub, conn, &mut buf), Ok(0));
-    assert_eq!(rt; written(&mut hub, conn, behind(&call, 7)), Ok(37));
-    assert_eq!(rt; read(&mut hub, conn, &mut buf), Ok(20));
-    assert!(rt; are(&buf, front(&reply, 20)));
-    assert_eq!(rt; read(&mut hub, conn, &mut buf), Ok(8));
-    assert!(rt; are(front(&buf, 8), behind(&reply, 20)));
-    assert!(rt; are(behind(&buf, 8), behind(front(&reply, 20), 8)));
-    assert_eq!(rt; read(&mut hub, conn, &mut buf), Ok(0));
+    see_pieces(&rt, &mut hub, conn, &call, &reply);
+    Ok(())
+}
+
+/// Sees that the reply to a call that one connection wrote is read of it, and not of another.
+fn see_apart(rt: &impl Abort, hub: &mut Hub, call: &[u8]) -> Result<(), Fail> {
+    let first = connect(hub)?;
+    let second = connect(hub)?;
+    let mut buf = [0; 64];
+    see_written(rt, hub, first, call, Ok(44));
+    see_read(rt, hub, second, &mut buf, Ok(0));
+    see_read(rt, hub, first, &mut buf, Ok(28));
     Ok(())
 }
 
 #[test]
 fn connections_are_apart(rt: HostRuntime) -> Result<(), Fail> {
-    let alloc = rt.alloc();
-    let call = bytes_of(alloc, NULL)?;
-    let mut hub = sample(alloc, RandomState::new(&rt)?)?;
-    let first = connect(&mut hub)?;
-    let second = connect(&mut hub)?;
+    let call = bytes_of(rt.alloc(), NULL)?;
+    let mut hub = sample(rt.alloc(), RandomState::new(&rt)?)?;
+    see_apart(&rt, &mut hub, &call)
+}
+
+/// Sees that a connection breaks at bytes whose first 44 are a call.
+fn see_broken(rt: &impl Abort, hub: &mut Hub, bytes: &[u8]) -> Result<(), Fail> {
+    let conn = connect(hub)?;
     let mut buf = [0; 64];
-    assert_eq!(rt; written(&mut hub, first, &call), Ok(44));
-    assert_eq!(rt; read(&mut hub, second, &mut buf), Ok(0));
-    assert_eq!(rt; read(&mut hub, first, &mut buf), Ok(28));
+    see_written(rt, hub, conn, bytes, Err(ErrorKind::BrokenPipe));
+    see_written(rt, hub, conn, bytes, Err(ErrorKind::BrokenPipe));
+    see_read(rt, hub, conn, &mut buf, Ok(28));
     Ok(())
 }
 
 /// A record above 131,072 bytes breaks the connection. What was pending is still read.
 #[test]
 fn a_broken_connection_takes_nothing(rt: HostRuntime) -> Result<(), Fail> {
-    let alloc = rt.alloc();
-    let mut bytes = bytes_of(alloc, NULL)?;
-    bytes.extend_from_slice(&bytes_of(alloc, &[0x8002_0001])?)?;
-    let mut hub = sample(alloc, RandomState::new(&rt)?)?;
-    let conn = connect(&mut hub)?;
+    let mut bytes = bytes_of(rt.alloc(), NULL)?;
+    bytes.extend_from_slice(&0x8002_0001u32.to_be_bytes())?;
+    let mut hub = sample(rt.alloc(), RandomState::new(&rt)?)?;
+    see_broken(&rt, &mut hub, &bytes)
+}
+
+fn see_closed(rt: &impl Abort, hub: &mut Hub) -> Result<(), Fail> {
+    let conn = connect(hub)?;
+    close(hub, conn)?;
     let mut buf = [0; 64];
-    assert_eq!(rt; written(&mut hub, conn, &bytes), Err(ErrorKind::BrokenPipe));
-    assert_eq!(rt; written(&mut hub, conn, &bytes), Err(ErrorKind::BrokenPipe));
-    assert_eq!(rt; read(&mut hub, conn, &mut buf), Ok(28));
+    see_written(rt, hub, conn, &[], Err(ErrorKind::NotConnected));
+    see_read(rt, hub, conn, &mut buf, Err(ErrorKind::NotConnected));
     Ok(())
 }
 
 #[test]
 fn a_closed_connection_is_none(rt: HostRuntime) -> Result<(), Fail> {
     let mut hub = sample(rt.alloc(), RandomState::new(&rt)?)?;
-    let conn = connect(&mut hub)?;
-    close(&mut hub, conn)?;
-    let mut buf = [0; 64];
-    assert_eq!(rt; written(&mut hub, conn, &[]), Err(ErrorKind::NotConnected));
-    assert_eq!(rt;
-        read(&mut hub, conn, &mut buf),
-        Err(ErrorKind::NotConnected)
-    );
-    Ok(())
+    see_closed(&rt, &mut hub)
 }
 
 /// The second of the last change of an object's bytes, if it is there.

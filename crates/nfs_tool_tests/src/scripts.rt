@@ -4,6 +4,7 @@ use nfs_tool::{ToolFault, script};
 use std::alloc::{AllocError, Global};
 use std::hash::RandomState;
 use std::io::{self, ErrorKind, Read, Write};
+use std::process::Abort;
 use std::test::Fail;
 use who_book::Book;
 
@@ -337,31 +338,49 @@ fn changed_at(hub: &Hub, number: u64) -> Option<i64> {
     Some(node.time_modify().seconds)
 }
 
-/// A line's moment is its number among all lines. No connection stays open, so more than sixteen lines are run.
-#[test]
-fn each_line_has_its_moment(rt: HostRuntime) -> Result<(), Fail> {
-    let alloc = rt.alloc();
-    let mut hub = root_alone(alloc, RandomState::new(&rt)?)?;
+/// A script that puts a file in its third line and reads it in twenty more.
+fn long_text(alloc: Global) -> Result<Vec<u8>, AllocError> {
     let mut text = Vec::new(alloc);
     text.extend_from_slice(b"# a comment\n\nas 0 0 put /f hi\n")?;
+    for _line in 0..20 {
+        text.extend_from_slice(b"as 0 0 cat /f\n")?;
+    }
+    Ok(text)
+}
+
+/// What it prints.
+fn long_answers(alloc: Global) -> Result<Vec<u8>, AllocError> {
     let mut wants = Vec::new(alloc);
     wants.extend_from_slice(b"ok\n")?;
     for _line in 0..20 {
-        text.extend_from_slice(b"as 0 0 cat /f\n")?;
         wants.extend_from_slice(b"hi\n")?;
     }
     wants.extend_from_slice(b"trail 0\n")?;
+    Ok(wants)
+}
+
+/// Sees that it prints this, and that the file's bytes were changed at the second of its line.
+fn see_moment(rt: &impl Abort, alloc: Global, hub: &mut Hub, text: &[u8], wants: &[u8]) {
     let mut reader = Pieces {
-        bytes: &text,
+        bytes: text,
         reads: 1000,
     };
     let mut writer = Wanted {
-        bytes: &wants,
+        bytes: wants,
         writes: 1000,
     };
-    let told = run_script(alloc, &mut hub, &mut reader, &mut writer);
+    let told = run_script(alloc, hub, &mut reader, &mut writer);
     assert_eq!(rt; told, Ok(true));
     assert!(rt; writer.bytes.is_empty());
-    assert_eq!(rt; changed_at(&hub, 2), Some(3));
+    assert_eq!(rt; changed_at(hub, 2), Some(3));
+}
+
+/// A line's moment is its number among all lines. No connection stays open, so more than sixteen lines are run.
+#[test]
+fn each_line_has_its_moment(rt: HostRuntime) -> Result<(), Fail> {
+    let text = long_text(rt.alloc())?;
+    let wants = long_answers(rt.alloc())?;
+    let mut hub = root_alone(rt.alloc(), RandomState::new(&rt)?)?;
+    see_moment(&rt, rt.alloc(), &mut hub, &text, &wants);
     Ok(())
 }

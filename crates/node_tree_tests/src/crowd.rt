@@ -53,10 +53,27 @@ fn see_full(rt: &impl Abort, alloc: Global, tree: &mut Tree<Global>, directory: 
 /// Adds the three files of a directory.
 fn make_three(rt: &impl Abort, alloc: Global, tree: &mut Tree<Global>, index: u64) {
     let own = directory(index);
-    for (place, name) in [b"a", b"b", b"c"].iter().enumerate() {
-        let made = Outcome::Made(file(index, place as u64));
-        see_added(rt, alloc, tree, (own, name.as_slice(), Kind::File), made);
-    }
+    see_added(
+        rt,
+        alloc,
+        tree,
+        (own, b"a", Kind::File),
+        Outcome::Made(file(index, 0)),
+    );
+    see_added(
+        rt,
+        alloc,
+        tree,
+        (own, b"b", Kind::File),
+        Outcome::Made(file(index, 1)),
+    );
+    see_added(
+        rt,
+        alloc,
+        tree,
+        (own, b"c", Kind::File),
+        Outcome::Made(file(index, 2)),
+    );
 }
 
 /// Fills the root with directories, each of them with three files, and `pub` with the five files that are left to 16,384 objects.
