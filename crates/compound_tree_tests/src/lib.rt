@@ -1,4 +1,4 @@
-//! Tests of `compound_run` over trees of their own: lists, modes, listings, removals, limits, rooms of replies and small heaps.
+//! Tests of `compound_run` over trees of their own: lists, modes, listings, removals, limits and rooms of replies.
 #![tactic(auto)]
 
 #[cfg(test)]
@@ -10,8 +10,6 @@ mod limits;
 #[cfg(test)]
 mod listings;
 #[cfg(test)]
-mod memory;
-#[cfg(test)]
 mod modes;
 #[cfg(test)]
 mod remembered;
@@ -21,7 +19,5 @@ mod removals;
 mod rooms;
 #[cfg(test)]
 mod script;
-#[cfg(test)]
-mod session_memory;
 #[cfg(test)]
 mod setting;

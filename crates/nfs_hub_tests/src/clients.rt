@@ -257,19 +257,30 @@ fn see_pieces(
     Ok(calls)
 }
 
+/// What stands on a hub, and its trail, as text.
+fn picture(alloc: Global, hub: &Hub) -> Result<Vec<u8>, Fail> {
+    let mut text = tree_text(alloc, hub, 1000)?;
+    text.extend_from_slice(&trail_text(alloc, hub)?)?;
+    Ok(text)
+}
+
+fn see_same(rt: &impl Abort, given: &[u8], wanted: &[u8]) {
+    assert_eq!(rt; given, wanted);
+}
+
+/// Sees as many lines on both, and some.
+fn see_totals(rt: &impl Abort, pair: &Pair) {
+    let total = pair.one.server().guard().total();
+    assert_eq!(rt; pair.many.server().guard().total(), total);
+    assert!(rt; total > 0);
+}
+
 /// Sees that both hubs are left with the same tree and trail.
 fn see_left(rt: &impl Abort, alloc: Global, pair: &Pair) -> Result<(), Fail> {
-    let many = tree_text(alloc, &pair.many, 1000)?;
-    let one = tree_text(alloc, &pair.one, 1000)?;
-    assert_eq!(rt; many.as_slice(), one.as_slice());
-    let many = trail_text(alloc, &pair.many)?;
-    let one = trail_text(alloc, &pair.one)?;
-    assert_eq!(rt; many.as_slice(), one.as_slice());
-    assert_eq!(rt;
-        pair.many.server().guard().total(),
-        pair.one.server().guard().total()
-    );
-    assert!(rt; pair.one.server().guard().total() > 0);
+    let many = picture(alloc, &pair.many)?;
+    let one = picture(alloc, &pair.one)?;
+    see_same(rt, &many, &one);
+    see_totals(rt, pair);
     Ok(())
 }
 

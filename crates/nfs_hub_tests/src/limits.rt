@@ -4,7 +4,7 @@ use crate::plain::{connect, feed, take_out};
 use crate::scenes::{SESSION, new_hub, see_bytes, see_replies, told};
 use call_texts::{ROOT, calls_of, put_call_record, reply_of};
 use nfs_hub::{ConnId, Hub};
-use std::alloc::Global;
+use std::alloc::{AllocError, Global};
 use std::hash::RandomState;
 use std::process::Abort;
 use std::test::Fail;
@@ -55,6 +55,33 @@ fn see_call(
     Ok(())
 }
 
+/// The operations that make one thing more.
+fn call_words(alloc: Global, growth: Growth, index: u32) -> Result<String, AllocError> {
+    match growth {
+        Growth::Name => format!(in alloc; " PUTROOTFH LINK 'n{index}"),
+        Growth::Open => format!(in alloc; " PUTFH @2 OPEN 0 1 0 ^0 'o{index} 0 4"),
+        Growth::Object(directory) => {
+            format!(in alloc; " PUTFH @{directory:x} CREATE 5 't 'm{index} 0 0")
+        }
+    }
+}
+
+/// Their results, at this tick.
+fn result_words(
+    alloc: Global,
+    growth: Growth,
+    index: u32,
+    tick: u32,
+) -> Result<String, AllocError> {
+    let before = tick.saturating_sub(1);
+    let open = index.saturating_add(1);
+    match growth {
+        Growth::Name => format!(in alloc; " PUTROOTFH ok LINK ok {before:x}>{tick:x}"),
+        Growth::Open => format!(in alloc; " PUTFH ok OPEN ok 1 0 0 {open:x} 0>0 0 0 0"),
+        Growth::Object(_) => format!(in alloc; " PUTFH ok CREATE ok {before:x}>{tick:x} 0"),
+    }
+}
+
 /// Adds the operations of one more, and their results. A directory's change is the tick before, and a change in it takes the next.
 fn put_one(
     alloc: Global,
@@ -63,30 +90,8 @@ fn put_one(
     growth: Growth,
     (index, tick): (u32, u32),
 ) -> Result<(), Fail> {
-    let before = tick.saturating_sub(1);
-    match growth {
-        Growth::Name => {
-            call.push_str(format!(in alloc; " PUTROOTFH LINK 'n{index}")?.as_str())?;
-            results.push_str(format!(in alloc;
-                " PUTROOTFH ok LINK ok {before:x}>{tick:x}"
-            )?.as_str())?;
-        }
-        Growth::Open => {
-            call.push_str(format!(in alloc; " PUTFH @2 OPEN 0 1 0 ^0 'o{index} 0 4")?.as_str())?;
-            let open = index.saturating_add(1);
-            results.push_str(format!(in alloc;
-                " PUTFH ok OPEN ok 1 0 0 {open:x} 0>0 0 0 0"
-            )?.as_str())?;
-        }
-        Growth::Object(directory) => {
-            call.push_str(format!(in alloc;
-                " PUTFH @{directory:x} CREATE 5 't 'm{index} 0 0"
-            )?.as_str())?;
-            results.push_str(format!(in alloc;
-                " PUTFH ok CREATE ok {before:x}>{tick:x} 0"
-            )?.as_str())?;
-        }
-    }
+    call.push_str(call_words(alloc, growth, index)?.as_str())?;
+    results.push_str(result_words(alloc, growth, index, tick)?.as_str())?;
     Ok(())
 }
 
