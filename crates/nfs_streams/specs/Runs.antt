@@ -1,99 +1,73 @@
 -- Acts of streams as steps of the written machine, each allowed where it comes.
-use Rattle.std.specs.Prelude.{◌≡◌, ◌⊎◌, ◌≤◌, ◌+◌, ℕ, Bool, true, false, List, [], ◌∷◌, ◌++◌, length, take, Option, Some, None}
-use Rattle.compound_run.specs.State.{State as ServerState}
+use Rattle.std.specs.Prelude.{◌≡◌, ◌⊎◌, ◌≤◌, ◌<◌, ℕ, Bool, true, false, List, [], ◌∷◌, ◌++◌, length, take, Option, Some, None}
 use Rattle.nfs_types.specs.declared.moment.Moment.{Moment}
 use Rattle.nfs_hub.specs.Machine.{Connected, State, Event, Connect, Piece, Take, Close, Step, fresh}
-use Rattle.nfs_streams.specs.Acts.{Act, Waited, Knocked, Admitted, Closed, Heard, Ended, Told, Failed, Has, JustKnocked}
-
--- the bytes that wait to be written on a connection; none where it isn't open
-abbrev pub pending_of : Option Connected → List ℕ
-pending_of None = []
-pending_of (Some c) = c.pending
-
--- a connection is open and whole, and nothing is pending on it
-abbrev pub CanHear : Option Connected → Type 0
-CanHear None = ⊥
-CanHear (Some c) = (c.broken ≡ false) × (c.pending ≡ [])
-
--- a connection is open and broken
-abbrev pub IsBroken : Option Connected → Type 0
-IsBroken None = ⊥
-IsBroken (Some c) = c.broken ≡ true
+use Rattle.nfs_streams.specs.Acts.{Act, Waited, Knocked, Admitted, Closed, Heard, Ended, Told, Failed, Kept, Lost, Has, JustKnocked, JustOver, IsSettled, conn_at, open_in}
 
 -- the most bytes that are read at a time
 abbrev pub MAX_PIECE : ℕ
 MAX_PIECE = 4096
 
--- What an act does to the machine: a stream that is admitted is the connection of the next number; what is read is a piece, at
--- some moment; what is written is taken from the front of what is pending.
-abbrev pub Does : Act → State → State → Type 0
-Does (Waited going) old new = new ≡ old
-Does Knocked old new = new ≡ old
-Does (Admitted id) old new = (id ≡ old.next) × Step Connect old new × (new.connection id ≡ Some fresh)
-Does (Closed id) old new = Step (Close id) old new
-Does (Heard id piece) old new = (now : Moment) × Step (Piece id piece now) old new
-Does (Ended id) old new = new ≡ old
-Does (Told id bytes) old new = (bytes ≡ take (length bytes) (pending_of (old.connection id))) × Step (Take id (length bytes)) old new
-Does (Failed id) old new = new ≡ old
+-- the connection at a place is open, and is so
+abbrev pub On : List Act → ℕ → State → (Connected → Type 0) → Type 0
+On acts place s is = (id : ℕ) × (c : Connected) × (conn_at acts place ≡ Some id) × (s.connection id ≡ Some c) × is c
 
--- Behind earlier acts another may come:
--- a stream is admitted only just after one has knocked; a piece has at most 4,096 bytes, and its connection is whole and has nothing
--- pending; bytes are written only where all that the server says is kept; and a connection is closed only where writing to it failed,
--- or where nothing is pending and its stream has ended or it is broken, or where another has just knocked.
-abbrev pub Allowed : (ServerState → Bool) → List Act → Act → State → Type 0
-Allowed kept earlier (Waited going) s = Unit {0}
-Allowed kept earlier Knocked s = Unit {0}
-Allowed kept earlier (Admitted id) s = JustKnocked earlier
-Allowed kept earlier (Closed id) s =
-    Has (Failed id) earlier ⊎ ((pending_of (s.connection id) ≡ []) × (Has (Ended id) earlier ⊎ IsBroken (s.connection id))) ⊎ JustKnocked earlier
-Allowed kept earlier (Heard id piece) s = (length piece ≤ MAX_PIECE) × CanHear (s.connection id)
-Allowed kept earlier (Ended id) s = Unit {0}
-Allowed kept earlier (Told id bytes) s = kept s.served.state ≡ true
-Allowed kept earlier (Failed id) s = Unit {0}
+-- a step on the connection at a place
+abbrev pub StepAt : List Act → ℕ → (ℕ → Event) → State → State → Type 0
+StepAt acts place event old new = (id : ℕ) × (conn_at acts place ≡ Some id) × Step (event id) old new
 
--- at the end connections are closed, and nothing else comes
-abbrev pub Ending : List Act → Act → State → Type 0
-Ending earlier (Waited going) s = ⊥
-Ending earlier Knocked s = ⊥
-Ending earlier (Admitted id) s = ⊥
-Ending earlier (Closed id) s = Unit {0}
-Ending earlier (Heard id piece) s = ⊥
-Ending earlier (Ended id) s = ⊥
-Ending earlier (Told id bytes) s = ⊥
-Ending earlier (Failed id) s = ⊥
+-- What an act behind earlier ones does to the machine: a stream that is admitted is the connection of the next number, which is open
+-- then; what is read is a piece of the connection at its place, at some moment; what is written is taken from the front of what is pending
+-- there; and the connection of a stream that is let go is closed.
+abbrev pub Does : List Act → Act → State → State → Type 0
+Does earlier (Waited well) old new = new ≡ old
+Does earlier Knocked old new = new ≡ old
+Does earlier (Admitted place id) old new = (id ≡ old.next) × Step Connect old new × (new.connection id ≡ Some fresh)
+Does earlier (Closed place) old new = StepAt earlier place Close old new
+Does earlier (Heard place piece) old new = (now : Moment) × StepAt earlier place (λ id. Piece id piece now) old new
+Does earlier (Ended place) old new = new ≡ old
+Does earlier (Told place bytes) old new =
+    On earlier place old (λ c. bytes ≡ take (length bytes) c.pending) × StepAt earlier place (λ id. Take id (length bytes)) old new
+Does earlier (Failed place) old new = new ≡ old
+Does earlier (Kept state) old new = new ≡ old
+Does earlier Lost old new = new ≡ old
+
+-- a connection is whole, and nothing is pending on it
+abbrev pub CanHear : Connected → Type 0
+CanHear c = (c.broken ≡ false) × (c.pending ≡ [])
+
+-- a connection is broken, and nothing is pending on it
+abbrev pub IsSpent : Connected → Type 0
+IsSpent c = (c.broken ≡ true) × (c.pending ≡ [])
+
+-- The connection at a place may be closed: its stream has just ended or failed; or it is broken, and nothing is pending on it; or as many
+-- are open as may be, and another stream has just come.
+abbrev pub MayClose : ℕ → List Act → ℕ → State → Type 0
+MayClose most earlier place s = JustOver earlier place ⊎ (IsSettled earlier × On earlier place s IsSpent) ⊎ (JustKnocked earlier × (most ≤ open_in earlier))
+
+-- Behind earlier acts another may come, where so many connections may be open at once. Behind an end or a failure of a stream only its
+-- closing comes, and nothing behind a wait that failed or a trail that couldn't be kept. A stream is admitted only just after one has
+-- knocked, at a place that has none, while fewer are open than may be. A piece has at most 4,096 bytes, and is read only of a
+-- connection that is whole and on which nothing is pending. Bytes are written only where the trail of the server as it is has been kept.
+abbrev pub Allowed : ℕ → List Act → Act → State → Type 0
+Allowed most earlier (Waited well) s = IsSettled earlier
+Allowed most earlier Knocked s = IsSettled earlier
+Allowed most earlier (Admitted place id) s = JustKnocked earlier × (conn_at earlier place ≡ None) × (open_in earlier < most)
+Allowed most earlier (Closed place) s = MayClose most earlier place s
+Allowed most earlier (Heard place piece) s = IsSettled earlier × (length piece ≤ MAX_PIECE) × On earlier place s CanHear
+Allowed most earlier (Ended place) s = IsSettled earlier × On earlier place s CanHear
+Allowed most earlier (Told place bytes) s = IsSettled earlier × Has (Kept s.served.state) earlier
+Allowed most earlier (Failed place) s = IsSettled earlier × Has (Kept s.served.state) earlier
+Allowed most earlier (Kept state) s = IsSettled earlier × (state ≡ s.served.state)
+Allowed most earlier Lost s = IsSettled earlier
 
 -- Acts, the newest first, each of them allowed where it comes, lead from one state to another.
-abbrev pub Runs : (List Act → Act → State → Type 0) → List Act → State → State → Type 0
-Runs allow [] old new = new ≡ old
-Runs allow (act ∷ earlier) old new = (mid : State) × Runs allow earlier old mid × allow earlier act mid × Does act mid new
+abbrev pub Runs : ℕ → List Act → State → State → Type 0
+Runs most [] old new = new ≡ old
+Runs most (act ∷ earlier) old new = (mid : State) × Runs most earlier old mid × Allowed most earlier act mid × Does earlier act mid new
 
--- how many times it was waited
-abbrev pub waits : List Act → ℕ
-waits [] = 0
-waits (Waited going ∷ acts) = waits acts + 1
-waits (Knocked ∷ acts) = waits acts
-waits (Admitted id ∷ acts) = waits acts
-waits (Closed id ∷ acts) = waits acts
-waits (Heard id piece ∷ acts) = waits acts
-waits (Ended id ∷ acts) = waits acts
-waits (Told id bytes ∷ acts) = waits acts
-waits (Failed id ∷ acts) = waits acts
-
--- how many streams were admitted
-abbrev pub admitted : List Act → ℕ
-admitted [] = 0
-admitted (Waited going ∷ acts) = admitted acts
-admitted (Knocked ∷ acts) = admitted acts
-admitted (Admitted id ∷ acts) = admitted acts + 1
-admitted (Closed id ∷ acts) = admitted acts
-admitted (Heard id piece ∷ acts) = admitted acts
-admitted (Ended id ∷ acts) = admitted acts
-admitted (Told id bytes ∷ acts) = admitted acts
-admitted (Failed id ∷ acts) = admitted acts
-
--- all that the server says is kept
-abbrev pub HasKept : (ServerState → Bool) → State → Type 0
-HasKept kept s = kept s.served.state ≡ true
-
-abbrev pub Always : State → Type 0
-Always s = Unit {0}
+-- behind earlier acts streams are let go, and nothing else comes
+abbrev pub Ends : List Act → List Act → State → State → Type 0
+Ends earlier [] old new = new ≡ old
+Ends earlier (act ∷ acts) old new =
+    (place : ℕ) × (mid : State) × (act ≡ Closed place) × Ends earlier acts old mid × StepAt (acts ++ earlier) place Close mid new

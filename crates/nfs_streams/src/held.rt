@@ -1,8 +1,6 @@
 //! The bytes that were taken from the hub for a connection, and aren't written yet.
-ghost use Rattle.std.specs.Prelude.{◌≡◌, ◌≤◌, ◌<◌, ℕ, List, [], length, take, drop, Some, None, Ok, Err, true, false, IfSome, MatchOption};
+ghost use Rattle.std.specs.Prelude.{◌≡◌, ◌≤◌, ◌<◌, [], length, drop};
 ghost use Rattle.std.specs.Bool.{OnTrue, OnFalse};
-ghost use Rattle.nfs_hub.specs.Machine.{Take};
-ghost use Rattle.nfs_hub.specs.Hub.{Goes, IsHub, pending_at};
 ghost use Rattle.nfs_streams.specs.Filling.{Fills};
 
 use nfs_hub::{ConnId, Hub};
@@ -10,7 +8,7 @@ use std::alloc::Allocator;
 use std::marker::Model;
 
 /// The most bytes that are taken at a time.
-pub(crate) const CHUNK: usize = 4096;
+const CHUNK: usize = 4096;
 
 /// Bytes that are still to be written.
 #[derive(Drop)]
@@ -71,8 +69,6 @@ impl Held {
         ensures { Fills conn self.new hub.old hub.new }
     {
         let Ok(n) = hub.take_out(conn, &mut self.bytes) else {
-            self.to = 0;
-            self.from = 0;
             return;
         };
         self.from = 0;

@@ -8,4 +8,4 @@ mod serving;
 mod streams;
 
 pub use serving::{AllEnd, Limits, serve_all};
-pub use streams::{Keeper, Moved, NoKeeper, Streams, Wait};
+pub use streams::{Moved, Streams, Wait};

@@ -1,12 +1,11 @@
 //! One connection and its stream.
-ghost use Rattle.std.specs.Prelude.{◌≡◌, ℕ, Bool, List, [], ◌∷◌, Some, None, false};
-ghost use Rattle.std.specs.Bool.{OnTrue, OnFalse};
-ghost use Rattle.compound_run.specs.State.{State as ServerState};
+ghost use Rattle.std.specs.Prelude.{◌≡◌, ℕ, [], ◌∷◌, Some};
+ghost use Rattle.std.specs.Bool.{OnFalse};
 ghost use Rattle.nfs_hub.specs.Machine.{Close};
 ghost use Rattle.nfs_hub.specs.Hub.{Goes};
 ghost use Rattle.nfs_streams.specs.Acts.{Adds, Closed};
-ghost use Rattle.nfs_streams.specs.Runs.{Allowed, HasKept, Always};
-ghost use Rattle.nfs_streams.specs.Peers.{Refills, Drained, Turns, Tends};
+ghost use Rattle.nfs_streams.specs.Seats.{Drained};
+ghost use Rattle.nfs_streams.specs.Standing.{Listening, Answering, Refills, Changes, stays};
 
 use crate::held::Held;
 use crate::streams::{Moved, Streams};
@@ -16,7 +15,7 @@ use std::alloc::Allocator;
 /// The most bytes that are read at a time.
 const PIECE: usize = 4096;
 
-/// How many times bytes of one connection are written in a turn.
+/// How many times bytes of one connection are written in a turn, at most.
 const ROUNDS: u32 = 32;
 
 /// A connection at a place.
@@ -24,7 +23,7 @@ const ROUNDS: u32 = 32;
 pub(crate) struct Peer {
     pub(crate) place: usize,
     pub(crate) conn: ConnId,
-    /// What was taken of its pending bytes, and isn't written yet.
+    /// The bytes that were taken of those that are pending on it, and aren't written yet.
     pub(crate) held: Held,
     pub(crate) broken: bool,
     /// The second in which it was admitted, or something was read or written last.
@@ -46,7 +45,6 @@ pub(crate) enum Turned {
 fn refill<A: Allocator + Copy>(hub: &mut Hub<A>, peer: &mut Peer) -> bool
     ensures refills { Refills hub.old peer.old hub.new peer.new }
     ensures drained { OnFalse result (Drained hub.new peer.new) }
-    ensures broken { peer.new.broken ≡ peer.old.broken }
 {
     if !peer.held.is_empty() {
         return true;
@@ -56,23 +54,27 @@ fn refill<A: Allocator + Copy>(hub: &mut Hub<A>, peer: &mut Peer) -> bool
 }
 
 /// Closes a connection and its stream.
-pub(crate) fn shut<A: Allocator + Copy, S: Streams>(hub: &mut Hub<A>, streams: &mut S, peer: &Peer)
+pub(crate) fn shut<A: Allocator + Copy, S: Streams<A>>(
+    hub: &mut Hub<A>,
+    streams: &mut S,
+    peer: &Peer,
+)
     ensures goes { Goes (Close peer.now.conn) hub.old hub.new }
-    ensures said { Adds (S.acts streams.old) (S.acts streams.new) (Closed peer.now.conn ∷ []) }
+    ensures said { Adds (S.acts streams.old) (S.acts streams.new) (Closed peer.now.place ∷ []) }
 {
-    streams.close(peer.place, peer.conn);
+    streams.close(peer.place);
     let _ = hub.close(peer.conn);
 }
 
 /// Where nothing waits to be written, reads a piece of a connection's stream and feeds it. The connection is closed where the
 /// stream has ended, or it is broken.
-pub(crate) fn listen<A: Allocator + Copy, S: Streams, C: Clock>(
+pub(crate) fn listen<A: Allocator + Copy, S: Streams<A>, C: Clock>(
     hub: &mut Hub<A>,
     streams: &mut S,
     clock: &C,
     peer: &mut Peer,
 ) -> Turned
-    ensures { (kept : ServerState → Bool) → Turns (Allowed kept) Always result hub.old peer.old hub.new peer.new (S.acts streams.old) (S.acts streams.new) }
+    ensures { (n : ℕ) → Changes (Listening n) hub.old (Some peer.old) hub.new (stays result peer.new) (S.acts streams.old) (S.acts streams.new) }
 {
     if refill(hub, peer) {
         return Turned::Idle;
@@ -82,7 +84,7 @@ pub(crate) fn listen<A: Allocator + Copy, S: Streams, C: Clock>(
         return Turned::Gone;
     }
     let mut buf = [0u8; PIECE];
-    match streams.read(peer.place, peer.conn, &mut buf) {
+    match streams.read(peer.place, &mut buf) {
         Moved::Bytes(n) => {
             let now = clock.now();
             let fed = hub.feed(peer.conn, &buf[..n], now);
@@ -99,18 +101,18 @@ pub(crate) fn listen<A: Allocator + Copy, S: Streams, C: Clock>(
 }
 
 /// Writes what waits, as far as the stream takes it at once. The connection is closed where writing fails.
-fn tell<A: Allocator + Copy, S: Streams, C: Clock>(
+fn tell<A: Allocator + Copy, S: Streams<A>, C: Clock>(
     hub: &mut Hub<A>,
     streams: &mut S,
     clock: &C,
     peer: &mut Peer,
 ) -> Turned
-    ensures { (kept : ServerState → Bool) → Turns (Allowed kept) (HasKept kept) result hub.old peer.old hub.new peer.new (S.acts streams.old) (S.acts streams.new) }
+    ensures { (n : ℕ) → Changes (Answering n) hub.old (Some peer.old) hub.new (stays result peer.new) (S.acts streams.old) (S.acts streams.new) }
 {
     if !refill(hub, peer) {
         return Turned::Idle;
     }
-    match streams.write(peer.place, peer.conn, peer.held.as_slice()) {
+    match streams.write(peer.place, peer.held.as_slice()) {
         Moved::Bytes(n) => {
             peer.held.skip(n);
             peer.since = clock.now().seconds;
@@ -125,13 +127,13 @@ fn tell<A: Allocator + Copy, S: Streams, C: Clock>(
 }
 
 /// Writes what waits, a part after another, until the stream takes no more, or so many parts were written.
-pub(crate) fn answer<A: Allocator + Copy, S: Streams, C: Clock>(
+pub(crate) fn answer<A: Allocator + Copy, S: Streams<A>, C: Clock>(
     hub: &mut Hub<A>,
     streams: &mut S,
     clock: &C,
     peer: &mut Peer,
 ) -> Turned
-    ensures { (kept : ServerState → Bool) → Turns (Allowed kept) (HasKept kept) result hub.old peer.old hub.new peer.new (S.acts streams.old) (S.acts streams.new) }
+    ensures { (n : ℕ) → Changes (Answering n) hub.old (Some peer.old) hub.new (stays result peer.new) (S.acts streams.old) (S.acts streams.new) }
 {
     for round in 0..ROUNDS {
         match tell(hub, streams, clock, peer) {

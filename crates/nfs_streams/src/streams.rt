@@ -1,7 +1,6 @@
-//! The streams of connections, and the keeper of the trail.
-ghost use Rattle.std.specs.Prelude.{◌≡◌, List, [], ◌∷◌, Option, None, Bool, true, false, length};
-ghost use Rattle.compound_run.specs.State.{State};
-ghost use Rattle.nfs_streams.specs.Acts.{Act, Adds, Waited, Admitted, Closed, knocked, came, went, IsWithin};
+//! The streams of connections, as serving sees them.
+ghost use Rattle.std.specs.Prelude.{◌≡◌, List, [], ◌∷◌, Option, None, length};
+ghost use Rattle.nfs_streams.specs.Acts.{Act, Adds, Waited, Admitted, Closed, knocked, kept, came, went, IsWithin};
 
 use compound_run::Server;
 use nfs_hub::ConnId;
@@ -29,13 +28,14 @@ pub enum Wait {
     Event,
 }
 
-/// Streams, each at a place, whose number is below 16, as the stream of a connection. A place has one stream at a time, from
-/// `admit` to `close`.
-pub trait Streams {
-    // What was asked of them so far and what they said to it, the newest first, where that is known.
+/// The streams of a server over the allocator `A`, each at a place, whose number is below 16; and the file or the like in which its trail is
+/// kept. A place has one stream at a time, from `admit` to `close`, and nothing else is asked of a place that has none. No call but
+/// `wait` waits.
+pub trait Streams<A: Allocator + Copy> {
+    // What was asked so far and what was said to it, the newest first, where that is known.
     ghost acts: { Self → Option (List Act) } = { λ _. None };
 
-    /// Sees which streams may go on and whether another one knocks. `false`: that failed.
+    /// Sees which streams may go on, and whether another one knocks. `false`: that failed, and nothing but `close` is asked from then on.
     fn wait(&mut self, how: Wait) -> bool
         ensures { Adds (acts self.old) (acts self.new) (Waited result ∷ []) };
 
@@ -43,45 +43,27 @@ pub trait Streams {
     fn knocks(&mut self) -> bool
         ensures { Adds (acts self.old) (acts self.new) (knocked result) };
 
-    /// Takes the stream that has come to a place, as this connection's.
+    /// Gives a place to the stream that has come, just after `knocks` has told of it. It is this connection's from then on.
     fn admit(&mut self, place: usize, conn: ConnId)
-        ensures { Adds (acts self.old) (acts self.new) (Admitted conn ∷ []) };
+        ensures { Adds (acts self.old) (acts self.new) (Admitted place conn ∷ []) };
 
     /// Lets the stream of a place go.
-    fn close(&mut self, place: usize, conn: ConnId)
-        ensures { Adds (acts self.old) (acts self.new) (Closed conn ∷ []) };
+    fn close(&mut self, place: usize)
+        ensures { Adds (acts self.old) (acts self.new) (Closed place ∷ []) };
 
-    /// Reads what the stream of a place has, as far as it fits. `Over`: there is no more, or it failed.
-    fn read(&mut self, place: usize, conn: ConnId, buf: &mut [u8]) -> Moved
+    /// Reads what the stream of a place has, as far as it fits, which is at least one byte. `Over`: there is no more, or it failed; `close`
+    /// follows.
+    fn read(&mut self, place: usize, buf: &mut [u8]) -> Moved
         ensures bound { IsWithin result (length buf.new) }
-        ensures said { Adds (acts self.old) (acts self.new) (came conn result buf.new) };
+        ensures said { Adds (acts self.old) (acts self.new) (came place result buf.new) };
 
-    /// Writes a front of the bytes to the stream of a place. `Over`: it failed.
-    fn write(&mut self, place: usize, conn: ConnId, bytes: &[u8]) -> Moved
+    /// Writes a front of the bytes, at least one, to the stream of a place. `Over`: it failed; `close` follows.
+    fn write(&mut self, place: usize, bytes: &[u8]) -> Moved
         ensures bound { IsWithin result (length bytes.now) }
-        ensures said { Adds (acts self.old) (acts self.new) (went conn result bytes.now) };
-}
+        ensures said { Adds (acts self.old) (acts self.new) (went place result bytes.now) };
 
-/// Keeps what the server says on its trail.
-pub trait Keeper<A: Allocator + Copy> {
-    // Whether it has kept what a server in this state says.
-    ghost has: { Self → State → Bool } = { λ _ _. true };
-    // Whether keeping has failed.
-    ghost failed: { Self → Bool } = { λ _. true };
-
-    /// Keeps the lines of the trail that it doesn't have yet. `false`: they couldn't be kept.
+    /// Keeps the lines of the server's trail that aren't kept yet. Bytes are written only behind that. `false`: they couldn't be kept, and
+    /// nothing but `close` is asked from then on.
     fn keep(&mut self, server: &Server<A>) -> bool
-        ensures kept { result ≡ true → has self.new server.now ≡ true }
-        ensures failed { result ≡ false → failed self.new ≡ true }
-        ensures stays { (s : State) → has self.old s ≡ true → has self.new s ≡ true };
-}
-
-/// Keeps nothing.
-#[derive(Clone, Copy, Debug)]
-pub struct NoKeeper;
-
-impl<A: Allocator + Copy> Keeper<A> for NoKeeper {
-    fn keep(&mut self, _server: &Server<A>) -> bool {
-        true
-    }
+        ensures { Adds (acts self.old) (acts self.new) (kept result server.now) };
 }
