@@ -1,0 +1,5 @@
+pub mod Lists
+pub mod Hubs
+pub mod Changing
+pub mod Steps
+pub mod Whole
