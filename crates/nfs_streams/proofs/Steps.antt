@@ -3,7 +3,7 @@ use Rattle.std.proofs.Common.{◌≡◌, ◌≢◌, ◌≤◌, ◌<◌, ℕ, ◌
 use Rattle.std.specs.Ordering.{nat_cmp}
 use Rattle.std.specs.BTreeMap.{get}
 use Rattle.std.specs.Prelude.{ℤ, MatchOption, Err, Ok, set}
-use Rattle.std.proofs.lemmas.List.{drop_at, length-append, length-take-le, take-append-le, drop-append-le}
+use Rattle.std.proofs.lemmas.List.{drop_at, set-set, length-append, length-take-le, take-append-le, drop-append-le}
 use Rattle.std.proofs.lemmas.Bool.{cases_eq}
 use Rattle.compound_run.specs.State.{State as ServerState}
 use Rattle.nfs_types.specs.declared.moment.Moment.{Moment}
@@ -21,7 +21,7 @@ use Rattle.nfs_streams.specs.Runs.{Runs, Allowed, Does, On, StepAt, CanHear, IsS
 use Rattle.nfs_streams.specs.Filling.{Fills}
 use Rattle.nfs_streams.specs.Seats.{Stands, Drained, Seat, IsSeated, IsFresh, place_at, taken}
 use Rattle.nfs_streams.specs.Standing.{Origin, Stage, Listening, Full, Answering, Stopped, Ending, Way, Standing, Changes, Refills, IsClosing, closed_stage}
-use Rattle.nfs_streams.proofs.Lists.{set_here, set_there, taken_swap, adds_on, closed_here, closed_there, admitted_here, admitted_there}
+use Rattle.nfs_streams.proofs.Lists.{set_here, set_there, set_back, taken_swap, adds_on, closed_here, closed_there, admitted_here, admitted_there}
 use Rattle.nfs_streams.proofs.Hubs.{pending_of, broken_of, put, put_here, put_there, stepped, steps}
 use Rattle.nfs_streams.proofs.Changing.{changed, some_peer, here_at, one_place, stays_at, stands_as, stands_in}
 
@@ -76,9 +76,9 @@ module _ {A : Type 0} {n : ℕ} {o : Origin} {hub : Hub A} {left : ℕ} {before 
       let c = h.connected in
       (p.conn, c, ap (λ (j : ℕ). conn_at st.acts j) h.place ∙ h.conn, h.behind ∙ ap (λ (l : List ℕ). with_pending c (l ++ c.pending)) drained.0, (h.broken ∙ whole, drained.1 c.pending (pending_of hub st.stands.state st.stands.is p.conn c h.opened)))
 
-  pub heard : (hub' : Hub A) (piece : List ℕ) (now : Moment) (b : Bool) (z : ℤ) (after : Option (List Act)) → Drained hub p → p.broken ≡ false → length piece ≤ 4096 → Goes (Piece p.conn piece now) hub hub' → broken_at hub' p.conn ≡ Some b
+  pub heard : (hub' : Hub A) (piece : List ℕ) (now : Moment) (b told : Bool) (z : ℤ) (after : Option (List Act)) → Drained hub p → p.broken ≡ false → length piece ≤ 4096 → Goes (Piece p.conn piece now) hub hub' → b ≡ told → broken_at hub' p.conn ≡ option_map (λ was. told) (broken_at hub p.conn)
       → Adds before after (Heard p.place piece ∷ []) → Standing (Listening n) o hub' (set ps i (Some (record p { broken = b; since = z }))) left after
-  heard hub' piece now b z after drained whole short goes broken said =
+  heard hub' piece now b told z after drained whole short goes same_b broken said =
       let h = here_at st.stands i p (set_here ps i (Some p) lt) in
       let c = h.connected in
       let can = can_hear drained whole in
@@ -99,7 +99,7 @@ module _ {A : Type 0} {n : ℕ} {o : Origin} {hub : Hub A} {left : ℕ} {before 
               here = refl;
               numbered = refl;
               opened = u.changed;
-              broken = same_bool u.after.broken b (sym (broken_of hub' g.0 g.2 p.conn u.after u.changed) ∙ broken);
+              broken = same_bool u.after.broken b (sym (broken_of hub' g.0 g.2 p.conn u.after u.changed) ∙ broken ∙ ap (λ (x : Option Bool). option_map (λ was. told) x) (broken_of hub st.stands.state st.stands.is p.conn c h.opened) ∙ ap (λ (x : Bool). Some x) (sym same_b));
               behind = put_here st.machine g.0.served p.conn (Some u.after) ∙ sym (ap (λ (l : List ℕ). with_pending u.after (l ++ u.after.pending)) drained.0);
             }))
             (λ j. refl) refl;
@@ -147,6 +147,13 @@ module _ {A : Type 0} {n : ℕ} {o : Origin} {hub : Hub A} {left : ℕ} {before 
         adds = adds_on o.first before after st.acts (Told p.place bytes ∷ []) st.adds said;
         fewer = st.fewer;
       }
+
+-- the bytes were lent, and the written ones are left out
+pub told_of : {A : Type 0} {n : ℕ} {o : Origin} {hub : Hub A} {left : ℕ} {before : Option (List Act)} (ps : List (Option Peer)) (i : ℕ) (p : Peer) → i < length ps → Standing (Answering n) o hub (set ps i (Some p)) left before → (bytes held : List ℕ) (k : ℕ) (z : ℤ) (after : Option (List Act)) → bytes ≡ p.held → held ≡ drop k p.held → k ≤ length bytes
+    → Adds before after (Told p.place (take k bytes) ∷ []) → Standing (Answering n) o hub (set ps i (Some (record p { held = held; since = z }))) left after
+told_of {n = n} {o = o} {hub = hub} {left = left} {before = before} ps i p lt st bytes held k z after same rest le said =
+    subst (λ (l : List ℕ). Standing (Answering n) o hub (set ps i (Some (record p { held = l; since = z }))) left after) (sym rest)
+    (told ps i p lt st k z after (subst (λ (l : List ℕ). k ≤ length l) same le) (subst (λ (l : List ℕ). Adds before after (Told p.place (take k l) ∷ [])) same said))
 
 -- ---- a connection is closed
 
@@ -287,6 +294,10 @@ unclosed (Full n) o hub places left now may st = record { acts = st.acts; machin
 unclosed (Answering n) o hub places left now may st = absurd may
 unclosed (Stopped end n) o hub places left now may st = absurd may
 unclosed (Ending served at) o hub places left now may st = st
+
+-- nothing was said
+pub quiet : {A : Type 0} {stage : Stage} {o : Origin} {hub : Hub A} {places : List (Option Peer)} {left : ℕ} {before : Option (List Act)} (after : Option (List Act)) → Adds before after [] → Standing stage o hub places left before → Standing stage o hub places left after
+quiet {o = o} {before = before} after said st = record { acts = st.acts; machine = st.machine; way = st.way; stands = st.stands; adds = adds_on o.first before after st.acts [] st.adds said; fewer = st.fewer }
 
 -- ---- one knocks
 
@@ -447,3 +458,22 @@ module _ {A : Type 0} {n : ℕ} {o : Origin} {hub : Hub A} {places : List (Optio
 
 pub answered : {A : Type 0} {n : ℕ} {o : Origin} {hub : Hub A} {places : List (Option Peer)} {left : ℕ} {now : Option (List Act)} → Standing (Answering n) o hub places left now → Standing (Listening n) o hub places left now
 answered st = record { acts = st.acts; machine = st.machine; way = (st.way.0, st.way.1, st.way.2); stands = st.stands; adds = st.adds; fewer = st.fewer }
+
+-- ---- at a place of these
+
+-- what is done at a place
+pub at_place : {A : Type 0} (stage stage' : Stage) (o : Origin) (hub new : Hub A) (ps : List (Option Peer)) (i left : ℕ) (x y : Option Peer) (before after : Option (List Act)) → i < length ps → place_at ps i ≡ x → (Standing stage o hub (set ps i x) left before → Standing stage' o new (set ps i y) left after)
+    → Standing stage o hub ps left before → Standing stage' o new (set ps i y) left after
+at_place stage stage' o hub new ps i left x y before after lt at does st = does (subst (λ (l : List (Option Peer)). Standing stage o hub l left before) (sym (set_back ps i x at)) st)
+
+-- what is done at a place of these that has had another connection meanwhile
+pub gone_at : {A : Type 0} (stage : Stage) (o : Origin) (new : Hub A) (ps : List (Option Peer)) (i left : ℕ) (x y : Option Peer) (after : Option (List Act)) → Standing stage o new (set ps i y) left after → Standing stage o new (set (set ps i x) i y) left after
+gone_at stage o new ps i left x y after st = subst (λ (l : List (Option Peer)). Standing stage o new l left after) (sym (set-set ps i x y)) st
+
+-- a stream is admitted at a free place of these
+pub admits_at : {A : Type 0} {n : ℕ} {o : Origin} {hub : Hub A} {left : ℕ} {before : Option (List Act)} (ps : List (Option Peer)) (i id left' : ℕ) (held : List ℕ) (z : ℤ) (hub' : Hub A) (mid after : Option (List Act)) → i < length ps → place_at ps i ≡ None → held ≡ [] → Standing (Listening n) o hub ps left before → taken ps < o.most → left ≡ left' + 1
+    → Adds before mid (Knocked ∷ []) → Goes Connect hub hub' → ConnectGives (Ok id) hub hub' → Adds mid after (Admitted i id ∷ []) → Standing (Listening n) o hub' (set ps i (Some (record { place = i; conn = id; held = held; broken = false; since = z }))) left' after
+admits_at {n = n} {o = o} {hub = hub} {left = left} {before = before} ps i id left' held z hub' mid after lt free none st few less said goes gives let_in =
+    let same = sym (set_back ps i None free) in
+    subst (λ (l : List ℕ). Standing (Listening n) o hub' (set ps i (Some (record { place = i; conn = id; held = l; broken = false; since = z }))) left' after) (sym none)
+    (admits ps i id left' z hub' mid after lt (subst (λ (l : List (Option Peer)). Standing (Listening n) o hub l left before) same st) (subst (λ (l : List (Option Peer)). taken l < o.most) same few) less said goes gives let_in)
