@@ -137,20 +137,20 @@ stays_at {acts = acts} {s = s} ps i p p' st lt conn place hub' acts' t' s' is in
     let at = set_here ps i (Some p) lt in
     let h = here_at st i p at in
     changed st lt (record {
-        was = λ q e. ap (λ (r : Peer). r.conn) (sym (some_peer p q e));
-        alone = λ j q ne there same. ne (one_place st i j p q at (set_there ps i j (Some p) ne ∙ there) same);
-        is = is;
-        fresh = fresh_on st.state t' p.conn h.connected st.fresh h.opened in_hub hub_next;
-        served = served;
-        next = next ∙ st.next ∙ sym hub_next;
-        in_hub = in_hub;
-        in_machine = in_machine;
-        seat = seat;
-        now = λ q e. let same : q ≡ p' = sym (some_peer p' q e) in (ap (λ (r : Peer). r.conn) same ∙ conn, ap (λ (r : Peer). r.place) same ∙ place ∙ h.place, conns i ∙ h.conn);
-        gone = λ e. absurd (cc);
-        conns = λ j ne. conns j;
-        count = count ∙ omega (arith, st.count, taken_swap ps i (Some p) (Some p') lt);
-      })
+      was = λ q e. ap (λ (r : Peer). r.conn) (sym (some_peer p q e));
+      alone = λ j q ne there same. ne (one_place st i j p q at (set_there ps i j (Some p) ne ∙ there) same);
+      is = is;
+      fresh = fresh_on st.state t' p.conn h.connected st.fresh h.opened in_hub hub_next;
+      served = served;
+      next = next ∙ st.next ∙ sym hub_next;
+      in_hub = in_hub;
+      in_machine = in_machine;
+      seat = seat;
+      now = λ q e. let same : q ≡ p' = sym (some_peer p' q e) in (ap (λ (r : Peer). r.conn) same ∙ conn, ap (λ (r : Peer). r.place) same ∙ place ∙ h.place, conns i ∙ h.conn);
+      gone = λ e. absurd (cc);
+      conns = λ j ne. conns j;
+      count = count ∙ omega (arith, st.count, taken_swap ps i (Some p) (Some p') lt);
+    })
 
 -- behind acts that seat nobody and close nothing all stays
 pub stands_as : {A : Type 0} {start : ℕ} {hub : Hub A} {places : List (Option Peer)} {acts : List Act} {s : State} (acts' : List Act) → ((j : ℕ) → conn_at acts' j ≡ conn_at acts j) → open_in acts' ≡ open_in acts → Stands start hub places acts s → Stands start hub places acts' s

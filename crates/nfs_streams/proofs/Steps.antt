@@ -15,7 +15,7 @@ use Rattle.nfs_hub.specs.Answer.{Served as ServedState}
 use Rattle.nfs_hub.specs.Machine.{Connected, State, Connect, Piece, Take, Close, Step, PieceOn, TakeOn, ChangesConnection, fresh}
 use Rattle.nfs_hub.specs.Hub.{IsHub, Goes, ConnectGives, IsUnchanged, SameConnection, pending_at, broken_at}
 use Rattle.nfs_streams.specs.declared.peer.Peer.{Peer}
-use Rattle.nfs_streams.specs.declared.serving.AllEnd.TheVariants.{Wait, Keep}
+use Rattle.nfs_streams.specs.declared.serving.AllEnd.TheVariants.{Served, Turns, Wait, Keep}
 use Rattle.nfs_streams.specs.Acts.{Act, JustKnocked, IsSettled, Waited, Knocked, Admitted, Closed, Heard, Ended, Told, Failed, Kept, Lost, Adds, Has, conn_at, open_in, admitted, knocked, kept}
 use Rattle.nfs_streams.specs.Runs.{Runs, Allowed, Does, On, StepAt, CanHear, IsSpent, MayClose}
 use Rattle.nfs_streams.specs.Filling.{Fills}
@@ -36,7 +36,7 @@ filled {old = old} {acts = acts} {s = s} ps i p held new st lt none fills =
     let h = here_at st i p (set_here ps i (Some p) lt) in
     let c = h.connected in
     let f = subst (λ (o : Option (List ℕ)). MatchOption o (pending_at new p.conn ≡ None) (λ pending. (rest : List ℕ) × (pending ≡ held ++ rest) × (pending_at new p.conn ≡ Some rest) × Goes (Take p.conn (length held)) old new × (held ≡ [] → rest ≡ [])))
-        (pending_of old st.state st.is p.conn c h.opened) fills in
+    (pending_of old st.state st.is p.conn c h.opened) fills in
     let g = f.3 st.state st.is in
     let u = stepped p.conn (TakeOn (length held)) st.state c g.0 h.opened g.1 in
     let left : drop (length held) c.pending ≡ f.0 = ap (λ (l : List ℕ). drop (length held) l) f.1 ∙ drop_at held f.0 (length held) refl in
@@ -184,23 +184,23 @@ shut {acts = acts} {s = s} ps i p st lt hub' goes =
       machine = s';
       step = (p.conn, ap (λ (j : ℕ). conn_at acts j) h.place ∙ h.conn, (refl, refl, changes));
       stands = changed st lt (record {
-          was = λ q e. ap (λ (r : Peer). r.conn) (sym (some_peer p q e));
-          alone = λ j q ne there same. ne (one_place st i j p q at (set_there ps i j (Some p) ne ∙ there) same);
-          is = g.2;
-          fresh = λ k le. elim (cases_eq k p.conn) [
-              | inl e ↦ ap (λ (j : ℕ). t'.connection j) e ∙ gone
-              | inr ne ↦ g.1.2.others k ne ∙ st.fresh k (subst (λ (m : ℕ). m ≤ k) g.1.1 le)
-            ];
-          served = st.served ∙ sym g.1.0;
-          next = st.next ∙ sym g.1.1;
-          in_hub = g.1.2.others;
-          in_machine = put_there s s.served p.conn None;
-          seat = inr (record { not_here = λ q e. absurd (none_some q e); same = gone' ∙ sym gone; closed = λ le. gone });
-          now = λ q e. absurd (none_some q e);
-          gone = λ e. here';
-          conns = λ j ne. ap (λ (m : ℕ). conn_at (Closed m ∷ acts) j) h.place ∙ closed_there acts i j ne;
-          count = omega (arith, st.count, taken_swap ps i (Some p) None lt);
-        });
+        was = λ q e. ap (λ (r : Peer). r.conn) (sym (some_peer p q e));
+        alone = λ j q ne there same. ne (one_place st i j p q at (set_there ps i j (Some p) ne ∙ there) same);
+        is = g.2;
+        fresh = λ k le. elim (cases_eq k p.conn) [
+          | inl e ↦ ap (λ (j : ℕ). t'.connection j) e ∙ gone
+          | inr ne ↦ g.1.2.others k ne ∙ st.fresh k (subst (λ (m : ℕ). m ≤ k) g.1.1 le)
+        ];
+        served = st.served ∙ sym g.1.0;
+        next = st.next ∙ sym g.1.1;
+        in_hub = g.1.2.others;
+        in_machine = put_there s s.served p.conn None;
+        seat = inr (record { not_here = λ q e. absurd (none_some q e); same = gone' ∙ sym gone; closed = λ le. gone });
+        now = λ q e. absurd (none_some q e);
+        gone = λ e. here';
+        conns = λ j ne. ap (λ (m : ℕ). conn_at (Closed m ∷ acts) j) h.place ∙ closed_there acts i j ne;
+        count = omega (arith, st.count, taken_swap ps i (Some p) None lt);
+      });
       served = refl;
     }
 
@@ -324,7 +324,6 @@ knocks_full {o = o} {before = before} after many said st = record {
 
 -- ---- a stream is admitted
 
-
 none_both : {A : Type 0} (x : Option (Connection A)) (p : Option Connected) → SameConnection x p → p ≡ None → option_map (λ (c : Connection A). c.pending.bytes) x ≡ None
 none_both None p same e = refl
 none_both (Some x) None same e = absurd same
@@ -371,24 +370,24 @@ admits {o = o} {hub = hub} {before = before} ps i id left' z hub' mid after lt s
       machine = s';
       way = ((s, (s, st.way.0, st.way.2, refl), (refl, free, omega (arith, was.count)), (s_next, inr (refl, refl, changes), now)), st.way.1, tt);
       stands = changed was lt (record {
-          was = λ q e. absurd (none_some q e);
-          alone = λ j q ne there same.
-              let h = here_at was j q (set_there ps i j None ne ∙ there) in
-              none_some h.connected (sym (was.fresh q.conn (omega (arith, same, w.0))) ∙ h.opened);
-          is = g.2;
-          fresh = λ k le.
-              let ne : k ≢ id = λ e. absurd (omega (arith, e, w.0, w.2)) in
-              in_hub k ne ∙ was.fresh k (omega (arith, w.2));
-          served = was.served ∙ sym w.1;
-          next = ap (λ (k : ℕ). k + 1) was.next ∙ sym w.2;
-          in_hub = in_hub;
-          in_machine = put_there s s.served id (Some fresh);
-          seat = inl (record { peer = peer; connected = fresh; here = refl; numbered = refl; opened = now_hub; broken = refl; behind = now });
-          now = λ q e. let same : q ≡ peer = sym (some_peer peer q e) in (ap (λ (r : Peer). r.conn) same, ap (λ (r : Peer). r.place) same, admitted_here knock i id);
-          gone = λ e. absurd (none_some peer (sym e));
-          conns = λ j ne. admitted_there knock i id j ne;
-          count = omega (arith, was.count, taken_swap ps i None (Some peer) lt);
-        });
+        was = λ q e. absurd (none_some q e);
+        alone = λ j q ne there same.
+            let h = here_at was j q (set_there ps i j None ne ∙ there) in
+            none_some h.connected (sym (was.fresh q.conn (omega (arith, same, w.0))) ∙ h.opened);
+        is = g.2;
+        fresh = λ k le.
+            let ne : k ≢ id = λ e. absurd (omega (arith, e, w.0, w.2)) in
+            in_hub k ne ∙ was.fresh k (omega (arith, w.2));
+        served = was.served ∙ sym w.1;
+        next = ap (λ (k : ℕ). k + 1) was.next ∙ sym w.2;
+        in_hub = in_hub;
+        in_machine = put_there s s.served id (Some fresh);
+        seat = inl (record { peer = peer; connected = fresh; here = refl; numbered = refl; opened = now_hub; broken = refl; behind = now });
+        now = λ q e. let same : q ≡ peer = sym (some_peer peer q e) in (ap (λ (r : Peer). r.conn) same, ap (λ (r : Peer). r.place) same, admitted_here knock i id);
+        gone = λ e. absurd (none_some peer (sym e));
+        conns = λ j ne. admitted_there knock i id j ne;
+        count = omega (arith, was.count, taken_swap ps i None (Some peer) lt);
+      });
       adds = adds_on o.first mid after knock (Admitted i id ∷ []) (adds_on o.first before mid st.acts (Knocked ∷ []) st.adds said) let_in;
       fewer = omega (arith, st.fewer, less);
     }
@@ -477,3 +476,10 @@ admits_at {n = n} {o = o} {hub = hub} {left = left} {before = before} ps i id le
     let same = sym (set_back ps i None free) in
     subst (λ (l : List ℕ). Standing (Listening n) o hub' (set ps i (Some (record { place = i; conn = id; held = l; broken = false; since = z }))) left' after) (sym none)
     (admits ps i id left' z hub' mid after lt (subst (λ (l : List (Option Peer)). Standing (Listening n) o hub l left before) same st) (subst (λ (l : List (Option Peer)). taken l < o.most) same few) less said goes gives let_in)
+
+-- serving stops where it is
+pub stops_served : {A : Type 0} {n : ℕ} {o : Origin} {hub : Hub A} {places : List (Option Peer)} {left : ℕ} {now : Option (List Act)} → Standing (Listening n) o hub places left now → Standing (Stopped Served n) o hub places left now
+stops_served st = record { acts = st.acts; machine = st.machine; way = (st.way.0, st.way.1, tt); stands = st.stands; adds = st.adds; fewer = st.fewer }
+
+pub stops_turned : {A : Type 0} {n : ℕ} {o : Origin} {hub : Hub A} {places : List (Option Peer)} {left : ℕ} {now : Option (List Act)} → Standing (Listening n) o hub places left now → Standing (Stopped Turns n) o hub places left now
+stops_turned st = record { acts = st.acts; machine = st.machine; way = (st.way.0, st.way.1, tt); stands = st.stands; adds = st.adds; fewer = st.fewer }

@@ -134,13 +134,13 @@ ends_lead first events acts (act ∷ endings) old new ends leads =
 
 -- ---- the whole
 
-pub serves : {A : Type 0} (first : ServedState) (events : List Event) (end : AllEnd) (limits : Limits) (hub ran new : Hub A) (places places' places'' : List (Option Peer)) (left : ℕ) (before mid after : Option (List Act)) → LeadsTo first events hub → taken places ≡ 0
-    → RunGives end limits.turns (min limits.places 16) hub places limits.connections ran places' left before mid
+pub serves : {A : Type 0} (most : ℕ) (first : ServedState) (events : List Event) (end : AllEnd) (limits : Limits) (hub ran new : Hub A) (places places' places'' : List (Option Peer)) (left : ℕ) (before mid after : Option (List Act)) → most ≡ min limits.places 16 → LeadsTo first events hub → taken places ≡ 0
+    → RunGives end limits.turns most hub places limits.connections ran places' left before mid
     → ((acts : List Act) (s : State) (most left : ℕ) → Moves (Ending acts s) (Ending acts s) most ran places' left new places'' left mid after) → ((j : ℕ) → place_at places'' j ≡ None)
     → ServesAll first events end limits new before after
-serves first events end limits hub ran new places places' places'' left before mid after h none run shuts free =
+serves most first events end limits hub ran new places places' places'' left before mid after few h none run shuts free =
     let o : Origin = record { start = h.state; first = before; most = min limits.places 16; connections = limits.connections } in
-    let st = run.3 o refl (begins first events hub places (min limits.places 16) limits.connections before h none) in
+    let st = run.3 o (sym few) (begins first events hub places (min limits.places 16) limits.connections before h none) in
     let ending : Standing (Ending st.acts st.machine) o ran places' left mid = record { acts = st.acts; machine = st.machine; way = ([], refl, refl); stands = st.stands; adds = st.adds; fewer = st.fewer } in
     let last = shuts st.acts st.machine o.most left o refl ending in
     let endings = last.way.0 in

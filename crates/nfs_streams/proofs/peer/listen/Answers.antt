@@ -15,8 +15,8 @@ pub returns-in-Bytes : goal.returns-in-Bytes
 returns-in-Bytes g c =
     let short : length (take c.in-Bytes.n c.read.new.buf) ≤ 4096 = simp length-take (omega (arith, c.read.auto.buf, c.in-Bytes.ensures.bound)) in
     λ n o left i ps lt st.
-      heard ps i c.refill.new.peer lt (c.refill.ensures.refills (Listening n) _ o left i ps lt st) c.feed-fed.new.self (take c.in-Bytes.n c.read.new.buf) c.now-now.result c.is_err-peer.result _ _ _
-      c.if-refill.ensures.drained c.if-peer.false short c.feed-fed.ensures.goes c.is_err-peer.ensures.value c.feed-fed.ensures.broken c.in-Bytes.ensures.said
+    heard ps i c.refill.new.peer lt (c.refill.ensures.refills (Listening n) _ o left i ps lt st) c.feed-fed.new.self (take c.in-Bytes.n c.read.new.buf) c.now-now.result c.is_err-peer.result _ _ _
+    c.if-refill.ensures.drained c.if-peer.false short c.feed-fed.ensures.goes c.is_err-peer.ensures.value c.feed-fed.ensures.broken c.in-Bytes.ensures.said
 
 pub returns-in-NotYet : goal.returns-in-NotYet
 returns-in-NotYet g c = λ n o left i ps lt st. quiet _ c.in-NotYet.ensures.said (c.refill.ensures.refills (Listening n) _ o left i ps lt st)
