@@ -1,5 +1,5 @@
 -- One place and one connection change, and the others stay.
-use Rattle.std.proofs.Common.{◌≡◌, ◌≢◌, ◌≤◌, ◌<◌, ℕ, Bool, cond, eqb, List, [], ◌∷◌, ◌++◌, length, Option, Some, None, refl, sym, ap, subst, ◌∙◌, inl, inr, arith}
+use Rattle.std.proofs.Common.{◌≡◌, ◌≢◌, ◌<◌, ℕ, cond, eqb, List, ◌++◌, length, Option, Some, None, refl, sym, ap, subst, ◌∙◌, inl, inr, arith}
 use Rattle.std.specs.Prelude.{set}
 use Rattle.std.proofs.lemmas.Bool.{cases_eq, eq-eqb, ne_eqb}
 use Rattle.nfs_hub.specs.declared.hub.Hub.{Hub}
@@ -7,7 +7,7 @@ use Rattle.nfs_hub.specs.Machine.{Connected, State}
 use Rattle.nfs_hub.specs.Hub.{IsHub, IsUnchanged}
 use Rattle.nfs_streams.specs.declared.peer.Peer.{Peer}
 use Rattle.nfs_streams.specs.Acts.{Act, conn_at, open_in}
-use Rattle.nfs_streams.specs.Seats.{place_at, taken, IsHeld, IsElsewhere, Seat, IsSeated, IsFresh, Stands}
+use Rattle.nfs_streams.specs.Seats.{place_at, taken, Seat, IsSeated, IsFresh, Stands}
 use Rattle.nfs_streams.proofs.Lists.{set_here, set_there, taken_swap}
 use Rattle.nfs_streams.proofs.Hubs.{fresh_on, unchanged}
 

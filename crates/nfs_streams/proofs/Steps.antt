@@ -1,5 +1,5 @@
 -- Each thing that serving does, as a step from one stage to the next.
-use Rattle.std.proofs.Common.{◌≡◌, ◌≢◌, ◌≤◌, ◌<◌, ℕ, ◌+◌, ◌-◌, Bool, true, false, List, [], ◌∷◌, ◌++◌, length, take, drop, Option, Some, None, refl, sym, ap, subst, ◌∙◌, option_map, inl, inr, arith}
+use Rattle.std.proofs.Common.{◌≡◌, ◌≢◌, ◌≤◌, ◌<◌, ℕ, ◌+◌, Bool, true, false, List, [], ◌∷◌, ◌++◌, length, take, drop, Option, Some, None, refl, sym, ap, subst, ◌∙◌, option_map, inl, inr, arith}
 use Rattle.std.specs.Ordering.{nat_cmp}
 use Rattle.std.specs.BTreeMap.{get}
 use Rattle.std.specs.Prelude.{ℤ, MatchOption, Err, Ok, set}
@@ -16,11 +16,11 @@ use Rattle.nfs_hub.specs.Machine.{Connected, State, Connect, Piece, Take, Close,
 use Rattle.nfs_hub.specs.Hub.{IsHub, Goes, ConnectGives, IsUnchanged, SameConnection, pending_at, broken_at}
 use Rattle.nfs_streams.specs.declared.peer.Peer.{Peer}
 use Rattle.nfs_streams.specs.declared.serving.AllEnd.TheVariants.{Served, Turns, Wait, Keep}
-use Rattle.nfs_streams.specs.Acts.{Act, JustKnocked, IsSettled, Waited, Knocked, Admitted, Closed, Heard, Ended, Told, Failed, Kept, Lost, Adds, Has, conn_at, open_in, admitted, knocked, kept}
-use Rattle.nfs_streams.specs.Runs.{Runs, Allowed, Does, On, StepAt, CanHear, IsSpent, MayClose}
+use Rattle.nfs_streams.specs.Acts.{Act, JustKnocked, IsSettled, Waited, Knocked, Admitted, Closed, Heard, Ended, Told, Failed, Kept, Lost, Adds, Has, conn_at, knocked}
+use Rattle.nfs_streams.specs.Runs.{On, StepAt, CanHear, IsSpent}
 use Rattle.nfs_streams.specs.Filling.{Fills}
-use Rattle.nfs_streams.specs.Seats.{Stands, Drained, Seat, IsSeated, IsFresh, place_at, taken}
-use Rattle.nfs_streams.specs.Standing.{Origin, Stage, Listening, Full, Answering, Stopped, Ending, Way, Standing, Changes, Refills, IsClosing, closed_stage}
+use Rattle.nfs_streams.specs.Seats.{Stands, Drained, IsSeated, IsFresh, place_at, taken}
+use Rattle.nfs_streams.specs.Standing.{Origin, Stage, Listening, Full, Answering, Stopped, Ending, Way, Standing, Refills, IsClosing, closed_stage}
 use Rattle.nfs_streams.proofs.Lists.{set_here, set_there, set_back, taken_swap, adds_on, closed_here, closed_there, admitted_here, admitted_there}
 use Rattle.nfs_streams.proofs.Hubs.{pending_of, broken_of, put, put_here, put_there, stepped, steps}
 use Rattle.nfs_streams.proofs.Changing.{changed, some_peer, here_at, one_place, stays_at, stands_as, stands_in}

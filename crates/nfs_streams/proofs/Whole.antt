@@ -1,11 +1,11 @@
 -- From events that lead to the hub to the end of serving.
-use Rattle.std.proofs.Common.{◌≡◌, ◌≢◌, ◌≤◌, ℕ, ◌+◌, List, [], ◌∷◌, ◌++◌, length, Option, Some, None, refl, sym, ap, subst, ◌∙◌, inl, inr, append_assoc, arith}
+use Rattle.std.proofs.Common.{◌≡◌, ◌≢◌, ◌≤◌, ℕ, List, [], ◌∷◌, ◌++◌, length, Option, Some, None, refl, sym, ap, subst, ◌∙◌, inl, inr, append_assoc, arith}
 use Rattle.std.specs.Prelude.{MatchOption, min}
 use Rattle.std.proofs.lemmas.Bool.{cases_eq}
 use Rattle.nfs_hub.specs.declared.hub.Hub.{Hub}
 use Rattle.nfs_hub.specs.Answer.{Served as ServedState}
-use Rattle.nfs_hub.specs.Machine.{Connected, State, Event, Connect, Piece, Take, Close, Step, PieceOn, TakeOn, OnConnection, ChangesConnection, Leads, opening}
-use Rattle.nfs_hub.specs.Hub.{IsHub, LeadsTo}
+use Rattle.nfs_hub.specs.Machine.{Connected, State, Event, Connect, Piece, Take, Close, Step, PieceOn, TakeOn, ChangesConnection, Leads, opening}
+use Rattle.nfs_hub.specs.Hub.{LeadsTo}
 use Rattle.nfs_streams.specs.declared.peer.Peer.{Peer}
 use Rattle.nfs_streams.specs.declared.serving.AllEnd.{AllEnd}
 use Rattle.nfs_streams.specs.declared.serving.AllEnd.TheVariants.{Served, Turns, Wait, Keep}
@@ -13,7 +13,7 @@ use Rattle.nfs_streams.specs.declared.serving.Limits.{Limits}
 use Rattle.nfs_streams.specs.Acts.{Act, Waited, Knocked, Admitted, Closed, Heard, Ended, Told, Failed, Kept, Lost, Adds}
 use Rattle.nfs_streams.specs.Runs.{Runs, Ends, Does}
 use Rattle.nfs_streams.specs.Seats.{Stands, IsFresh, IsSeated, Seat, place_at, taken}
-use Rattle.nfs_streams.specs.Standing.{Origin, Stage, Listening, Stopped, Ending, Standing, Moves, LeavesSo, RunGives}
+use Rattle.nfs_streams.specs.Standing.{Origin, Listening, Stopped, Ending, Standing, Moves, LeavesSo, RunGives}
 use Rattle.nfs_streams.specs.All.{EndsSo, AreClosed, ServesAll}
 use Rattle.nfs_streams.proofs.Lists.{none_at, adds_none}
 use Rattle.nfs_streams.proofs.Hubs.{also_in, fresh_on}

@@ -1,4 +1,4 @@
-use Rattle.std.proofs.Common.{ℕ, ◌≤◌, length, take, arith}
+use Rattle.std.proofs.Common.{◌≤◌, length, take, arith}
 use Rattle.std.proofs.lemmas.List.{length-take}
 use Rattle.nfs_streams.specs.Standing.{Listening}
 use Rattle.nfs_streams.proofs.Steps.{heard, spent, ended, quiet}

@@ -1,4 +1,4 @@
-use Rattle.std.proofs.Common.{◌∙◌, refl, sym, arith}
+use Rattle.std.proofs.Common.{◌∙◌, sym}
 use Rattle.nfs_streams.proofs.places.listen_all.Goals as goal
 
 pub loop-index-preserved : goal.loop-index-preserved

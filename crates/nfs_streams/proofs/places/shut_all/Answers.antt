@@ -1,4 +1,4 @@
-use Rattle.std.proofs.Common.{◌<◌, ◌≢◌, ◌∙◌, ℕ, length, below_more, ap, refl, arith}
+use Rattle.std.proofs.Common.{◌∙◌, arith}
 use Rattle.nfs_streams.specs.Standing.{Ending}
 use Rattle.nfs_streams.proofs.Lists.{all_freed, none_past, set_len}
 use Rattle.nfs_streams.proofs.places.shut_all.Goals as goal

@@ -1,4 +1,3 @@
-use Rattle.std.proofs.Common.{refl}
 use Rattle.nfs_streams.proofs.Filling.{fills_of}
 use Rattle.nfs_streams.proofs.held.Held.fill.Goals as goal
 
