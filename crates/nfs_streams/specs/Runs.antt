@@ -1,5 +1,5 @@
 -- Acts of streams as steps of the written machine, each allowed where it comes.
-use Rattle.std.specs.Prelude.{◌≡◌, ◌⊎◌, ◌≤◌, ◌<◌, ℕ, Bool, true, false, List, [], ◌∷◌, ◌++◌, length, take, Option, Some, None}
+use Rattle.std.specs.Prelude.{◌≡◌, ◌⊎◌, ◌≤◌, ◌<◌, ℕ, true, false, List, [], ◌∷◌, ◌++◌, length, take, Some, None}
 use Rattle.nfs_types.specs.declared.moment.Moment.{Moment}
 use Rattle.nfs_hub.specs.Machine.{Connected, State, Event, Connect, Piece, Take, Close, Step, fresh}
 use Rattle.nfs_streams.specs.Acts.{Act, Waited, Knocked, Admitted, Closed, Heard, Ended, Told, Failed, Kept, Lost, Has, JustKnocked, JustOver, IsSettled, conn_at, open_in}

@@ -1,5 +1,5 @@
 -- The connections at all places, what the hub has of them, and what was taken of their pending bytes and isn't written yet.
-use Rattle.std.specs.Prelude.{◌≡◌, ◌≢◌, ◌⊎◌, ◌≤◌, ℕ, Bool, List, [], ◌++◌, Option, Some, None, get_or, set, is_some}
+use Rattle.std.specs.Prelude.{◌≡◌, ◌≢◌, ◌⊎◌, ◌≤◌, ℕ, List, [], ◌++◌, Option, Some, None, get_or, is_some}
 use Rattle.std.specs.List.{count_by}
 use Rattle.nfs_hub.specs.declared.hub.Hub.{Hub}
 use Rattle.nfs_hub.specs.Machine.{Connected, State}

@@ -1,5 +1,5 @@
 -- How far serving has come, and what a part of it does.
-use Rattle.std.specs.Prelude.{◌≡◌, ◌≤◌, ◌<◌, ◌+◌, ℕ, Bool, true, false, List, [], ◌∷◌, ◌++◌, length, Option, Some, None, set}
+use Rattle.std.specs.Prelude.{◌≡◌, ◌≤◌, ◌<◌, ◌+◌, ℕ, List, ◌++◌, length, Option, Some, None, set}
 use Rattle.nfs_hub.specs.declared.hub.Hub.{Hub}
 use Rattle.nfs_hub.specs.Machine.{State}
 use Rattle.nfs_streams.specs.declared.peer.Peer.{Peer}

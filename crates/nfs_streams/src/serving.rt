@@ -36,6 +36,11 @@ pub enum AllEnd {
     Keep = 4,
 }
 
+/// How long the next wait may take: none where something was done.
+fn pause(busy: bool, room: Wait) -> Wait {
+    if busy { Wait::No } else { room }
+}
+
 /// One turn: it is listened at all places, the trail is kept, and then it is answered at all places. How long the next wait may
 /// take; `None`: the trail couldn't be kept, and nothing was written.
 fn turn<A: Allocator + Copy, S: Streams<A>, C: Clock>(
@@ -54,13 +59,7 @@ fn turn<A: Allocator + Copy, S: Streams<A>, C: Clock>(
     }
     let told = answer_all(hub, streams, clock, places);
     let room = make_room(hub, streams, clock, places, door);
-    if heard {
-        return Some(Wait::No);
-    }
-    if told {
-        return Some(Wait::No);
-    }
-    Some(room)
+    Some(pause(heard | told, room))
 }
 
 /// So many turns, unless all connections are served before or something fails.
