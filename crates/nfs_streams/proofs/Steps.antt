@@ -345,9 +345,9 @@ opened hub hub' t id is is_fresh gives g =
       | inr new ↦ (next, new.0, new.1, new.2)
     ]
 
-pub admits : {A : Type 0} {n : ℕ} {o : Origin} {hub : Hub A} {left : ℕ} {before : Option (List Act)} (ps : List (Option Peer)) (i id left' : ℕ) (z : ℤ) (hub' : Hub A) (mid after : Option (List Act)) → i < length ps → Standing (Listening n) o hub (set ps i None) left before → taken (set ps i None) < o.most → left ≡ left' + 1
+pub admits : {A : Type 0} {n : ℕ} {o : Origin} {hub : Hub A} {left : ℕ} {before : Option (List Act)} (ps : List (Option Peer)) (i id left' : ℕ) (z : ℤ) (hub' : Hub A) (mid after : Option (List Act)) → i < length ps → i < 16 → Standing (Listening n) o hub (set ps i None) left before → taken (set ps i None) < o.most → left ≡ left' + 1
     → Adds before mid (Knocked ∷ []) → Goes Connect hub hub' → ConnectGives (Ok id) hub hub' → Adds mid after (Admitted i id ∷ []) → Standing (Listening n) o hub' (set ps i (Some (record { place = i; conn = id; held = []; broken = false; since = z }))) left' after
-admits {o = o} {hub = hub} {before = before} ps i id left' z hub' mid after lt st few less said goes gives let_in =
+admits {o = o} {hub = hub} {before = before} ps i id left' z hub' mid after lt below st few less said goes gives let_in =
     let peer : Peer = record { place = i; conn = id; held = []; broken = false; since = z } in
     let at = set_here ps i None lt in
     let was = st.stands in
@@ -368,7 +368,7 @@ admits {o = o} {hub = hub} {before = before} ps i id left' z hub' mid after lt s
     record {
       acts = acts';
       machine = s';
-      way = ((s, (s, st.way.0, st.way.2, refl), (refl, free, omega (arith, was.count)), (s_next, inr (refl, refl, changes), now)), st.way.1, tt);
+      way = ((s, (s, st.way.0, st.way.2, refl), (refl, free, omega (arith, was.count), below), (s_next, inr (refl, refl, changes), now)), st.way.1, tt);
       stands = changed was lt (record {
         was = λ q e. absurd (none_some q e);
         alone = λ j q ne there same.
@@ -470,12 +470,12 @@ pub gone_at : {A : Type 0} (stage : Stage) (o : Origin) (new : Hub A) (ps : List
 gone_at stage o new ps i left x y after st = subst (λ (l : List (Option Peer)). Standing stage o new l left after) (sym (set-set ps i x y)) st
 
 -- a stream is admitted at a free place of these
-pub admits_at : {A : Type 0} {n : ℕ} {o : Origin} {hub : Hub A} {left : ℕ} {before : Option (List Act)} (ps : List (Option Peer)) (i id left' : ℕ) (held : List ℕ) (z : ℤ) (hub' : Hub A) (mid after : Option (List Act)) → i < length ps → place_at ps i ≡ None → held ≡ [] → Standing (Listening n) o hub ps left before → taken ps < o.most → left ≡ left' + 1
+pub admits_at : {A : Type 0} {n : ℕ} {o : Origin} {hub : Hub A} {left : ℕ} {before : Option (List Act)} (ps : List (Option Peer)) (i id left' : ℕ) (held : List ℕ) (z : ℤ) (hub' : Hub A) (mid after : Option (List Act)) → i < length ps → i < 16 → place_at ps i ≡ None → held ≡ [] → Standing (Listening n) o hub ps left before → taken ps < o.most → left ≡ left' + 1
     → Adds before mid (Knocked ∷ []) → Goes Connect hub hub' → ConnectGives (Ok id) hub hub' → Adds mid after (Admitted i id ∷ []) → Standing (Listening n) o hub' (set ps i (Some (record { place = i; conn = id; held = held; broken = false; since = z }))) left' after
-admits_at {n = n} {o = o} {hub = hub} {left = left} {before = before} ps i id left' held z hub' mid after lt free none st few less said goes gives let_in =
+admits_at {n = n} {o = o} {hub = hub} {left = left} {before = before} ps i id left' held z hub' mid after lt below free none st few less said goes gives let_in =
     let same = sym (set_back ps i None free) in
     subst (λ (l : List ℕ). Standing (Listening n) o hub' (set ps i (Some (record { place = i; conn = id; held = l; broken = false; since = z }))) left' after) (sym none)
-    (admits ps i id left' z hub' mid after lt (subst (λ (l : List (Option Peer)). Standing (Listening n) o hub l left before) same st) (subst (λ (l : List (Option Peer)). taken l < o.most) same few) less said goes gives let_in)
+    (admits ps i id left' z hub' mid after lt below (subst (λ (l : List (Option Peer)). Standing (Listening n) o hub l left before) same st) (subst (λ (l : List (Option Peer)). taken l < o.most) same few) less said goes gives let_in)
 
 -- serving stops where it is
 pub stops_served : {A : Type 0} {n : ℕ} {o : Origin} {hub : Hub A} {places : List (Option Peer)} {left : ℕ} {now : Option (List Act)} → Standing (Listening n) o hub places left now → Standing (Stopped Served n) o hub places left now

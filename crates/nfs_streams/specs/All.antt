@@ -8,11 +8,7 @@ use Rattle.nfs_streams.specs.declared.serving.AllEnd.{AllEnd}
 use Rattle.nfs_streams.specs.declared.serving.AllEnd.TheVariants.{Served, Turns, Wait, Keep}
 use Rattle.nfs_streams.specs.declared.serving.Limits.{Limits}
 use Rattle.nfs_streams.specs.Acts.{Act, Adds, IsUnwaited, IsLost, waits, admitted}
-use Rattle.nfs_streams.specs.Runs.{Runs, Ends}
-
--- the most connections that are open at once
-abbrev pub MOST_PLACES : ℕ
-MOST_PLACES = 16
+use Rattle.nfs_streams.specs.Runs.{Runs, Ends, MOST_PLACES}
 
 -- of the connections that were opened since a number none is open
 abbrev pub AreClosed : ℕ → State → Type 0

@@ -8,6 +8,10 @@ use Rattle.nfs_streams.specs.Acts.{Act, Waited, Knocked, Admitted, Closed, Heard
 abbrev pub MAX_PIECE : ℕ
 MAX_PIECE = 4096
 
+-- the most connections that are open at once, and the number of places
+abbrev pub MOST_PLACES : ℕ
+MOST_PLACES = 16
+
 -- the connection at a place is open, and is so
 abbrev pub On : List Act → ℕ → State → (Connected → Type 0) → Type 0
 On acts place s is = (id : ℕ) × (c : Connected) × (conn_at acts place ≡ Some id) × (s.connection id ≡ Some c) × is c
@@ -47,12 +51,12 @@ MayClose most earlier place s = JustOver earlier place ⊎ (IsSettled earlier ×
 
 -- Behind earlier acts another may come, where so many connections may be open at once. Behind an end or a failure of a stream only its
 -- closing comes, and nothing behind a wait that failed or a trail that couldn't be kept. A stream is admitted only just after one has
--- knocked, at a place that has none, while fewer are open than may be. A piece has at most 4,096 bytes, and is read only of a
+-- knocked, at a place below 16 that has none, while fewer are open than may be. A piece has at most 4,096 bytes, and is read only of a
 -- connection that is whole and on which nothing is pending. Bytes are written only where the trail of the server as it is has been kept.
 abbrev pub Allowed : ℕ → List Act → Act → State → Type 0
 Allowed most earlier (Waited well) s = IsSettled earlier
 Allowed most earlier Knocked s = IsSettled earlier
-Allowed most earlier (Admitted place id) s = JustKnocked earlier × (conn_at earlier place ≡ None) × (open_in earlier < most)
+Allowed most earlier (Admitted place id) s = JustKnocked earlier × (conn_at earlier place ≡ None) × (open_in earlier < most) × (place < MOST_PLACES)
 Allowed most earlier (Closed place) s = MayClose most earlier place s
 Allowed most earlier (Heard place piece) s = IsSettled earlier × (length piece ≤ MAX_PIECE) × On earlier place s CanHear
 Allowed most earlier (Ended place) s = IsSettled earlier × On earlier place s CanHear

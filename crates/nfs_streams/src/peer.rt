@@ -120,6 +120,7 @@ fn tell<A: Allocator + Copy, S: Streams<A>, C: Clock>(
         }
         Moved::NotYet => Turned::Idle,
         Moved::Over => {
+            // Nothing more can be told.
             shut(hub, streams, peer);
             Turned::Gone
         }

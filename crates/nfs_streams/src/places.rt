@@ -50,6 +50,7 @@ fn let_in<A: Allocator + Copy, S: Streams<A>, C: Clock>(
     door: &mut Door,
 ) -> bool
     requires within { index < length places.old }
+    requires sixteen { length places.old ≤ 16 }
     requires free { place_at places.old index ≡ None }
     ensures moves { (n : ℕ) → Moves (Listening n) (Listening n) door.old.places hub.old places.old door.old.left hub.new places.new door.new.left (S.acts streams.old) (S.acts streams.new) }
     ensures len { length places.new ≡ length places.old }
@@ -91,6 +92,7 @@ fn listen_at<A: Allocator + Copy, S: Streams<A>, C: Clock>(
     door: &mut Door,
 ) -> bool
     requires within { index < length places.old }
+    requires sixteen { length places.old ≤ 16 }
     ensures moves { (n : ℕ) → Moves (Listening n) (Listening n) door.old.places hub.old places.old door.old.left hub.new places.new door.new.left (S.acts streams.old) (S.acts streams.new) }
     ensures len { length places.new ≡ length places.old }
     ensures most { door.new.places ≡ door.old.places }
@@ -116,6 +118,7 @@ pub(crate) fn listen_all<A: Allocator + Copy, S: Streams<A>, C: Clock>(
     places: &mut [Option<Peer>],
     door: &mut Door,
 ) -> bool
+    requires { length places.old ≤ 16 }
     ensures moves { (n : ℕ) → Moves (Listening n) (Listening n) door.old.places hub.old places.old door.old.left hub.new places.new door.new.left (S.acts streams.old) (S.acts streams.new) }
     ensures most { door.new.places ≡ door.old.places }
 {

@@ -1,5 +1,5 @@
 //! Serving all streams, one turn after another.
-ghost use Rattle.std.specs.Prelude.{◌≡◌, ℕ, List};
+ghost use Rattle.std.specs.Prelude.{◌≡◌, ◌≤◌, ℕ, List, length};
 ghost use Rattle.nfs_hub.specs.Answer.{Served as ServedState};
 ghost use Rattle.nfs_hub.specs.Machine.{Event};
 ghost use Rattle.nfs_hub.specs.Hub.{LeadsTo};
@@ -50,6 +50,7 @@ fn turn<A: Allocator + Copy, S: Streams<A>, C: Clock>(
     places: &mut [Option<Peer>],
     door: &mut Door,
 ) -> Option<Wait>
+    requires { length places.old ≤ 16 }
     ensures moves { (n : ℕ) → Moves (Listening n) (turned_stage result n) door.old.places hub.old places.old door.old.left hub.new places.new door.new.left (S.acts streams.old) (S.acts streams.new) }
     ensures most { door.new.places ≡ door.old.places }
 {
@@ -71,6 +72,7 @@ fn run<A: Allocator + Copy, S: Streams<A>, C: Clock>(
     door: &mut Door,
     turns: u64,
 ) -> AllEnd
+    requires { length places.old ≤ 16 }
     ensures { RunGives result turns door.old.places hub.old places.old door.old.left hub.new places.new door.new.left (S.acts streams.old) (S.acts streams.new) }
 {
     let mut how = Wait::No;

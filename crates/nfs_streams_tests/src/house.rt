@@ -2,7 +2,7 @@
 
 use crate::memory::{Memory, Script, Seat, Time, USUAL};
 use crate::plain::{bare, serve};
-use crate::scenes::{AMPLE, Outcome, add_all, outcome, replies_of};
+use crate::scenes::{AMPLE, Outcome, add_all, outcome_of, replies_of};
 use nfs_streams::{AllEnd, Limits};
 use std::alloc::Global;
 use std::hash::RandomState;
@@ -214,7 +214,7 @@ fn see_house(
             rt,
             house.name,
             peer,
-            outcome(&streams, peer, &replies),
+            outcome_of(&streams, peer, &replies),
             replies.len(),
         );
     }
@@ -238,7 +238,7 @@ fn a_peer_that_never_reads_costs_a_piece(rt: HostRuntime) -> Result<(), Fail> {
     let mut streams = Memory::new(rt.alloc(), &time);
     add_all(rt.alloc(), &mut streams, &[DEAF])?;
     serve(&mut hub, &mut streams, &time, AMPLE);
-    let deaf = outcome(&streams, 1, &[]);
+    let deaf = outcome_of(&streams, 1, &[]);
     assert_eq!(rt; deaf.map(|o| (o.read, o.told)), Some((4096, 0)));
     Ok(())
 }

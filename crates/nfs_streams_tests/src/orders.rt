@@ -3,7 +3,7 @@
 
 use crate::memory::{Memory, Script, Time, USUAL};
 use crate::plain::{bare, serve};
-use crate::scenes::{AMPLE, add_all, outcome, replies_of, see_told};
+use crate::scenes::{AMPLE, add_all, outcome_of, replies_of, see_told};
 use nfs_streams::{AllEnd, Limits};
 use std::alloc::Global;
 use std::hash::RandomState;
@@ -47,7 +47,7 @@ fn see_one(
     calls: Option<u32>,
 ) -> Result<(), Fail> {
     let all = replies_of(alloc, peer, 2)?;
-    let told = outcome(streams, peer, &all);
+    let told = outcome_of(streams, peer, &all);
     match calls {
         Some(calls) => {
             let some = replies_of(alloc, peer, calls)?;

@@ -73,7 +73,7 @@ pub struct Outcome {
 }
 
 /// What became of the stream of a peer, whose number is at least 1.
-pub fn outcome(streams: &Memory<'_>, peer: u32, replies: &[u8]) -> Option<Outcome> {
+pub fn outcome_of(streams: &Memory<'_>, peer: u32, replies: &[u8]) -> Option<Outcome> {
     let index = usize::try_from(peer).ok()?.checked_sub(1)?;
     let stream = streams.streams.get(index)?;
     Some(Outcome {
