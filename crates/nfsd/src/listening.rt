@@ -1,9 +1,14 @@
-//! Listening on 127.0.0.1, and serving one connection after the other.
+//! Listening on 127.0.0.1, and serving what the options ask for.
+use crate::together::serve_kept;
 use crate::{Fault, TURNS, ended};
 use nfs_hub::{Clock, Hub, ServeEnd, serve};
 use nfsd_options::Options;
+use std::alloc::Global;
+use std::fs::OpenOptions;
 use std::io;
 use std::net::{Ipv4Addr, Net, SocketAddrV4, TcpListener, TcpStream};
+use std::rt::Files;
+use trail_keeper::TrailKeeper;
 
 /// Serves a stream. A reply isn't held back to be sent with the next one.
 fn serve_stream<C: Clock>(hub: &mut Hub, stream: &TcpStream, clock: &C) -> ServeEnd {
@@ -11,12 +16,14 @@ fn serve_stream<C: Clock>(hub: &mut Hub, stream: &TcpStream, clock: &C) -> Serve
     serve(hub, &mut &*stream, &mut &*stream, clock, TURNS)
 }
 
-/// Serves as many connections as the options ask for, and says whether each ended behind a whole record. `Err` of the outer result: it
-/// can't be told.
-pub(crate) fn serve_all<
-    R: Net<Listener = TcpListener, Stream = TcpStream> + Print + Eprint,
-    C: Clock,
->(rt: &R, hub: &mut Hub, clock: &C, options: &Options<'_>) -> io::Result<Result<bool, Fault>> {
+/// Serves as many connections as the options ask for, one after the other, and says whether each ended behind a whole record. `Err` of the
+/// outer result: it can't be told.
+fn serve_all<R: Net<Listener = TcpListener, Stream = TcpStream> + Print + Eprint, C: Clock>(
+    rt: &R,
+    hub: &mut Hub,
+    clock: &C,
+    options: &Options<'_>,
+) -> io::Result<Result<bool, Fault>> {
     let port = options.port;
     let Ok(listener) = TcpListener::bind(rt, SocketAddrV4::new(Ipv4Addr::LOCALHOST, port)) else {
         return Ok(Err(Fault::Socket));
@@ -43,4 +50,40 @@ pub(crate) fn serve_streams<R: Eprint, C: Clock>(
         are_whole = are_whole && is_whole;
     }
     Ok(Ok(are_whole))
+}
+
+/// The file of the trail, to append to; it is made where it isn't there.
+pub(crate) fn open_trail<R: Files>(rt: &R, file: &str) -> Result<R::File, Fault> {
+    let mut how = OpenOptions::new();
+    how.append(true).create(true);
+    how.open(rt, file).map_err(|_| Fault::Trail)
+}
+
+/// The keeper of the trail that the options ask for, if they do.
+fn trail<R: Files>(rt: &R, options: &Options<'_>) -> Result<Option<TrailKeeper<R::File>>, Fault> {
+    match options.trail {
+        Some(file) => Ok(Some(TrailKeeper::new(open_trail(rt, file)?))),
+        None => Ok(None),
+    }
+}
+
+/// Serves as the options ask, from a port of 127.0.0.1. The value is whether all went well; `Err`: nothing more can be served; of the
+/// outer result: it can't be told.
+pub(crate) fn serve_options<
+    R: Net<Listener = TcpListener, Stream = TcpStream> + Files + Print + Eprint,
+    C: Clock,
+>(
+    rt: &R,
+    alloc: Global,
+    hub: &mut Hub,
+    clock: &C,
+    options: &Options<'_>,
+) -> io::Result<Result<bool, Fault>> {
+    if options.trail.is_none() && !options.concurrent {
+        return serve_all(rt, hub, clock, options);
+    }
+    match trail(rt, options) {
+        Ok(trail) => serve_kept(rt, alloc, hub, clock, trail, options),
+        Err(fault) => Ok(Err(fault)),
+    }
 }

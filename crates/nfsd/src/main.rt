@@ -1,14 +1,18 @@
 //! `nfsd`: a file server over NFS version 4.1 (RFC 8881) that means what its access lists say.
 //!
-//! It listens on 127.0.0.1 and serves its connections one after the other; with `--bare` it serves one connection of the sample tree, without
-//! sessions, from standard input to standard output. The status is 0; 2 where the words aren't understood, with `clap`'s text on standard error;
-//! and else 1, with what went wrong on standard error.
+//! It listens on 127.0.0.1 and serves its connections, one after the other or several at a time; with `--bare` it serves one connection of the
+//! sample tree, without sessions, from standard input to standard output. The status is 0; 2 where the words aren't understood, with `clap`'s text
+//! on standard error; and else 1, with what went wrong on standard error.
 #![tactic(auto)]
 
 mod clock;
 mod listening;
 #[cfg(test)]
 mod loopback;
+mod sockets;
+mod together;
+#[cfg(test)]
+mod together_tests;
 
 use anyhow::Result;
 use clock::SystemClock;
@@ -21,7 +25,7 @@ use std::rt::Files;
 use std::{env, fs, io};
 use who_book::{Book, BookFault};
 
-/// The most turns of a connection: in each at most 4,096 bytes are read.
+/// The most turns of a connection that is served alone: in each at most 4,096 bytes are read.
 const TURNS: u64 = 1_000_000;
 
 /// What keeps `nfsd` from serving, in the order in which it is found.
@@ -36,7 +40,10 @@ enum Fault {
     /// The hub can't be made, by a fault of this number.
     #[error("hub {0}")]
     Hub(u8),
-    /// The socket can't be listened on, or gives no connection.
+    /// The trail's file can't be opened, or can't be written.
+    #[error("trail")]
+    Trail,
+    /// The socket can't be listened on, or gives no connection; or it can't be waited for the streams.
     #[error("socket")]
     Socket,
 }
@@ -99,7 +106,7 @@ fn main(rt: HostRuntime) -> Result<ExitCode> {
                 );
                 Ok(ended(&rt, end)?)
             } else {
-                listening::serve_all(&rt, &mut hub, &clock, &options)?
+                listening::serve_options(&rt, alloc, &mut hub, &clock, &options)?
             }
         }
         Err(fault) => Err(fault),

@@ -2,3 +2,4 @@ mod Rules
 mod Taken
 mod Numbers
 mod Answers
+mod Said

@@ -1,22 +1,44 @@
--- What the words of `nfsd` say: the file, the flag and the numbers that `clap`'s reading gives for them.
-use Rattle.std.specs.Prelude.{◌≡◌, ◌↔◌, ℕ, List, Option, Some, None, IsTrue, codes, option_map, pos}
+-- What the words of `nfsd` say: the files, the flags and the numbers that `clap`'s reading gives for them.
+use Rattle.std.specs.Prelude.{◌≡◌, ◌&&◌, ℕ, Bool, false, List, [], ◌∷◌, Option, Some, None, codes, if◌then◌else◌, is_some, option_map, pos}
+use Rattle.std.specs.Str.{bytes_eq}
 use Rattle.std.specs.Str.Parse.{signed_digits_value}
-use Rattle.clap.specs.Words.{IsSignedIn, Text, first_of, matches_of}
+use Rattle.clap.specs.Kinds.{Kinds, or_else}
+use Rattle.clap.specs.Words.{IsSignedIn, Text, fault_of, first_of, matches_of}
+use Rattle.clap.specs.declared.error.kind.ErrorKind.TheVariants.{ArgumentConflict}
 use Rattle.nfsd_options.specs.Simple.{nfsd}
 use Rattle.nfsd_options.specs.declared.options.Options.{Options}
 
--- the text that `clap`'s reading of the words gives for an option; of the flag it is `true` or `false`
+-- the text that `clap`'s reading of the words gives for an option; of a flag it is `true` or `false`
 abbrev pub given : Text → List Text → Option Text
 given option words = first_of option (matches_of nfsd words)
+
+-- whether the text of a flag sets it
+abbrev pub is_set : Option Text → Bool
+is_set None = false
+is_set (Some text) = bytes_eq text (codes "true")
 
 -- n is the number that the text spells, from low to high; where no text is given, n is the default
 abbrev pub IsNumber : ℕ → ℕ → ℕ → Option Text → ℕ → Type 0
 IsNumber default low high None n = n ≡ default
 IsNumber default low high (Some text) n = IsSignedIn (pos low) (pos high) text × (signed_digits_value 10 text ≡ pos n)
 
+-- how many connections are served where the words don't say it
+abbrev pub connections_unsaid : Bool → ℕ
+connections_unsaid concurrent = if concurrent then 4294967295 else 1
+
 -- o is what the words say
 pub record OptionsOf (words : List Text) (o : Options) : Type 0 where
   pub book : option_map (λ file. file.now) o.book ≡ given (codes "book") words
-  pub bare : IsTrue o.bare ↔ (given (codes "bare") words ≡ Some (codes "true"))
+  pub bare : o.bare ≡ is_set (given (codes "bare") words)
   pub port : IsNumber 2049 1 65535 (given (codes "port") words) o.port
-  pub connections : IsNumber 1 0 4294967295 (given (codes "connections") words) o.connections
+  pub connections : IsNumber (connections_unsaid o.concurrent) 0 4294967295 (given (codes "connections") words) o.connections
+  pub concurrent : o.concurrent ≡ is_set (given (codes "concurrent") words)
+  pub trail : option_map (λ file. file.now) o.trail ≡ given (codes "trail") words
+
+-- the sample tree is asked for, which keeps no file of its trail, and such a file
+abbrev pub asks_for_both : List Text → Bool
+asks_for_both words = is_set (given (codes "bare") words) && is_some (given (codes "trail") words)
+
+-- the kinds of the errors that the words may have: those of `clap`'s reading, and else that two options are in conflict
+abbrev pub kinds_of : List Text → Kinds
+kinds_of words = or_else (fault_of nfsd words) (if asks_for_both words then ArgumentConflict ∷ [] else [])

@@ -1,16 +1,23 @@
--- The command of `nfsd`, `nfsd [--book FILE] [--bare] [--port N] [--connections N]`, as `clap` sees a simple command.
+-- The command of `nfsd`, `nfsd [--book FILE] [--bare] [--port N] [--connections N] [--concurrent] [--trail FILE]`, as `clap` sees a simple command.
 use Rattle.std.specs.Prelude.{codes, Some, pos}
-use Rattle.clap.specs.Words.{App, Rule, new_app, new_rule, with_rule}
+use Rattle.clap.specs.Words.{App, Rule, Text, new_app, new_rule, with_rule}
 use Rattle.clap.specs.declared.builder.action.ArgAction.TheVariants.{SetTrue}
 use Rattle.clap.specs.declared.builder.value_parser.ValueParser.TheVariants as vp
 
--- `--book FILE`: any text
-abbrev pub book_rule : Rule
-book_rule = record (new_rule (codes "book")) { long = Some (codes "book"); value_names = 1 }
+-- an option with any text
+abbrev pub file_rule : Text → Rule
+file_rule name = record (new_rule name) { long = Some name; value_names = 1 }
 
--- `--bare`: a flag
+abbrev pub flag_rule : Text → Rule
+flag_rule name = record (new_rule name) { long = Some name; action = Some SetTrue; parser = Some vp.Bool }
+
+-- `--book FILE`
+abbrev pub book_rule : Rule
+book_rule = file_rule (codes "book")
+
+-- `--bare`
 abbrev pub bare_rule : Rule
-bare_rule = record (new_rule (codes "bare")) { long = Some (codes "bare"); action = Some SetTrue; parser = Some vp.Bool }
+bare_rule = flag_rule (codes "bare")
 
 -- `--port N`: a number from 1 to 65535
 abbrev pub port_rule : Rule
@@ -24,5 +31,16 @@ connections_rule = record (new_rule (codes "connections")) {
   parser = Some (vp.Signed (pos 0) (pos 4294967295));
 }
 
+-- `--concurrent`
+abbrev pub concurrent_rule : Rule
+concurrent_rule = flag_rule (codes "concurrent")
+
+-- `--trail FILE`
+abbrev pub trail_rule : Rule
+trail_rule = file_rule (codes "trail")
+
 abbrev pub nfsd : App
-nfsd = with_rule (with_rule (with_rule (with_rule (new_app (codes "nfsd")) book_rule) bare_rule) port_rule) connections_rule
+nfsd =
+    let front = with_rule (with_rule (new_app (codes "nfsd")) book_rule) bare_rule in
+    let numbers = with_rule (with_rule front port_rule) connections_rule in
+    with_rule (with_rule numbers concurrent_rule) trail_rule

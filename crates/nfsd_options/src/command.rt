@@ -1,7 +1,7 @@
 //! The command of `nfsd`, with its help.
 ghost use Rattle.std.specs.Prelude.{◌≡◌, IfOk, false};
 ghost use Rattle.clap.specs.Words.{app_of, rule_of};
-ghost use Rattle.nfsd_options.specs.Simple.{bare_rule, book_rule, connections_rule, nfsd, port_rule};
+ghost use Rattle.nfsd_options.specs.Simple.{bare_rule, book_rule, concurrent_rule, connections_rule, file_rule, flag_rule, nfsd, port_rule, trail_rule};
 
 use clap::{Arg, ArgAction, Command, value_parser};
 use std::alloc::{AllocError, Global};
@@ -10,7 +10,7 @@ use std::alloc::{AllocError, Global};
 const ABOUT: &str = "\
 Serves files over NFS version 4.1, and means what their access control lists say.
 
-It listens on 127.0.0.1, prints 'listening on 127.0.0.1:PORT', serves its connections one after the other, and ends.
+It listens on 127.0.0.1, prints 'listening on 127.0.0.1:PORT', serves its connections, one after the other unless told else, and ends.
 The files are kept in memory: an empty root at first, which belongs to whom the book says.";
 
 /// What a book is, with an example.
@@ -28,7 +28,11 @@ Without a book there are no names, the domain is 'localdomain', and the root bel
 
 For example, two connections on port 12049:
 
-    nfsd --book names.toml --port 12049 --connections 2";
+    nfsd --book names.toml --port 12049 --connections 2
+
+and any number, up to 16 at the same time, until it is stopped:
+
+    nfsd --concurrent --trail trail.txt";
 
 /// The command of `nfsd`, as `clap` reads it.
 pub(crate) fn command<'a>(alloc: Global) -> Result<Command<'a>, AllocError>
@@ -40,29 +44,46 @@ pub(crate) fn command<'a>(alloc: Global) -> Result<Command<'a>, AllocError>
         .arg(book(alloc))?
         .arg(bare(alloc))?
         .arg(port(alloc))?
-        .arg(connections(alloc))?;
+        .arg(connections(alloc))?
+        .arg(concurrent(alloc))?
+        .arg(trail(alloc))?;
     Ok(command)
+}
+
+/// An option that names a file.
+fn file<'a>(alloc: Global, name: &'a str, help: &'a str) -> Arg<'a>
+    ensures { (rule_of result ≡ file_rule name.entry.now) × (result.global ≡ false) }
+{
+    Arg::new(alloc, name)
+        .long(name)
+        .value_name("FILE")
+        .help(help)
+}
+
+fn flag<'a>(alloc: Global, name: &'a str, help: &'a str) -> Arg<'a>
+    ensures { (rule_of result ≡ flag_rule name.entry.now) × (result.global ≡ false) }
+{
+    Arg::new(alloc, name)
+        .long(name)
+        .value_parser(value_parser!(bool))
+        .action(ArgAction::SetTrue)
+        .help(help)
 }
 
 fn book<'a>(alloc: Global) -> Arg<'a>
     ensures { (rule_of result ≡ book_rule) × (result.global ≡ false) }
 {
-    Arg::new(alloc, "book")
-        .long("book")
-        .value_name("FILE")
-        .help("The book of names")
+    file(alloc, "book", "The book of names")
 }
 
 fn bare<'a>(alloc: Global) -> Arg<'a>
     ensures { (rule_of result ≡ bare_rule) × (result.global ≡ false) }
 {
-    Arg::new(alloc, "bare")
-        .long("bare")
-        .value_parser(value_parser!(bool))
-        .action(ArgAction::SetTrue)
-        .help(
-            "Serves a sample tree, without sessions, from standard input to standard output, whatever the book",
-        )
+    flag(
+        alloc,
+        "bare",
+        "Serves a sample tree, without sessions, from standard input to standard output, whatever the book",
+    )
 }
 
 fn port<'a>(alloc: Global) -> Arg<'a>
@@ -82,5 +103,27 @@ fn connections<'a>(alloc: Global) -> Arg<'a>
         .long("connections")
         .value_name("N")
         .value_parser(value_parser!(u32))
-        .help("How many connections to serve, from 0 to 4294967295 [default: 1]")
+        .help(
+            "How many connections to serve in all, from 0 to 4294967295 [default: 1; with --concurrent: 4294967295]",
+        )
+}
+
+fn concurrent<'a>(alloc: Global) -> Arg<'a>
+    ensures { (rule_of result ≡ concurrent_rule) × (result.global ≡ false) }
+{
+    flag(
+        alloc,
+        "concurrent",
+        "Serves up to 16 connections at the same time",
+    )
+}
+
+fn trail<'a>(alloc: Global) -> Arg<'a>
+    ensures { (rule_of result ≡ trail_rule) × (result.global ≡ false) }
+{
+    file(
+        alloc,
+        "trail",
+        "Appends the lines of the audit trail to this file, before the replies go out; not with --bare",
+    )
 }

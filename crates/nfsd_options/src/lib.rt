@@ -1,4 +1,4 @@
-//! The words of `nfsd`: `nfsd [--book FILE] [--bare] [--port N] [--connections N]`.
+//! The words of `nfsd`: `nfsd [--book FILE] [--bare] [--port N] [--connections N] [--concurrent] [--trail FILE]`.
 #![tactic(auto)]
 
 mod command;

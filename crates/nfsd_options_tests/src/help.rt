@@ -4,13 +4,17 @@ use std::alloc::{AllocError, Global};
 use std::test::Fail;
 use who_book::Book;
 
-/// The text that stands for `nfsd --help`.
-fn help(alloc: Global) -> Result<String, AllocError> {
-    let words = ["nfsd", "--help"];
-    match Options::read(alloc, words.as_slice()) {
+/// The text for the user where the words are refused, or help is asked for.
+fn told(alloc: Global, words: &[&str]) -> Result<String, AllocError> {
+    match Options::read(alloc, words) {
         Ok(_) => Ok(String::new(alloc)),
         Err(error) => error.to_string(alloc),
     }
+}
+
+/// The text that stands for `nfsd --help`.
+fn help(alloc: Global) -> Result<String, AllocError> {
+    told(alloc, ["nfsd", "--help"].as_slice())
 }
 
 /// The part of a text between two texts, where both stand in it.
@@ -21,7 +25,7 @@ fn between<'a>(text: &'a str, front: &str, back: &str) -> Option<&'a str> {
 }
 
 /// Texts of help: what is served, where, the options with their ranges and defaults, and an example.
-static TEXTS: [&str; 14] = [
+static TEXTS: [&str; 18] = [
     "NFS version 4.1",
     "access control lists",
     "127.0.0.1",
@@ -32,10 +36,14 @@ static TEXTS: [&str; 14] = [
     "--port <N>",
     "from 1 to 65535 [default: 2049]",
     "--connections <N>",
-    "from 0 to 4294967295 [default: 1]",
+    "from 0 to 4294967295 [default: 1; with --concurrent: 4294967295]",
+    "--concurrent ",
+    "--trail <FILE>",
+    "before the replies go out; not with --bare",
     "-h, --help",
     "a file in TOML with these six keys and no others",
     "nfsd --book names.toml --port 12049 --connections 2\n",
+    "nfsd --concurrent --trail trail.txt\n",
 ];
 
 fn texts() -> &'static [&'static str] {
@@ -57,5 +65,21 @@ fn help_has_a_book(rt: HostRuntime) -> Result<(), Fail> {
     let told = help(rt.alloc())?;
     let example = between(told.as_str(), "no others:\n\n", "\n\nWithout a book").ok_or("a book")?;
     assert!(rt; Book::read(rt.alloc(), example).is_ok());
+    Ok(())
+}
+
+static CONFLICT: &str = "\
+error: the argument '--trail <FILE>' cannot be used with '--bare', whose trail goes to no file
+
+Usage: nfsd [OPTIONS]
+
+For more information, try '--help'.
+";
+
+/// A sample tree whose trail is to be kept is refused in `clap`'s form.
+#[test]
+fn conflict_is_told(rt: HostRuntime) -> Result<(), Fail> {
+    let text = told(rt.alloc(), ["nfsd", "--bare", "--trail", "t"].as_slice())?;
+    assert_eq!(rt; text.as_str(), CONFLICT);
     Ok(())
 }

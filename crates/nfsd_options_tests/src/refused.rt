@@ -13,7 +13,7 @@ fn refusal(alloc: Global, line: &str) -> Result<Option<ErrorKind>, AllocError> {
     }
 }
 
-static ROWS: [(&str, ErrorKind); 24] = [
+static ROWS: [(&str, ErrorKind); 32] = [
     ("nfsd --port 0", ErrorKind::ValueValidation),
     ("nfsd --port 65536", ErrorKind::ValueValidation),
     ("nfsd --port=-1", ErrorKind::ValueValidation),
@@ -42,6 +42,20 @@ static ROWS: [(&str, ErrorKind); 24] = [
     ("nfsd -p 1", ErrorKind::UnknownArgument),
     ("nfsd names.toml", ErrorKind::UnknownArgument),
     ("nfsd -- --bare", ErrorKind::UnknownArgument),
+    ("nfsd --trail", ErrorKind::InvalidValue),
+    ("nfsd --trail a --trail b", ErrorKind::ArgumentConflict),
+    (
+        "nfsd --concurrent --concurrent",
+        ErrorKind::ArgumentConflict,
+    ),
+    ("nfsd --concurrent=true", ErrorKind::TooManyValues),
+    ("nfsd --bare --trail t", ErrorKind::ArgumentConflict),
+    (
+        "nfsd --trail t --port 3 --bare",
+        ErrorKind::ArgumentConflict,
+    ),
+    ("nfsd --bare --trail t --port 0", ErrorKind::ValueValidation),
+    ("nfsd --bare --trail t --help", ErrorKind::DisplayHelp),
     ("nfsd --help", ErrorKind::DisplayHelp),
     ("nfsd -h", ErrorKind::DisplayHelp),
 ];

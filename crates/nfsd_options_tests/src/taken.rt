@@ -72,6 +72,52 @@ fn lines_are_taken(rt: HostRuntime) -> Result<(), Fail> {
             bare,
             port,
             connections,
+            concurrent: false,
+            trail: None,
+        };
+        let said = says(rt.alloc(), line, &want)?;
+        assert!(rt; said, "{line}");
+    }
+    Ok(())
+}
+
+/// A line of the later options, and the flag of the sample tree, the number of connections, whether several are served at the same time, and
+/// the trail's file that its words say.
+type LaterRow = (&'static str, bool, u32, bool, Option<&'static str>);
+
+static LATER_ROWS: [LaterRow; 9] = [
+    ("nfsd --concurrent", false, 4294967295, true, None),
+    ("nfsd --concurrent --connections 3", false, 3, true, None),
+    ("nfsd --connections 0 --concurrent", false, 0, true, None),
+    ("nfsd --bare --concurrent", true, 4294967295, true, None),
+    ("nfsd --trail trail.txt", false, 1, false, Some("trail.txt")),
+    ("nfsd --trail=", false, 1, false, Some("")),
+    ("nfsd --trail=--bare", false, 1, false, Some("--bare")),
+    ("nfsd --trail t --connections 7", false, 7, false, Some("t")),
+    (
+        "nfsd --concurrent --trail trail.txt",
+        false,
+        4294967295,
+        true,
+        Some("trail.txt"),
+    ),
+];
+
+fn later_rows() -> &'static [LaterRow] {
+    &LATER_ROWS
+}
+
+#[test]
+fn lines_of_later_options_are_taken(rt: HostRuntime) -> Result<(), Fail> {
+    for row in later_rows() {
+        let (line, bare, connections, concurrent, trail) = *row;
+        let want = Options {
+            book: None,
+            bare,
+            port: 2049,
+            connections,
+            concurrent,
+            trail,
         };
         let said = says(rt.alloc(), line, &want)?;
         assert!(rt; said, "{line}");
@@ -84,7 +130,12 @@ fn lines_are_taken(rt: HostRuntime) -> Result<(), Fail> {
 fn no_word_is_needed(rt: HostRuntime) {
     let words: [&str; 0] = [];
     let said = Options::read(rt.alloc(), words.as_slice()).is_ok_and(|options| {
-        options.book.is_none() && !options.bare && options.port == 2049 && options.connections == 1
+        options.book.is_none()
+            && !options.bare
+            && options.port == 2049
+            && options.connections == 1
+            && !options.concurrent
+            && options.trail.is_none()
     });
     assert!(rt; said);
 }

@@ -10,4 +10,6 @@ returns c =
     let first = c.in_ok-arg.ensures.shape c.book.ensures.1 ∙ ap₂ with_rule bare_app c.book.ensures.0 in
     let second = c.in_ok-arg-2.ensures.shape c.bare.ensures.1 ∙ ap₂ with_rule first c.bare.ensures.0 in
     let third = c.in_ok-arg-3.ensures.shape c.port.ensures.1 ∙ ap₂ with_rule second c.port.ensures.0 in
-    c.in_ok-command.ensures.shape c.connections.ensures.1 ∙ ap₂ with_rule third c.connections.ensures.0
+    let fourth = c.in_ok-arg-4.ensures.shape c.connections.ensures.1 ∙ ap₂ with_rule third c.connections.ensures.0 in
+    let fifth = c.in_ok-arg-5.ensures.shape c.concurrent.ensures.1 ∙ ap₂ with_rule fourth c.concurrent.ensures.0 in
+    c.in_ok-command.ensures.shape c.trail.ensures.1 ∙ ap₂ with_rule fifth c.trail.ensures.0

@@ -1,0 +1,181 @@
+-- One place and one connection change, and the others stay.
+use Rattle.std.proofs.Common.{◌≡◌, ◌≢◌, ◌<◌, ℕ, cond, eqb, List, ◌++◌, length, Option, Some, None, refl, sym, ap, subst, ◌∙◌, inl, inr, arith}
+use Rattle.std.specs.Prelude.{set}
+use Rattle.std.proofs.lemmas.Bool.{cases_eq, eq-eqb, ne_eqb}
+use Rattle.nfs_hub.specs.declared.hub.Hub.{Hub}
+use Rattle.nfs_hub.specs.Machine.{Connected, State}
+use Rattle.nfs_hub.specs.Hub.{IsHub, IsUnchanged}
+use Rattle.nfs_streams.specs.declared.peer.Peer.{Peer}
+use Rattle.nfs_streams.specs.Acts.{Act, conn_at, open_in}
+use Rattle.nfs_streams.specs.Seats.{place_at, taken, Seat, IsSeated, IsFresh, Stands}
+use Rattle.nfs_streams.proofs.Lists.{set_here, set_there, taken_swap}
+use Rattle.nfs_streams.proofs.Hubs.{fresh_on, unchanged}
+
+-- a number has this place from now on
+abbrev pub owner_with : (ℕ → ℕ) → ℕ → ℕ → ℕ → ℕ
+owner_with owner id i k = cond (eqb k id) i (owner k)
+
+owner_here : (owner : ℕ → ℕ) (id i : ℕ) → owner_with owner id i id ≡ i
+owner_here owner id i = rw (eq-eqb id id refl) refl
+
+owner_there : (owner : ℕ → ℕ) (id i k : ℕ) → k ≢ id → owner_with owner id i k ≡ owner k
+owner_there owner id i k ne = rw (ne_eqb k id ne) refl
+
+-- Places `ps` with `x` at `i` become the same with `y` there, and with them the connection of number `id`.
+pub record Change {A : Type 0} (start : ℕ) (hub' : Hub A) (ps : List (Option Peer)) (i : ℕ) (x y : Option Peer) (acts acts' : List Act) (t s t' s' : State) (id : ℕ) : Type 0 where
+  pub was : (p : Peer) → x ≡ Some p → p.conn ≡ id
+  pub alone : (j : ℕ) (p : Peer) → j ≢ i → place_at ps j ≡ Some p → p.conn ≢ id
+  pub is : IsHub hub' t'
+  pub fresh : IsFresh t'
+  pub served : s'.served ≡ t'.served
+  pub next : s'.next ≡ t'.next
+  pub in_hub : (k : ℕ) → k ≢ id → t'.connection k ≡ t.connection k
+  pub in_machine : (k : ℕ) → k ≢ id → s'.connection k ≡ s.connection k
+  pub seat : Seat start id y (t'.connection id) (s'.connection id)
+  pub now : (p : Peer) → y ≡ Some p → (p.conn ≡ id) × (p.place ≡ i) × (conn_at acts' i ≡ Some id)
+  pub gone : y ≡ None → conn_at acts' i ≡ None
+  pub conns : (j : ℕ) → j ≢ i → conn_at acts' j ≡ conn_at acts j
+  pub count : open_in acts' ≡ taken (set ps i y)
+
+seat_move : (start k : ℕ) (at at' : Option Peer) (h h' m m' : Option Connected) → at' ≡ at → h' ≡ h → m' ≡ m → Seat start k at h m → Seat start k at' h' m'
+seat_move start k at at' h h' m m' e f g seat =
+    subst (λ (o : Option Peer). Seat start k o h' m') (sym e)
+    (subst (λ (o : Option Connected). Seat start k at o m') (sym f) (subst (λ (o : Option Connected). Seat start k at h o) (sym g) seat))
+
+-- a number that has the place and isn't its connection's is elsewhere
+seat_elsewhere : (start id k : ℕ) (x y : Option Peer) (h h' m m' : Option Connected) → k ≢ id → ((p : Peer) → x ≡ Some p → p.conn ≡ id) → ((p : Peer) → y ≡ Some p → p.conn ≡ id) → h' ≡ h → m' ≡ m → Seat start k x h m → Seat start k y h' m'
+seat_elsewhere start id k x y h h' m m' ne was now f g seat =
+    elim seat [
+      | inl held ↦ absurd (ne (sym held.numbered ∙ was held.peer held.here))
+      | inr other ↦ inr (record { not_here = λ p e same. ne (sym same ∙ now p e); same = g ∙ other.same ∙ sym f; closed = λ le. f ∙ other.closed le })
+    ]
+
+seated_here : (owner : ℕ → ℕ) (acts : List Act) (i id : ℕ) (y : Option Peer) → owner id ≡ i → ((p : Peer) → y ≡ Some p → (p.conn ≡ id) × (p.place ≡ i) × (conn_at acts i ≡ Some id)) → (y ≡ None → conn_at acts i ≡ None) → IsSeated owner acts i y
+seated_here owner acts i id None own now gone = gone refl
+seated_here owner acts i id (Some p) own now gone =
+    let n = now p refl in
+    (n.2 ∙ ap (λ (k : ℕ). Some k) (sym n.0), ap owner n.0 ∙ own, n.1)
+
+seated_there : (owner owner' : ℕ → ℕ) (acts acts' : List Act) (j : ℕ) (q : Option Peer) → conn_at acts' j ≡ conn_at acts j → ((p : Peer) → q ≡ Some p → owner' p.conn ≡ owner p.conn) → IsSeated owner acts j q → IsSeated owner' acts' j q
+seated_there owner owner' acts acts' j None same own seated = same ∙ seated
+seated_there owner owner' acts acts' j (Some p) same own seated = (same ∙ seated.0, own p refl ∙ seated.1, seated.2)
+
+module _ {A : Type 0} {start : ℕ} {hub hub' : Hub A} {ps : List (Option Peer)} {i : ℕ} {x y : Option Peer} {acts acts' : List Act} {s t' s' : State} {id : ℕ} (st : Stands start hub (set ps i x) acts s) (lt : i < length ps) (ch : Change start hub' ps i x y acts acts' st.state s t' s' id) where
+  abbrev owner : ℕ → ℕ
+  owner = owner_with st.owner id i
+
+  each_now : (k : ℕ) → Seat start k (place_at (set ps i y) (owner k)) (t'.connection k) (s'.connection k)
+  each_now k = elim (cases_eq k id) [
+    | inl e ↦ subst (λ (j : ℕ). Seat start j (place_at (set ps i y) (owner j)) (t'.connection j) (s'.connection j)) (sym e)
+        (subst (λ (o : Option Peer). Seat start id o (t'.connection id) (s'.connection id)) (sym (ap (λ (j : ℕ). place_at (set ps i y) j) (owner_here st.owner id i) ∙ set_here ps i y lt)) ch.seat)
+    | inr ne ↦ subst (λ (j : ℕ). Seat start k (place_at (set ps i y) j) (t'.connection k) (s'.connection k)) (sym (owner_there st.owner id i k ne))
+        (elim (cases_eq (st.owner k) i) [
+          | inl at ↦ seat_move start k y (place_at (set ps i y) (st.owner k)) (t'.connection k) (t'.connection k) (s'.connection k) (s'.connection k) (ap (λ (j : ℕ). place_at (set ps i y) j) at ∙ set_here ps i y lt) refl refl
+              (seat_elsewhere start id k x y (st.state.connection k) (t'.connection k) (s.connection k) (s'.connection k) ne ch.was (λ p e. (ch.now p e).0) (ch.in_hub k ne) (ch.in_machine k ne)
+              (seat_move start k (place_at (set ps i x) (st.owner k)) x (st.state.connection k) (st.state.connection k) (s.connection k) (s.connection k) (sym (ap (λ (j : ℕ). place_at (set ps i x) j) at ∙ set_here ps i x lt)) refl refl (st.each k)))
+          | inr other ↦ seat_move start k (place_at (set ps i x) (st.owner k)) (place_at (set ps i y) (st.owner k)) (st.state.connection k) (t'.connection k) (s.connection k) (s'.connection k) (set_there ps i (st.owner k) y other ∙ sym (set_there ps i (st.owner k) x other)) (ch.in_hub k ne) (ch.in_machine k ne) (st.each k)
+        ])
+  ]
+
+  seated_now : (j : ℕ) → IsSeated owner acts' j (place_at (set ps i y) j)
+  seated_now j = elim (cases_eq j i) [
+    | inl e ↦ subst (λ (n : ℕ). IsSeated owner acts' n (place_at (set ps i y) n)) (sym e) (subst (λ (o : Option Peer). IsSeated owner acts' i o) (sym (set_here ps i y lt)) (seated_here owner acts' i id y (owner_here st.owner id i) ch.now ch.gone))
+    | inr ne ↦ subst (λ (o : Option Peer). IsSeated owner acts' j o) (sym (set_there ps i j y ne))
+        (seated_there st.owner owner acts acts' j (place_at ps j) (ch.conns j ne) (λ p e. owner_there st.owner id i p.conn (ch.alone j p ne e)) (subst (λ (o : Option Peer). IsSeated st.owner acts j o) (set_there ps i j x ne) (st.seated j)))
+  ]
+
+  pub changed : Stands start hub' (set ps i y) acts' s'
+  changed = record { state = t'; is = ch.is; fresh = ch.fresh; served = ch.served; next = ch.next; owner = owner; each = each_now; seated = seated_now; count = ch.count }
+
+-- ---- the connection of a place
+
+pub record Here (i : ℕ) (p : Peer) (acts : List Act) (t s : State) : Type 0 where
+  pub conn : conn_at acts i ≡ Some p.conn
+  pub place : p.place ≡ i
+  pub connected : Connected
+  pub opened : t.connection p.conn ≡ Some connected
+  pub broken : connected.broken ≡ p.broken
+  pub behind : s.connection p.conn ≡ Some (record connected { pending = p.held ++ connected.pending })
+
+pub some_peer : (p q : Peer) → Some p ≡ Some q → p ≡ q
+some_peer p q e = cc
+
+held_here : (start i : ℕ) (p : Peer) (acts : List Act) (t s : State) → conn_at acts i ≡ Some p.conn → p.place ≡ i → Seat start p.conn (Some p) (t.connection p.conn) (s.connection p.conn) → Here i p acts t s
+held_here start i p acts t s conn place seat =
+    elim seat [
+      | inl held ↦ let same : held.peer ≡ p = sym (some_peer p held.peer held.here) in
+          record {
+            conn = conn;
+            place = place;
+            connected = held.connected;
+            opened = held.opened;
+            broken = subst (λ (q : Peer). held.connected.broken ≡ q.broken) same held.broken;
+            behind = subst (λ (q : Peer). s.connection p.conn ≡ Some (record held.connected { pending = q.held ++ held.connected.pending })) same held.behind;
+          }
+      | inr other ↦ absurd (other.not_here p refl refl)
+    ]
+
+-- the connection of a place, of any places
+pub here_at : {A : Type 0} {start : ℕ} {hub : Hub A} {places : List (Option Peer)} {acts : List Act} {s : State} (st : Stands start hub places acts s) (j : ℕ) (q : Peer) → place_at places j ≡ Some q → Here j q acts st.state s
+here_at {start = start} {places = places} {acts = acts} {s = s} st j q at =
+    let seated : IsSeated st.owner acts j (Some q) = subst (λ (o : Option Peer). IsSeated st.owner acts j o) at (st.seated j) in
+    held_here start j q acts st.state s seated.0 seated.2
+    (subst (λ (o : Option Peer). Seat start q.conn o (st.state.connection q.conn) (s.connection q.conn)) (ap (λ (k : ℕ). place_at places k) seated.1 ∙ at) (st.each q.conn))
+
+-- a connection is at one place
+pub one_place : {A : Type 0} {start : ℕ} {hub : Hub A} {places : List (Option Peer)} {acts : List Act} {s : State} (st : Stands start hub places acts s) (i j : ℕ) (p q : Peer) → place_at places i ≡ Some p → place_at places j ≡ Some q → q.conn ≡ p.conn → j ≡ i
+one_place {acts = acts} st i j p q at at' same =
+    let seated : IsSeated st.owner acts i (Some p) = subst (λ (o : Option Peer). IsSeated st.owner acts i o) at (st.seated i) in
+    let seated' : IsSeated st.owner acts j (Some q) = subst (λ (o : Option Peer). IsSeated st.owner acts j o) at' (st.seated j) in
+    sym seated'.1 ∙ ap st.owner same ∙ seated.1
+
+-- a connection goes on at its place, behind acts that seat nobody and close nothing
+pub stays_at : {A : Type 0} {start : ℕ} {hub : Hub A} {acts : List Act} {s : State} (ps : List (Option Peer)) (i : ℕ) (p p' : Peer) (st : Stands start hub (set ps i (Some p)) acts s) → i < length ps → p'.conn ≡ p.conn → p'.place ≡ p.place
+    → (hub' : Hub A) (acts' : List Act) (t' s' : State) → IsHub hub' t' → ((k : ℕ) → k ≢ p.conn → t'.connection k ≡ st.state.connection k) → t'.next ≡ st.state.next → ((k : ℕ) → k ≢ p.conn → s'.connection k ≡ s.connection k) → s'.next ≡ s.next → s'.served ≡ t'.served
+    → Seat start p.conn (Some p') (t'.connection p.conn) (s'.connection p.conn) → ((j : ℕ) → conn_at acts' j ≡ conn_at acts j) → open_in acts' ≡ open_in acts → Stands start hub' (set ps i (Some p')) acts' s'
+stays_at {acts = acts} {s = s} ps i p p' st lt conn place hub' acts' t' s' is in_hub hub_next in_machine next served seat conns count =
+    let at = set_here ps i (Some p) lt in
+    let h = here_at st i p at in
+    changed st lt (record {
+      was = λ q e. ap (λ (r : Peer). r.conn) (sym (some_peer p q e));
+      alone = λ j q ne there same. ne (one_place st i j p q at (set_there ps i j (Some p) ne ∙ there) same);
+      is = is;
+      fresh = fresh_on st.state t' p.conn h.connected st.fresh h.opened in_hub hub_next;
+      served = served;
+      next = next ∙ st.next ∙ sym hub_next;
+      in_hub = in_hub;
+      in_machine = in_machine;
+      seat = seat;
+      now = λ q e. let same : q ≡ p' = sym (some_peer p' q e) in (ap (λ (r : Peer). r.conn) same ∙ conn, ap (λ (r : Peer). r.place) same ∙ place ∙ h.place, conns i ∙ h.conn);
+      gone = λ e. absurd (cc);
+      conns = λ j ne. conns j;
+      count = count ∙ omega (arith, st.count, taken_swap ps i (Some p) (Some p') lt);
+    })
+
+-- behind acts that seat nobody and close nothing all stays
+pub stands_as : {A : Type 0} {start : ℕ} {hub : Hub A} {places : List (Option Peer)} {acts : List Act} {s : State} (acts' : List Act) → ((j : ℕ) → conn_at acts' j ≡ conn_at acts j) → open_in acts' ≡ open_in acts → Stands start hub places acts s → Stands start hub places acts' s
+stands_as {places = places} {acts = acts} acts' conns count st = record {
+  state = st.state;
+  is = st.is;
+  fresh = st.fresh;
+  served = st.served;
+  next = st.next;
+  owner = st.owner;
+  each = st.each;
+  seated = λ j. seated_there st.owner st.owner acts acts' j (place_at places j) (conns j) (λ p e. refl) (st.seated j);
+  count = count ∙ st.count;
+}
+
+-- a hub that is in the same state
+pub stands_in : {A : Type 0} {start : ℕ} {hub : Hub A} {places : List (Option Peer)} {acts : List Act} {s : State} (hub' : Hub A) → IsUnchanged hub hub' → Stands start hub places acts s → Stands start hub' places acts s
+stands_in {hub = hub} hub' same st = record {
+  state = st.state;
+  is = unchanged hub st.state st.is hub' same;
+  fresh = st.fresh;
+  served = st.served;
+  next = st.next;
+  owner = st.owner;
+  each = st.each;
+  seated = st.seated;
+  count = st.count;
+}

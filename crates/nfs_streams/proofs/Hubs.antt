@@ -1,0 +1,88 @@
+-- What the hub says of a connection that is open in its state, and states with one connection replaced.
+use Rattle.std.proofs.Common.{◌≡◌, ◌≢◌, ◌≤◌, ℕ, Bool, cond, eqb, List, Option, Some, None, option_map, refl, sym, ap, subst, ◌∙◌, inl, inr}
+use Rattle.std.specs.Prelude.{MatchOption}
+use Rattle.std.specs.Ordering.{nat_cmp}
+use Rattle.std.specs.BTreeMap.{get}
+use Rattle.std.proofs.lemmas.Bool.{cases_eq, eq-eqb, ne_eqb}
+use Rattle.nfs_hub.specs.declared.connection.Connection.{Connection}
+use Rattle.nfs_hub.specs.declared.hub.Hub.{Hub}
+use Rattle.nfs_hub.specs.Answer.{Served}
+use Rattle.nfs_hub.specs.Machine.{Connected, State, OnConnection, ChangesConnection}
+use Rattle.nfs_hub.specs.Hub.{IsHub, SameConnection, IsUnchanged, pending_at, broken_at}
+use Rattle.nfs_streams.specs.Seats.{IsFresh}
+
+same_bytes : {A : Type 0} (o : Option (Connection A)) (p : Option Connected) (c : Connected) → SameConnection o p → p ≡ Some c → option_map (λ (x : Connection A). x.pending.bytes) o ≡ Some c.pending
+same_bytes None None c same e = absurd (cc)
+same_bytes None (Some d) c same e = absurd same
+same_bytes (Some x) None c same e = absurd same
+same_bytes (Some x) (Some d) c same e = let bytes : d.pending ≡ x.pending.bytes = same.pending in let is : d ≡ c = cc in ap (λ (l : List ℕ). Some l) (sym bytes ∙ ap (λ (k : Connected). k.pending) is)
+
+same_broken : {A : Type 0} (o : Option (Connection A)) (p : Option Connected) (c : Connected) → SameConnection o p → p ≡ Some c → option_map (λ (x : Connection A). x.broken) o ≡ Some c.broken
+same_broken None None c same e = absurd (cc)
+same_broken None (Some d) c same e = absurd same
+same_broken (Some x) None c same e = absurd same
+same_broken (Some x) (Some d) c same e = let broken : d.broken ≡ x.broken = same.broken in let is : d ≡ c = cc in ap (λ (b : Bool). Some b) (sym broken ∙ ap (λ (k : Connected). k.broken) is)
+
+module _ {A : Type 0} (hub : Hub A) (state : State) (is : IsHub hub state) where
+  pub pending_of : (id : ℕ) (c : Connected) → state.connection id ≡ Some c → pending_at hub id ≡ Some c.pending
+  pending_of id c e = same_bytes (get nat_cmp hub.connections id) (state.connection id) c (is.connections id) e
+
+  pub broken_of : (id : ℕ) (c : Connected) → state.connection id ≡ Some c → broken_at hub id ≡ Some c.broken
+  broken_of id c e = same_broken (get nat_cmp hub.connections id) (state.connection id) c (is.connections id) e
+
+  -- a hub that is unchanged is in the state that it was in
+  pub unchanged : (new : Hub A) → IsUnchanged hub new → IsHub new state
+  unchanged new same = record {
+    served = is.served ∙ sym same.served;
+    next = is.next ∙ sym same.next;
+    connections = λ id. subst (λ (o : Option (Connection A)). SameConnection o (state.connection id)) (sym (same.connections id)) (is.connections id);
+  }
+
+  -- the hub is in each state that is the same
+  pub also_in : (other : State) → other.served ≡ state.served → other.next ≡ state.next → ((id : ℕ) → other.connection id ≡ state.connection id) → IsHub hub other
+  also_in other served next same = record {
+    served = served ∙ is.served;
+    next = next ∙ is.next;
+    connections = λ id. subst (λ (o : Option Connected). SameConnection (get nat_cmp hub.connections id) o) (sym (same id)) (is.connections id);
+  }
+
+-- a state with another connection of a number
+abbrev pub put : State → Served → ℕ → Option Connected → State
+put s served id o = record { served = served; connection = λ k. cond (eqb k id) o (s.connection k); next = s.next }
+
+pub put_here : (s : State) (served : Served) (id : ℕ) (o : Option Connected) → (put s served id o).connection id ≡ o
+put_here s served id o = rw (eq-eqb id id refl) refl
+
+pub put_there : (s : State) (served : Served) (id : ℕ) (o : Option Connected) (k : ℕ) → k ≢ id → (put s served id o).connection k ≡ s.connection k
+put_there s served id o k ne = rw (ne_eqb k id ne) refl
+
+pub put_changes : (s : State) (served : Served) (id : ℕ) (o : Option Connected) → ChangesConnection id o s (put s served id o)
+put_changes s served id o = record { changed = put_here s served id o; others = put_there s served id o }
+
+-- a step on an open connection: what it becomes
+pub record Stepped (id : ℕ) (on : Served → Connected → Served → Connected → Type 0) (old : State) (c : Connected) (new : State) : Type 0 where
+  pub after : Connected
+  pub does : on old.served c new.served after
+  pub changed : new.connection id ≡ Some after
+  pub others : (k : ℕ) → k ≢ id → new.connection k ≡ old.connection k
+  pub next : new.next ≡ old.next
+
+pub stepped : (id : ℕ) (step : Served → Connected → Served → Connected → Type 0) (old : State) (c : Connected) (new : State) → old.connection id ≡ Some c → OnConnection id step old new → Stepped id step old c new
+stepped id step old c new opened on =
+    let h = subst (λ (o : Option Connected). MatchOption o (new ≡ old) (λ c. (d : Connected) × step old.served c new.served d × ChangesConnection id (Some d) old new × (new.next ≡ old.next))) opened on in
+    record { after = h.0; does = h.1; changed = h.2.changed; others = h.2.others; next = h.3 }
+
+-- a step on an open connection of another state
+pub steps : (id : ℕ) (step : Served → Connected → Served → Connected → Type 0) (old : State) (c d : Connected) (served : Served) → old.connection id ≡ Some c → step old.served c served d → OnConnection id step old (put old served id (Some d))
+steps id step old c d served opened does =
+    let new = put old served id (Some d) in
+    subst (λ (o : Option Connected). MatchOption o (new ≡ old) (λ c. (d : Connected) × step old.served c new.served d × ChangesConnection id (Some d) old new × (new.next ≡ old.next))) (sym opened) (d, does, put_changes old served id (Some d), refl)
+
+-- numbers that are still to come stay so, where an open connection changes
+pub fresh_on : (old new : State) (id : ℕ) (c : Connected) → IsFresh old → old.connection id ≡ Some c → ((k : ℕ) → k ≢ id → new.connection k ≡ old.connection k) → new.next ≡ old.next → IsFresh new
+fresh_on old new id c fresh opened others next k le =
+    let le' : old.next ≤ k = subst (λ (n : ℕ). n ≤ k) next le in
+    elim (cases_eq k id) [
+      | inl e ↦ let was : old.connection id ≡ None = subst (λ (j : ℕ). old.connection j ≡ None) e (fresh k le') in absurd (cc)
+      | inr ne ↦ others k ne ∙ fresh k le'
+    ]

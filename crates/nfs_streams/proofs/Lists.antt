@@ -1,0 +1,83 @@
+-- Places, and what is known of acts.
+use Rattle.std.proofs.Common.{◌≡◌, ◌≢◌, ◌<◌, ◌≤◌, ℕ, zero, suc, ◌+◌, cond, List, [], ◌∷◌, ◌++◌, length, Option, Some, None, refl, sym, ap, subst, ◌∙◌, inl, inr, append_assoc, arith}
+use Rattle.std.specs.Prelude.{is_some, set, get_or}
+use Rattle.std.proofs.lemmas.Bool.{cases_eq, cases_lt, eq-eqb, ne_eqb}
+use Rattle.std.proofs.lemmas.List.{get_or-set_same, get_or-set_other, get_or_default, get_or_past, length-set, set-get_or}
+use Rattle.std.proofs.lemmas.List.Sums.{sum_by-set, sum_by-cons}
+use Rattle.nfs_streams.specs.declared.peer.Peer.{Peer}
+use Rattle.nfs_streams.specs.Acts.{Act, Admitted, Closed, Adds, conn_at}
+use Rattle.nfs_streams.specs.Seats.{place_at, taken}
+
+pub set_here : (ps : List (Option Peer)) (i : ℕ) (x : Option Peer) → i < length ps → place_at (set ps i x) i ≡ x
+set_here ps i x lt = get_or-set_same ps i x None lt
+
+pub set_there : (ps : List (Option Peer)) (i j : ℕ) (x : Option Peer) → j ≢ i → place_at (set ps i x) j ≡ place_at ps j
+set_there ps i j x ne = get_or-set_other ps i j x None ne
+
+pub set_back : (ps : List (Option Peer)) (i : ℕ) (x : Option Peer) → place_at ps i ≡ x → set ps i x ≡ ps
+set_back ps i x is = subst (λ (y : Option Peer). set ps i y ≡ ps) is (set-get_or ps i None)
+
+-- 1 where a place is taken
+abbrev pub one : Option Peer → ℕ
+one x = cond (is_some x) 1 0
+
+taken_set : (ps : List (Option Peer)) (i : ℕ) (y : Option Peer) → i < length ps → taken (set ps i y) + one (place_at ps i) ≡ taken ps + one y
+taken_set ps i y lt = sum_by-set one ps i y None lt
+
+pub taken_swap : (ps : List (Option Peer)) (i : ℕ) (x y : Option Peer) → i < length ps → taken (set ps i y) + one x ≡ taken (set ps i x) + one y
+taken_swap ps i x y lt = omega (arith, taken_set ps i x lt, taken_set ps i y lt)
+
+none_first : (p : Option Peer) (ps : List (Option Peer)) → taken (p ∷ ps) ≡ 0 → (p ≡ None) × (taken ps ≡ 0)
+none_first None ps none = (refl, omega (arith, sum_by-cons one None ps))
+none_first (Some q) ps none = absurd (omega (arith, sum_by-cons one (Some q) ps))
+
+-- no place is taken
+pub none_at : (ps : List (Option Peer)) → taken ps ≡ 0 → (i : ℕ) → place_at ps i ≡ None
+none_at [] none i = refl
+none_at (p ∷ ps) none zero = (none_first p ps none).0
+none_at (p ∷ ps) none (suc i) = none_at ps (none_first p ps none).1 i
+
+pub adds_on : (a b c : Option (List Act)) (past acts : List Act) → Adds a b past → Adds b c acts → Adds a c (acts ++ past)
+adds_on None b c past acts p q = tt
+adds_on (Some x) None c past acts p q = absurd p
+adds_on (Some x) (Some y) None past acts p q = absurd q
+adds_on (Some x) (Some y) (Some z) past acts p q = q ∙ ap (λ (l : List Act). acts ++ l) p ∙ sym (append_assoc acts past x)
+
+pub adds_none : (a : Option (List Act)) → Adds a a []
+adds_none None = tt
+adds_none (Some x) = refl
+
+pub closed_here : (acts : List Act) (i : ℕ) → conn_at (Closed i ∷ acts) i ≡ None
+closed_here acts i = rw (eq-eqb i i refl) refl
+
+pub closed_there : (acts : List Act) (i j : ℕ) → j ≢ i → conn_at (Closed i ∷ acts) j ≡ conn_at acts j
+closed_there acts i j ne = rw (ne_eqb j i ne) refl
+
+pub admitted_here : (acts : List Act) (i id : ℕ) → conn_at (Admitted i id ∷ acts) i ≡ Some id
+admitted_here acts i id = rw (eq-eqb i i refl) refl
+
+pub admitted_there : (acts : List Act) (i id j : ℕ) → j ≢ i → conn_at (Admitted i id ∷ acts) j ≡ conn_at acts j
+admitted_there acts i id j ne = rw (ne_eqb j i ne) refl
+
+-- what was read at a place
+pub read_at : (ps : List (Option Peer)) (i : ℕ) (x y : Option Peer) → i < length ps → get_or ps i x ≡ y → place_at ps i ≡ y
+read_at ps i x y lt at = get_or_default ps i None x lt ∙ at
+
+-- a place more is free
+pub all_freed : (ps ps' : List (Option Peer)) (i : ℕ) → i < length ps → ps' ≡ set ps i None → ((k : ℕ) → k < i → place_at ps k ≡ None) → (k : ℕ) → k < i + 1 → place_at ps' k ≡ None
+all_freed ps ps' i lt same free k le =
+    ap (λ (l : List (Option Peer)). place_at l k) same ∙ elim (cases_eq k i) [
+      | inl e ↦ ap (λ (j : ℕ). place_at (set ps i None) j) e ∙ set_here ps i None lt
+      | inr ne ↦ set_there ps i k None ne ∙ free k (omega arith)
+    ]
+
+-- all places below the number of them are free, and there are no others
+pub none_past : (ps : List (Option Peer)) (n : ℕ) → length ps ≤ n → ((k : ℕ) → k < n → place_at ps k ≡ None) → (k : ℕ) → place_at ps k ≡ None
+none_past ps n le free k =
+    elim (cases_lt k n) [
+      | inl lt ↦ free k lt
+      | inr past ↦ get_or_past ps k None (omega arith)
+    ]
+
+pub set_len : (ps ps' : List (Option Peer)) (i : ℕ) (x : Option Peer) → ps' ≡ set ps i x → length ps' ≡ length ps
+set_len ps ps' i x same = ap (λ (l : List (Option Peer)). length l) same ∙ length-set ps i x

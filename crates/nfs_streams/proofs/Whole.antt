@@ -1,0 +1,168 @@
+-- From events that lead to the hub to the end of serving.
+use Rattle.std.proofs.Common.{◌≡◌, ◌≢◌, ◌≤◌, ℕ, List, [], ◌∷◌, ◌++◌, length, Option, Some, None, refl, sym, ap, subst, ◌∙◌, inl, inr, append_assoc, arith}
+use Rattle.std.specs.Prelude.{MatchOption, min}
+use Rattle.std.proofs.lemmas.Bool.{cases_eq}
+use Rattle.nfs_hub.specs.declared.hub.Hub.{Hub}
+use Rattle.nfs_hub.specs.Answer.{Served as ServedState}
+use Rattle.nfs_hub.specs.Machine.{Connected, State, Event, Connect, Piece, Take, Close, Step, PieceOn, TakeOn, ChangesConnection, Leads, opening}
+use Rattle.nfs_hub.specs.Hub.{LeadsTo}
+use Rattle.nfs_streams.specs.declared.peer.Peer.{Peer}
+use Rattle.nfs_streams.specs.declared.serving.AllEnd.{AllEnd}
+use Rattle.nfs_streams.specs.declared.serving.AllEnd.TheVariants.{Served, Turns, Wait, Keep}
+use Rattle.nfs_streams.specs.declared.serving.Limits.{Limits}
+use Rattle.nfs_streams.specs.Acts.{Act, Waited, Knocked, Admitted, Closed, Heard, Ended, Told, Failed, Kept, Lost, Adds}
+use Rattle.nfs_streams.specs.Runs.{Runs, Ends, Does}
+use Rattle.nfs_streams.specs.Seats.{Stands, IsFresh, IsSeated, Seat, place_at, taken}
+use Rattle.nfs_streams.specs.Standing.{Origin, Listening, Stopped, Ending, Standing, Moves, LeavesSo, RunGives}
+use Rattle.nfs_streams.specs.All.{EndsSo, AreClosed, ServesAll}
+use Rattle.nfs_streams.proofs.Lists.{none_at, adds_none}
+use Rattle.nfs_streams.proofs.Hubs.{also_in, fresh_on}
+
+-- ---- no connection has a number that is still to come
+
+fresh_as : (old new : State) → IsFresh old → new ≡ old → IsFresh new
+fresh_as old new fresh same = subst (λ (s : State). IsFresh s) (sym same) fresh
+
+fresh_match : (o : Option Connected) (id : ℕ) (step : ServedState → Connected → ServedState → Connected → Type 0) (old new : State) → IsFresh old → old.connection id ≡ o
+    → MatchOption o (new ≡ old) (λ c. (d : Connected) × step old.served c new.served d × ChangesConnection id (Some d) old new × (new.next ≡ old.next)) → IsFresh new
+fresh_match None id step old new fresh at same = fresh_as old new fresh same
+fresh_match (Some c) id step old new fresh at h = fresh_on old new id c fresh at h.2.others h.3
+
+fresh_step : (event : Event) (old new : State) → IsFresh old → Step event old new → IsFresh new
+fresh_step Connect old new fresh step =
+    elim step [
+      | inl same ↦ fresh_as old new fresh same
+      | inr h ↦ λ k le.
+          let ne : k ≢ old.next = λ e. absurd (omega (arith, e, h.1)) in
+          h.2.others k ne ∙ fresh k (omega (arith, h.1))
+    ]
+fresh_step (Piece id piece now) old new fresh step = fresh_match (old.connection id) id (PieceOn piece now) old new fresh refl step
+fresh_step (Take id n) old new fresh step = fresh_match (old.connection id) id (TakeOn n) old new fresh refl step
+fresh_step (Close id) old new fresh step = λ k le.
+    elim (cases_eq k id) [
+      | inl e ↦ ap (λ (j : ℕ). new.connection j) e ∙ step.2.changed
+      | inr ne ↦ step.2.others k ne ∙ fresh k (subst (λ (m : ℕ). m ≤ k) step.1 le)
+    ]
+
+fresh_leads : (first : ServedState) (events : List Event) (s : State) → Leads first events s → IsFresh s
+fresh_leads first [] s leads = fresh_as (opening first) s (λ k le. refl) leads
+fresh_leads first (event ∷ events) s leads = fresh_step event leads.0 s (fresh_leads first events leads.0 leads.1) leads.2
+
+-- ---- the beginning
+
+seat_nobody : (start id : ℕ) (at : Option Peer) (o : Option Connected) → at ≡ None → (start ≤ id → o ≡ None) → Seat start id at o o
+seat_nobody start id at o none closed = inr (record { not_here = λ p e. absurd (none_is p (sym none ∙ e)); same = refl; closed = closed })
+  where
+    none_is : (p : Peer) → None ≡ Some p → ⊥
+    none_is p e = cc
+
+begins : {A : Type 0} (first : ServedState) (events : List Event) (hub : Hub A) (places : List (Option Peer)) (most connections : ℕ) (before : Option (List Act)) (h : LeadsTo first events hub) → taken places ≡ 0
+    → Standing (Listening 0) (record { start = h.state; first = before; most = most; connections = connections }) hub places connections before
+begins first events hub places most connections before h none =
+    let free = none_at places none in
+    let is_fresh = fresh_leads first events h.state h.leads in
+    record {
+      acts = [];
+      machine = h.state;
+      way = (refl, refl, tt);
+      stands = record {
+        state = h.state;
+        is = h.is;
+        fresh = is_fresh;
+        served = refl;
+        next = refl;
+        owner = λ id. 0;
+        each = λ id. seat_nobody h.state.next id (place_at places 0) (h.state.connection id) (free 0) (is_fresh id);
+        seated = λ j. nobody j (place_at places j) (free j);
+        count = sym none;
+      };
+      adds = adds_none before;
+      fewer = omega arith;
+    }
+  where
+    nobody : (j : ℕ) (at : Option Peer) → at ≡ None → IsSeated (λ id. 0) [] j at
+    nobody j None e = refl
+    nobody j (Some p) e = absurd (cc)
+
+-- ---- the end
+
+all_same : {A : Type 0} {start : ℕ} {hub : Hub A} {places : List (Option Peer)} {acts : List Act} {s : State} (st : Stands start hub places acts s) → ((j : ℕ) → place_at places j ≡ None) → (id : ℕ) → (s.connection id ≡ st.state.connection id) × (start ≤ id → st.state.connection id ≡ None)
+all_same st free id =
+    elim (st.each id) [
+      | inl held ↦ absurd (none_is held.peer (sym (free (st.owner id)) ∙ held.here))
+      | inr other ↦ (other.same, other.closed)
+    ]
+  where
+    none_is : (p : Peer) → None ≡ Some p → ⊥
+    none_is p e = cc
+
+all_closed : {A : Type 0} {start : ℕ} {hub : Hub A} {places : List (Option Peer)} {acts : List Act} {s : State} (st : Stands start hub places acts s) → ((j : ℕ) → place_at places j ≡ None) → AreClosed start s
+all_closed st free id le = let a = all_same st free id in a.0 ∙ a.1 le
+
+ends_so : {A : Type 0} (end : AllEnd) (limits : Limits) {o : Origin} {hub : Hub A} {places : List (Option Peer)} {left n : ℕ} {now : Option (List Act)} (st : Standing (Stopped end n) o hub places left now) → o.connections ≡ limits.connections → LeavesSo end limits.turns n left places → EndsSo end limits o.start st.acts st.machine
+ends_so Served limits {places = places} st same leaves = (omega (arith, same, st.fewer, leaves.0), all_closed st.stands (none_at places leaves.1))
+ends_so Turns limits st same leaves = st.way.1 ∙ leaves
+ends_so Wait limits st same leaves = st.way.2
+ends_so Keep limits st same leaves = st.way.2
+
+-- ---- acts as events
+
+does_lead : (first : ServedState) (events : List Event) (acts : List Act) (act : Act) (old new : State) → Does acts act old new → Leads first events old → (later : List Event) × Leads first (later ++ events) new
+does_lead first events acts (Waited well) old new does leads = ([], subst (λ (s : State). Leads first events s) (sym does) leads)
+does_lead first events acts Knocked old new does leads = ([], subst (λ (s : State). Leads first events s) (sym does) leads)
+does_lead first events acts (Admitted place id) old new does leads = (Connect ∷ [], (old, leads, does.1))
+does_lead first events acts (Closed place) old new does leads = (Close does.0 ∷ [], (old, leads, does.2))
+does_lead first events acts (Heard place piece) old new does leads = (Piece does.1.0 piece does.0 ∷ [], (old, leads, does.1.2))
+does_lead first events acts (Ended place) old new does leads = ([], subst (λ (s : State). Leads first events s) (sym does) leads)
+does_lead first events acts (Told place bytes) old new does leads = (Take does.1.0 (length bytes) ∷ [], (old, leads, does.1.2))
+does_lead first events acts (Failed place) old new does leads = ([], subst (λ (s : State). Leads first events s) (sym does) leads)
+does_lead first events acts (Kept state) old new does leads = ([], subst (λ (s : State). Leads first events s) (sym does) leads)
+does_lead first events acts Lost old new does leads = ([], subst (λ (s : State). Leads first events s) (sym does) leads)
+
+runs_lead : (first : ServedState) (events : List Event) (most : ℕ) (acts : List Act) (old new : State) → Runs most acts old new → Leads first events old → (later : List Event) × Leads first (later ++ events) new
+runs_lead first events most [] old new run leads = ([], subst (λ (s : State). Leads first events s) (sym run) leads)
+runs_lead first events most (act ∷ acts) old new run leads =
+    let a = runs_lead first events most acts old run.0 run.1 leads in
+    let b = does_lead first (a.0 ++ events) acts act run.0 new run.3 a.1 in
+    (b.0 ++ a.0, subst (λ (es : List Event). Leads first es new) (sym (append_assoc b.0 a.0 events)) b.1)
+
+ends_lead : (first : ServedState) (events : List Event) (acts endings : List Act) (old new : State) → Ends acts endings old new → Leads first events old → (later : List Event) × Leads first (later ++ events) new
+ends_lead first events acts [] old new ends leads = ([], subst (λ (s : State). Leads first events s) (sym ends) leads)
+ends_lead first events acts (act ∷ endings) old new ends leads =
+    let a = ends_lead first events acts endings old ends.1 ends.3 leads in
+    (Close ends.4.0 ∷ a.0, (ends.1, a.1, ends.4.2))
+
+-- ---- the whole
+
+pub serves : {A : Type 0} (most : ℕ) (first : ServedState) (events : List Event) (end : AllEnd) (limits : Limits) (hub ran new : Hub A) (places places' places'' : List (Option Peer)) (left : ℕ) (before mid after : Option (List Act)) → most ≡ min limits.places 16 → LeadsTo first events hub → taken places ≡ 0
+    → RunGives end limits.turns most hub places limits.connections ran places' left before mid
+    → ((acts : List Act) (s : State) (most left : ℕ) → Moves (Ending acts s) (Ending acts s) most ran places' left new places'' left mid after) → ((j : ℕ) → place_at places'' j ≡ None)
+    → ServesAll first events end limits new before after
+serves most first events end limits hub ran new places places' places'' left before mid after few h none run shuts free =
+    let o : Origin = record { start = h.state; first = before; most = min limits.places 16; connections = limits.connections } in
+    let st = run.3 o (sym few) (begins first events hub places (min limits.places 16) limits.connections before h none) in
+    let ending : Standing (Ending st.acts st.machine) o ran places' left mid = record { acts = st.acts; machine = st.machine; way = ([], refl, refl); stands = st.stands; adds = st.adds; fewer = st.fewer } in
+    let last = shuts st.acts st.machine o.most left o refl ending in
+    let endings = last.way.0 in
+    let same : last.acts ≡ endings ++ st.acts = last.way.1 in
+    let a = runs_lead first events o.most st.acts h.state st.machine st.way.0 h.leads in
+    let b = ends_lead first (a.0 ++ events) st.acts endings st.machine last.machine last.way.2 a.1 in
+    let t = last.stands in
+    record {
+      start = h.state;
+      leads = h.leads;
+      acts = st.acts;
+      served = st.machine;
+      run = st.way.0;
+      few_turns = omega (arith, st.way.1, run.1);
+      few_connections = omega (arith, st.fewer);
+      ends = ends_so end limits st refl run.2;
+      endings = endings;
+      last = last.machine;
+      closing = last.way.2;
+      closed = all_closed t free;
+      adds = subst (λ (acts : List Act). Adds before after acts) same last.adds;
+      is = also_in new t.state t.is last.machine t.served t.next (λ id. (all_same t free id).0);
+      later = b.0 ++ a.0;
+      on = subst (λ (es : List Event). Leads first es last.machine) (sym (append_assoc b.0 a.0 events)) b.1;
+    }

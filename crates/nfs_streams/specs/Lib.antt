@@ -1,0 +1,6 @@
+pub mod Acts
+pub mod Runs
+pub mod Filling
+pub mod Seats
+pub mod Standing
+pub mod All

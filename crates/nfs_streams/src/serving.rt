@@ -1,0 +1,124 @@
+//! Serving all streams, one turn after another.
+ghost use Rattle.std.specs.Prelude.{◌≡◌, ◌≤◌, ℕ, List, length};
+ghost use Rattle.nfs_hub.specs.Answer.{Served as ServedState};
+ghost use Rattle.nfs_hub.specs.Machine.{Event};
+ghost use Rattle.nfs_hub.specs.Hub.{LeadsTo};
+ghost use Rattle.nfs_streams.specs.Standing.{Listening, Moves, RunGives, turned_stage};
+ghost use Rattle.nfs_streams.specs.All.{ServesAll};
+
+use crate::peer::Peer;
+use crate::places::{Door, answer_all, are_served, listen_all, make_room, shut_all};
+use crate::streams::{Streams, Wait};
+use nfs_hub::{Clock, Hub, MAX_CONNECTIONS};
+use std::alloc::Allocator;
+
+/// How far streams are served.
+#[derive(Clone, Copy, Debug)]
+pub struct Limits {
+    /// How many connections are open at once. More than 16 count as 16.
+    pub places: usize,
+    /// How many are opened at all.
+    pub connections: u64,
+    /// How many turns there are.
+    pub turns: u64,
+}
+
+/// How serving all streams ended.
+#[derive(Clone, Copy, Debug, PartialEq, Eq)]
+pub enum AllEnd {
+    /// As many connections as may be were opened, and all of them are closed.
+    Served = 1,
+    /// The turns are used up.
+    Turns = 2,
+    /// Waiting failed.
+    Wait = 3,
+    /// The trail couldn't be kept. Since then nothing was written.
+    Keep = 4,
+}
+
+/// How long the next wait may take: none where something was done.
+fn pause(busy: bool, room: Wait) -> Wait {
+    if busy { Wait::No } else { room }
+}
+
+/// One turn: it is listened at all places, the trail is kept, and then it is answered at all places. How long the next wait may
+/// take; `None`: the trail couldn't be kept, and nothing was written.
+fn turn<A: Allocator + Copy, S: Streams<A>, C: Clock>(
+    hub: &mut Hub<A>,
+    streams: &mut S,
+    clock: &C,
+    places: &mut [Option<Peer>],
+    door: &mut Door,
+) -> Option<Wait>
+    requires { length places.old ≤ 16 }
+    ensures moves { (n : ℕ) → Moves (Listening n) (turned_stage result n) door.old.places hub.old places.old door.old.left hub.new places.new door.new.left (S.acts streams.old) (S.acts streams.new) }
+    ensures most { door.new.places ≡ door.old.places }
+{
+    let heard = listen_all(hub, streams, clock, places, door);
+    if !streams.keep(hub.server()) {
+        return None;
+    }
+    let told = answer_all(hub, streams, clock, places);
+    let room = make_room(hub, streams, clock, places, door);
+    Some(pause(heard | told, room))
+}
+
+/// So many turns, unless all connections are served before or something fails.
+fn run<A: Allocator + Copy, S: Streams<A>, C: Clock>(
+    hub: &mut Hub<A>,
+    streams: &mut S,
+    clock: &C,
+    places: &mut [Option<Peer>],
+    door: &mut Door,
+    turns: u64,
+) -> AllEnd
+    requires { length places.old ≤ 16 }
+    ensures { RunGives result turns door.old.places hub.old places.old door.old.left hub.new places.new door.new.left (S.acts streams.old) (S.acts streams.new) }
+{
+    let mut how = Wait::No;
+    for _turn in 0..turns {
+        if are_served(places, door) {
+            return AllEnd::Served;
+        }
+        if !streams.wait(how) {
+            return AllEnd::Wait;
+        }
+        let Some(next) = turn(hub, streams, clock, places, door) else {
+            return AllEnd::Keep;
+        };
+        how = next;
+    }
+    AllEnd::Turns
+}
+
+/// Serves streams, as many at once as there are places, until so many connections were opened and are closed, or for so many turns;
+/// then lets go what is open yet. In a turn it is waited once; then at each place a piece of at most 4,096 bytes is read and fed, if
+/// nothing of that connection waits to be written, or a stream that has come is admitted, if the place has none; the trail is
+/// kept; and what waits is written, at most 128 KiB of each connection, as far as the streams take it. So a peer that sends
+/// and doesn't read costs the replies to one piece.
+///
+/// A stream that ends or fails is let go at once and its connection closed, one whose connection is broken behind its replies, and the
+/// others go on. Where as many are open as may be and another stream has come, the one of which nothing was read or written for
+/// longest is let go, if for two seconds of the clock nothing was; until then the other one waits outside. So does one for which the hub
+/// has no memory, and it is tried again in the next turn, which comes within a second.
+pub fn serve_all<A: Allocator + Copy, S: Streams<A>, C: Clock>(
+    hub: &mut Hub<A>,
+    streams: &mut S,
+    clock: &C,
+    limits: Limits,
+) -> AllEnd
+    ensures { (first : ServedState) (events : List Event) → LeadsTo first events hub.old → ServesAll first events result limits hub.new (S.acts streams.old) (S.acts streams.new) }
+{
+    let mut places: [Option<Peer>; MAX_CONNECTIONS] = [
+        None, None, None, None, None, None, None, None, None, None, None, None, None, None, None,
+        None,
+    ];
+    let mut door = Door {
+        left: limits.connections,
+        places: limits.places.min(MAX_CONNECTIONS),
+        refused: false,
+    };
+    let end = run(hub, streams, clock, &mut places, &mut door, limits.turns);
+    shut_all(hub, streams, &mut places);
+    end
+}

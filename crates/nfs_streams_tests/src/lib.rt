@@ -1,0 +1,15 @@
+//! Tests of `nfs_streams`: streams in memory, ready in any order, some of which fail, break or are silent.
+#![tactic(auto)]
+
+#[cfg(test)]
+mod house;
+#[cfg(test)]
+mod memory;
+#[cfg(test)]
+mod orders;
+#[cfg(test)]
+mod plain;
+#[cfg(test)]
+mod scenes;
+#[cfg(test)]
+mod stopping;

@@ -1,0 +1,279 @@
+//! Streams in memory.
+
+use compound_run::Server;
+use nfs_hub::{Clock, ConnId};
+use nfs_streams::{Moved, Streams, Wait};
+use nfs_types::Moment;
+use std::alloc::{Allocator, Global};
+use std::cell::Cell;
+
+/// What the peer of a stream does.
+#[derive(Clone, Copy)]
+pub struct Script {
+    /// Behind how many waits it knocks.
+    pub comes: u64,
+    /// How many calls it sends.
+    pub calls: u32,
+    /// Behind its calls it sends what breaks a connection.
+    pub breaks: bool,
+    /// Behind all that its stream ends; else it stays silent.
+    pub leaves: bool,
+    /// The most bytes that a read gives.
+    pub piece: usize,
+    /// The most bytes that a write takes; 0: it never reads.
+    pub takes: usize,
+    /// In which waits of eight something can be read or written.
+    pub ready: u8,
+    /// The read of this number fails.
+    pub fails_read: u32,
+    /// The write of this number fails.
+    pub fails_write: u32,
+}
+
+/// A peer that comes at once, sends two calls and leaves.
+pub const USUAL: Script = Script {
+    comes: 0,
+    calls: 2,
+    breaks: false,
+    leaves: true,
+    piece: 4096,
+    takes: 4096,
+    ready: 0xff,
+    fails_read: u32::MAX,
+    fails_write: u32::MAX,
+};
+
+/// Where a stream is.
+#[derive(Clone, Copy, Debug, PartialEq, Eq)]
+pub enum Seat {
+    Outside,
+    At(usize),
+    /// It was let go behind so many waits.
+    Gone(u64),
+}
+
+#[derive(Drop)]
+pub struct Stream {
+    script: Script,
+    input: Vec<u8>,
+    /// How many bytes of it were read.
+    pub read: usize,
+    reads: u32,
+    writes: u32,
+    /// The bytes that were written to it.
+    pub told: Vec<u8>,
+    pub seat: Seat,
+}
+
+/// Time that goes on by a second with each wait.
+#[derive(Drop)]
+pub struct Time {
+    seconds: Cell<i64>,
+}
+
+impl Time {
+    pub fn new() -> Self {
+        Time {
+            seconds: Cell::new(1_000),
+        }
+    }
+}
+
+impl Clock for Time {
+    fn now(&self) -> Moment {
+        Moment {
+            seconds: self.seconds.get(),
+            nanoseconds: 0,
+        }
+    }
+}
+
+/// Streams that knock in their order, and a trail that is kept.
+#[derive(Drop)]
+pub struct Memory<'a> {
+    time: &'a Time,
+    pub streams: Vec<Stream>,
+    /// How many streams were admitted.
+    pub admitted: usize,
+    pub waits: u64,
+    /// How many of them were no mere looks.
+    pub rests: u64,
+    /// The wait of this number fails.
+    pub fails_wait: u64,
+    pub keeps: u64,
+    /// Keeping fails at this number.
+    pub fails_keep: u64,
+    /// How many lines the trail had where it was kept last.
+    pub lines: u64,
+    /// The most streams that were at places at once.
+    pub most: usize,
+}
+
+impl<'a> Memory<'a> {
+    pub fn new(alloc: Global, time: &'a Time) -> Self {
+        Memory {
+            time,
+            streams: Vec::new(alloc),
+            admitted: 0,
+            waits: 0,
+            rests: 0,
+            fails_wait: u64::MAX,
+            keeps: 0,
+            fails_keep: u64::MAX,
+            lines: 0,
+            most: 0,
+        }
+    }
+
+    /// Adds a stream that sends these bytes. Whether there was memory for it.
+    pub fn add(&mut self, alloc: Global, script: Script, input: Vec<u8>) -> bool {
+        let stream = Stream {
+            script,
+            input,
+            read: 0,
+            reads: 0,
+            writes: 0,
+            told: Vec::new(alloc),
+            seat: Seat::Outside,
+        };
+        self.streams.push(stream).is_ok()
+    }
+
+    /// The number of the stream at a place.
+    fn index_at(&self, place: usize) -> Option<usize> {
+        for index in 0..self.streams.len() {
+            if self.streams[index].seat == Seat::At(place) {
+                return Some(index);
+            }
+        }
+        None
+    }
+
+    /// How many streams are at places.
+    fn seated(&self) -> usize {
+        let mut count = 0usize;
+        for stream in &self.streams {
+            if let Seat::At(_) = stream.seat {
+                count = count.saturating_add(1);
+            }
+        }
+        count
+    }
+}
+
+impl Stream {
+    fn is_ready(&self, waits: u64) -> bool {
+        (self.script.ready >> (waits % 8)) & 1 == 1
+    }
+
+    /// Gives a piece.
+    fn give(&mut self, waits: u64, buf: &mut [u8]) -> Moved {
+        if !self.is_ready(waits) {
+            return Moved::NotYet;
+        }
+        self.reads = self.reads.saturating_add(1);
+        if self.reads == self.script.fails_read {
+            return Moved::Over;
+        }
+        let Some(left) = self.input.get(self.read..) else {
+            return Moved::Over;
+        };
+        if left.is_empty() {
+            return if self.script.leaves {
+                Moved::Over
+            } else {
+                Moved::NotYet
+            };
+        }
+        let n = left.len().min(buf.len()).min(self.script.piece);
+        buf[..n].copy_from_slice(&left[..n]);
+        self.read = self.read.saturating_add(n);
+        Moved::Bytes(n)
+    }
+
+    /// Takes a front of the bytes.
+    fn take(&mut self, waits: u64, bytes: &[u8]) -> Moved {
+        if !self.is_ready(waits) {
+            return Moved::NotYet;
+        }
+        self.writes = self.writes.saturating_add(1);
+        if self.writes == self.script.fails_write {
+            return Moved::Over;
+        }
+        let n = bytes.len().min(self.script.takes);
+        if n == 0 {
+            return Moved::NotYet;
+        }
+        if self.told.extend_from_slice(&bytes[..n]).is_err() {
+            return Moved::Over;
+        }
+        Moved::Bytes(n)
+    }
+}
+
+impl<A: Allocator + Copy> Streams<A> for Memory<'_> {
+    fn wait(&mut self, how: Wait) -> bool {
+        self.waits = self.waits.saturating_add(1);
+        if how != Wait::No {
+            self.rests = self.rests.saturating_add(1);
+        }
+        let now = self.time.seconds.get();
+        self.time.seconds.set(now.saturating_add(1));
+        self.waits != self.fails_wait
+    }
+
+    fn knocks(&mut self) -> bool {
+        match self.streams.get(self.admitted) {
+            Some(stream) => stream.script.comes < self.waits,
+            None => false,
+        }
+    }
+
+    fn admit(&mut self, place: usize, _conn: ConnId) {
+        if let Some(stream) = self.streams.get_mut(self.admitted) {
+            stream.seat = Seat::At(place);
+        }
+        self.admitted = self.admitted.saturating_add(1);
+        self.most = self.most.max(self.seated());
+    }
+
+    fn close(&mut self, place: usize) {
+        let waits = self.waits;
+        if let Some(index) = self.index_at(place) {
+            if let Some(stream) = self.streams.get_mut(index) {
+                stream.seat = Seat::Gone(waits);
+            }
+        }
+    }
+
+    fn read(&mut self, place: usize, buf: &mut [u8]) -> Moved {
+        let waits = self.waits;
+        let Some(index) = self.index_at(place) else {
+            return Moved::Over;
+        };
+        let Some(stream) = self.streams.get_mut(index) else {
+            return Moved::Over;
+        };
+        stream.give(waits, buf)
+    }
+
+    fn write(&mut self, place: usize, bytes: &[u8]) -> Moved {
+        let waits = self.waits;
+        let Some(index) = self.index_at(place) else {
+            return Moved::Over;
+        };
+        let Some(stream) = self.streams.get_mut(index) else {
+            return Moved::Over;
+        };
+        stream.take(waits, bytes)
+    }
+
+    fn keep(&mut self, server: &Server<A>) -> bool {
+        self.keeps = self.keeps.saturating_add(1);
+        if self.keeps == self.fails_keep {
+            return false;
+        }
+        self.lines = server.guard().total();
+        true
+    }
+}

@@ -1,0 +1,93 @@
+//! Peers with their calls, and what each of them is told.
+
+use crate::memory::{Memory, Script, Seat};
+use call_texts::{Caller, put_call_record, reply_of};
+use nfs_streams::Limits;
+use std::alloc::Global;
+use std::process::Abort;
+use std::test::Fail;
+
+/// As many as may be, of all kinds.
+pub const AMPLE: Limits = Limits {
+    places: 16,
+    connections: u64::MAX,
+    turns: 400,
+};
+
+const CALLER: Caller = (1002, 100, 100);
+
+const CALL: &str = "PUTROOTFH LOOKUP 'notes ACCESS 2d";
+
+const RESULTS: &str = "ok PUTROOTFH ok LOOKUP ok ACCESS ok 2d 1";
+
+/// The number of a peer's first call, by the peer's number.
+fn first_call(peer: u32) -> u32 {
+    peer.saturating_mul(1_000)
+}
+
+/// The calls of a peer, and behind them perhaps what breaks its connection.
+pub fn input_of(alloc: Global, peer: u32, script: &Script) -> Result<Vec<u8>, Fail> {
+    let mut input = Vec::new(alloc);
+    let first = first_call(peer);
+    for xid in first..first.saturating_add(script.calls) {
+        put_call_record(&mut input, xid, CALLER, CALL)?;
+    }
+    if script.breaks {
+        input.extend_from_slice(&[0x80, 2, 0, 1])?;
+    }
+    Ok(input)
+}
+
+/// The replies to so many first calls of a peer.
+pub fn replies_of(alloc: Global, peer: u32, calls: u32) -> Result<Vec<u8>, Fail> {
+    let mut replies = Vec::new(alloc);
+    let first = first_call(peer);
+    for xid in first..first.saturating_add(calls) {
+        replies.extend_from_slice(&reply_of(alloc, xid, RESULTS)?)?;
+    }
+    Ok(replies)
+}
+
+/// Adds a stream for each peer. Whether there was memory for them.
+pub fn add_all(alloc: Global, streams: &mut Memory<'_>, scripts: &[Script]) -> Result<bool, Fail> {
+    let mut peer = 0u32;
+    let mut well = true;
+    for script in scripts {
+        peer = peer.saturating_add(1);
+        let input = input_of(alloc, peer, script)?;
+        let added = streams.add(alloc, *script, input);
+        well &= added;
+    }
+    Ok(well)
+}
+
+/// What became of a stream.
+#[derive(Clone, Copy, Debug, PartialEq, Eq)]
+pub struct Outcome {
+    /// How many bytes were written to it.
+    pub told: usize,
+    /// They are a front of the replies to its calls.
+    pub right: bool,
+    pub read: usize,
+    pub seat: Seat,
+}
+
+/// What became of the stream of a peer, whose number is at least 1.
+pub fn outcome_of(streams: &Memory<'_>, peer: u32, replies: &[u8]) -> Option<Outcome> {
+    let index = usize::try_from(peer).ok()?.checked_sub(1)?;
+    let stream = streams.streams.get(index)?;
+    Some(Outcome {
+        told: stream.told.len(),
+        right: replies.starts_with(&stream.told),
+        read: stream.read,
+        seat: stream.seat,
+    })
+}
+
+/// Sees that a peer was told the replies to so many calls, and no more, and was let go.
+pub fn see_told(rt: &impl Abort, outcome: Option<Outcome>, replies: usize, peer: u32) {
+    let told = outcome.map(|o| (o.told, o.right));
+    assert_eq!(rt; told, Some((replies, true)), "peer {peer}");
+    let gone = outcome.map(|o| matches!(o.seat, Seat::Gone(_)));
+    assert_eq!(rt; gone, Some(true), "peer {peer}");
+}

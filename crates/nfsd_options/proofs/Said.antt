@@ -1,0 +1,78 @@
+-- What the options hold of the words that a command was matched with, and which errors the words have.
+use Rattle.std.proofs.Common.{◌≡◌, ◌∙◌, ◌<◌, ◌^◌, ◌&&◌, ap, ap₂, ℕ, Bool, true, false, List, [], ◌∷◌, Option, Some, None, is_some, refl, sym, subst, inl, inr, codes, unwrap_or}
+use Rattle.std.specs.Prelude.{Err, Result, option_map, pos, if◌then◌else◌}
+use Rattle.std.specs.Str.Parse.{ParsesUnsigned}
+use Rattle.clap.specs.Lexer.{without_minus}
+use Rattle.clap.specs.Built.{IsParsedFrom}
+use Rattle.clap.specs.Kinds.{FailsBy, HasKind}
+use Rattle.clap.specs.Matches.{ReadsOne, first_value, found_of, one_text}
+use Rattle.clap.specs.Values.{kind_of}
+use Rattle.clap.specs.Words.{Rule, Text, app_of, fault_of, first_of, matches_of, rows_of}
+use Rattle.clap.specs.declared.builder.command.Command.{Command}
+use Rattle.clap.specs.declared.builder.value_parser.ValueParser.TheVariants as vp
+use Rattle.clap.specs.declared.error.Error.{Error}
+use Rattle.clap.specs.declared.error.kind.ErrorKind.TheVariants.{ArgumentConflict}
+use Rattle.clap.specs.declared.parser.matches.ArgMatches.{ArgMatches}
+use Rattle.clap.proofs.WalkLemmas.{first_value-rows}
+use Rattle.nfsd_options.specs.Given.{IsNumber, asks_for_both, given, is_set, kinds_of}
+use Rattle.nfsd_options.specs.Simple.{bare_rule, nfsd}
+use Rattle.nfsd_options.proofs.Answers.{flag_held, number_held, or_else-empty, or_else-first}
+use Rattle.nfsd_options.proofs.Numbers.{number_read}
+use Rattle.nfsd_options.proofs.Rules.{StandsAt, bare_stands}
+use Rattle.nfsd_options.proofs.Taken.{nothing_read, value_taken}
+
+module _ (old : Command) (m : ArgMatches) (parsed : IsParsedFrom old m) (is : app_of old ≡ nfsd) (words : List Text)
+    (rows : rows_of (found_of m) ≡ matches_of nfsd words) where
+  pub text_said : (id : Text) → first_value (found_of m) id ≡ given id words
+  text_said id = first_value-rows (found_of m) id ∙ ap (first_of id) rows
+
+  pub flag_said : (k : ℕ) (r : Rule) → StandsAt k r vp.Bool → (b : Bool)
+      → (one_text (found_of m) r.id ≡ None → b ≡ false) → (one_text (found_of m) r.id ≡ Some (codes "true") → b ≡ true)
+      → (one_text (found_of m) r.id ≡ Some (codes "false") → b ≡ false) → b ≡ is_set (given r.id words)
+  flag_said k r stands b none set unset =
+      flag_held b (given r.id words) (λ e. none (nothing_read (found_of m) r.id (text_said r.id ∙ e)))
+      (λ t e.
+      let taken = value_taken old m parsed is k r vp.Bool stands t (text_said r.id ∙ e) in
+      (taken.0, ((λ h. set (taken.1 ∙ ap Some h)), (λ h. unset (taken.1 ∙ ap Some h)))))
+
+  pub number_said : {E : Type 0} (G : Text → Result ℕ E → Type 0) (bits default low high : ℕ) (k : ℕ) (r : Rule)
+      → StandsAt k r (vp.Signed (pos low) (pos high)) → (o : Option ℕ) → (one_text (found_of m) r.id ≡ None → o ≡ None)
+      → ((t : Text) → one_text (found_of m) r.id ≡ Some t → ReadsOne G t o)
+      → ((t : Text) (x : Result ℕ E) → G t x → ParsesUnsigned bits 10 t x) → high < 2 ^ bits
+      → IsNumber default low high (given r.id words) (unwrap_or o default)
+  number_said G bits default low high k r stands o none reads only fits =
+      number_held default low high (given r.id words) o (λ e. none (nothing_read (found_of m) r.id (text_said r.id ∙ e)))
+      (λ t e.
+      let taken = value_taken old m parsed is k r (vp.Signed (pos low) (pos high)) stands t (text_said r.id ∙ e) in
+      (taken.0, number_read _ G bits low high t o (reads (without_minus t) taken.1) only fits taken.0))
+
+  -- whether the words ask for both, by what the getters give
+  pub both_said : {X : Type 0} (b : Bool) (f : X → Text) (o : Option X)
+      → (one_text (found_of m) (codes "bare") ≡ None → b ≡ false) → (one_text (found_of m) (codes "bare") ≡ Some (codes "true") → b ≡ true)
+      → (one_text (found_of m) (codes "bare") ≡ Some (codes "false") → b ≡ false) → option_map f o ≡ first_value (found_of m) (codes "trail")
+      → asks_for_both words ≡ (b && is_some o)
+  both_said {X = X} b f o none set unset file =
+      ap₂ (λ (x y : Bool). x && y) (sym (flag_said 1 bare_rule bare_stands b none set unset)) (sym (ap is_some (file ∙ text_said (codes "trail"))) ∙ some o)
+    where
+      some : (o : Option X) → is_some (option_map f o) ≡ is_some o
+      some None = refl
+      some (Some x) = refl
+
+-- of words that have a reading, the kinds are that of the conflict or none
+pub kinds_said : (words : List Text) (both : Bool) → fault_of nfsd words ≡ [] → asks_for_both words ≡ both
+    → kinds_of words ≡ (if both then ArgumentConflict ∷ [] else [])
+kinds_said words both none is =
+    or_else-empty (fault_of nfsd words) (if asks_for_both words then ArgumentConflict ∷ [] else []) none
+    ∙ ap (λ (b : Bool). if b then ArgumentConflict ∷ [] else []) is
+
+-- an error of `clap`'s reading is one of the words
+pub fails_so : {T : Type 0} (words : List Text) (r : Result T Error) (e : Error) → r ≡ Err e → HasKind (fault_of nfsd words) e
+    → FailsBy (kinds_of words) r
+fails_so {T = T} words r e is has =
+    subst (λ (x : Result T Error). FailsBy (kinds_of words) x) (sym is)
+    (or_else-first (fault_of nfsd words) (if asks_for_both words then ArgumentConflict ∷ [] else []) e has)
+
+-- and so is that of the conflict
+pub conflicts_so : (words : List Text) (e : Error) → kinds_of words ≡ ArgumentConflict ∷ [] → kind_of e ≡ ArgumentConflict
+    → HasKind (kinds_of words) e
+conflicts_so words e are is = subst (λ kinds. HasKind kinds e) (sym are) (inr (inl is))

@@ -1,0 +1,36 @@
+-- What a keeper does with the lines of a trail.
+use Rattle.std.specs.Prelude.{◌≡◌, ℕ, ◌-◌, Bool, true, false, List, ◌++◌, length, drop, Option, max}
+use Rattle.std.specs.Io.KnownBytes.{Appends}
+use Rattle.access_guard.specs.Log.{Log}
+use Rattle.access_guard.specs.declared.line.Line.{Line}
+use Rattle.trail_lines.specs.Appended.{lost_text, new_text, text_of}
+use Rattle.trail_lines.specs.Told.{IsLogOf}
+use Rattle.trail_lines.specs.Written.{WritesFront}
+use Rattle.trail_keeper.specs.declared.keeper.TrailKeeper.{TrailKeeper}
+
+-- The lines behind those that were seen stand behind what the writer held, and are seen.
+pub record Kept {W : Type 0} (contents : W → Option (List ℕ)) (log : Log) (old new : TrailKeeper W) : Type 0 where
+  pub written : Appends (contents old.out) (contents new.out) (new_text old.seen log)
+  pub seen : new.seen ≡ max old.seen log.total
+  pub going : new.has_failed ≡ false
+
+-- The writer failed behind a front of them, and none of them is seen.
+pub record Stops {W : Type 0} (contents : W → Option (List ℕ)) (log : Log) (old new : TrailKeeper W) : Type 0 where
+  pub front : WritesFront (contents old.out) (contents new.out) (new_text old.seen log)
+  pub unseen : new.seen ≡ old.seen
+  pub failed : new.has_failed ≡ true
+
+-- Whether it had failed before, and what it says now. A keeper that has failed says so again, and stays as it is.
+abbrev pub KeepsSo : {W : Type 0} → (W → Option (List ℕ)) → Log → Bool → Bool → TrailKeeper W → TrailKeeper W → Type 0
+KeepsSo contents log true true old new = ⊥
+KeepsSo contents log true false old new = new ≡ old
+KeepsSo contents log false true old new = Kept contents log old new
+KeepsSo contents log false false old new = Stops contents log old new
+
+-- Where the lines are those before and others behind them, and as many were seen as there were before, the others are told, and all are seen.
+abbrev pub KeptOnce : {W : Type 0} → (W → Option (List ℕ)) → Type 0
+KeptOnce {W = W} contents =
+    (earlier later : List Line) (log : Log) (old new : TrailKeeper W)
+    → IsLogOf (earlier ++ later) log → old.seen ≡ length earlier → Kept contents log old new
+    → let missing = length later - 4096 in
+    Appends (contents old.out) (contents new.out) (lost_text missing ++ text_of (drop missing later)) × (new.seen ≡ length (earlier ++ later))
