@@ -102,7 +102,7 @@ fn sizes() -> &'static [(usize, usize)] {
     &SIZES
 }
 
-fn three([a, b, c]: [u8; 3], (piece, takes): (usize, usize)) -> Three {
+fn ready_as([a, b, c]: [u8; 3], (piece, takes): (usize, usize)) -> Three {
     let usual = Script {
         piece,
         takes,
@@ -132,7 +132,7 @@ fn streams_are_ready_in_any_order(rt: HostRuntime) -> Result<(), Fail> {
     let hasher = RandomState::new(&rt)?;
     for order in ready() {
         for size in sizes() {
-            see_three(&rt, rt.alloc(), hasher, &three(*order, *size))?;
+            see_three(&rt, rt.alloc(), hasher, &ready_as(*order, *size))?;
         }
     }
     Ok(())
