@@ -136,7 +136,7 @@ fn front_of(client: u32) -> usize {
     more.saturating_add(61)
 }
 
-fn act(alloc: Global, mut stream: &TcpStream, client: u32, act: Act) -> io::Result<()> {
+fn perform(alloc: Global, mut stream: &TcpStream, client: u32, act: Act) -> io::Result<()> {
     let bytes = bytes_of(alloc, calls(client).as_slice())?;
     let (front, rest) = bytes.as_slice().split_at(front_of(client).min(bytes.len()));
     match act {
@@ -157,20 +157,20 @@ struct Script<'s, W> {
 }
 
 impl<W> Script<'_, W> {
-    fn act(&mut self) {
+    fn go_on(&mut self) {
         let Some((client, next)) = self.acts.get(self.done) else {
             return;
         };
         self.done = self.done.saturating_add(1);
         if let Some(stream) = self.clients.get(*client as usize) {
-            let _ = act(self.alloc, stream, *client, *next);
+            let _ = perform(self.alloc, stream, *client, *next);
         }
     }
 }
 
 impl<W: Write + Drop> Streams<Global> for Script<'_, W> {
     fn wait(&mut self, how: Wait) -> bool {
-        self.act();
+        self.go_on();
         self.sockets.wait(how)
     }
 
