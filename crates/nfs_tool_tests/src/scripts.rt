@@ -198,6 +198,74 @@ fn each_command_is_done(rt: HostRuntime) -> Result<(), Fail> {
     Ok(())
 }
 
+/// A line of user 0: a command, and paths of directories in one another, so many with this behind them.
+fn far_line(text: &mut Vec<u8>, command: &str, paths: &[(u32, &str)]) -> Result<(), AllocError> {
+    text.extend_from_slice(b"as 0 0 ")?;
+    text.extend_from_slice(command.as_bytes())?;
+    for (depth, last) in paths {
+        text.push(b' ')?;
+        for _i in 0..*depth {
+            text.extend_from_slice(b"/d")?;
+        }
+        text.extend_from_slice(last.as_bytes())?;
+    }
+    text.push(b'\n')?;
+    Ok(())
+}
+
+/// What is done with a file that lies so many directories deep.
+fn far_file(text: &mut Vec<u8>, depth: u32) -> Result<(), AllocError> {
+    far_line(text, "put", &[(depth, "/f hi")])?;
+    far_line(text, "cat", &[(depth, "/f")])?;
+    far_line(text, "ls", &[(depth, "/f")])?;
+    far_line(text, "ln", &[(depth, "/f"), (depth, "/g")])?;
+    far_line(text, "mv", &[(depth, "/g"), (1, "/h")])?;
+    far_line(text, "rm", &[(1, "/h")])?;
+    far_line(text, "chmod 0604", &[(depth, "/f")])?;
+    far_line(text, "setacl", &[(depth, "/f A:00:00020001:EVERYONE@")])?;
+    far_line(text, "getacl", &[(depth, "/f")])?;
+    far_line(text, "mv", &[(depth, "/f"), (depth, "/e")])?;
+    far_line(text, "rm", &[(depth, "/e")])?;
+    far_line(text, "rm", &[(depth, "/e")])?;
+    far_line(text, "cat", &[(depth, "/no/d/d/d/d/d/d/d/d/d/d/d/d/d")])
+}
+
+const FAR_FILE: &[&str] = &[
+    "ok",
+    "hi",
+    "refused READDIR NOTDIR",
+    "ok",
+    "ok",
+    "ok",
+    "ok",
+    "ok",
+    "A:00:00020001:EVERYONE@",
+    "ok",
+    "ok",
+    "refused REMOVE NOENT",
+    "refused LOOKUP NOENT",
+];
+
+/// Forty directories in one another, and a file in some of them: each command finds its end of a path of any number of names.
+#[test]
+fn far_paths_are_walked(rt: HostRuntime) -> Result<(), Fail> {
+    let alloc = rt.alloc();
+    let mut text = Vec::new(alloc);
+    let mut wants = Vec::new(alloc);
+    for depth in 1..41u32 {
+        far_line(&mut text, "mkdir", &[(depth, "")])?;
+        wants.extend_from_slice(b"ok\n")?;
+    }
+    for depth in [12, 13, 24, 25, 40] {
+        far_file(&mut text, depth)?;
+        wants.extend_from_slice(&joined(alloc, FAR_FILE)?)?;
+    }
+    wants.extend_from_slice(b"trail 0\n")?;
+    let told = played(alloc, RandomState::new(&rt)?, &text, &wants, 4000, 4000);
+    assert_eq!(rt; told, Ok(true));
+    Ok(())
+}
+
 /// What is skipped prints nothing, and spaces stand between words, however many.
 #[test]
 fn comments_and_blank_lines_are_skipped(rt: HostRuntime) -> Result<(), Fail> {
