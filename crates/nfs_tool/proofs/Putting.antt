@@ -16,12 +16,11 @@ use Rattle.nfs_tool.specs.Paging.{itself}
 use Rattle.nfs_tool.specs.Put.{Open, count_within, written_of, open_in, OpenAsks, write_to, piece, WriteGives, Writes, CloseGives, TextGives, ClosesBehind, told_behind, FileGives, PutFileGives, PutAlong, open_along, PutCommandGives}
 use Rattle.nfs_tool.specs.Approach.{WalkGives}
 use Rattle.nfs_tool.specs.Rm.{WrongPath}
-use Rattle.nfs_tool.specs.Routes.{Route, most_names}
+use Rattle.nfs_tool.specs.Routes.{Route, most_before_two}
 use Rattle.nfs_tool.specs.Taking.{last_of}
 use Rattle.nfs_tool.specs.declared.fault.ToolFault.{ToolFault}
 use Rattle.nfs_tool.specs.declared.fault.ToolFault.TheVariants as fault
 use Rattle.nfs_tool.specs.declared.client.Client.{Client}
-use Rattle.nfs_tool.specs.declared.route.Walks.TheVariants.{One}
 use Rattle.nfs_tool.proofs.Pages.{same_failure}
 use Rattle.nfs_tool.proofs.Walks.{Kept, kept_on, walk_kept, commanded, walked_memory, no_path, no_entry, no_failed, behind as done_behind}
 
@@ -145,12 +144,12 @@ module _ {S A : Type 0} (contents remaining : S → Option (List ℕ)) (text : L
 abbrev At : {S A : Type 0} → (S → Option (List ℕ)) → (S → Option (List ℕ)) → List ℕ → Operation → Client S A → Route → Client S A → Result (Unit {0}) ToolFault → Type 0
 At contents remaining text op new route mid r = PutFileGives contents remaining text (open_along mid route op) mid new r
 
-module _ {S A : Type 0} (contents remaining : S → Option (List ℕ)) (text : List ℕ) (op : Operation) (old new : Client S A) (names : List (List ℕ)) (mid : Client S A) (route : Route) (walk : WalkGives contents remaining itself (most_names One) names old mid (Ok route)) where
+module _ {S A : Type 0} (contents remaining : S → Option (List ℕ)) (text : List ℕ) (op : Operation) (old new : Client S A) (names : List (List ℕ)) (mid : Client S A) (route : Route) (walk : WalkGives contents remaining itself most_before_two names old mid (Ok route)) where
   -- memory is refused for the request
   pub not_asked : (f : ToolFault) → new ≡ mid → f ≡ fault.Memory → PutAlong contents remaining names op text old new (Err f)
   not_asked f same is =
       subst (λ (g : ToolFault). PutAlong contents remaining names op text old new (Err g)) (sym is)
-      (inl (kept_on old mid new (walk_kept contents remaining (most_names One) names old mid route walk) (inl same)))
+      (inl (kept_on old mid new (walk_kept contents remaining most_before_two names old mid route walk) (inl same)))
 
   -- the OPEN fails
   pub not_opened : {X : Type 0} (value : X → Open) (f : ToolFault) → AskGives contents remaining open_in value true (open_along mid route op) mid new (Err f) → PutAlong contents remaining names op text old new (Err f)
@@ -158,7 +157,7 @@ module _ {S A : Type 0} (contents remaining : S → Option (List ℕ)) (text : L
 
   pub put_along : (last : Client S A) (o : Open) (told : Result (Unit {0}) ToolFault) → AskGives contents remaining open_in itself true (open_along mid route op) mid last (Ok o)
       → FileGives contents remaining o text last new told → PutAlong contents remaining names op text old new told
-  put_along last o told opens h = done_behind contents remaining One names (At contents remaining text op new) old new mid route told walk (put_filled contents remaining text (open_along mid route op) mid new last o told opens h)
+  put_along last o told opens h = done_behind contents remaining most_before_two names (At contents remaining text op new) old new mid route told walk (put_filled contents remaining text (open_along mid route op) mid new last o told opens h)
 
 module _ {S A : Type 0} (contents remaining : S → Option (List ℕ)) (path text : List ℕ) (old new : Client S A) where
   abbrev PutAsked : Result (Unit {0}) ToolFault → Type 0
@@ -168,8 +167,8 @@ module _ {S A : Type 0} (contents remaining : S → Option (List ℕ)) (path tex
       → PutCommandGives contents remaining path text old new told
   put_tells directory op told asked h =
       commanded (WrongPath path) PutAsked old new told
-      (λ a. walked_memory contents remaining One a.0 (At contents remaining text a.1 new) old new a.3 (λ route mid i. put_memory contents remaining text (open_along mid route a.1) mid new i))
-      (λ a. no_path contents remaining One a.0 (At contents remaining text a.1 new) old new (λ route mid i. put_path contents remaining text (open_along mid route a.1) mid new i) a.3)
-      (λ a. no_entry contents remaining One a.0 (At contents remaining text a.1 new) old new (λ route mid i. put_entry contents remaining text (open_along mid route a.1) mid new i) a.3)
-      (λ a. no_failed contents remaining One a.0 (At contents remaining text a.1 new) old new (λ route mid i. put_failed contents remaining text (open_along mid route a.1) mid new i) a.3)
+      (λ a. walked_memory contents remaining most_before_two a.0 (At contents remaining text a.1 new) old new a.3 (λ route mid i. put_memory contents remaining text (open_along mid route a.1) mid new i))
+      (λ a. no_path contents remaining most_before_two a.0 (At contents remaining text a.1 new) old new (λ route mid i. put_path contents remaining text (open_along mid route a.1) mid new i) a.3)
+      (λ a. no_entry contents remaining most_before_two a.0 (At contents remaining text a.1 new) old new (λ route mid i. put_entry contents remaining text (open_along mid route a.1) mid new i) a.3)
+      (λ a. no_failed contents remaining most_before_two a.0 (At contents remaining text a.1 new) old new (λ route mid i. put_failed contents remaining text (open_along mid route a.1) mid new i) a.3)
       (directory, op, asked, h)

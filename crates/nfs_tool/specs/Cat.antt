@@ -11,9 +11,8 @@ use Rattle.nfs_tool.specs.Paths.{names_in}
 use Rattle.nfs_tool.specs.Taking.{last_of, SaidGives}
 use Rattle.nfs_tool.specs.Commands.{AskGives, Commanded}
 use Rattle.nfs_tool.specs.Paging.{Paging, PagesGive, itself}
-use Rattle.nfs_tool.specs.Routes.{Route, along}
+use Rattle.nfs_tool.specs.Routes.{Route, along, most_names}
 use Rattle.nfs_tool.specs.Walking.{Walked}
-use Rattle.nfs_tool.specs.declared.route.Walks.TheVariants.{One}
 use Rattle.nfs_tool.specs.declared.client.Client.{Client}
 use Rattle.nfs_tool.specs.declared.fault.ToolFault.{ToolFault}
 
@@ -77,4 +76,4 @@ ReadGives contents remaining route old_bytes new_bytes old new (Err fault) =
 abbrev pub CatGives : {S A X : Type 0} → (S → Option (List ℕ)) → (S → Option (List ℕ)) → (X → List ℕ) → List ℕ → Client S A → Client S A → Result X ToolFault → Type 0
 CatGives contents remaining value path old new result =
     Commanded (NoPath path) (λ told. (names : List (List ℕ)) × (names_in path ≡ Some names)
-    × Walked contents remaining One names (λ route mid r. PagesGive (by_pieces contents remaining route) value bytes_of mid new r) old new told) old new result
+    × Walked contents remaining most_names names (λ route mid r. PagesGive (by_pieces contents remaining route) value bytes_of mid new r) old new told) old new result

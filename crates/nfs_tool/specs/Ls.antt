@@ -15,9 +15,8 @@ use Rattle.nfs_tool.specs.Taking.{last_of, SaidGives}
 use Rattle.nfs_tool.specs.Access.{NoPath}
 use Rattle.nfs_tool.specs.Commands.{AskGives, Commanded}
 use Rattle.nfs_tool.specs.Paging.{Paging, PagesGive, itself}
-use Rattle.nfs_tool.specs.Routes.{Route, along}
+use Rattle.nfs_tool.specs.Routes.{Route, along, most_names}
 use Rattle.nfs_tool.specs.Walking.{Walked}
-use Rattle.nfs_tool.specs.declared.route.Walks.TheVariants.{One}
 use Rattle.nfs_tool.specs.declared.client.Client.{Client}
 use Rattle.nfs_tool.specs.declared.ls.Listing.{Listing}
 use Rattle.nfs_tool.specs.declared.fault.ToolFault.{ToolFault}
@@ -150,4 +149,4 @@ ListGives contents remaining route set listing listing' old new (Err fault) =
 abbrev pub LsGives : {S A X : Type 0} → (S → Option (List ℕ)) → (S → Option (List ℕ)) → (X → List ℕ) → List ℕ → Client S A → Client S A → Result X ToolFault → Type 0
 LsGives contents remaining value path old new result =
     Commanded (NoPath path) (λ told. (names : List (List ℕ)) × (set : List ℕ) × (names_in path ≡ Some names) × AreListed set
-    × Walked contents remaining One names (λ route mid r. PagesGive (by_listings contents remaining route set) value text_of mid new r) old new told) old new result
+    × Walked contents remaining most_names names (λ route mid r. PagesGive (by_listings contents remaining route set) value text_of mid new r) old new told) old new result

@@ -14,9 +14,8 @@ use Rattle.nfs_tool.specs.Taking.{last_of, last_two, nothing, takes_nothing}
 use Rattle.nfs_tool.specs.Approach.{get_handle, handle_of}
 use Rattle.nfs_tool.specs.Commands.{sequence, IsIn, AskGives, Commanded}
 use Rattle.nfs_tool.specs.Rm.{WrongPath}
-use Rattle.nfs_tool.specs.Routes.{Route, walk}
+use Rattle.nfs_tool.specs.Routes.{Route, walk, most_before_two}
 use Rattle.nfs_tool.specs.Walking.{Walked}
-use Rattle.nfs_tool.specs.declared.route.Walks.TheVariants.{One}
 use Rattle.nfs_tool.specs.Paging.{itself}
 use Rattle.nfs_tool.specs.declared.client.Client.{Client}
 use Rattle.nfs_tool.specs.declared.fault.ToolFault.{ToolFault}
@@ -140,7 +139,7 @@ PutFileGives {S} {A} contents remaining text ops old new (Err fault) =
 -- The file is opened in a directory along these names.
 abbrev pub PutAlong : {S A : Type 0} → (S → Option (List ℕ)) → (S → Option (List ℕ)) → List (List ℕ) → Operation → List ℕ → Client S A → Client S A → Result (Unit {0}) ToolFault → Type 0
 PutAlong contents remaining names op text old new result =
-    Walked contents remaining One names (λ route mid r. PutFileGives contents remaining text (open_along mid route op) mid new r) old new result
+    Walked contents remaining most_before_two names (λ route mid r. PutFileGives contents remaining text (open_along mid route op) mid new r) old new result
 
 -- The file is put in its directory; or something is wrong with the path, and nothing is asked.
 abbrev pub PutCommandGives : {S A : Type 0} → (S → Option (List ℕ)) → (S → Option (List ℕ)) → List ℕ → List ℕ → Client S A → Client S A → Result (Unit {0}) ToolFault → Type 0

@@ -7,7 +7,7 @@ ghost use Rattle.nfs_tool.specs.Approach.{approach, handle_of, handle_in, WalkGi
 ghost use Rattle.nfs_tool.specs.Commands.{AskGives};
 ghost use Rattle.nfs_tool.specs.Compound.{said};
 ghost use Rattle.nfs_tool.specs.Requests.{Asks, PutGives};
-ghost use Rattle.nfs_tool.specs.Routes.{along, most_names};
+ghost use Rattle.nfs_tool.specs.Routes.{along};
 ghost use Rattle.nfs_tool.specs.RouteViews.{start_value, route_value};
 ghost use Rattle.nfs_tool.specs.Taking.{SaidGives, TakeGives};
 ghost use Rattle.nfs_tool.specs.Walking.{along_both, BothReady, ReadyGives};
@@ -15,7 +15,7 @@ ghost use Rattle.nfs_tool.specs.Walking.{along_both, BothReady, ReadyGives};
 use crate::client::{Client, Reply};
 use crate::fault::ToolFault;
 use crate::request::Request;
-use crate::route::{Route, Start, Walks};
+use crate::route::{MOST_NAMES, MOST_OF_BOTH, Route, Start, cut, left_of_first};
 use crate::taking::last;
 use nfs_ops::{Op, OpResult};
 use nfs_types::Handle;
@@ -102,29 +102,27 @@ impl<S: Read + Write, A: Allocator + Copy> Client<S, A> {
         told
     }
 
-    /// Approaches the end of a path until a COMPOUND can walk the names that are left. Between its exchanges the client isn't usable.
+    /// Approaches the end of a path until at most so many names are left. Behind an approach the client isn't usable until the command is
+    /// over.
     pub(crate) fn reach<'a>(
         &mut self,
         names: &'a [&'a [u8]],
-        walks: Walks,
+        most: usize,
     ) -> Result<Route<'a, A>, ToolFault>
-        ensures { WalkGives S.contents S.remaining route_value (most_names walks) (map (λ n. n.now) names.entry.now) self.old self.new result }
+        ensures { WalkGives S.contents S.remaining route_value most (map (λ n. n.now) names.entry.now) self.old self.new result }
     {
-        let most = walks.most_names();
         let mut start = Start::Root;
-        let mut done = 0;
-        while names.len() - done > most {
-            let (_, left) = names.split_at(done);
-            let (near, _) = left.split_at(most);
+        let mut left = names;
+        while left.len() > most {
+            let (near, far) = cut(left);
             let handle = match self.approach(&start, near) {
                 Ok(handle) => handle,
                 Err(fault) => return Err(fault),
             };
             self.usable = false;
             start = Start::Object(handle);
-            done += most;
+            left = far;
         }
-        let (_, left) = names.split_at(done);
         Ok(Route { start, names: left })
     }
 
@@ -147,7 +145,7 @@ impl<S: Read + Write, A: Allocator + Copy> Client<S, A> {
     pub(crate) fn ready(&mut self, names: &[&[u8]], op: Op<'_>) -> Result<Request<A>, ToolFault>
         ensures { ReadyGives S.contents S.remaining (map (λ n. n.now) names.now) (op_view op.entry) self.old self.new result }
     {
-        match self.reach(names, Walks::One) {
+        match self.reach(names, MOST_NAMES) {
             Ok(route) => self.request_along(&route, op),
             Err(fault) => Err(fault),
         }
@@ -171,8 +169,8 @@ impl<S: Read + Write, A: Allocator + Copy> Client<S, A> {
         Ok(request)
     }
 
-    /// Approaches the ends of two paths, that of the first before that of the second. The request of an operation there, which walks the
-    /// names that are left of both.
+    /// Approaches the ends of two paths, first that of the first. The request of an operation there, which walks the names that are left
+    /// of both.
     pub(crate) fn ready_both(
         &mut self,
         names: &[&[u8]],
@@ -181,11 +179,11 @@ impl<S: Read + Write, A: Allocator + Copy> Client<S, A> {
     ) -> Result<Request<A>, ToolFault>
         ensures { BothReady S.contents S.remaining (map (λ n. n.now) names.now) (map (λ n. n.now) others.now) (op_view op.entry) self.old self.new result }
     {
-        let first = match self.reach(names, Walks::Two) {
+        let first = match self.reach(names, left_of_first(names.len(), others.len())) {
             Ok(first) => first,
             Err(fault) => return Err(fault),
         };
-        match self.reach(others, Walks::Two) {
+        match self.reach(others, MOST_OF_BOTH) {
             Ok(second) => self.request_both(&first, &second, op),
             Err(fault) => Err(fault),
         }

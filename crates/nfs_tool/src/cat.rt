@@ -13,7 +13,7 @@ use crate::client::{Client, Reply};
 use crate::fault::ToolFault;
 use crate::path::Path;
 use crate::request::Request;
-use crate::route::{Route, Walks};
+use crate::route::{MOST_NAMES, Route};
 use crate::taking::last;
 use nfs_ops::{MAX_READ, Op, OpResult, ReadArgs, ReadResult};
 use nfs_types::StateId;
@@ -124,7 +124,7 @@ impl<S: Read + Write, A: Allocator + Copy> Client<S, A> {
             Ok(path) => path,
             Err(fault) => return Err(fault),
         };
-        match self.reach(path.names(), Walks::One) {
+        match self.reach(path.names(), MOST_NAMES) {
             Ok(route) => self.read_all(&route),
             Err(fault) => Err(fault),
         }

@@ -18,7 +18,7 @@ use crate::fault::ToolFault;
 use crate::listing::Listed;
 use crate::path::Path;
 use crate::request::Request;
-use crate::route::{Route, Walks};
+use crate::route::{MOST_NAMES, Route};
 use crate::taking::last;
 use nfs_ops::{Bytes, Entry, Op, OpResult, ReadDirArgs, ReadDirResult};
 use nfs_types::{Attribute, Bitmap, SeenAttributes, read_given};
@@ -199,7 +199,7 @@ impl<S: Read + Write, A: Allocator + Copy> Client<S, A> {
             Err(fault) => return Err(fault),
         };
         let asked = attributes_listed();
-        match self.reach(path.names(), Walks::One) {
+        match self.reach(path.names(), MOST_NAMES) {
             Ok(route) => self.list_all(&route, asked),
             Err(fault) => Err(fault),
         }

@@ -22,7 +22,7 @@ use crate::client::{Client, Reply};
 use crate::fault::ToolFault;
 use crate::path::Place;
 use crate::request::{Request, sendable};
-use crate::route::{Route, Walks, handle_sent};
+use crate::route::{MOST_BEFORE_TWO, Route, handle_sent};
 use crate::sessions::OWNER;
 use crate::setting::values_of;
 use crate::taking::{last, last_two};
@@ -316,7 +316,7 @@ impl<S: Read + Write, A: Allocator + Copy> Client<S, A> {
     fn put_in(&mut self, names: &[&[u8]], op: Op<'_>, text: &[u8]) -> Result<(), ToolFault>
         ensures { PutAlong S.contents S.remaining (map (λ n. n.now) names.now) (op_view op.entry) text.now self.old self.new result }
     {
-        let route = match self.reach(names, Walks::One) {
+        let route = match self.reach(names, MOST_BEFORE_TWO) {
             Ok(route) => route,
             Err(fault) => return Err(fault),
         };

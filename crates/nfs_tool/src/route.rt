@@ -1,9 +1,9 @@
 //! Where a walk begins, and the names that are left of it.
-ghost use Rattle.std.specs.Prelude.{◌≡◌, ◌≤◌, ◌++◌, ◌∷◌, [], List, OnOk, IfOk};
+ghost use Rattle.std.specs.Prelude.{◌≡◌, ◌++◌, ◌∷◌, [], List, OnOk, IfOk, take, drop};
 ghost use Rattle.nfs_types.specs.Views.{handle_value};
 ghost use Rattle.nfs_ops.specs.Operations.{Operation};
 ghost use Rattle.nfs_tool.specs.Requests.{Asks, PutGives};
-ghost use Rattle.nfs_tool.specs.Routes.{begins, walk, most_names};
+ghost use Rattle.nfs_tool.specs.Routes.{begins, walk, most_names, left_of_first};
 ghost use Rattle.nfs_tool.specs.RouteViews.{start_value, route_value};
 
 use crate::fault::ToolFault;
@@ -13,24 +13,33 @@ use nfs_types::Handle;
 use std::alloc::Allocator;
 use xdr_wire::Opaque;
 
-/// How many paths a COMPOUND walks.
-#[derive(Clone, Copy, Debug)]
-pub(crate) enum Walks {
-    One,
-    Two,
+/// The most names that a COMPOUND walks before one operation. With SEQUENCE and where the walk begins these are the 16 operations that a
+/// session takes.
+pub(crate) const MOST_NAMES: usize = 13;
+
+/// The most names that a COMPOUND walks before two operations.
+pub(crate) const MOST_BEFORE_TWO: usize = 12;
+
+/// The most names of two paths that a COMPOUND walks before one operation, with SAVEFH between them.
+pub(crate) const MOST_OF_BOTH: usize = 11;
+
+/// With how many names left the approaches to the end of the first of two paths end, of so many names and so many. Where one COMPOUND can
+/// walk both there is none; else the first is walked to its end, before a name of the second is.
+pub(crate) fn left_of_first(names: usize, others: usize) -> usize
+    ensures { result ≡ left_of_first names others }
+{
+    if names.saturating_add(others) > MOST_OF_BOTH {
+        return 0;
+    }
+    MOST_OF_BOTH
 }
 
-impl Walks {
-    /// The most names of one path that a COMPOUND walks. With the operations beside them these are 16, as a session takes.
-    pub(crate) fn most_names(self) -> usize
-        ensures names { result ≡ most_names self }
-        ensures some { 1 ≤ result }
-    {
-        match self {
-            Walks::One => 12,
-            Walks::Two => 5,
-        }
-    }
+/// The names that one approach walks, and those behind them.
+pub(crate) fn cut<'a>(names: &'a [&'a [u8]]) -> (&'a [&'a [u8]], &'a [&'a [u8]])
+    ensures near { result.0.now ≡ take most_names names.entry.now }
+    ensures far { result.1.now ≡ drop most_names names.entry.now }
+{
+    names.split_at(MOST_NAMES.min(names.len()))
 }
 
 /// Where a walk begins.

@@ -1,4 +1,4 @@
-//! Paths of more names than a COMPOUND walks, with the calls and the replies by hand (RFC 8881, sections 18.8, 18.13, 18.19 and 18.21).
+//! Paths of more names than one COMPOUND walks, with the calls and the replies by hand (RFC 8881, sections 18.8, 18.13, 18.19 and 18.21).
 use crate::played::Played;
 use crate::replies::{SESSION, bytes_of, reply};
 use nfs_tool::{Client, Command, ToolFault};
@@ -6,12 +6,14 @@ use nfs_types::Status;
 use std::alloc::{AllocError, Global};
 use std::test::Fail;
 
+// ---- calls and replies
+
 /// Operations and their results, one behind the other.
 #[derive(Drop)]
 struct Steps {
     count: u32,
     asked: Vec<u32>,
-    told: Vec<u32>,
+    given: Vec<u32>,
 }
 
 impl Steps {
@@ -19,14 +21,14 @@ impl Steps {
         Steps {
             count: 0,
             asked: Vec::new(alloc),
-            told: Vec::new(alloc),
+            given: Vec::new(alloc),
         }
     }
 
-    fn step(&mut self, asked: &[u32], told: &[u32]) -> Result<(), AllocError> {
+    fn step(&mut self, asked: &[u32], given: &[u32]) -> Result<(), AllocError> {
         self.count = self.count.saturating_add(1);
         self.asked.extend_from_slice(asked)?;
-        self.told.extend_from_slice(told)
+        self.given.extend_from_slice(given)
     }
 
     /// PUTROOTFH, or PUTFH of the filehandle with this number at its end.
@@ -39,11 +41,17 @@ impl Steps {
     }
 
     /// LOOKUP of each of the names of these numbers.
-    fn walk(&mut self, from: u8, to: u8) -> Result<(), AllocError> {
+    fn lookups(&mut self, from: u8, to: u8) -> Result<(), AllocError> {
         for i in from..to {
             self.step(&[15, 1, u32::from_be_bytes([letter(i), 0, 0, 0])], &[15, 0])?;
         }
         Ok(())
+    }
+
+    /// A walk from a filehandle along the names of these numbers.
+    fn walk(&mut self, handle: u32, from: u8, to: u8) -> Result<(), AllocError> {
+        self.begin(handle)?;
+        self.lookups(from, to)
     }
 }
 
@@ -52,14 +60,17 @@ fn letter(i: u8) -> u8 {
     b'A'.wrapping_add(i)
 }
 
-/// The path of so many names, and this behind it.
-fn path(alloc: Global, count: u8, last: &[u8]) -> Result<Vec<u8>, AllocError> {
+/// The path of so many names, and this behind it. Without names and with nothing behind it is `/`.
+fn path(alloc: Global, count: u8, end: &[u8]) -> Result<Vec<u8>, AllocError> {
     let mut text = Vec::new(alloc);
     for i in 0..count {
         text.push(b'/')?;
         text.push(letter(i))?;
     }
-    text.extend_from_slice(last)?;
+    text.extend_from_slice(end)?;
+    if text.is_empty() {
+        text.push(b'/')?;
+    }
     Ok(text)
 }
 
@@ -68,8 +79,8 @@ fn path(alloc: Global, count: u8, last: &[u8]) -> Result<Vec<u8>, AllocError> {
 struct Talk {
     wants: Vec<u8>,
     gives: Vec<u8>,
-    /// The number of the next call.
-    next: u32,
+    /// The number of the last call.
+    last: u32,
 }
 
 impl Talk {
@@ -77,30 +88,60 @@ impl Talk {
         Talk {
             wants: Vec::new(alloc),
             gives: Vec::new(alloc),
-            next: 1,
+            last: 0,
         }
     }
 
-    /// The call of these operations behind SEQUENCE, and its reply with this status.
-    fn say(&mut self, alloc: Global, steps: &Steps, status: u32) -> Result<(), AllocError> {
-        let n = self.next;
-        let count = steps.count.saturating_add(1);
+    /// The call of SEQUENCE and so many operations.
+    fn ask(&mut self, alloc: Global, count: u32, asked: &[u32]) -> Result<(), AllocError> {
+        let n = self.last.saturating_add(1);
+        self.last = n;
         let mut words = Vec::new(alloc);
         words.extend_from_slice(&[n, 0, 2, 100_003, 4, 1, 1, 20, 0, 0, 1001, 100, 0, 0, 0])?;
-        words.extend_from_slice(&[0, 1, count, 53, 0, 0, 0, 1, n, 0, 0, 0])?;
-        words.extend_from_slice(&steps.asked)?;
+        words.extend_from_slice(&[0, 1, count.saturating_add(1)])?;
+        words.extend_from_slice(&[53, 0, 0, 0, 1, n, 0, 0, 0])?;
+        words.extend_from_slice(asked)?;
         let size = u32::try_from(words.len()).unwrap_or(0).saturating_mul(4);
         self.wants
             .extend_from_slice(&bytes_of(alloc, &[0x8000_0000 | size])?)?;
-        self.wants.extend_from_slice(&bytes_of(alloc, &words)?)?;
-        let begun = [53, 0, 0, 0, 0, 1, n, 0, 7, 7, 0];
-        let told = reply(alloc, n, status, count, &begun, &steps.told)?;
-        self.gives.extend_from_slice(&told)?;
-        self.next = n.saturating_add(1);
-        Ok(())
+        self.wants.extend_from_slice(&bytes_of(alloc, &words)?)
     }
 
-    /// A COMPOUND that walks names and asks for the filehandle that they end at.
+    /// The reply to the last call: a status, and the results of SEQUENCE and of so many operations.
+    fn give(
+        &mut self,
+        alloc: Global,
+        status: u32,
+        count: u32,
+        given: &[u32],
+    ) -> Result<(), AllocError> {
+        let n = self.last;
+        let begun = [53, 0, 0, 0, 0, 1, n, 0, 7, 7, 0];
+        let told = reply(alloc, n, status, count.saturating_add(1), &begun, given)?;
+        self.gives.extend_from_slice(&told)
+    }
+
+    /// A COMPOUND of these operations, all of which are OK.
+    fn say(&mut self, alloc: Global, steps: &Steps) -> Result<(), AllocError> {
+        self.ask(alloc, steps.count, &steps.asked)?;
+        self.give(alloc, 0, steps.count, &steps.given)
+    }
+
+    /// The call of an approach from a filehandle along the names of these numbers.
+    fn ask_approach(
+        &mut self,
+        alloc: Global,
+        handle: u32,
+        from: u8,
+        to: u8,
+    ) -> Result<(), AllocError> {
+        let mut steps = Steps::new(alloc);
+        steps.walk(handle, from, to)?;
+        steps.step(&[10], &[])?;
+        self.ask(alloc, steps.count, &steps.asked)
+    }
+
+    /// An approach, which tells this filehandle.
     fn approach(
         &mut self,
         alloc: Global,
@@ -110,13 +151,12 @@ impl Talk {
         reached: u32,
     ) -> Result<(), AllocError> {
         let mut steps = Steps::new(alloc);
-        steps.begin(handle)?;
-        steps.walk(from, to)?;
+        steps.walk(handle, from, to)?;
         steps.step(&[10], &[10, 0, 16, 0, 0, 0, reached])?;
-        self.say(alloc, &steps, 0)
+        self.say(alloc, &steps)
     }
 
-    /// Approaches up to each of these names. The filehandle of the last has the number of its names, and as many hundreds as are told.
+    /// Approaches up to each of these names. The last filehandle has the number of its names, and as many hundreds as are told.
     fn approaches(
         &mut self,
         alloc: Global,
@@ -135,82 +175,85 @@ impl Talk {
     }
 }
 
-/// What a command tells over these calls and replies, and whether a command can follow. `Write`: it wrote another call.
-fn run(alloc: Global, talk: &Talk, command: Command<'_>) -> (Result<Vec<u8>, ToolFault>, bool) {
+// ---- commands over them
+
+fn client(alloc: Global, talk: &Talk) -> Client<Played<'_>> {
     let stream = Played {
         wants: &talk.wants,
         gives: &talk.gives,
     };
-    let mut client = Client::resume(alloc, stream, 1001, 100, 1, SESSION, 1);
-    let told = match client.answer(command) {
-        Ok(answer) => copied(alloc, answer.as_bytes()),
-        Err(fault) => Err(fault),
+    Client::resume(alloc, stream, 1001, 100, 1, SESSION, 1)
+}
+
+/// The words of a command with a path between them.
+fn words<'a>(
+    alloc: Global,
+    before: &'a [u8],
+    path: &'a [u8],
+    behind: &'a [&'a [u8]],
+) -> Result<Vec<&'a [u8]>, AllocError> {
+    let mut words = Vec::new(alloc);
+    for word in before.split(|b| *b == b' ') {
+        words.push(word)?;
+    }
+    words.push(path)?;
+    words.extend_from_slice(behind)?;
+    Ok(words)
+}
+
+/// Whether a command tells this text.
+fn answers(client: &mut Client<Played<'_>>, words: &[&[u8]], text: &[u8]) -> bool {
+    let Some(command) = Command::read(words) else {
+        return false;
     };
-    let usable = client.rm(b"/") == Err(ToolFault::Path);
-    (told, usable)
-}
-
-fn copied(alloc: Global, bytes: &[u8]) -> Result<Vec<u8>, ToolFault> {
-    let mut copy = Vec::new(alloc);
-    copy.extend_from_slice(bytes)?;
-    Ok(copy)
-}
-
-/// Whether a command tells this text over these calls and replies, and another can follow.
-fn tells(alloc: Global, talk: &Talk, command: Command<'_>, text: &[u8]) -> bool {
-    let (told, usable) = run(alloc, talk, command);
-    match told {
-        Ok(answer) => usable && answer.as_slice() == text,
+    match client.answer(command) {
+        Ok(answer) => answer.as_bytes() == text,
         Err(_) => false,
     }
 }
 
-/// Whether a command tells this fault over these calls and replies, and whether another can follow is as said.
-fn fails(
-    alloc: Global,
-    talk: &Talk,
-    command: Command<'_>,
-    fault: ToolFault,
-    follows: bool,
-) -> bool {
-    let (told, usable) = run(alloc, talk, command);
-    match told {
+/// Whether a command tells this fault. `Write`: it wrote another call than was wanted.
+fn faults(client: &mut Client<Played<'_>>, words: &[&[u8]], fault: ToolFault) -> bool {
+    let Some(command) = Command::read(words) else {
+        return false;
+    };
+    match client.answer(command) {
         Ok(_) => false,
-        Err(other) => other == fault && usable == follows,
+        Err(other) => other == fault,
     }
 }
 
-/// The calls of an operation at the end of so many names, behind approaches up to these of them.
-fn along(
-    alloc: Global,
-    count: u8,
-    cuts: &[u8],
-    asked: &[u32],
-    told: &[u32],
-) -> Result<Talk, AllocError> {
-    let mut talk = Talk::new(alloc);
-    let (handle, from) = talk.approaches(alloc, cuts, 0)?;
-    let mut steps = Steps::new(alloc);
-    steps.begin(handle)?;
-    steps.walk(from, count)?;
-    steps.step(asked, told)?;
-    talk.say(alloc, &steps, 0)?;
-    Ok(talk)
+/// Whether another command can follow.
+fn is_usable(client: &mut Client<Played<'_>>) -> bool {
+    client.rm(b"/") == Err(ToolFault::Path)
 }
 
-/// So many names, and the approaches to their end.
-const WALKS: &[(u8, &[u8])] = &[
-    (0, &[]),
-    (12, &[]),
-    (13, &[12]),
-    (23, &[12]),
-    (24, &[12]),
-    (25, &[12, 24]),
-    (39, &[12, 24, 36]),
-    (40, &[12, 24, 36]),
-];
+/// Whether a command tells this text over these calls and replies, and another can follow.
+fn tells(alloc: Global, talk: &Talk, words: &[&[u8]], text: &[u8]) -> bool {
+    let mut client = client(alloc, talk);
+    answers(&mut client, words, text) && is_usable(&mut client)
+}
 
-/// One entry, as it is sent.
+/// Whether a command tells this fault over these calls and replies, and whether another can follow is as said.
+fn fails(alloc: Global, talk: &Talk, words: &[&[u8]], fault: ToolFault, follows: bool) -> bool {
+    let mut client = client(alloc, talk);
+    faults(&mut client, words, fault) && is_usable(&mut client) == follows
+}
+
+// ---- one path
+
+/// A command along a path: its words before the path and behind it, with what the path ends; the operation that it asks there, the result
+/// of it, and the text that is told.
+struct Row {
+    before: &'static [u8],
+    end: &'static [u8],
+    behind: &'static [&'static [u8]],
+    asked: &'static [u32],
+    given: &'static [u32],
+    text: &'static [u8],
+}
+
+/// An entry of EVERYONE@ for READ_DATA, as SETATTR sends it.
 const LIST: &[u32] = &[
     34,
     0,
@@ -230,89 +273,132 @@ const LIST: &[u32] = &[
     0x4000_0000,
 ];
 
-/// The end of a path as `/` where it has no names.
-fn object(count: u8) -> &'static [u8] {
-    if count == 0 { b"/" } else { b"" }
-}
+const ROWS: &[Row] = &[
+    Row {
+        before: b"access",
+        end: b"",
+        behind: &[],
+        asked: &[3, 0x3f],
+        given: &[3, 0, 0x2d, 1],
+        text: b"access 0000002d 00000001\n",
+    },
+    Row {
+        before: b"getacl",
+        end: b"",
+        behind: &[],
+        asked: &[9, 1, 0x1000],
+        given: &[9, 0, 1, 0x1000, 4, 0],
+        text: b"",
+    },
+    Row {
+        before: b"chmod 640",
+        end: b"",
+        behind: &[],
+        asked: &[34, 0, 0, 0, 0, 2, 0, 2, 4, 0o640],
+        given: &[34, 0, 2, 0, 2],
+        text: b"ok\n",
+    },
+    Row {
+        before: b"setacl",
+        end: b"",
+        behind: &[b"A:00:00000001:EVERYONE@"],
+        asked: LIST,
+        given: &[34, 0, 1, 0x1000],
+        text: b"ok\n",
+    },
+    Row {
+        before: b"cat",
+        end: b"",
+        behind: &[],
+        asked: &[25, 0, 0, 0, 0, 0, 0, 32_768],
+        given: &[25, 0, 1, 2, 0x6869_0000],
+        text: b"hi\n",
+    },
+    Row {
+        before: b"ls",
+        end: b"",
+        behind: &[],
+        asked: &[26, 0, 0, 0, 0, 0, 32_768, 2, 0x0000_0812, 0x0000_0032],
+        given: &[26, 0, 0, 0, 0, 1],
+        text: b"",
+    },
+    Row {
+        before: b"rm",
+        end: b"/Z",
+        behind: &[],
+        asked: &[28, 1, 0x5a00_0000],
+        given: &[28, 0, 1, 0, 1, 0, 2],
+        text: b"ok\n",
+    },
+    Row {
+        before: b"mkdir",
+        end: b"/Z",
+        behind: &[],
+        asked: &[6, 2, 1, 0x5a00_0000, 0, 0],
+        given: &[6, 0, 1, 0, 1, 0, 2, 0],
+        text: b"ok\n",
+    },
+];
 
-#[test]
-fn rights_and_lists_are_told_of_far_objects(rt: HostRuntime) -> Result<(), Fail> {
-    let alloc = rt.alloc();
-    for (count, cuts) in WALKS {
-        let at = path(alloc, *count, object(*count))?;
-        let talk = along(alloc, *count, cuts, &[3, 0x3f], &[3, 0, 0x2d, 1])?;
-        let text = b"access 0000002d 00000001\n";
-        assert!(rt; tells(alloc, &talk, Command::Access(&at), text));
-        let none = [9, 0, 1, 0x1000, 4, 0];
-        let talk = along(alloc, *count, cuts, &[9, 1, 0x1000], &none)?;
-        assert!(rt; tells(alloc, &talk, Command::GetAcl(&at), b""));
-    }
-    Ok(())
-}
+/// So many names, and the approaches before the COMPOUND of a command that asks one operation behind them.
+const WALKS: &[(u8, &[u8])] = &[
+    (0, &[]),
+    (13, &[]),
+    (14, &[13]),
+    (26, &[13]),
+    (27, &[13, 26]),
+    (39, &[13, 26]),
+    (40, &[13, 26, 39]),
+];
 
-#[test]
-fn attributes_are_set_of_far_objects(rt: HostRuntime) -> Result<(), Fail> {
-    let alloc = rt.alloc();
-    for (count, cuts) in WALKS {
-        let at = path(alloc, *count, object(*count))?;
-        let mode = [34, 0, 0, 0, 0, 2, 0, 2, 4, 0o640];
-        let talk = along(alloc, *count, cuts, &mode, &[34, 0, 2, 0, 2])?;
-        assert!(rt; tells(alloc, &talk, Command::ChMod(b"640", &at), b"ok\n"));
-        let talk = along(alloc, *count, cuts, LIST, &[34, 0, 1, 0x1000])?;
-        let entries: &[&[u8]] = &[b"A:00:00000001:EVERYONE@"];
-        assert!(rt; tells(alloc, &talk, Command::SetAcl(&at, entries), b"ok\n"));
-    }
-    Ok(())
-}
-
-#[test]
-fn far_objects_are_read(rt: HostRuntime) -> Result<(), Fail> {
-    let alloc = rt.alloc();
-    for (count, cuts) in WALKS {
-        let at = path(alloc, *count, object(*count))?;
-        let read = [25, 0, 0, 0, 0, 0, 0, 32_768];
-        let talk = along(alloc, *count, cuts, &read, &[25, 0, 1, 2, 0x6869_0000])?;
-        assert!(rt; tells(alloc, &talk, Command::Cat(&at), b"hi\n"));
-        let list = [26, 0, 0, 0, 0, 0, 32_768, 2, 0x0000_0812, 0x0000_0032];
-        let talk = along(alloc, *count, cuts, &list, &[26, 0, 0, 0, 0, 1])?;
-        assert!(rt; tells(alloc, &talk, Command::Ls(&at), b""));
-    }
-    Ok(())
-}
-
-/// The pages of a far file are all read from where the approaches ended.
-#[test]
-fn each_piece_of_a_far_file_is_read(rt: HostRuntime) -> Result<(), Fail> {
-    let alloc = rt.alloc();
+/// The calls and replies of a row's command along so many names.
+fn talk_of(alloc: Global, row: &Row, count: u8, cuts: &[u8]) -> Result<Talk, AllocError> {
     let mut talk = Talk::new(alloc);
-    talk.approach(alloc, 0, 0, 12, 9)?;
+    let (handle, from) = talk.approaches(alloc, cuts, 0)?;
+    let mut steps = Steps::new(alloc);
+    steps.walk(handle, from, count)?;
+    steps.step(row.asked, row.given)?;
+    talk.say(alloc, &steps)?;
+    Ok(talk)
+}
+
+fn row_holds(alloc: Global, row: &Row, count: u8, cuts: &[u8]) -> Result<bool, AllocError> {
+    let at = path(alloc, count, row.end)?;
+    let words = words(alloc, row.before, &at, row.behind)?;
+    let talk = talk_of(alloc, row, count, cuts)?;
+    Ok(tells(alloc, &talk, &words, row.text))
+}
+
+#[test]
+fn a_path_is_walked_to_its_end(rt: HostRuntime) -> Result<(), Fail> {
+    for row in ROWS {
+        for (count, cuts) in WALKS {
+            assert!(rt; row_holds(rt.alloc(), row, *count, cuts)?);
+        }
+    }
+    Ok(())
+}
+
+/// The pieces of a far file are all read from where the approaches ended.
+fn each_piece_comes(alloc: Global) -> Result<bool, AllocError> {
+    let mut talk = Talk::new(alloc);
+    talk.approach(alloc, 0, 0, 13, 9)?;
     for (offset, end) in [(0, 0), (4, 1)] {
         let mut steps = Steps::new(alloc);
-        steps.begin(9)?;
-        steps.walk(12, 14)?;
+        steps.walk(9, 13, 15)?;
         steps.step(
             &[25, 0, 0, 0, 0, 0, offset, 32_768],
             &[25, 0, end, 4, 0x6162_6364],
         )?;
-        talk.say(alloc, &steps, 0)?;
+        talk.say(alloc, &steps)?;
     }
-    let at = path(alloc, 14, b"")?;
-    assert!(rt; tells(alloc, &talk, Command::Cat(&at), b"abcdabcd\n"));
-    Ok(())
+    let at = path(alloc, 15, b"")?;
+    Ok(tells(alloc, &talk, &[b"cat", &at], b"abcdabcd\n"))
 }
 
 #[test]
-fn far_names_are_made_and_removed(rt: HostRuntime) -> Result<(), Fail> {
-    let alloc = rt.alloc();
-    for (count, cuts) in WALKS {
-        let at = path(alloc, *count, b"/Z")?;
-        let rm = [28, 1, 0x5a00_0000];
-        let talk = along(alloc, *count, cuts, &rm, &[28, 0, 1, 0, 1, 0, 2])?;
-        assert!(rt; tells(alloc, &talk, Command::Rm(&at), b"ok\n"));
-        let create = [6, 2, 1, 0x5a00_0000, 0, 0];
-        let talk = along(alloc, *count, cuts, &create, &[6, 0, 1, 0, 1, 0, 2, 0])?;
-        assert!(rt; tells(alloc, &talk, Command::MkDir(&at), b"ok\n"));
-    }
+fn each_piece_of_a_far_file_is_read(rt: HostRuntime) -> Result<(), Fail> {
+    assert!(rt; each_piece_comes(rt.alloc())?);
     Ok(())
 }
 
@@ -338,163 +424,215 @@ const OPEN: &[u32] = &[
     0x5a00_0000,
 ];
 
+/// So many names, and the approaches before the COMPOUND that asks OPEN and GETFH behind them.
+const OPENS: &[(u8, &[u8])] = &[
+    (0, &[]),
+    (12, &[]),
+    (13, &[13]),
+    (25, &[13]),
+    (26, &[13, 26]),
+    (40, &[13, 26, 39]),
+];
+
+/// The calls and replies of `put` of an empty text along so many names.
+fn put_talk(alloc: Global, count: u8, cuts: &[u8]) -> Result<Talk, AllocError> {
+    let mut talk = Talk::new(alloc);
+    let (handle, from) = talk.approaches(alloc, cuts, 0)?;
+    let mut steps = Steps::new(alloc);
+    steps.walk(handle, from, count)?;
+    steps.step(OPEN, &[18, 0, 1, 0, 0, 1, 1, 0, 1, 0, 2, 0, 1, 0x10, 0])?;
+    steps.step(&[10], &[10, 0, 16, 0, 0, 0, 2])?;
+    talk.say(alloc, &steps)?;
+    let mut steps = Steps::new(alloc);
+    steps.begin(2)?;
+    steps.step(&[4, 0, 1, 0, 0, 1], &[4, 0, 0xffff_ffff, 0, 0, 0])?;
+    talk.say(alloc, &steps)?;
+    Ok(talk)
+}
+
+fn is_put(alloc: Global, count: u8, cuts: &[u8]) -> Result<bool, AllocError> {
+    let at = path(alloc, count, b"/Z")?;
+    let talk = put_talk(alloc, count, cuts)?;
+    Ok(tells(alloc, &talk, &[b"put", &at, b""], b"ok\n"))
+}
+
 #[test]
 fn a_far_file_is_put(rt: HostRuntime) -> Result<(), Fail> {
-    let alloc = rt.alloc();
-    for (count, cuts) in WALKS {
-        let at = path(alloc, *count, b"/Z")?;
-        let mut talk = Talk::new(alloc);
-        let (handle, from) = talk.approaches(alloc, cuts, 0)?;
-        let mut steps = Steps::new(alloc);
-        steps.begin(handle)?;
-        steps.walk(from, *count)?;
-        steps.step(OPEN, &[18, 0, 1, 0, 0, 1, 1, 0, 1, 0, 2, 0, 1, 0x10, 0])?;
-        steps.step(&[10], &[10, 0, 16, 0, 0, 0, 2])?;
-        talk.say(alloc, &steps, 0)?;
-        let mut steps = Steps::new(alloc);
-        steps.begin(2)?;
-        steps.step(&[4, 0, 1, 0, 0, 1], &[4, 0, 0xffff_ffff, 0, 0, 0])?;
-        talk.say(alloc, &steps, 0)?;
-        assert!(rt; tells(alloc, &talk, Command::Put(&at, b""), b"ok\n"));
+    for (count, cuts) in OPENS {
+        assert!(rt; is_put(rt.alloc(), *count, cuts)?);
     }
     Ok(())
 }
 
-/// So many names of an old path and of a new one, and the approaches to the ends of both.
-const PAIRS: &[(u8, &[u8], u8, &[u8])] = &[
-    (5, &[], 5, &[]),
-    (6, &[5], 5, &[]),
-    (5, &[], 6, &[5]),
-    (13, &[5, 10], 24, &[5, 10, 15, 20]),
-    (25, &[5, 10, 15, 20], 13, &[5, 10]),
-    (40, &[5, 10, 15, 20, 25, 30, 35], 11, &[5, 10]),
+// ---- two paths
+
+/// A command along two paths: its name, with what each path ends, the operation that it asks, and the result of it.
+struct Both {
+    name: &'static [u8],
+    old: &'static [u8],
+    asked: &'static [u32],
+    given: &'static [u32],
+}
+
+const BOTH: &[Both] = &[
+    Both {
+        name: b"ln",
+        old: b"",
+        asked: &[11, 1, 0x5900_0000],
+        given: &[11, 0, 1, 0, 1, 0, 2],
+    },
+    Both {
+        name: b"mv",
+        old: b"/Z",
+        asked: &[29, 1, 0x5a00_0000, 1, 0x5900_0000],
+        given: &[29, 0, 1, 0, 1, 0, 2, 1, 0, 1, 0, 2],
+    },
 ];
 
-/// The calls of an operation at the ends of two paths.
-fn along_both(
-    alloc: Global,
-    pair: &(u8, &[u8], u8, &[u8]),
-    asked: &[u32],
-    told: &[u32],
-) -> Result<Talk, AllocError> {
+/// So many names of an old path and of a new one, and the approaches to the ends of both: none where one COMPOUND walks all, else up to the
+/// end of the old path, and behind that along the new one.
+type Pair = (u8, &'static [u8], u8, &'static [u8]);
+
+const PAIRS: &[Pair] = &[
+    (0, &[], 11, &[]),
+    (11, &[], 0, &[]),
+    (6, &[], 5, &[]),
+    (6, &[6], 6, &[]),
+    (0, &[], 12, &[12]),
+    (12, &[12], 0, &[]),
+    (13, &[13], 24, &[13]),
+    (14, &[13, 14], 25, &[13, 25]),
+    (40, &[13, 26, 39, 40], 38, &[13, 26, 38]),
+];
+
+/// The calls and replies of a command along two paths.
+fn talk_of_both(alloc: Global, both: &Both, pair: &Pair) -> Result<Talk, AllocError> {
     let (old, old_cuts, new, new_cuts) = *pair;
     let mut talk = Talk::new(alloc);
     let (first, old_from) = talk.approaches(alloc, old_cuts, 1)?;
     let (second, new_from) = talk.approaches(alloc, new_cuts, 2)?;
     let mut steps = Steps::new(alloc);
-    steps.begin(first)?;
-    steps.walk(old_from, old)?;
+    steps.walk(first, old_from, old)?;
     steps.step(&[32], &[32, 0])?;
-    steps.begin(second)?;
-    steps.walk(new_from, new)?;
-    steps.step(asked, told)?;
-    talk.say(alloc, &steps, 0)?;
+    steps.walk(second, new_from, new)?;
+    steps.step(both.asked, both.given)?;
+    talk.say(alloc, &steps)?;
     Ok(talk)
 }
 
+fn both_hold(alloc: Global, both: &Both, pair: &Pair) -> Result<bool, AllocError> {
+    let old = path(alloc, pair.0, both.old)?;
+    let new = path(alloc, pair.2, b"/Y")?;
+    let talk = talk_of_both(alloc, both, pair)?;
+    Ok(tells(alloc, &talk, &[both.name, &old, &new], b"ok\n"))
+}
+
 #[test]
-fn far_names_are_given_and_moved(rt: HostRuntime) -> Result<(), Fail> {
-    let alloc = rt.alloc();
-    for pair in PAIRS {
-        let to = path(alloc, pair.2, b"/Y")?;
-        let from = path(alloc, pair.0, b"")?;
-        let link = [11, 1, 0x5900_0000];
-        let talk = along_both(alloc, pair, &link, &[11, 0, 1, 0, 1, 0, 2])?;
-        assert!(rt; tells(alloc, &talk, Command::Ln(&from, &to), b"ok\n"));
-        let from = path(alloc, pair.0, b"/Z")?;
-        let rename = [29, 1, 0x5a00_0000, 1, 0x5900_0000];
-        let moved = [29, 0, 1, 0, 1, 0, 2, 1, 0, 1, 0, 2];
-        let talk = along_both(alloc, pair, &rename, &moved)?;
-        assert!(rt; tells(alloc, &talk, Command::Mv(&from, &to), b"ok\n"));
+fn two_paths_are_walked_to_their_ends(rt: HostRuntime) -> Result<(), Fail> {
+    for both in BOTH {
+        for pair in PAIRS {
+            assert!(rt; both_hold(rt.alloc(), both, pair)?);
+        }
     }
     Ok(())
 }
 
-/// The first approach to 40 names, and the second one with these results behind that of PUTFH.
-fn second(alloc: Global, status: u32, count: u32, results: &[u32]) -> Result<Talk, AllocError> {
+// ---- approaches that fail
+
+/// The first approach along 40 names, and the call of the second one with this reply.
+fn second(alloc: Global, status: u32, count: u32, given: &[u32]) -> Result<Talk, AllocError> {
     let mut talk = Talk::new(alloc);
-    talk.approach(alloc, 0, 0, 12, 9)?;
-    let mut steps = Steps::new(alloc);
-    steps.begin(9)?;
-    steps.walk(12, 24)?;
-    steps.step(&[10], &[])?;
-    let kept = talk.gives.len();
-    talk.say(alloc, &steps, status)?;
-    talk.gives.truncate(kept);
-    let begun = [53, 0, 0, 0, 0, 1, 2, 0, 7, 7, 0];
-    let given = reply(alloc, 2, status, count, &begun, results)?;
-    talk.gives.extend_from_slice(&given)?;
+    talk.approach(alloc, 0, 0, 13, 9)?;
+    talk.ask_approach(alloc, 9, 13, 26)?;
+    talk.give(alloc, status, count, given)?;
     Ok(talk)
 }
 
-/// Whether a refusal in the second approach is told by commands of one path, and nothing more is asked.
-fn refused(
+/// Refusals of the second approach: the status, the results of so many operations behind SEQUENCE, and the operation.
+const REFUSALS: &[(Status, u32, &[u32], u32)] = &[
+    (Status::NoEnt, 2, &[22, 0, 15, 2], 15),
+    (Status::NotDir, 3, &[22, 0, 15, 0, 15, 20], 15),
+    (Status::Access, 2, &[22, 0, 15, 13], 15),
+    (Status::Stale, 1, &[22, 70], 22),
+];
+
+/// Whether a command along 40 names tells a fault, where the second approach has this reply.
+fn stops(
+    alloc: Global,
+    talk: &Talk,
+    row: &Row,
+    fault: ToolFault,
+    follows: bool,
+) -> Result<bool, AllocError> {
+    let at = path(alloc, 40, row.end)?;
+    let words = words(alloc, row.before, &at, row.behind)?;
+    Ok(fails(alloc, talk, &words, fault, follows))
+}
+
+fn all_stop(alloc: Global, talk: &Talk, fault: ToolFault, follows: bool) -> Result<bool, AllocError> {
+    for row in ROWS {
+        if !stops(alloc, talk, row, fault, follows)? {
+            return Ok(false);
+        }
+    }
+    let at = path(alloc, 40, b"/Z")?;
+    Ok(fails(alloc, talk, &[b"put", &at, b"hi"], fault, follows))
+}
+
+/// Whether each command is stopped by this reply to the second approach.
+fn is_stopped(
     alloc: Global,
     status: u32,
     count: u32,
-    results: &[u32],
+    given: &[u32],
     fault: ToolFault,
 ) -> Result<bool, AllocError> {
-    let at = path(alloc, 40, b"")?;
-    let to = path(alloc, 40, b"/Z")?;
-    let talk = second(alloc, status, count, results)?;
-    let told = fails(alloc, &talk, Command::Access(&at), fault, true)
-        && fails(alloc, &talk, Command::ChMod(b"640", &at), fault, true)
-        && fails(alloc, &talk, Command::Cat(&at), fault, true)
-        && fails(alloc, &talk, Command::Ls(&at), fault, true);
-    Ok(
-        told && fails(alloc, &talk, Command::Rm(&to), fault, true)
-            && fails(alloc, &talk, Command::Put(&to, b"hi"), fault, true),
-    )
+    let talk = second(alloc, status, count, given)?;
+    let follows = fault != ToolFault::Reply;
+    all_stop(alloc, &talk, fault, follows)
 }
 
 #[test]
 fn a_refused_approach_is_told(rt: HostRuntime) -> Result<(), Fail> {
-    let alloc = rt.alloc();
-    let none = ToolFault::Refused(15, Status::NoEnt);
-    assert!(rt; refused(alloc, 2, 3, &[22, 0, 15, 2], none)?);
-    let file = ToolFault::Refused(15, Status::NotDir);
-    assert!(rt; refused(alloc, 20, 4, &[22, 0, 15, 0, 15, 20], file)?);
-    let denied = ToolFault::Refused(15, Status::Access);
-    assert!(rt; refused(alloc, 13, 3, &[22, 0, 15, 13], denied)?);
-    let gone = ToolFault::Refused(22, Status::Stale);
-    assert!(rt; refused(alloc, 70, 2, &[22, 70], gone)?);
+    for (status, count, given, op) in REFUSALS {
+        let fault = ToolFault::Refused(*op, *status);
+        assert!(rt; is_stopped(rt.alloc(), status.number(), *count, given, fault)?);
+    }
     Ok(())
 }
 
-/// A refusal in an approach of the second path of two.
-#[test]
-fn a_refused_approach_of_a_second_path_is_told(rt: HostRuntime) -> Result<(), Fail> {
-    let alloc = rt.alloc();
-    let mut talk = Talk::new(alloc);
-    talk.approach(alloc, 0, 0, 5, 9)?;
-    let mut steps = Steps::new(alloc);
-    steps.begin(0)?;
-    steps.walk(0, 5)?;
-    steps.step(&[10], &[])?;
-    let kept = talk.gives.len();
-    talk.say(alloc, &steps, 2)?;
-    talk.gives.truncate(kept);
-    let begun = [53, 0, 0, 0, 0, 1, 2, 0, 7, 7, 0];
-    let given = reply(alloc, 2, 2, 3, &begun, &[24, 0, 15, 2])?;
-    talk.gives.extend_from_slice(&given)?;
-    let old = path(alloc, 6, b"")?;
-    let new = path(alloc, 11, b"/Z")?;
-    let none = ToolFault::Refused(15, Status::NoEnt);
-    assert!(rt; fails(alloc, &talk, Command::Ln(&old, &new), none, true));
-    Ok(())
-}
-
-/// A reply to the second approach that isn't one, and none: no command follows.
+/// A reply without the filehandle is none, and no command follows it.
 #[test]
 fn no_command_follows_a_failed_approach(rt: HostRuntime) -> Result<(), Fail> {
-    let alloc = rt.alloc();
-    let at = path(alloc, 40, b"")?;
-    let talk = second(alloc, 0, 2, &[22, 0])?;
-    assert!(rt; fails(alloc, &talk, Command::GetAcl(&at), ToolFault::Reply, false));
-    let mut talk = second(alloc, 0, 2, &[22, 0])?;
-    let few = talk.gives.len().saturating_sub(1);
-    talk.gives.truncate(few);
-    assert!(rt; fails(alloc, &talk, Command::MkDir(&at), ToolFault::Read, false));
+    assert!(rt; is_stopped(rt.alloc(), 0, 1, &[22, 0], ToolFault::Reply)?);
+    Ok(())
+}
+
+/// Whether `ln` along so many names of an old path and of a new one tells a refused LOOKUP: in an approach from this filehandle along the
+/// names of these numbers, behind these approaches of the old path.
+fn ln_stops(
+    alloc: Global,
+    counts: (u8, u8),
+    cuts: &[u8],
+    approach: (u32, u8, u8),
+) -> Result<bool, AllocError> {
+    let (handle, from, to) = approach;
+    let mut talk = Talk::new(alloc);
+    talk.approaches(alloc, cuts, 0)?;
+    talk.ask_approach(alloc, handle, from, to)?;
+    let begins = if handle == 0 { 24 } else { 22 };
+    talk.give(alloc, 2, 2, &[begins, 0, 15, 2])?;
+    let old = path(alloc, counts.0, b"")?;
+    let new = path(alloc, counts.1, b"/Z")?;
+    let none = ToolFault::Refused(15, Status::NoEnt);
+    Ok(fails(alloc, &talk, &[b"ln", &old, &new], none, true))
+}
+
+/// Where one COMPOUND can't walk both paths, nothing of the second is asked before the end of the first is found.
+#[test]
+fn the_first_path_is_walked_before_the_second(rt: HostRuntime) -> Result<(), Fail> {
+    assert!(rt; ln_stops(rt.alloc(), (1, 20), &[], (0, 0, 1))?);
+    assert!(rt; ln_stops(rt.alloc(), (14, 20), &[13], (13, 13, 14))?);
+    assert!(rt; ln_stops(rt.alloc(), (6, 20), &[6], (0, 0, 13))?);
     Ok(())
 }
