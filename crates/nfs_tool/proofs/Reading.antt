@@ -1,5 +1,5 @@
 -- Commands that ask page by page at the end of a path.
-use Rattle.std.proofs.Common.{◌≡◌, inl, inr, ℕ, List, Some, None, Ok, Err}
+use Rattle.std.proofs.Common.{◌≡◌, inl, ℕ, List, Some, Ok, Err}
 use Rattle.std.specs.Prelude.{Option, Result}
 use Rattle.nfs_tool.specs.Access.{NoPath}
 use Rattle.nfs_tool.specs.Approach.{WalkGives, WalkFails}

@@ -1,8 +1,8 @@
 -- Walks of several COMPOUNDs.
-use Rattle.std.proofs.Common.{◌≡◌, ◌<◌, ◌≤◌, inl, inr, ℕ, true, false, List, [], ◌∷◌, length, take, drop, map, Ok, Err, sym, ap, ◌∙◌, subst}
+use Rattle.std.proofs.Common.{◌≡◌, ◌<◌, ◌≤◌, ◌+◌, ◌-◌, inl, inr, ℕ, true, false, List, [], ◌∷◌, length, take, drop, map, min, Ok, Err, sym, ap, ◌∙◌, subst, arith}
 use Rattle.std.specs.Prelude.{◌⊎◌, IfOk, Option, Result}
 use Rattle.std.specs.Borrow.{Bor}
-use Rattle.std.proofs.lemmas.List.{take-map, drop-map, length-map}
+use Rattle.std.proofs.lemmas.List.{take-map, drop-map, drop-drop, drop_min, length-map, length-take, length-drop}
 use Rattle.nfs_ops.specs.Operations.{Operation}
 use Rattle.nfs_ops.specs.Results.{Outcome}
 use Rattle.nfs_tool.specs.Approach.{approach, handle_in, ApproachGives, Approaches, WalkFails, WalkGives}
@@ -11,7 +11,7 @@ use Rattle.nfs_tool.specs.Paging.{itself}
 use Rattle.nfs_tool.specs.Requests.{Asks, PutGives}
 use Rattle.nfs_tool.specs.Routes.{Start, Object, Route, near, far, route_behind, along, most_names, most_of_both, left_of_first}
 use Rattle.nfs_tool.specs.Taking.{nothing, takes_nothing}
-use Rattle.nfs_tool.specs.Walking.{Walked, CommandTells, CommandGives, BothGive, ReadyGives, BothReady, along_both}
+use Rattle.nfs_tool.specs.Walking.{Walked, CommandTells, BothGive, ReadyGives, BothReady, along_both}
 use Rattle.nfs_tool.specs.declared.client.Client.{Client}
 use Rattle.nfs_tool.specs.declared.request.Request.{Request}
 use Rattle.nfs_tool.specs.declared.fault.ToolFault.{ToolFault}
@@ -88,15 +88,33 @@ near_is start left first is = ap (route_of start) is ∙ ap (with_names start) (
 pub far_is : (start : Start) (left rest : List (Bor (List ℕ))) (handle : List ℕ) → rest ≡ drop most_names left → route_of (Object handle) rest ≡ far (route_of start left) handle
 far_is start left rest handle is = ap (route_of (Object handle)) is ∙ ap (with_names (Object handle)) (sym (drop-map (λ n. n.now) most_names left))
 
-pub some_left : (most : ℕ) (start : Start) (left : List (Bor (List ℕ))) → most < length left → most < length (route_of start left).names
-some_left most start left below = subst (λ (n : ℕ). most < n) (sym (length-map left (λ n. n.now))) below
+-- the first names of those that are left, as they are lent
+pub nearest_of : (done : ℕ) (names left first : List (Bor (List ℕ))) → first ≡ take most_names left → left ≡ drop done names → first ≡ take most_names (drop done names)
+nearest_of done names left first is so = is ∙ ap (take most_names) so
+
+-- how many names an approach walks of those behind the first so many
+pub near_length : (done : ℕ) (names first : List (Bor (List ℕ))) → first ≡ take most_names (drop done names) → length first ≡ min most_names (length (drop done names))
+near_length done names first is = ap length is ∙ length-take most_names (drop done names)
+
+-- the names that are left behind those that an approach walks
+pub stepped : (done : ℕ) (names first : List (Bor (List ℕ))) → first ≡ take most_names (drop done names) → drop (done + length first) names ≡ drop most_names (drop done names)
+stepped done names first is =
+    sym (drop-drop (length first) done names) ∙ ap (λ (n : ℕ). drop n (drop done names)) (near_length done names first is) ∙ drop_min most_names (drop done names)
+
+-- An approach walks some names, and no more than are left.
+pub near_bounds : (done most : ℕ) (names first : List (Bor (List ℕ))) → first ≡ take most_names (drop done names) → most < length names - done → (1 ≤ length first) × (done + length first ≤ length names)
+near_bounds done most names first is below =
+    (omega (arith, near_length done names first is, length-drop done names, below), omega (arith, near_length done names first is, length-drop done names, below))
+
+pub some_left : (most done : ℕ) (start : Start) (names : List (Bor (List ℕ))) → most < length names - done → most < length (route_of start (drop done names)).names
+some_left most done start names below = subst (λ (n : ℕ). most < n) (sym (length-map (drop done names) (λ n. n.now) ∙ length-drop done names)) below
 
 -- at most so many names are left
-pub arrived : {S A : Type 0} (contents remaining : S → Option (List ℕ)) (most : ℕ) (names : List (List ℕ)) (old new : Client S A) (handles : List (List ℕ)) (start : Start) (left : List (Bor (List ℕ)))
-    → Approaches contents remaining most names old handles new → route_of start left ≡ route_behind names handles → length left ≤ most
+pub arrived : {S A : Type 0} (contents remaining : S → Option (List ℕ)) (most : ℕ) (names : List (List ℕ)) (old new : Client S A) (handles : List (List ℕ)) (start : Start) (done : ℕ) (all left : List (Bor (List ℕ)))
+    → Approaches contents remaining most names old handles new → route_of start (drop done all) ≡ route_behind names handles → left ≡ drop done all → length all - done ≤ most
     → WalkGives contents remaining itself most names old new (Ok (route_of start left))
-arrived contents remaining most names old new handles start left goes so few =
-    (handles, goes, so, subst (λ (n : ℕ). n ≤ most) (sym (length-map left (λ n. n.now))) few)
+arrived contents remaining most names old new handles start done all left goes so is few =
+    (handles, goes, ap (route_of start) is ∙ so, subst (λ (n : ℕ). n ≤ most) (sym (length-map left (λ n. n.now) ∙ ap length is ∙ length-drop done all)) few)
 
 -- how many names of the first of two lent paths are left
 pub first_left : (names others : List (Bor (List ℕ))) (n : ℕ) → n ≡ left_of_first (length names) (length others) → n ≡ left_of_first (length (map (λ n. n.now) names)) (length (map (λ n. n.now) others))

@@ -12,7 +12,7 @@ use Rattle.nfs_tool.specs.declared.fault.ToolFault.TheVariants.{Path}
 abbrev pub access : Operation
 access = Known kinds.Access 0x3f
 
--- along the path's names, and the operation there
+-- the path's names, and the operation that is asked at their end
 abbrev pub AccessAsks : List ℕ → List (List ℕ) → Operation → Type 0
 AccessAsks path names op = (names_in path ≡ Some names) × (op ≡ access)
 

@@ -1,5 +1,5 @@
 -- getacl and setacl: an access control list as text.
-use Rattle.std.specs.Prelude.{◌≡◌, ℕ, nat_lt, ◌==◌, if◌then◌else◌, List, [], ◌∷◌, ◌++◌, map, Contains, Option, Some, None, option_and_then, option_map, Result, Ok, Err}
+use Rattle.std.specs.Prelude.{◌≡◌, ℕ, nat_lt, ◌==◌, if◌then◌else◌, List, ◌++◌, map, Contains, Option, Some, None, option_and_then, option_map, Result, Ok, Err}
 use Rattle.acl_list.specs.declared.entry.EntryKind.{EntryKind}
 use Rattle.acl_list.specs.declared.entry.EntryKind.TheVariants.{Allow, Deny, Audit, Alarm}
 use Rattle.xdr_wire.specs.Xdr.{Value}
@@ -61,7 +61,7 @@ EntriesGive values texts (Err Entry) = SomeUnread texts
 EntriesGive values texts (Err Memory) = Unit {0}
 EntriesGive values texts (Err fault) = ⊥
 
--- along the path's names, and the operation there
+-- the path's names, and the operation that is asked at their end
 abbrev pub SetAclAsks : List ℕ → List (List ℕ) → List (List ℕ) → Operation → Type 0
 SetAclAsks path texts names op =
     (values : List (Value ace)) × (names_in path ≡ Some names) × AreRead texts values × (op ≡ set_attributes (of_entries values))
@@ -78,7 +78,7 @@ WrongList path texts fault = ⊥
 abbrev pub IsAcl : List ℕ → Type 0
 IsAcl set = (n : ℕ) → has_number set n ≡ (n == 12)
 
--- along the path's names, and the operation there
+-- the path's names, and the operation that is asked at their end
 abbrev pub GetAclAsks : List ℕ → List (List ℕ) → Operation → Type 0
 GetAclAsks path names op = (set : List ℕ) × (names_in path ≡ Some names) × IsAcl set × (op ≡ Known kinds.GetAttr set)
 

@@ -10,7 +10,7 @@ use Rattle.nfs_tool.specs.declared.fault.ToolFault.TheVariants.{Path}
 abbrev pub link : List ℕ → Operation
 link name = Known kinds.Link name
 
--- along the old path's names, along the new directory's, and the operation there
+-- the names of the old path and of the new one's directory, and the operation that is asked at the ends of both
 abbrev pub LnAsks : List ℕ → List ℕ → List (List ℕ) → List (List ℕ) → Operation → Type 0
 LnAsks old new names directory op = (name : List ℕ) × (names_in old ≡ Some names) × IsIn new directory name × (op ≡ link name)
 

@@ -9,6 +9,6 @@ use Rattle.nfs_tool.specs.Commands.{IsIn}
 abbrev pub create : List ℕ → Operation
 create name = Known kinds.Create (inr (inl tt), (name, ([], [])))
 
--- along the directory's names, and the operation there
+-- the names of the path's directory, and the operation that is asked at their end
 abbrev pub MkDirAsks : List ℕ → List (List ℕ) → Operation → Type 0
 MkDirAsks path directory op = (name : List ℕ) × IsIn path directory name × (op ≡ create name)

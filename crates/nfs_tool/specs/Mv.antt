@@ -9,7 +9,7 @@ use Rattle.nfs_tool.specs.declared.fault.ToolFault.TheVariants.{Path}
 abbrev pub rename : List ℕ → List ℕ → Operation
 rename old new = Known kinds.Rename (old, new)
 
--- along the names of the one directory, along those of the other, and the operation there
+-- the names of the old path's directory and of the new one's, and the operation that is asked at the ends of both
 abbrev pub MvAsks : List ℕ → List ℕ → List (List ℕ) → List (List ℕ) → Operation → Type 0
 MvAsks old new source target op = (before : List ℕ) × (after : List ℕ) × IsIn old source before × IsIn new target after × (op ≡ rename before after)
 

@@ -73,7 +73,7 @@ written_in sent results = option_and_then (written_of sent) (last_of results)
 
 -- ---- what is asked
 
--- along the directory's names, and the operation there
+-- the names of the path's directory, and the operation that is asked at their end
 abbrev pub OpenAsks : ℕ → List ℕ → List (List ℕ) → Operation → Type 0
 OpenAsks client path directory op = (name : List ℕ) × IsIn path directory name × (op ≡ open_emptied client name)
 

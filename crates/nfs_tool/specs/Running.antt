@@ -1,5 +1,5 @@
 -- What comes of each command, and the text that is told of it.
-use Rattle.std.specs.Prelude.{◌≡◌, ℕ, List, Option, Result, Vec}
+use Rattle.std.specs.Prelude.{ℕ, List, Option, Result, Vec}
 use Rattle.nfs_tool.specs.Access.{AccessAsks, NoPath, rights_in}
 use Rattle.nfs_tool.specs.AccessViews.{rights_value}
 use Rattle.nfs_tool.specs.Acls.{GetAclAsks, SetAclAsks, WrongList, acl_in}

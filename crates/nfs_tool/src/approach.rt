@@ -8,14 +8,14 @@ ghost use Rattle.nfs_tool.specs.Commands.{AskGives};
 ghost use Rattle.nfs_tool.specs.Compound.{said};
 ghost use Rattle.nfs_tool.specs.Requests.{Asks, PutGives};
 ghost use Rattle.nfs_tool.specs.Routes.{along};
-ghost use Rattle.nfs_tool.specs.RouteViews.{start_value, route_value};
+ghost use Rattle.nfs_tool.specs.RouteViews.{route_from, route_value};
 ghost use Rattle.nfs_tool.specs.Taking.{SaidGives, TakeGives};
 ghost use Rattle.nfs_tool.specs.Walking.{along_both, BothReady, ReadyGives};
 
 use crate::client::{Client, Reply};
 use crate::fault::ToolFault;
 use crate::request::Request;
-use crate::route::{MOST_NAMES, MOST_OF_BOTH, Route, Start, cut, left_of_first};
+use crate::route::{MOST_NAMES, MOST_OF_BOTH, Route, Start, left_of_first, nearest};
 use crate::taking::last;
 use nfs_ops::{Op, OpResult};
 use nfs_types::Handle;
@@ -78,7 +78,7 @@ impl<A: Allocator + Copy> Reply<A> {
 impl<S: Read + Write, A: Allocator + Copy> Client<S, A> {
     /// The request of the filehandle at the end of these names.
     fn prepare_approach(&self, start: &Start<A>, names: &[&[u8]]) -> Result<Request<A>, ToolFault>
-        ensures asks { IfOk result (λ r. Asks r (approach self.now (record { start = start_value start.now; names = map (λ n. n.now) names.now }))) }
+        ensures asks { IfOk result (λ r. Asks r (approach self.now (route_from start.now names.now))) }
         ensures memory { PutGives result }
     {
         let mut request = self.request()?;
@@ -90,7 +90,7 @@ impl<S: Read + Write, A: Allocator + Copy> Client<S, A> {
 
     /// Walks these names by a COMPOUND of their own. The filehandle that they end at.
     fn approach(&mut self, start: &Start<A>, names: &[&[u8]]) -> Result<Vec<u8, A>, ToolFault>
-        ensures { AskGives S.contents S.remaining handle_in (λ v. v.items) true (approach self.old (record { start = start_value start.now; names = map (λ n. n.now) names.now })) self.old self.new result }
+        ensures { AskGives S.contents S.remaining handle_in (λ v. v.items) true (approach self.old (route_from start.now names.now)) self.old self.new result }
     {
         let request = self.prepare_approach(start, names)?;
         let reply = match self.exchange(request) {
@@ -112,17 +112,19 @@ impl<S: Read + Write, A: Allocator + Copy> Client<S, A> {
         ensures { WalkGives S.contents S.remaining route_value most (map (λ n. n.now) names.entry.now) self.old self.new result }
     {
         let mut start = Start::Root;
-        let mut left = names;
-        while left.len() > most {
-            let (near, far) = cut(left);
+        let mut done = 0;
+        while names.len() - done > most {
+            let (_, left) = names.split_at(done);
+            let near = nearest(left);
             let handle = match self.approach(&start, near) {
                 Ok(handle) => handle,
                 Err(fault) => return Err(fault),
             };
             self.usable = false;
             start = Start::Object(handle);
-            left = far;
+            done += near.len();
         }
+        let (_, left) = names.split_at(done);
         Ok(Route { start, names: left })
     }
 

@@ -1,5 +1,5 @@
 //! Where a walk begins, and the names that are left of it.
-ghost use Rattle.std.specs.Prelude.{◌≡◌, ◌++◌, ◌∷◌, [], List, OnOk, IfOk, take, drop};
+ghost use Rattle.std.specs.Prelude.{◌≡◌, ◌++◌, ◌∷◌, [], List, OnOk, IfOk, take};
 ghost use Rattle.nfs_types.specs.Views.{handle_value};
 ghost use Rattle.nfs_ops.specs.Operations.{Operation};
 ghost use Rattle.nfs_tool.specs.Requests.{Asks, PutGives};
@@ -34,12 +34,12 @@ pub(crate) fn left_of_first(names: usize, others: usize) -> usize
     MOST_OF_BOTH
 }
 
-/// The names that one approach walks, and those behind them.
-pub(crate) fn cut<'a>(names: &'a [&'a [u8]]) -> (&'a [&'a [u8]], &'a [&'a [u8]])
-    ensures near { result.0.now ≡ take most_names names.entry.now }
-    ensures far { result.1.now ≡ drop most_names names.entry.now }
+/// The names that one approach walks of these.
+pub(crate) fn nearest<'a>(names: &'a [&'a [u8]]) -> &'a [&'a [u8]]
+    ensures { result.now ≡ take most_names names.entry.now }
 {
-    names.split_at(MOST_NAMES.min(names.len()))
+    let (near, _) = names.split_at(MOST_NAMES.min(names.len()));
+    near
 }
 
 /// Where a walk begins.

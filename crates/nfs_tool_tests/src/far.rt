@@ -569,7 +569,12 @@ fn stops(
     Ok(fails(alloc, talk, &words, fault, follows))
 }
 
-fn all_stop(alloc: Global, talk: &Talk, fault: ToolFault, follows: bool) -> Result<bool, AllocError> {
+fn all_stop(
+    alloc: Global,
+    talk: &Talk,
+    fault: ToolFault,
+    follows: bool,
+) -> Result<bool, AllocError> {
     for row in ROWS {
         if !stops(alloc, talk, row, fault, follows)? {
             return Ok(false);

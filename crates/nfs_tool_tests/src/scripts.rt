@@ -212,10 +212,7 @@ const FAR: &[(&str, &str)] = &[
     ("mv ~/f ~/e", "ok"),
     ("rm ~/e", "ok"),
     ("rm ~/e", "refused REMOVE NOENT"),
-    (
-        "cat ~/no/d/d/d/d/d/d/d/d/d/d/d/d/d",
-        "refused LOOKUP NOENT",
-    ),
+    ("cat ~/no/d/d/d/d/d/d/d/d/d/d/d/d/d", "refused LOOKUP NOENT"),
 ];
 
 /// How deep the directories lie in which that is done, of forty in one another.

@@ -1,4 +1,4 @@
-use Rattle.std.proofs.Common.{refl, map, ap, subst, sym, ◌∙◌}
+use Rattle.std.proofs.Common.{map, ap, ◌∙◌}
 use Rattle.nfs_types.specs.Seen.{Seen, shown_values}
 use Rattle.nfs_types.specs.ShownViews.{shown_value}
 use Rattle.nfs_ops.specs.OpViews.{op_view}

@@ -1,4 +1,4 @@
-use Rattle.std.proofs.Common.{List, [], ◌∷◌, ◌++◌, subst, append_assoc}
+use Rattle.std.proofs.Common.{List, [], ◌∷◌, subst, append_assoc}
 use Rattle.nfs_ops.specs.OpViews.{op_view}
 use Rattle.nfs_ops.specs.Operations.{Operation}
 use Rattle.nfs_tool.specs.Approach.{get_handle}
