@@ -7,7 +7,7 @@ use Rattle.nfs_tool.specs.Compound.{AllDone, LastRefused, NoReply, Said, said}
 use Rattle.nfs_tool.specs.Requests.{asked_of}
 use Rattle.nfs_tool.specs.Taking.{SaidGives}
 use Rattle.nfs_tool.specs.Client.{ExchangeGives, next}
-use Rattle.nfs_tool.specs.Commands.{Answered, Told, Settled, NoAnswer, Concludes, number_behind, takes_number, AskGives, CommandTells}
+use Rattle.nfs_tool.specs.Commands.{Answered, Told, Settled, NoAnswer, Concludes, number_behind, takes_number, AskGives}
 use Rattle.nfs_types.specs.Status.{number_of}
 use Rattle.nfs_tool.specs.declared.fault.ToolFault.{ToolFault}
 use Rattle.nfs_tool.specs.declared.fault.ToolFault.TheVariants as fault
@@ -109,16 +109,3 @@ unasked contents remaining taken value in_session ops old new fault.Failed (inl 
     different : fault.Failed ≡ fault.Memory → ⊥
     different e = cc
 unasked contents remaining taken value in_session ops old new fault.Failed (inr h) = absurd h.1.failed.0
-
--- what comes of a command's operations is what comes of the command
-pub command_runs : {S A X V : Type 0} (contents remaining : S → Option (List ℕ)) (taken : List Outcome → Option V) (value : X → V) (asks : List Operation → Type 0) (wrong : ToolFault → Type 0) (old new : Client S A) (result : Result X ToolFault) (ops : List Operation)
-    → asks ops → AskGives contents remaining taken value true ops old new result → CommandTells contents remaining taken value asks wrong old new result
-command_runs contents remaining taken value asks wrong old new (Ok x) ops a h = (ops, a, h)
-command_runs contents remaining taken value asks wrong old new (Err (fault.Refused op status)) ops a h = (ops, a, h)
-command_runs contents remaining taken value asks wrong old new (Err fault.Reply) ops a h = (ops, a, h)
-command_runs contents remaining taken value asks wrong old new (Err fault.Read) ops a h = (ops, a, h)
-command_runs contents remaining taken value asks wrong old new (Err fault.Write) ops a h = (ops, a, h)
-command_runs contents remaining taken value asks wrong old new (Err fault.Memory) ops a h = h
-command_runs contents remaining taken value asks wrong old new (Err fault.Path) ops a h = absurd h
-command_runs contents remaining taken value asks wrong old new (Err fault.Entry) ops a h = absurd h
-command_runs contents remaining taken value asks wrong old new (Err fault.Failed) ops a h = absurd h

@@ -11,6 +11,8 @@ pub mod TextLines
 pub mod Pages
 pub mod Pieces
 pub mod Listings
+pub mod Walks
+pub mod Reading
 pub mod Putting
 pub mod ScriptTexts
 pub mod Telling

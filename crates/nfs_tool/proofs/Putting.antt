@@ -1,5 +1,5 @@
 -- A text that is written to a file piece by piece.
-use Rattle.std.proofs.Common.{◌≡◌, inr, ℕ, ◌+◌, ◌-◌, ◌≤◌, ◌<◌, Bool, true, false, List, ◌∷◌, length, drop, Some, None, Ok, Err, refl, sym, ap, subst, arith}
+use Rattle.std.proofs.Common.{◌≡◌, inl, inr, ℕ, ◌+◌, ◌-◌, ◌≤◌, ◌<◌, Bool, true, false, List, ◌∷◌, length, drop, Some, None, Ok, Err, refl, sym, ap, subst, arith}
 use Rattle.std.specs.Prelude.{nat_le, ◌&&◌, if◌then◌else◌, Option, option_and_then, Result}
 use Rattle.std.specs.List.{sum}
 use Rattle.std.proofs.lemmas.Bool.Decides.{nat_tests}
@@ -13,11 +13,16 @@ use Rattle.nfs_tool.specs.Compound.{said}
 use Rattle.nfs_tool.specs.Requests.{asked_of}
 use Rattle.nfs_tool.specs.Commands.{AskGives, Spoils}
 use Rattle.nfs_tool.specs.Paging.{itself}
-use Rattle.nfs_tool.specs.Put.{Open, count_within, written_of, open_in, OpenAsks, write_to, piece, WriteGives, Writes, CloseGives, TextGives, ClosesBehind, told_behind, FileGives, PutCommandGives}
+use Rattle.nfs_tool.specs.Put.{Open, count_within, written_of, open_in, OpenAsks, write_to, piece, WriteGives, Writes, CloseGives, TextGives, ClosesBehind, told_behind, FileGives, PutFileGives, PutAlong, open_along, PutCommandGives}
+use Rattle.nfs_tool.specs.Approach.{WalkGives}
+use Rattle.nfs_tool.specs.Rm.{WrongPath}
+use Rattle.nfs_tool.specs.Routes.{Route, most_before_two}
 use Rattle.nfs_tool.specs.Taking.{last_of}
 use Rattle.nfs_tool.specs.declared.fault.ToolFault.{ToolFault}
 use Rattle.nfs_tool.specs.declared.fault.ToolFault.TheVariants as fault
 use Rattle.nfs_tool.specs.declared.client.Client.{Client}
+use Rattle.nfs_tool.proofs.Pages.{same_failure}
+use Rattle.nfs_tool.proofs.Walks.{Kept, kept_on, walk_kept, commanded, walked_memory, no_path, no_entry, no_failed, behind as done_behind}
 
 -- ---- how many bytes were written
 
@@ -94,21 +99,76 @@ module _ {S A : Type 0} (contents remaining : S → Option (List ℕ)) (o : Open
 
 -- ---- what comes of the command
 
--- an open file that was asked for with these operations
-module _ {S A : Type 0} (contents remaining : S → Option (List ℕ)) (path text : List ℕ) (ops : List Operation) (old mid new : Client S A) (o : Open) (asks : OpenAsks old path ops) (opens : AskGives contents remaining open_in itself true ops old mid (Ok o)) where
-  pub opened : (told : Result (Unit {0}) ToolFault) → FileGives contents remaining o text mid new told → PutCommandGives contents remaining path text old new told
-  opened (Ok done) h = (ops, mid, o, asks, opens, h)
-  opened (Err fault.Memory) h = inr h
-  opened (Err fault.Path) h = absurd (file_none contents remaining o text fault.Path (λ a b i. i) (λ offset bytes a b i. i) different mid h.1 new h.0 h.2 h.3)
-    where
-      different : (op : ℕ) (s : Status) → fault.Path ≡ fault.Refused op s → ⊥
-      different op s e = cc
-  opened (Err fault.Failed) h = absurd (file_none contents remaining o text fault.Failed (λ a b i. i) (λ offset bytes a b i. i) different mid h.1 new h.0 h.2 h.3)
-    where
-      different : (op : ℕ) (s : Status) → fault.Failed ≡ fault.Refused op s → ⊥
-      different op s e = cc
-  opened (Err (fault.Refused op s)) h = (ops, asks, inr (mid, o, opens, h))
-  opened (Err fault.Reply) h = (ops, asks, inr (mid, o, opens, h))
-  opened (Err fault.Read) h = (ops, asks, inr (mid, o, opens, h))
-  opened (Err fault.Write) h = (ops, asks, inr (mid, o, opens, h))
-  opened (Err fault.Entry) h = (ops, asks, inr (mid, o, opens, h))
+no_path_told : {S A : Type 0} (contents remaining : S → Option (List ℕ)) (text : List ℕ) (a b : Client S A) (o : Open) → FileGives contents remaining o text a b (Err fault.Path) → ⊥
+no_path_told contents remaining text a b o h = file_none contents remaining o text fault.Path (λ a b i. i) (λ offset bytes a b i. i) different a h.1 b h.0 h.2 h.3
+  where
+    different : (op : ℕ) (s : Status) → fault.Path ≡ fault.Refused op s → ⊥
+    different op s e = cc
+
+no_entry_told : {S A : Type 0} (contents remaining : S → Option (List ℕ)) (text : List ℕ) (a b : Client S A) (o : Open) → FileGives contents remaining o text a b (Err fault.Entry) → ⊥
+no_entry_told contents remaining text a b o h = file_none contents remaining o text fault.Entry (λ a b i. i) (λ offset bytes a b i. i) different a h.1 b h.0 h.2 h.3
+  where
+    different : (op : ℕ) (s : Status) → fault.Entry ≡ fault.Refused op s → ⊥
+    different op s e = cc
+
+no_failed_told : {S A : Type 0} (contents remaining : S → Option (List ℕ)) (text : List ℕ) (a b : Client S A) (o : Open) → FileGives contents remaining o text a b (Err fault.Failed) → ⊥
+no_failed_told contents remaining text a b o h = file_none contents remaining o text fault.Failed (λ a b i. i) (λ offset bytes a b i. i) different a h.1 b h.0 h.2 h.3
+  where
+    different : (op : ℕ) (s : Status) → fault.Failed ≡ fault.Refused op s → ⊥
+    different op s e = cc
+
+-- a file that is put by these operations
+module _ {S A : Type 0} (contents remaining : S → Option (List ℕ)) (text : List ℕ) (ops : List Operation) (old new : Client S A) where
+  put_memory : PutFileGives contents remaining text ops old new (Err fault.Memory) → Kept old new
+  put_memory (inl h) = h
+  put_memory (inr h) = inr h.3
+
+  put_path : PutFileGives contents remaining text ops old new (Err fault.Path) → ⊥
+  put_path (inl h) = h
+  put_path (inr h) = no_path_told contents remaining text h.0 new h.1 h.3
+
+  put_entry : PutFileGives contents remaining text ops old new (Err fault.Entry) → ⊥
+  put_entry (inl h) = h
+  put_entry (inr h) = no_entry_told contents remaining text h.0 new h.1 h.3
+
+  put_failed : PutFileGives contents remaining text ops old new (Err fault.Failed) → ⊥
+  put_failed (inl h) = h
+  put_failed (inr h) = no_failed_told contents remaining text h.0 new h.1 h.3
+
+  put_filled : (mid : Client S A) (o : Open) (told : Result (Unit {0}) ToolFault) → AskGives contents remaining open_in itself true ops old mid (Ok o) → FileGives contents remaining o text mid new told
+      → PutFileGives contents remaining text ops old new told
+  put_filled mid o (Ok done) opens h = (mid, o, opens, h)
+  put_filled mid o (Err f) opens h = inr (mid, o, opens, h)
+
+-- the file is opened at the end of a route
+abbrev At : {S A : Type 0} → (S → Option (List ℕ)) → (S → Option (List ℕ)) → List ℕ → Operation → Client S A → Route → Client S A → Result (Unit {0}) ToolFault → Type 0
+At contents remaining text op new route mid r = PutFileGives contents remaining text (open_along mid route op) mid new r
+
+module _ {S A : Type 0} (contents remaining : S → Option (List ℕ)) (text : List ℕ) (op : Operation) (old new : Client S A) (names : List (List ℕ)) (mid : Client S A) (route : Route) (walk : WalkGives contents remaining itself most_before_two names old mid (Ok route)) where
+  -- memory is refused for the request
+  pub not_asked : (f : ToolFault) → new ≡ mid → f ≡ fault.Memory → PutAlong contents remaining names op text old new (Err f)
+  not_asked f same is =
+      subst (λ (g : ToolFault). PutAlong contents remaining names op text old new (Err g)) (sym is)
+      (inl (kept_on old mid new (walk_kept contents remaining most_before_two names old mid route walk) (inl same)))
+
+  -- the OPEN fails
+  pub not_opened : {X : Type 0} (value : X → Open) (f : ToolFault) → AskGives contents remaining open_in value true (open_along mid route op) mid new (Err f) → PutAlong contents remaining names op text old new (Err f)
+  not_opened value f h = inr (mid, route, walk, inl (same_failure contents remaining open_in value itself true (open_along mid route op) mid new f h))
+
+  pub put_along : (last : Client S A) (o : Open) (told : Result (Unit {0}) ToolFault) → AskGives contents remaining open_in itself true (open_along mid route op) mid last (Ok o)
+      → FileGives contents remaining o text last new told → PutAlong contents remaining names op text old new told
+  put_along last o told opens h = done_behind contents remaining most_before_two names (At contents remaining text op new) old new mid route told walk (put_filled contents remaining text (open_along mid route op) mid new last o told opens h)
+
+module _ {S A : Type 0} (contents remaining : S → Option (List ℕ)) (path text : List ℕ) (old new : Client S A) where
+  abbrev PutAsked : Result (Unit {0}) ToolFault → Type 0
+  PutAsked told = (directory : List (List ℕ)) × (op : Operation) × OpenAsks old.client path directory op × PutAlong contents remaining directory op text old new told
+
+  pub put_tells : (directory : List (List ℕ)) (op : Operation) (told : Result (Unit {0}) ToolFault) → OpenAsks old.client path directory op → PutAlong contents remaining directory op text old new told
+      → PutCommandGives contents remaining path text old new told
+  put_tells directory op told asked h =
+      commanded (WrongPath path) PutAsked old new told
+      (λ a. walked_memory contents remaining most_before_two a.0 (At contents remaining text a.1 new) old new a.3 (λ route mid i. put_memory contents remaining text (open_along mid route a.1) mid new i))
+      (λ a. no_path contents remaining most_before_two a.0 (At contents remaining text a.1 new) old new (λ route mid i. put_path contents remaining text (open_along mid route a.1) mid new i) a.3)
+      (λ a. no_entry contents remaining most_before_two a.0 (At contents remaining text a.1 new) old new (λ route mid i. put_entry contents remaining text (open_along mid route a.1) mid new i) a.3)
+      (λ a. no_failed contents remaining most_before_two a.0 (At contents remaining text a.1 new) old new (λ route mid i. put_failed contents remaining text (open_along mid route a.1) mid new i) a.3)
+      (directory, op, asked, h)

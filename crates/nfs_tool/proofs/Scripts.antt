@@ -1,6 +1,6 @@
 -- What a script prints of its lines.
-use Rattle.std.proofs.Common.{◌≡◌, ◌≢◌, ℕ, ◌+◌, ◌*◌, ◌≤◌, ◌==◌, ◌&&◌, not, Bool, true, false, List, [], ◌∷◌, ◌++◌, length, take, codes, Option, Some, None, Result, Ok, Err, Vec, refl, sym, ap, subst, ◌∙◌, append_assoc, arith, inl, inr}
-use Rattle.std.specs.List.{list_all, flat_map}
+use Rattle.std.proofs.Common.{◌≡◌, ◌≢◌, ℕ, ◌+◌, ◌*◌, ◌≤◌, ◌==◌, ◌&&◌, Bool, true, false, List, [], ◌∷◌, ◌++◌, length, take, codes, Option, Some, Result, Ok, Err, refl, sym, ap, subst, ◌∙◌, append_assoc, arith, inl, inr}
+use Rattle.std.specs.List.{flat_map}
 use Rattle.std.specs.Fmt.{decimal}
 use Rattle.std.specs.Io.KnownBytes.{Appends, Consumes, IsAtEnd}
 use Rattle.std.proofs.lemmas.Bool.{cases_Bool}
@@ -16,11 +16,10 @@ use Rattle.nfs_hub.specs.Machine.{State}
 use Rattle.nfs_hub.specs.Hub.{IsHub}
 use Rattle.nfs_hub.specs.declared.hub.Hub.{Hub}
 use Rattle.nfs_tool.specs.ScriptLines.{Said, is_skipped, line_in}
-use Rattle.nfs_tool.specs.Script.{is_answered, told_text, Tells, LineWrites, LinePrints, Asked, Print, is_within, joined, IsCut, IsScriptFault, Stands, Answered, Answers, GoesOn, MOST_BYTES, Puts, IsTrailOf, WritesTrail, trail_line, trail_text, Finished, Finishes, ScriptGives}
+use Rattle.nfs_tool.specs.Script.{is_answered, told_text, Tells, LineWrites, LinePrints, Print, is_within, joined, IsCut, IsScriptFault, Stands, Answered, Answers, GoesOn, Puts, IsTrailOf, WritesTrail, trail_line, trail_text, Finished, Finishes, ScriptGives}
 use Rattle.nfs_tool.specs.declared.running.Answer.{Answer}
 use Rattle.nfs_tool.specs.declared.scripting.Progress.{Progress}
 use Rattle.nfs_tool.specs.declared.fault.ToolFault.{ToolFault}
-use Rattle.nfs_tool.specs.declared.fault.ToolFault.TheVariants.{Write}
 
 -- ---- one line
 

@@ -1,5 +1,5 @@
 -- The text of what a command tells.
-use Rattle.std.proofs.Common.{◌≡◌, ℕ, false, List, Option, Result, Ok, Err, Vec, refl, ap, subst, sym, inr}
+use Rattle.std.proofs.Common.{◌≡◌, ℕ, false, List, Option, Result, Ok, Err, Vec, ap, subst, sym, inr}
 use Rattle.nfs_tool.specs.AnswerTexts.{NewlineGives, says_text}
 use Rattle.nfs_tool.specs.Cat.{CatGives}
 use Rattle.nfs_tool.specs.Commands.{Spoils}

@@ -1,12 +1,10 @@
 -- access: which of six rights the caller has.
-use Rattle.std.specs.Prelude.{◌≡◌, ℕ, List, [], ◌∷◌, ◌++◌, Option, Some, None, option_and_then}
+use Rattle.std.specs.Prelude.{◌≡◌, ℕ, List, Option, Some, None, option_and_then}
 use Rattle.nfs_ops.specs.Operations.{Operation, Known}
 use Rattle.nfs_ops.specs.Results.{Outcome, Done}
 use Rattle.nfs_ops.specs.declared.op_kind.OpKind.TheVariants as kinds
 use Rattle.nfs_tool.specs.Paths.{names_in}
 use Rattle.nfs_tool.specs.Taking.{last_of}
-use Rattle.nfs_tool.specs.Commands.{sequence, walk}
-use Rattle.nfs_tool.specs.declared.client.Client.{Client}
 use Rattle.nfs_tool.specs.declared.fault.ToolFault.{ToolFault}
 use Rattle.nfs_tool.specs.declared.fault.ToolFault.TheVariants.{Path}
 
@@ -14,8 +12,9 @@ use Rattle.nfs_tool.specs.declared.fault.ToolFault.TheVariants.{Path}
 abbrev pub access : Operation
 access = Known kinds.Access 0x3f
 
-abbrev pub AccessAsks : {S A : Type 0} → Client S A → List ℕ → List Operation → Type 0
-AccessAsks client path ops = (names : List (List ℕ)) × (names_in path ≡ Some names) × (ops ≡ sequence client ∷ walk names ++ access ∷ [])
+-- the path's names, and the operation that is asked at their end
+abbrev pub AccessAsks : List ℕ → List (List ℕ) → Operation → Type 0
+AccessAsks path names op = (names_in path ≡ Some names) × (op ≡ access)
 
 -- the text is no path
 abbrev pub NoPath : List ℕ → ToolFault → Type 0

@@ -1,5 +1,5 @@
 -- getacl and setacl: an access control list as text.
-use Rattle.std.specs.Prelude.{◌≡◌, ℕ, nat_lt, ◌==◌, if◌then◌else◌, List, [], ◌∷◌, ◌++◌, map, Contains, Option, Some, None, option_and_then, option_map, Result, Ok, Err}
+use Rattle.std.specs.Prelude.{◌≡◌, ℕ, nat_lt, ◌==◌, if◌then◌else◌, List, ◌++◌, map, Contains, Option, Some, None, option_and_then, option_map, Result, Ok, Err}
 use Rattle.acl_list.specs.declared.entry.EntryKind.{EntryKind}
 use Rattle.acl_list.specs.declared.entry.EntryKind.TheVariants.{Allow, Deny, Audit, Alarm}
 use Rattle.xdr_wire.specs.Xdr.{Value}
@@ -14,9 +14,7 @@ use Rattle.nfs_tool.specs.Paths.{names_in}
 use Rattle.nfs_tool.specs.Entries.{EntryLine, entry_in, entry_text}
 use Rattle.nfs_tool.specs.Lines.{lines_of}
 use Rattle.nfs_tool.specs.Taking.{last_of}
-use Rattle.nfs_tool.specs.Commands.{sequence, walk}
 use Rattle.nfs_tool.specs.Setting.{set_attributes, of_entries}
-use Rattle.nfs_tool.specs.declared.client.Client.{Client}
 use Rattle.nfs_tool.specs.declared.fault.ToolFault.{ToolFault}
 use Rattle.nfs_tool.specs.declared.fault.ToolFault.TheVariants.{Path, Reply, Memory, Entry}
 
@@ -63,10 +61,10 @@ EntriesGive values texts (Err Entry) = SomeUnread texts
 EntriesGive values texts (Err Memory) = Unit {0}
 EntriesGive values texts (Err fault) = ⊥
 
-abbrev pub SetAclAsks : {S A : Type 0} → Client S A → List ℕ → List (List ℕ) → List Operation → Type 0
-SetAclAsks client path texts ops =
-    (names : List (List ℕ)) × (values : List (Value ace)) × (names_in path ≡ Some names) × AreRead texts values
-    × (ops ≡ sequence client ∷ walk names ++ set_attributes (of_entries values) ∷ [])
+-- the path's names, and the operation that is asked at their end
+abbrev pub SetAclAsks : List ℕ → List (List ℕ) → List (List ℕ) → Operation → Type 0
+SetAclAsks path texts names op =
+    (values : List (Value ace)) × (names_in path ≡ Some names) × AreRead texts values × (op ≡ set_attributes (of_entries values))
 
 -- The path is read before the entries.
 abbrev pub WrongList : List ℕ → List (List ℕ) → ToolFault → Type 0
@@ -80,9 +78,9 @@ WrongList path texts fault = ⊥
 abbrev pub IsAcl : List ℕ → Type 0
 IsAcl set = (n : ℕ) → has_number set n ≡ (n == 12)
 
-abbrev pub GetAclAsks : {S A : Type 0} → Client S A → List ℕ → List Operation → Type 0
-GetAclAsks client path ops =
-    (names : List (List ℕ)) × (set : List ℕ) × (names_in path ≡ Some names) × IsAcl set × (ops ≡ sequence client ∷ walk names ++ Known kinds.GetAttr set ∷ [])
+-- the path's names, and the operation that is asked at their end
+abbrev pub GetAclAsks : List ℕ → List (List ℕ) → Operation → Type 0
+GetAclAsks path names op = (set : List ℕ) × (names_in path ≡ Some names) × IsAcl set × (op ≡ Known kinds.GetAttr set)
 
 -- the list among the attributes that were given
 abbrev pub list_in : Result Seen XdrFault → Option (List (Value ace))

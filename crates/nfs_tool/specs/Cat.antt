@@ -1,18 +1,20 @@
 -- cat: the bytes of a file, read without an open up to its end.
-use Rattle.std.specs.Prelude.{◌≡◌, ◌⊎◌, ℕ, Bool, true, false, List, [], ◌∷◌, ◌++◌, length, Option, Some, None, option_and_then, Result, Ok, Err}
+use Rattle.std.specs.Prelude.{◌≡◌, ℕ, Bool, true, List, [], ◌∷◌, ◌++◌, length, Option, Some, None, option_and_then, Result, Ok, Err}
 use Rattle.nfs_types.specs.StateIds.{anonymous}
 use Rattle.nfs_ops.specs.Operations.{Operation, Known}
 use Rattle.nfs_ops.specs.Results.{Outcome, Done}
 use Rattle.nfs_ops.specs.declared.op_kind.OpKind.TheVariants as kinds
 use Rattle.nfs_ops.specs.declared.read.ReadResult.{ReadResult}
+use Rattle.nfs_tool.specs.Access.{NoPath}
 use Rattle.nfs_tool.specs.Compound.{Said}
 use Rattle.nfs_tool.specs.Paths.{names_in}
 use Rattle.nfs_tool.specs.Taking.{last_of, SaidGives}
-use Rattle.nfs_tool.specs.Commands.{sequence, walk, AskGives}
+use Rattle.nfs_tool.specs.Commands.{AskGives, Commanded}
 use Rattle.nfs_tool.specs.Paging.{Paging, PagesGive, itself}
+use Rattle.nfs_tool.specs.Routes.{Route, along, most_names}
+use Rattle.nfs_tool.specs.Walking.{Walked}
 use Rattle.nfs_tool.specs.declared.client.Client.{Client}
 use Rattle.nfs_tool.specs.declared.fault.ToolFault.{ToolFault}
-use Rattle.nfs_tool.specs.declared.fault.ToolFault.TheVariants.{Path, Memory, Failed}
 
 -- bytes of a file, and whether it ends behind them
 pub record Piece : Type 0 where
@@ -39,18 +41,18 @@ bytes_of [] = []
 bytes_of (p ∷ before) = bytes_of before ++ p.bytes
 
 -- what is asked from an offset on
-abbrev pub read_from : {S A : Type 0} → List (List ℕ) → Client S A → ℕ → List Operation
-read_from names client offset = sequence client ∷ walk names ++ read offset ∷ []
+abbrev pub read_from : {S A : Type 0} → Route → Client S A → ℕ → List Operation
+read_from route client offset = along client route (read offset)
 
 -- Each READ is of what comes behind the bytes that are read.
-abbrev pub read_behind : {S A : Type 0} → List (List ℕ) → Client S A → List ℕ → List Operation
-read_behind names client bytes = read_from names client (length bytes)
+abbrev pub read_behind : {S A : Type 0} → Route → Client S A → List ℕ → List Operation
+read_behind route client bytes = read_from route client (length bytes)
 
-abbrev pub by_pieces : {S A : Type 0} → (S → Option (List ℕ)) → (S → Option (List ℕ)) → List (List ℕ) → Paging S A Piece
-by_pieces contents remaining names = record {
+abbrev pub by_pieces : {S A : Type 0} → (S → Option (List ℕ)) → (S → Option (List ℕ)) → Route → Paging S A Piece
+by_pieces contents remaining route = record {
   contents = contents;
   remaining = remaining;
-  asks = λ client before. read_behind names client (bytes_of before);
+  asks = λ client before. read_behind route client (bytes_of before);
   taken = piece_in;
   ends = λ p. p.eof;
 }
@@ -64,16 +66,14 @@ PieceTaken said old new (Ok eof) = (bytes : List ℕ) × SaidGives (piece_with b
 PieceTaken said old new (Err fault) = SaidGives (piece_with []) piece_in said (Err fault)
 
 -- the exchange of a piece, which is put behind what was read
-abbrev pub ReadGives : {S A : Type 0} → (S → Option (List ℕ)) → (S → Option (List ℕ)) → List (List ℕ) → List ℕ → List ℕ → Client S A → Client S A → Result Bool ToolFault → Type 0
-ReadGives contents remaining names old_bytes new_bytes old new (Ok eof) =
-    (bytes : List ℕ) × AskGives contents remaining piece_in itself true (read_behind names old old_bytes) old new (Ok (piece_with bytes eof)) × (new_bytes ≡ old_bytes ++ bytes)
-ReadGives contents remaining names old_bytes new_bytes old new (Err fault) =
-    AskGives {X = Piece} contents remaining piece_in itself true (read_behind names old old_bytes) old new (Err fault)
+abbrev pub ReadGives : {S A : Type 0} → (S → Option (List ℕ)) → (S → Option (List ℕ)) → Route → List ℕ → List ℕ → Client S A → Client S A → Result Bool ToolFault → Type 0
+ReadGives contents remaining route old_bytes new_bytes old new (Ok eof) =
+    (bytes : List ℕ) × AskGives contents remaining piece_in itself true (read_behind route old old_bytes) old new (Ok (piece_with bytes eof)) × (new_bytes ≡ old_bytes ++ bytes)
+ReadGives contents remaining route old_bytes new_bytes old new (Err fault) =
+    AskGives {X = Piece} contents remaining piece_in itself true (read_behind route old old_bytes) old new (Err fault)
 
 -- the bytes of the file at the path; or something is wrong with it, and nothing is asked
 abbrev pub CatGives : {S A X : Type 0} → (S → Option (List ℕ)) → (S → Option (List ℕ)) → (X → List ℕ) → List ℕ → Client S A → Client S A → Result X ToolFault → Type 0
-CatGives contents remaining value path old new (Err Failed) = (old.usable ≡ false) × (new ≡ old)
-CatGives contents remaining value path old new (Err Path) = (names_in path ≡ None) × (new ≡ old)
-CatGives contents remaining value path old new (Err Memory) = (new ≡ old) ⊎ (new.usable ≡ false)
 CatGives contents remaining value path old new result =
-    (names : List (List ℕ)) × (names_in path ≡ Some names) × PagesGive (by_pieces contents remaining names) value bytes_of old new result
+    Commanded (NoPath path) (λ told. (names : List (List ℕ)) × (names_in path ≡ Some names)
+    × Walked contents remaining most_names names (λ route mid r. PagesGive (by_pieces contents remaining route) value bytes_of mid new r) old new told) old new result

@@ -1,18 +1,15 @@
 -- chmod: the mode is set.
-use Rattle.std.specs.Prelude.{◌≡◌, ℕ, List, [], ◌∷◌, ◌++◌, Some, None}
+use Rattle.std.specs.Prelude.{◌≡◌, ℕ, List, Some, None}
 use Rattle.nfs_ops.specs.Operations.{Operation}
 use Rattle.nfs_tool.specs.Digits.{mode_in}
 use Rattle.nfs_tool.specs.Paths.{names_in}
-use Rattle.nfs_tool.specs.Commands.{sequence, walk}
 use Rattle.nfs_tool.specs.Setting.{set_attributes, of_mode}
-use Rattle.nfs_tool.specs.declared.client.Client.{Client}
 use Rattle.nfs_tool.specs.declared.fault.ToolFault.{ToolFault}
 use Rattle.nfs_tool.specs.declared.fault.ToolFault.TheVariants.{Path, Entry}
 
-abbrev pub ChModAsks : {S A : Type 0} → Client S A → List ℕ → List ℕ → List Operation → Type 0
-ChModAsks client word path ops =
-    (mode : ℕ) × (names : List (List ℕ)) × (mode_in word ≡ Some mode) × (names_in path ≡ Some names)
-    × (ops ≡ sequence client ∷ walk names ++ set_attributes (of_mode mode) ∷ [])
+-- the path's names, and the operation that is asked at their end
+abbrev pub ChModAsks : List ℕ → List ℕ → List (List ℕ) → Operation → Type 0
+ChModAsks word path names op = (mode : ℕ) × (mode_in word ≡ Some mode) × (names_in path ≡ Some names) × (op ≡ set_attributes (of_mode mode))
 
 -- The word is read before the path.
 abbrev pub WrongMode : List ℕ → List ℕ → ToolFault → Type 0

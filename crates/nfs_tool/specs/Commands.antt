@@ -6,10 +6,8 @@ use Rattle.nfs_ops.specs.Results.{Outcome}
 use Rattle.nfs_ops.specs.declared.op_kind.OpKind.TheVariants as kinds
 use Rattle.nfs_tool.specs.Paths.{names_in}
 use Rattle.nfs_tool.specs.Compound.{Answer, AllDone, LastRefused, NoReply, said}
-use Rattle.nfs_tool.specs.Taking.{nothing, takes_nothing}
-use Rattle.nfs_tool.specs.Requests.{Asks, asked_of}
+use Rattle.nfs_tool.specs.Requests.{asked_of}
 use Rattle.nfs_tool.specs.Client.{Exchange, Failing, caller_of, next}
-use Rattle.nfs_tool.specs.declared.request.Request.{Request}
 use Rattle.nfs_tool.specs.declared.client.Client.{Client}
 use Rattle.nfs_tool.specs.declared.fault.ToolFault.{ToolFault}
 use Rattle.nfs_tool.specs.declared.fault.ToolFault.TheVariants.{Path, Refused, Reply, Read, Write, Memory, Entry, Failed}
@@ -25,10 +23,6 @@ lookup name = Known kinds.Lookup name
 
 abbrev pub lookups : List (List ℕ) → List Operation
 lookups names = map lookup names
-
--- from the root along these names
-abbrev pub walk : List (List ℕ) → List Operation
-walk names = Known kinds.PutRootFh tt ∷ lookups names
 
 -- ---- words
 
@@ -106,21 +100,11 @@ AskGives contents remaining taken value in_session ops old new (Err Path) = ⊥
 AskGives contents remaining taken value in_session ops old new (Err Entry) = ⊥
 AskGives contents remaining taken value in_session ops old new (Err Failed) = ⊥
 
--- the request of a command's words; or what is wrong with them; or memory is refused
-abbrev pub PrepareGives : {A : Type 0} → (List Operation → Type 0) → (ToolFault → Type 0) → Result (Request A) ToolFault → Type 0
-PrepareGives asks wrong (Ok request) = (ops : List Operation) × asks ops × Asks request ops
-PrepareGives asks wrong (Err Memory) = Unit {0}
-PrepareGives asks wrong (Err fault) = wrong fault
-
--- What comes of a command that asks these operations and takes something of their results, unless something is wrong with its
--- words. On a client that isn't usable no command runs.
-abbrev pub CommandTells : {S A X V : Type 0} → (S → Option (List ℕ)) → (S → Option (List ℕ)) → (List Outcome → Option V) → (X → V) → (List Operation → Type 0) → (ToolFault → Type 0) → Client S A → Client S A → Result X ToolFault → Type 0
-CommandTells contents remaining taken value asks wrong old new (Err Failed) = (old.usable ≡ false) × (new ≡ old)
-CommandTells contents remaining taken value asks wrong old new (Err Path) = wrong Path × (new ≡ old)
-CommandTells contents remaining taken value asks wrong old new (Err Entry) = wrong Entry × (new ≡ old)
-CommandTells contents remaining taken value asks wrong old new (Err Memory) = (new ≡ old) ⊎ (new.usable ≡ false)
-CommandTells contents remaining taken value asks wrong old new result = (ops : List Operation) × asks ops × AskGives contents remaining taken value true ops old new result
-
--- what comes of one that gives nothing
-abbrev pub CommandGives : {S A : Type 0} → (S → Option (List ℕ)) → (S → Option (List ℕ)) → (List Operation → Type 0) → (ToolFault → Type 0) → Client S A → Client S A → Result (Unit {0}) ToolFault → Type 0
-CommandGives contents remaining asks wrong old new result = CommandTells contents remaining takes_nothing nothing asks wrong old new result
+-- What comes of a command, unless something is wrong with its words: then nothing is asked. On a client that isn't usable no command
+-- runs. Where memory is refused nothing was asked, or no other command runs.
+abbrev pub Commanded : {S A X : Type 0} → (ToolFault → Type 0) → (Result X ToolFault → Type 0) → Client S A → Client S A → Result X ToolFault → Type 0
+Commanded wrong gives old new (Err Failed) = (old.usable ≡ false) × (new ≡ old)
+Commanded wrong gives old new (Err Path) = wrong Path × (new ≡ old)
+Commanded wrong gives old new (Err Entry) = wrong Entry × (new ≡ old)
+Commanded wrong gives old new (Err Memory) = (new ≡ old) ⊎ (new.usable ≡ false)
+Commanded wrong gives old new result = gives result

@@ -24,6 +24,10 @@ pub mod Requests
 pub mod Streams
 pub mod Client
 pub mod Commands
+pub mod Routes
+pub mod RouteViews
+pub mod Approach
+pub mod Walking
 pub mod Rm
 pub mod PlaceViews
 pub mod MkDir

@@ -1,5 +1,5 @@
 -- ls: the entries of a directory as lines, page by page up to its end.
-use Rattle.std.specs.Prelude.{◌≡◌, ◌⊎◌, ℕ, ◌==◌, ◌||◌, Bool, true, false, List, [], ◌∷◌, ◌++◌, map, replicate, Option, Some, None, option_map, option_and_then, Result, Ok, Err}
+use Rattle.std.specs.Prelude.{◌≡◌, ℕ, ◌==◌, ◌||◌, Bool, true, List, [], ◌∷◌, ◌++◌, map, replicate, Option, Some, None, option_map, option_and_then, Result, Ok, Err}
 use Rattle.xdr_wire.specs.Xdr.{Value}
 use Rattle.xdr_wire.specs.declared.fault.XdrFault.{XdrFault}
 use Rattle.nfs_types.specs.Seen.{Seen, seen_of}
@@ -12,12 +12,15 @@ use Rattle.nfs_tool.specs.Compound.{Said}
 use Rattle.nfs_tool.specs.Paths.{names_in}
 use Rattle.nfs_tool.specs.Lines.{Listed, line, lines_of}
 use Rattle.nfs_tool.specs.Taking.{last_of, SaidGives}
-use Rattle.nfs_tool.specs.Commands.{sequence, walk, AskGives}
+use Rattle.nfs_tool.specs.Access.{NoPath}
+use Rattle.nfs_tool.specs.Commands.{AskGives, Commanded}
 use Rattle.nfs_tool.specs.Paging.{Paging, PagesGive, itself}
+use Rattle.nfs_tool.specs.Routes.{Route, along, most_names}
+use Rattle.nfs_tool.specs.Walking.{Walked}
 use Rattle.nfs_tool.specs.declared.client.Client.{Client}
 use Rattle.nfs_tool.specs.declared.ls.Listing.{Listing}
 use Rattle.nfs_tool.specs.declared.fault.ToolFault.{ToolFault}
-use Rattle.nfs_tool.specs.declared.fault.ToolFault.TheVariants.{Path, Reply, Memory, Failed}
+use Rattle.nfs_tool.specs.declared.fault.ToolFault.TheVariants.{Reply, Memory}
 
 -- ---- what is asked
 
@@ -34,8 +37,8 @@ AreListed set = (n : ℕ) → has_number set n ≡ is_listed n
 abbrev pub readdir : List ℕ → ℕ → Operation
 readdir set cookie = Known kinds.ReadDir (cookie, (replicate 8 0, (0, (32768, set))))
 
-abbrev pub list_from : {S A : Type 0} → List (List ℕ) → List ℕ → Client S A → ℕ → List Operation
-list_from names set client cookie = sequence client ∷ walk names ++ readdir set cookie ∷ []
+abbrev pub list_from : {S A : Type 0} → Route → List ℕ → Client S A → ℕ → List Operation
+list_from route set client cookie = along client route (readdir set cookie)
 
 -- ---- what is given
 
@@ -93,11 +96,11 @@ cookie_of [] = 0
 cookie_of (p ∷ before) = last_or (cookie_of before) p.cookies
 
 -- Each READDIR is of what comes behind the last entry that was given.
-abbrev pub by_listings : {S A : Type 0} → (S → Option (List ℕ)) → (S → Option (List ℕ)) → List (List ℕ) → List ℕ → Paging S A Page
-by_listings contents remaining names set = record {
+abbrev pub by_listings : {S A : Type 0} → (S → Option (List ℕ)) → (S → Option (List ℕ)) → Route → List ℕ → Paging S A Page
+by_listings contents remaining route set = record {
   contents = contents;
   remaining = remaining;
-  asks = λ client before. list_from names set client (cookie_of before);
+  asks = λ client before. list_from route set client (cookie_of before);
   taken = page_in;
   ends = λ p. p.eof;
 }
@@ -135,17 +138,15 @@ PageTaken said old new (Ok eof) = (text : List ℕ) × (cookies : List ℕ) × S
 PageTaken said old new (Err fault) = SaidGives (page_with [] []) page_in said (Err fault)
 
 -- the exchange of a page, whose lines are put behind those of the pages before it
-abbrev pub ListGives : {S A : Type 0} → (S → Option (List ℕ)) → (S → Option (List ℕ)) → List (List ℕ) → List ℕ → Listing A → Listing A → Client S A → Client S A → Result Bool ToolFault → Type 0
-ListGives contents remaining names set listing listing' old new (Ok eof) =
-    (text : List ℕ) × (cookies : List ℕ) × AskGives contents remaining page_in itself true (list_from names set old listing.cookie) old new (Ok (page_with text cookies eof))
+abbrev pub ListGives : {S A : Type 0} → (S → Option (List ℕ)) → (S → Option (List ℕ)) → Route → List ℕ → Listing A → Listing A → Client S A → Client S A → Result Bool ToolFault → Type 0
+ListGives contents remaining route set listing listing' old new (Ok eof) =
+    (text : List ℕ) × (cookies : List ℕ) × AskGives contents remaining page_in itself true (list_from route set old listing.cookie) old new (Ok (page_with text cookies eof))
     × GoesOn listing listing' text cookies
-ListGives contents remaining names set listing listing' old new (Err fault) =
-    AskGives {X = Page} contents remaining page_in itself true (list_from names set old listing.cookie) old new (Err fault)
+ListGives contents remaining route set listing listing' old new (Err fault) =
+    AskGives {X = Page} contents remaining page_in itself true (list_from route set old listing.cookie) old new (Err fault)
 
 -- the lines of all entries of the directory at the path; or something is wrong with it, and nothing is asked
 abbrev pub LsGives : {S A X : Type 0} → (S → Option (List ℕ)) → (S → Option (List ℕ)) → (X → List ℕ) → List ℕ → Client S A → Client S A → Result X ToolFault → Type 0
-LsGives contents remaining value path old new (Err Failed) = (old.usable ≡ false) × (new ≡ old)
-LsGives contents remaining value path old new (Err Path) = (names_in path ≡ None) × (new ≡ old)
-LsGives contents remaining value path old new (Err Memory) = (new ≡ old) ⊎ (new.usable ≡ false)
 LsGives contents remaining value path old new result =
-    (names : List (List ℕ)) × (set : List ℕ) × (names_in path ≡ Some names) × AreListed set × PagesGive (by_listings contents remaining names set) value text_of old new result
+    Commanded (NoPath path) (λ told. (names : List (List ℕ)) × (set : List ℕ) × (names_in path ≡ Some names) × AreListed set
+    × Walked contents remaining most_names names (λ route mid r. PagesGive (by_listings contents remaining route set) value text_of mid new r) old new told) old new result

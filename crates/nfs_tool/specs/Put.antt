@@ -11,25 +11,26 @@ use Rattle.nfs_ops.specs.declared.op_kind.OpKind.TheVariants as kinds
 use Rattle.nfs_tool.specs.Sessions.{owner}
 use Rattle.nfs_tool.specs.Setting.{of_size}
 use Rattle.nfs_tool.specs.Taking.{last_of, last_two, nothing, takes_nothing}
-use Rattle.nfs_tool.specs.Commands.{sequence, walk, IsIn, HasNoName, AskGives}
+use Rattle.nfs_tool.specs.Approach.{get_handle, handle_of}
+use Rattle.nfs_tool.specs.Commands.{sequence, IsIn, AskGives, Commanded}
+use Rattle.nfs_tool.specs.Rm.{WrongPath}
+use Rattle.nfs_tool.specs.Routes.{Route, walk, most_before_two}
+use Rattle.nfs_tool.specs.Walking.{Walked}
 use Rattle.nfs_tool.specs.Paging.{itself}
 use Rattle.nfs_tool.specs.declared.client.Client.{Client}
 use Rattle.nfs_tool.specs.declared.fault.ToolFault.{ToolFault}
-use Rattle.nfs_tool.specs.declared.fault.ToolFault.TheVariants.{Path, Refused, Memory, Failed}
+use Rattle.nfs_tool.specs.declared.fault.ToolFault.TheVariants.{Refused, Memory}
 
 -- ---- operations
 
 -- OPEN for writing (2), which denies others nothing, of the file of this name, which is made where there is none (UNCHECKED4), with
--- attributes
-abbrev pub open_with : Seen → ℕ → List ℕ → Operation
-open_with s client name = Known kinds.Open (0, (2, (0, (client, (owner, (inr (inl (inl (shown_set s, shown_values s))), inl name))))))
+-- the set of these attributes and these values
+abbrev pub open_by : Seen → List ℕ → ℕ → List ℕ → Operation
+open_by s values client name = Known kinds.Open (0, (2, (0, (client, (owner, (inr (inl (inl (shown_set s, values))), inl name))))))
 
 -- The size is 0, also where there is such a file.
 abbrev pub open_emptied : ℕ → List ℕ → Operation
-open_emptied client name = open_with (of_size 0) client name
-
-abbrev pub get_handle : Operation
-get_handle = Known kinds.GetFh tt
+open_emptied client name = open_by (of_size 0) (shown_values (of_size 0)) client name
 
 abbrev pub put_handle : List ℕ → Operation
 put_handle handle = Known kinds.PutFh handle
@@ -52,10 +53,6 @@ abbrev pub stateid_of : Outcome → Option (Value stateid)
 stateid_of (Done kinds.Open v) = Some v.0
 stateid_of _ = None
 
-abbrev pub handle_of : Outcome → Option (List ℕ)
-handle_of (Done kinds.GetFh v) = Some v
-handle_of _ = None
-
 -- that of an OPEN and of the GETFH behind it
 abbrev pub open_of : Outcome × Outcome → Option Open
 open_of p = option_and_then (λ s. option_map (λ h. record { stateid = s; handle = h }) (handle_of p.1)) (stateid_of p.0)
@@ -76,10 +73,13 @@ written_in sent results = option_and_then (written_of sent) (last_of results)
 
 -- ---- what is asked
 
-abbrev pub OpenAsks : {S A : Type 0} → Client S A → List ℕ → List Operation → Type 0
-OpenAsks client path ops =
-    (directory : List (List ℕ)) × (name : List ℕ) × IsIn path directory name
-    × (ops ≡ sequence client ∷ walk directory ++ open_emptied client.client name ∷ get_handle ∷ [])
+-- the names of the path's directory, and the operation that is asked at their end
+abbrev pub OpenAsks : ℕ → List ℕ → List (List ℕ) → Operation → Type 0
+OpenAsks client path directory op = (name : List ℕ) × IsIn path directory name × (op ≡ open_emptied client name)
+
+-- an OPEN at the end of a route, and GETFH behind it
+abbrev pub open_along : {S A : Type 0} → Client S A → Route → Operation → List Operation
+open_along client route op = sequence client ∷ walk route ++ op ∷ get_handle ∷ []
 
 abbrev pub write_to : {S A : Type 0} → Client S A → Open → ℕ → List ℕ → List Operation
 write_to client o offset bytes = sequence client ∷ put_handle o.handle ∷ write o.stateid offset bytes ∷ []
@@ -128,16 +128,21 @@ module _ {S A : Type 0} (contents remaining : S → Option (List ℕ)) (o : Open
   FileGives text old new (Err Memory) = new.usable ≡ false
   FileGives text old new result = (told : Result (Unit {0}) ToolFault) × (mid : Client S A) × TextGives text old mid told × ClosesBehind told mid new result
 
--- The file is opened, written and closed; or the OPEN fails, or what comes behind it; or something is wrong with the path, and nothing is
--- asked.
+-- The file is opened, written and closed; or the OPEN fails, or what comes behind it.
+abbrev pub PutFileGives : {S A : Type 0} → (S → Option (List ℕ)) → (S → Option (List ℕ)) → List ℕ → List Operation → Client S A → Client S A → Result (Unit {0}) ToolFault → Type 0
+PutFileGives {S} {A} contents remaining text ops old new (Ok done) =
+    (mid : Client S A) × (o : Open) × AskGives contents remaining open_in itself true ops old mid (Ok o) × FileGives contents remaining o text mid new (Ok done)
+PutFileGives {S} {A} contents remaining text ops old new (Err fault) =
+    AskGives {X = Open} contents remaining open_in itself true ops old new (Err fault)
+    ⊎ ((mid : Client S A) × (o : Open) × AskGives contents remaining open_in itself true ops old mid (Ok o) × FileGives contents remaining o text mid new (Err fault))
+
+-- The file is opened in a directory along these names.
+abbrev pub PutAlong : {S A : Type 0} → (S → Option (List ℕ)) → (S → Option (List ℕ)) → List (List ℕ) → Operation → List ℕ → Client S A → Client S A → Result (Unit {0}) ToolFault → Type 0
+PutAlong contents remaining names op text old new result =
+    Walked contents remaining most_before_two names (λ route mid r. PutFileGives contents remaining text (open_along mid route op) mid new r) old new result
+
+-- The file is put in its directory; or something is wrong with the path, and nothing is asked.
 abbrev pub PutCommandGives : {S A : Type 0} → (S → Option (List ℕ)) → (S → Option (List ℕ)) → List ℕ → List ℕ → Client S A → Client S A → Result (Unit {0}) ToolFault → Type 0
-PutCommandGives contents remaining path text old new (Err Failed) = (old.usable ≡ false) × (new ≡ old)
-PutCommandGives contents remaining path text old new (Err Path) = HasNoName path × (new ≡ old)
-PutCommandGives contents remaining path text old new (Err Memory) = (new ≡ old) ⊎ (new.usable ≡ false)
-PutCommandGives {S} {A} contents remaining path text old new (Ok done) =
-    (ops : List Operation) × (mid : Client S A) × (o : Open) × OpenAsks old path ops × AskGives contents remaining open_in itself true ops old mid (Ok o)
-    × FileGives contents remaining o text mid new (Ok done)
-PutCommandGives {S} {A} contents remaining path text old new (Err fault) =
-    (ops : List Operation) × OpenAsks old path ops
-    × (AskGives {X = Open} contents remaining open_in itself true ops old new (Err fault)
-    ⊎ ((mid : Client S A) × (o : Open) × AskGives contents remaining open_in itself true ops old mid (Ok o) × FileGives contents remaining o text mid new (Err fault)))
+PutCommandGives contents remaining path text old new result =
+    Commanded (WrongPath path) (λ told. (directory : List (List ℕ)) × (op : Operation) × OpenAsks old.client path directory op
+    × PutAlong contents remaining directory op text old new told) old new result

@@ -1,18 +1,18 @@
 -- What comes of each command, and the text that is told of it.
-use Rattle.std.specs.Prelude.{◌≡◌, ℕ, List, Option, Result, Vec}
+use Rattle.std.specs.Prelude.{ℕ, List, Option, Result, Vec}
 use Rattle.nfs_tool.specs.Access.{AccessAsks, NoPath, rights_in}
 use Rattle.nfs_tool.specs.AccessViews.{rights_value}
 use Rattle.nfs_tool.specs.Acls.{GetAclAsks, SetAclAsks, WrongList, acl_in}
 use Rattle.nfs_tool.specs.AnswerTexts.{SaysAs, says_ok, says_rights, says_text, says_line}
 use Rattle.nfs_tool.specs.Cat.{CatGives}
 use Rattle.nfs_tool.specs.ChMod.{ChModAsks, WrongMode}
-use Rattle.nfs_tool.specs.Commands.{CommandGives, CommandTells}
 use Rattle.nfs_tool.specs.Ln.{LnAsks, WrongPaths}
 use Rattle.nfs_tool.specs.Ls.{LsGives}
 use Rattle.nfs_tool.specs.MkDir.{MkDirAsks}
 use Rattle.nfs_tool.specs.Mv.{MvAsks, WrongNames}
 use Rattle.nfs_tool.specs.Put.{PutCommandGives}
 use Rattle.nfs_tool.specs.Rm.{RmAsks, WrongPath}
+use Rattle.nfs_tool.specs.Walking.{BothGive, CommandGives, CommandTells}
 use Rattle.nfs_tool.specs.Words.{CommandLine, Ls, Cat, Put, MkDir, Ln, Mv, Rm, ChMod, GetAcl, SetAcl, Access}
 use Rattle.nfs_tool.specs.declared.client.Client.{Client}
 use Rattle.nfs_tool.specs.declared.running.Answer.{Answer}
@@ -31,11 +31,11 @@ abbrev pub Runs : {S A : Type 0} → (S → Option (List ℕ)) → (S → Option
 Runs {A = A} contents remaining (Ls path) old new result = Tells {V = Vec ℕ A} (LsGives contents remaining says_text path old new) says_text result
 Runs contents remaining (Cat path) old new result = CatTells contents remaining path old new result
 Runs contents remaining (Put path text) old new result = Tells (PutCommandGives contents remaining path text old new) says_ok result
-Runs contents remaining (MkDir path) old new result = Tells (CommandGives contents remaining (MkDirAsks old path) (WrongPath path) old new) says_ok result
-Runs contents remaining (Ln from to) old new result = Tells (CommandGives contents remaining (LnAsks old from to) (WrongPaths from to) old new) says_ok result
-Runs contents remaining (Mv from to) old new result = Tells (CommandGives contents remaining (MvAsks old from to) (WrongNames from to) old new) says_ok result
-Runs contents remaining (Rm path) old new result = Tells (CommandGives contents remaining (RmAsks old path) (WrongPath path) old new) says_ok result
-Runs contents remaining (ChMod mode path) old new result = Tells (CommandGives contents remaining (ChModAsks old mode path) (WrongMode mode path) old new) says_ok result
-Runs {A = A} contents remaining (GetAcl path) old new result = Tells {V = Vec ℕ A} (CommandTells contents remaining acl_in says_text (GetAclAsks old path) (NoPath path) old new) says_text result
-Runs contents remaining (SetAcl path entries) old new result = Tells (CommandGives contents remaining (SetAclAsks old path entries) (WrongList path entries) old new) says_ok result
-Runs contents remaining (Access path) old new result = Tells (CommandTells contents remaining rights_in rights_value (AccessAsks old path) (NoPath path) old new) says_rights result
+Runs contents remaining (MkDir path) old new result = Tells (CommandGives contents remaining (MkDirAsks path) (WrongPath path) old new) says_ok result
+Runs contents remaining (Ln from to) old new result = Tells (BothGive contents remaining (LnAsks from to) (WrongPaths from to) old new) says_ok result
+Runs contents remaining (Mv from to) old new result = Tells (BothGive contents remaining (MvAsks from to) (WrongNames from to) old new) says_ok result
+Runs contents remaining (Rm path) old new result = Tells (CommandGives contents remaining (RmAsks path) (WrongPath path) old new) says_ok result
+Runs contents remaining (ChMod mode path) old new result = Tells (CommandGives contents remaining (ChModAsks mode path) (WrongMode mode path) old new) says_ok result
+Runs {A = A} contents remaining (GetAcl path) old new result = Tells {V = Vec ℕ A} (CommandTells contents remaining acl_in says_text (GetAclAsks path) (NoPath path) old new) says_text result
+Runs contents remaining (SetAcl path entries) old new result = Tells (CommandGives contents remaining (SetAclAsks path entries) (WrongList path entries) old new) says_ok result
+Runs contents remaining (Access path) old new result = Tells (CommandTells contents remaining rights_in rights_value (AccessAsks path) (NoPath path) old new) says_rights result

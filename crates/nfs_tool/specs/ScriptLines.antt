@@ -1,5 +1,5 @@
 -- The lines of a script, and what each asks.
-use Rattle.std.specs.Prelude.{ℕ, ◌==◌, ◌&&◌, ◌||◌, nat_lt, not, Bool, true, false, length, if◌then◌else◌, List, [], ◌∷◌, codes, filter, Option, Some, None, option_and_then, option_map}
+use Rattle.std.specs.Prelude.{ℕ, ◌==◌, ◌&&◌, ◌||◌, nat_lt, not, Bool, false, length, if◌then◌else◌, List, [], ◌∷◌, codes, filter, Option, Some, None, option_and_then, option_map}
 use Rattle.std.specs.List.{list_all, slice_split}
 use Rattle.std.specs.Str.{bytes_eq, all_ascii_digits, is_utf8}
 use Rattle.who_book.specs.Spelling.{value_after}

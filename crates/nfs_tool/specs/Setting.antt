@@ -7,8 +7,12 @@ use Rattle.nfs_types.specs.StateIds.{anonymous}
 use Rattle.nfs_ops.specs.Operations.{Operation, Known}
 use Rattle.nfs_ops.specs.declared.op_kind.OpKind.TheVariants as kinds
 
+-- of the set of these attributes, with these values
+abbrev pub set_by : Seen → List ℕ → Operation
+set_by s values = Known kinds.SetAttr (anonymous, (shown_set s, values))
+
 abbrev pub set_attributes : Seen → Operation
-set_attributes s = Known kinds.SetAttr (anonymous, (shown_set s, shown_values s))
+set_attributes s = set_by s (shown_values s)
 
 -- the mode alone
 abbrev pub of_mode : ℕ → Seen

@@ -3,11 +3,12 @@ ghost use Rattle.std.specs.Prelude.{◌≡◌, false, Err, option_map, option_an
 ghost use Rattle.nfs_ops.specs.ResultViews.{read_view};
 ghost use Rattle.nfs_tool.specs.Access.{AccessAsks, NoPath, rights_of, rights_in};
 ghost use Rattle.nfs_tool.specs.AccessViews.{rights_value};
-ghost use Rattle.nfs_tool.specs.Commands.{PrepareGives, CommandTells, AskGives};
+ghost use Rattle.nfs_tool.specs.Commands.{AskGives};
 ghost use Rattle.nfs_tool.specs.Compound.{said};
 ghost use Rattle.nfs_tool.specs.Requests.{Asks};
 ghost use Rattle.nfs_tool.specs.CompoundViews.{outcomes};
 ghost use Rattle.nfs_tool.specs.Taking.{SaidGives, TakeGives};
+ghost use Rattle.nfs_tool.specs.Walking.{CommandTells};
 ghost use Rattle.nfs_tool.specs.declared.fault.ToolFault.TheVariants.{Failed};
 
 use crate::client::{Client, Reply};
@@ -58,19 +59,6 @@ impl<S: Read + Write, A: Allocator + Copy> Client<S, A> {
     ghost use Rattle.std.specs.Prelude.{true, List};
     ghost use Rattle.nfs_ops.specs.Operations.{Operation};
 
-    fn prepare_access(&self, path: &[u8]) -> Result<Request<A>, ToolFault>
-        ensures { PrepareGives (AccessAsks self.now path.now) (NoPath path.now) result }
-    {
-        let path = match Path::read(self.alloc, path) {
-            Ok(path) => path,
-            Err(fault) => return Err(fault),
-        };
-        let mut request = self.request()?;
-        request.walk(path.names())?;
-        request.put(Op::Access(AccessArgs { asked: ALL_RIGHTS }))?;
-        Ok(request)
-    }
-
     fn ask_rights(&mut self, request: Request<A>) -> Result<AccessResult, ToolFault>
         ensures { (ops : List Operation) → Asks request ops → AskGives S.contents S.remaining rights_in rights_value true ops self.old self.new result }
     {
@@ -86,10 +74,15 @@ impl<S: Read + Write, A: Allocator + Copy> Client<S, A> {
     /// Which of the six rights of ACCESS have a meaning for an object, and which of them the caller has.
     pub fn access(&mut self, path: &[u8]) -> Result<AccessResult, ToolFault>
         ensures failed { self.old.usable ≡ false → result ≡ Err Failed }
-        ensures gives { CommandTells S.contents S.remaining rights_in rights_value (AccessAsks self.old path.now) (NoPath path.now) self.old self.new result }
+        ensures gives { CommandTells S.contents S.remaining rights_in rights_value (AccessAsks path.now) (NoPath path.now) self.old self.new result }
     {
         self.start()?;
-        match self.prepare_access(path) {
+        let path = match Path::read(self.alloc, path) {
+            Ok(path) => path,
+            Err(fault) => return Err(fault),
+        };
+        let op = Op::Access(AccessArgs { asked: ALL_RIGHTS });
+        match self.ready(path.names(), op) {
             Ok(request) => self.ask_rights(request),
             Err(fault) => Err(fault),
         }

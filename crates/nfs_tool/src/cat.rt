@@ -1,10 +1,11 @@
 //! The bytes of a file.
-ghost use Rattle.std.specs.Prelude.{◌≡◌, ◌++◌, Some, false, true, Err, map, option_map, option_and_then};
+ghost use Rattle.std.specs.Prelude.{◌≡◌, false, Err, option_map, option_and_then};
 ghost use Rattle.nfs_ops.specs.ResultViews.{read_view};
 ghost use Rattle.nfs_tool.specs.Cat.{read_from, bytes_of, piece_of, piece_in, piece_value, by_pieces, PieceTaken, ReadGives, CatGives};
 ghost use Rattle.nfs_tool.specs.Compound.{said};
 ghost use Rattle.nfs_tool.specs.Paging.{PagesGive};
 ghost use Rattle.nfs_tool.specs.Requests.{Asks, PutGives};
+ghost use Rattle.nfs_tool.specs.RouteViews.{route_value};
 ghost use Rattle.nfs_tool.specs.Taking.{SaidGives};
 ghost use Rattle.nfs_tool.specs.declared.fault.ToolFault.TheVariants.{Failed};
 
@@ -12,6 +13,7 @@ use crate::client::{Client, Reply};
 use crate::fault::ToolFault;
 use crate::path::Path;
 use crate::request::Request;
+use crate::route::{MOST_NAMES, Route};
 use crate::taking::last;
 use nfs_ops::{MAX_READ, Op, OpResult, ReadArgs, ReadResult};
 use nfs_types::StateId;
@@ -63,26 +65,28 @@ impl<S: Read + Write, A: Allocator + Copy> Client<S, A> {
     ghost use Rattle.std.specs.Prelude.{IfOk};
 
     /// The request of the bytes behind so many.
-    fn prepare_read(&self, names: &[&[u8]], offset: usize) -> Result<Request<A>, ToolFault>
-        ensures asks { IfOk result (λ r. Asks r (read_from (map (λ n. n.now) names.now) self.now offset)) }
+    fn prepare_read(&self, route: &Route<'_, A>, offset: usize) -> Result<Request<A>, ToolFault>
+        ensures asks { IfOk result (λ r. Asks r (read_from (route_value route.now) self.now offset)) }
         ensures memory { PutGives result }
     {
-        let mut request = self.request()?;
-        request.walk(names)?;
         let stateid = StateId::anonymous();
-        request.put(Op::Read(ReadArgs {
+        let op = Op::Read(ReadArgs {
             stateid,
             offset: offset as u64,
             count: MAX_READ,
-        }))?;
-        Ok(request)
+        });
+        self.request_along(route, op)
     }
 
     /// Reads the bytes behind those that were read. Whether the file ends behind them.
-    fn read_piece(&mut self, names: &[&[u8]], bytes: &mut Vec<u8, A>) -> Result<bool, ToolFault>
-        ensures { ReadGives S.contents S.remaining (map (λ n. n.now) names.now) bytes.old.items bytes.new.items self.old self.new result }
+    fn read_piece(
+        &mut self,
+        route: &Route<'_, A>,
+        bytes: &mut Vec<u8, A>,
+    ) -> Result<bool, ToolFault>
+        ensures { ReadGives S.contents S.remaining (route_value route.now) bytes.old.items bytes.new.items self.old self.new result }
     {
-        let request = self.prepare_read(names, bytes.len())?;
+        let request = self.prepare_read(route, bytes.len())?;
         let reply = match self.exchange(request) {
             Ok(reply) => reply,
             Err(fault) => return Err(fault),
@@ -93,12 +97,12 @@ impl<S: Read + Write, A: Allocator + Copy> Client<S, A> {
     }
 
     /// Reads piece after piece.
-    fn read_all(&mut self, names: &[&[u8]]) -> Result<Vec<u8, A>, ToolFault>
-        ensures { PagesGive (by_pieces S.contents S.remaining (map (λ n. n.now) names.now)) (λ v. v.items) bytes_of self.old self.new result }
+    fn read_all(&mut self, route: &Route<'_, A>) -> Result<Vec<u8, A>, ToolFault>
+        ensures { PagesGive (by_pieces S.contents S.remaining (route_value route.now)) (λ v. v.items) bytes_of self.old self.new result }
     {
         let mut bytes = Vec::new(self.alloc);
         for _call in 0..MOST_CALLS {
-            let told = self.read_piece(names, &mut bytes);
+            let told = self.read_piece(route, &mut bytes);
             self.spoil(&told);
             match told {
                 Ok(true) => return Ok(bytes),
@@ -116,8 +120,12 @@ impl<S: Read + Write, A: Allocator + Copy> Client<S, A> {
         ensures gives { CatGives S.contents S.remaining (λ v. v.items) path.now self.old self.new result }
     {
         self.start()?;
-        match Path::read(self.alloc, path) {
-            Ok(path) => self.read_all(path.names()),
+        let path = match Path::read(self.alloc, path) {
+            Ok(path) => path,
+            Err(fault) => return Err(fault),
+        };
+        match self.reach(path.names(), MOST_NAMES) {
+            Ok(route) => self.read_all(&route),
             Err(fault) => Err(fault),
         }
     }

@@ -3,14 +3,14 @@ ghost use Rattle.std.specs.Prelude.{◌≡◌, false, Err};
 ghost use Rattle.nfs_types.specs.ShownViews.{shown_value};
 ghost use Rattle.nfs_tool.specs.ChMod.{ChModAsks, WrongMode};
 ghost use Rattle.nfs_tool.specs.Setting.{of_mode};
-ghost use Rattle.nfs_tool.specs.Commands.{PrepareGives, CommandGives};
+ghost use Rattle.nfs_tool.specs.Walking.{CommandGives};
 ghost use Rattle.nfs_tool.specs.declared.fault.ToolFault.TheVariants.{Failed};
 
 use crate::client::Client;
 use crate::fault::ToolFault;
 use crate::modes::read_mode;
 use crate::path::Path;
-use crate::request::Request;
+use crate::setting::{setting, values_of};
 use nfs_types::ShownAttributes;
 use std::alloc::Allocator;
 use std::io::{Read, Write};
@@ -31,9 +31,13 @@ fn of_mode(mode: u32) -> ShownAttributes<'static>
 }
 
 impl<S: Read + Write, A: Allocator + Copy> Client<S, A> {
-    fn prepare_chmod(&self, word: &[u8], path: &[u8]) -> Result<Request<A>, ToolFault>
-        ensures { PrepareGives (ChModAsks self.now word.now path.now) (WrongMode word.now path.now) result }
+    /// Sets the mode of an object to this word of one to four octal digits, and with it the access control list. `Entry`: the word is
+    /// none.
+    pub fn chmod(&mut self, word: &[u8], path: &[u8]) -> Result<(), ToolFault>
+        ensures failed { self.old.usable ≡ false → result ≡ Err Failed }
+        ensures gives { CommandGives S.contents S.remaining (ChModAsks word.now path.now) (WrongMode word.now path.now) self.old self.new result }
     {
+        self.start()?;
         let Some(mode) = read_mode(word) else {
             return Err(ToolFault::Entry);
         };
@@ -41,20 +45,10 @@ impl<S: Read + Write, A: Allocator + Copy> Client<S, A> {
             Ok(path) => path,
             Err(fault) => return Err(fault),
         };
-        let mut request = self.request()?;
-        request.walk(path.names())?;
-        request.set_attributes(self.alloc, &of_mode(mode))?;
-        Ok(request)
-    }
-
-    /// Sets the mode of an object to this word of one to four octal digits, and with it the access control list. `Entry`: the word is
-    /// none.
-    pub fn chmod(&mut self, word: &[u8], path: &[u8]) -> Result<(), ToolFault>
-        ensures failed { self.old.usable ≡ false → result ≡ Err Failed }
-        ensures gives { CommandGives S.contents S.remaining (ChModAsks self.old word.now path.now) (WrongMode word.now path.now) self.old self.new result }
-    {
-        self.start()?;
-        match self.prepare_chmod(word, path) {
+        let shown = of_mode(mode);
+        let values = values_of(self.alloc, &shown)?;
+        let op = setting(&shown, values.bytes())?;
+        match self.ready(path.names(), op) {
             Ok(request) => self.run(request, true),
             Err(fault) => Err(fault),
         }

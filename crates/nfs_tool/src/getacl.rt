@@ -9,12 +9,13 @@ ghost use Rattle.nfs_ops.specs.Operations.{Operation};
 ghost use Rattle.nfs_ops.specs.ResultViews.{read_view};
 ghost use Rattle.nfs_tool.specs.Access.{NoPath};
 ghost use Rattle.nfs_tool.specs.Acls.{IsAcl, kind_numbered, line_of, list_text, list_in, acl_of, acl_in, GetAclAsks, PutsList};
-ghost use Rattle.nfs_tool.specs.Commands.{PrepareGives, CommandTells, AskGives};
+ghost use Rattle.nfs_tool.specs.Commands.{AskGives};
 ghost use Rattle.nfs_tool.specs.Compound.{said};
 ghost use Rattle.nfs_tool.specs.CompoundViews.{outcomes};
 ghost use Rattle.nfs_tool.specs.EntryViews.{entry_line};
 ghost use Rattle.nfs_tool.specs.Requests.{Asks};
 ghost use Rattle.nfs_tool.specs.Taking.{SaidGives, TakeGives};
+ghost use Rattle.nfs_tool.specs.Walking.{CommandTells};
 ghost use Rattle.nfs_tool.specs.declared.fault.ToolFault.TheVariants.{Failed};
 
 use crate::client::{Client, Reply};
@@ -124,19 +125,6 @@ impl<A: Allocator + Copy> Reply<A> {
 }
 
 impl<S: Read + Write, A: Allocator + Copy> Client<S, A> {
-    fn prepare_getacl(&self, path: &[u8]) -> Result<Request<A>, ToolFault>
-        ensures { PrepareGives (GetAclAsks self.now path.now) (NoPath path.now) result }
-    {
-        let path = match Path::read(self.alloc, path) {
-            Ok(path) => path,
-            Err(fault) => return Err(fault),
-        };
-        let mut request = self.request()?;
-        request.walk(path.names())?;
-        request.put(Op::GetAttr(GetAttrArgs { asked: acl_alone() }))?;
-        Ok(request)
-    }
-
     fn ask_list(&mut self, request: Request<A>) -> Result<Vec<u8, A>, ToolFault>
         ensures { (ops : List Operation) → Asks request ops → AskGives S.contents S.remaining acl_in (λ v. v.items) true ops self.old self.new result }
     {
@@ -152,10 +140,15 @@ impl<S: Read + Write, A: Allocator + Copy> Client<S, A> {
     /// The access control list of an object: a line for each entry, with a newline behind it.
     pub fn getacl(&mut self, path: &[u8]) -> Result<Vec<u8, A>, ToolFault>
         ensures failed { self.old.usable ≡ false → result ≡ Err Failed }
-        ensures gives { CommandTells S.contents S.remaining acl_in (λ v. v.items) (GetAclAsks self.old path.now) (NoPath path.now) self.old self.new result }
+        ensures gives { CommandTells S.contents S.remaining acl_in (λ v. v.items) (GetAclAsks path.now) (NoPath path.now) self.old self.new result }
     {
         self.start()?;
-        match self.prepare_getacl(path) {
+        let path = match Path::read(self.alloc, path) {
+            Ok(path) => path,
+            Err(fault) => return Err(fault),
+        };
+        let op = Op::GetAttr(GetAttrArgs { asked: acl_alone() });
+        match self.ready(path.names(), op) {
             Ok(request) => self.ask_list(request),
             Err(fault) => Err(fault),
         }

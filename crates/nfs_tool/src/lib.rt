@@ -3,6 +3,7 @@
 
 mod access;
 mod answer;
+mod approach;
 mod cat;
 mod chmod;
 mod client;
@@ -21,6 +22,7 @@ mod path;
 mod put;
 mod request;
 mod rm;
+mod route;
 mod running;
 mod script_line;
 mod scripting;

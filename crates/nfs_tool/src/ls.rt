@@ -1,5 +1,5 @@
 //! The entries of a directory.
-ghost use Rattle.std.specs.Prelude.{◌≡◌, Some, false, Err, map, option_map, option_and_then};
+ghost use Rattle.std.specs.Prelude.{◌≡◌, Some, false, Err, option_map, option_and_then};
 ghost use Rattle.xdr_wire.specs.Wire.{chain_values};
 ghost use Rattle.nfs_types.specs.Views.{bitmap_value};
 ghost use Rattle.nfs_ops.specs.Forms as forms;
@@ -9,6 +9,7 @@ ghost use Rattle.nfs_tool.specs.Compound.{said};
 ghost use Rattle.nfs_tool.specs.Ls.{AreListed, list_from, page_of, text_of, by_listings, PutsEntry, PutsEntries, PutsPage, PageTaken, ListGives, LsGives};
 ghost use Rattle.nfs_tool.specs.Paging.{PagesGive};
 ghost use Rattle.nfs_tool.specs.Requests.{Asks, PutGives};
+ghost use Rattle.nfs_tool.specs.RouteViews.{route_value};
 ghost use Rattle.nfs_tool.specs.declared.fault.ToolFault.TheVariants.{Failed};
 
 use crate::cat::MOST_CALLS;
@@ -17,6 +18,7 @@ use crate::fault::ToolFault;
 use crate::listing::Listed;
 use crate::path::Path;
 use crate::request::Request;
+use crate::route::{MOST_NAMES, Route};
 use crate::taking::last;
 use nfs_ops::{Bytes, Entry, Op, OpResult, ReadDirArgs, ReadDirResult};
 use nfs_types::{Attribute, Bitmap, SeenAttributes, read_given};
@@ -128,35 +130,33 @@ impl<S: Read + Write, A: Allocator + Copy> Client<S, A> {
     /// The request of the entries behind this cookie.
     fn prepare_list(
         &self,
-        names: &[&[u8]],
+        route: &Route<'_, A>,
         asked: Bitmap,
         cookie: u64,
     ) -> Result<Request<A>, ToolFault>
-        ensures asks { IfOk result (λ r. Asks r (list_from (map (λ n. n.now) names.now) (bitmap_value asked) self.now cookie)) }
+        ensures asks { IfOk result (λ r. Asks r (list_from (route_value route.now) (bitmap_value asked) self.now cookie)) }
         ensures memory { PutGives result }
     {
-        let mut request = self.request()?;
-        request.walk(names)?;
-        request.put(Op::ReadDir(ReadDirArgs {
+        let op = Op::ReadDir(ReadDirArgs {
             cookie,
             verifier: [0; 8],
             dircount: 0,
             maxcount: MOST_BYTES,
             asked,
-        }))?;
-        Ok(request)
+        });
+        self.request_along(route, op)
     }
 
     /// Lists the entries behind those that were listed. Whether the directory ends behind them.
     fn list_page(
         &mut self,
-        names: &[&[u8]],
+        route: &Route<'_, A>,
         asked: Bitmap,
         listing: &mut Listing<A>,
     ) -> Result<bool, ToolFault>
-        ensures { ListGives S.contents S.remaining (map (λ n. n.now) names.now) (bitmap_value asked) listing.old listing.new self.old self.new result }
+        ensures { ListGives S.contents S.remaining (route_value route.now) (bitmap_value asked) listing.old listing.new self.old self.new result }
     {
-        let request = self.prepare_list(names, asked, listing.cookie)?;
+        let request = self.prepare_list(route, asked, listing.cookie)?;
         let reply = match self.exchange(request) {
             Ok(reply) => reply,
             Err(fault) => return Err(fault),
@@ -167,15 +167,15 @@ impl<S: Read + Write, A: Allocator + Copy> Client<S, A> {
     }
 
     /// Lists page after page.
-    fn list_all(&mut self, names: &[&[u8]], asked: Bitmap) -> Result<Vec<u8, A>, ToolFault>
-        ensures { PagesGive (by_listings S.contents S.remaining (map (λ n. n.now) names.now) (bitmap_value asked)) (λ v. v.items) text_of self.old self.new result }
+    fn list_all(&mut self, route: &Route<'_, A>, asked: Bitmap) -> Result<Vec<u8, A>, ToolFault>
+        ensures { PagesGive (by_listings S.contents S.remaining (route_value route.now) (bitmap_value asked)) (λ v. v.items) text_of self.old self.new result }
     {
         let mut listing = Listing {
             text: Vec::new(self.alloc),
             cookie: 0,
         };
         for _call in 0..MOST_CALLS {
-            let told = self.list_page(names, asked, &mut listing);
+            let told = self.list_page(route, asked, &mut listing);
             self.spoil(&told);
             match told {
                 Ok(true) => return Ok(listing.text),
@@ -194,8 +194,13 @@ impl<S: Read + Write, A: Allocator + Copy> Client<S, A> {
         ensures gives { LsGives S.contents S.remaining (λ v. v.items) path.now self.old self.new result }
     {
         self.start()?;
-        match Path::read(self.alloc, path) {
-            Ok(path) => self.list_all(path.names(), attributes_listed()),
+        let path = match Path::read(self.alloc, path) {
+            Ok(path) => path,
+            Err(fault) => return Err(fault),
+        };
+        let asked = attributes_listed();
+        match self.reach(path.names(), MOST_NAMES) {
+            Ok(route) => self.list_all(&route, asked),
             Err(fault) => Err(fault),
         }
     }

@@ -1,25 +1,28 @@
 //! Making a text the bytes of a file.
-ghost use Rattle.std.specs.Prelude.{◌≡◌, ◌≤◌, ◌++◌, ◌∷◌, [], ℕ, false, true, Err, List, OnOk, IfOk, length, take, option_map, option_and_then};
+ghost use Rattle.std.specs.Prelude.{◌≡◌, ◌≤◌, ℕ, false, true, Err, List, IfOk, length, map, option_map, option_and_then};
 ghost use Rattle.nfs_types.specs.ShownViews.{shown_value};
 ghost use Rattle.nfs_types.specs.Views.{stateid_value, handle_value};
 ghost use Rattle.nfs_ops.specs.Operations.{Operation};
 ghost use Rattle.nfs_ops.specs.ResultViews.{read_view};
-ghost use Rattle.nfs_tool.specs.Commands.{PrepareGives, AskGives};
+ghost use Rattle.nfs_ops.specs.OpViews.{op_view};
+ghost use Rattle.nfs_tool.specs.Commands.{AskGives};
 ghost use Rattle.nfs_tool.specs.Compound.{said};
 ghost use Rattle.nfs_tool.specs.CompoundViews.{outcomes};
 ghost use Rattle.nfs_tool.specs.Paging.{itself};
-ghost use Rattle.nfs_tool.specs.Put.{stateid_of, handle_of, open_emptied, open_in, written_of, written_in, OpenAsks, write_to, close_it, piece, WriteGives, CloseGives, TextGives, ClosesBehind, FileGives, PutCommandGives};
+ghost use Rattle.nfs_tool.specs.Put.{stateid_of, open_by, open_in, written_of, written_in, write_to, close_it, piece, WriteGives, CloseGives, TextGives, ClosesBehind, FileGives, open_along, PutAlong, PutCommandGives};
 ghost use Rattle.nfs_tool.specs.PutViews.{open_value};
+ghost use Rattle.nfs_tool.specs.RouteViews.{route_value};
 ghost use Rattle.nfs_tool.specs.Requests.{Asks, PutGives};
-ghost use Rattle.nfs_tool.specs.Rm.{WrongPath};
 ghost use Rattle.nfs_tool.specs.Setting.{of_size};
 ghost use Rattle.nfs_tool.specs.Taking.{SaidGives, TakeGives};
 ghost use Rattle.nfs_tool.specs.declared.fault.ToolFault.TheVariants.{Failed};
 
+use crate::approach::{handle_bytes, handle_told};
 use crate::client::{Client, Reply};
 use crate::fault::ToolFault;
 use crate::path::Place;
 use crate::request::{Request, sendable};
+use crate::route::{MOST_BEFORE_TWO, Route, handle_sent};
 use crate::sessions::OWNER;
 use crate::setting::values_of;
 use crate::taking::{last, last_two};
@@ -27,7 +30,7 @@ use nfs_ops::{
     CloseArgs, Op, OpResult, OpenArgs, OpenClaim, OpenHow, PutFhArgs, StableHow, WriteArgs,
 };
 use nfs_types::{Attributes, Handle, ShownAttributes, StateId};
-use std::alloc::{AllocError, Allocator};
+use std::alloc::Allocator;
 use std::io::{Read, Write};
 use xdr_wire::Opaque;
 
@@ -68,31 +71,6 @@ fn stateid_told(found: OpResult<'_>) -> Option<StateId>
         OpResult::Open(told) => Some(told.stateid),
         _ => None,
     }
-}
-
-/// What a result says of a filehandle.
-fn handle_told(found: OpResult<'_>) -> Option<Handle<'_>>
-    ensures { option_map handle_value result ≡ handle_of (read_view found.entry) }
-{
-    match found {
-        OpResult::GetFh(told) => Some(told.handle),
-        _ => None,
-    }
-}
-
-/// The bytes of a filehandle.
-fn handle_bytes<A: Allocator>(alloc: A, handle: Handle<'_>) -> Result<Vec<u8, A>, AllocError>
-    ensures { IfOk result (λ v. v.items ≡ handle_value handle.entry) }
-{
-    let mut bytes = Vec::new(alloc);
-    match handle {
-        Handle::Sent(item) => bytes.extend_from_slice(item.bytes)?,
-        Handle::Object(number) => {
-            bytes.extend_from_slice(&[0; 8])?;
-            bytes.extend_from_slice(&number.to_be_bytes())?;
-        }
-    }
-    Ok(bytes)
 }
 
 /// The open that results end with, told by an OPEN and the GETFH behind it.
@@ -147,10 +125,7 @@ impl<A: Allocator> Opened<A> {
         ensures sent { IfOk result (λ h. handle_value h ≡ self.now.handle.items) }
         ensures memory { PutGives result }
     {
-        match Opaque::new(&self.handle) {
-            Some(item) => Ok(Handle::Sent(item)),
-            None => Err(ToolFault::Memory),
-        }
+        handle_sent(&self.handle)
     }
 }
 
@@ -179,47 +154,34 @@ impl<A: Allocator + Copy> Reply<A> {
     }
 }
 
-impl<A: Allocator + Copy> Request<A> {
-    /// OPEN for writing of the file of this name, which is made where there is none and emptied where there is one.
-    fn open_emptied(&mut self, alloc: A, client: u64, name: &[u8]) -> Result<(), ToolFault>
-        ensures asks { OnOk result ((ops : List Operation) → Asks self.old ops → Asks self.new (ops ++ open_emptied client name.now ∷ [])) }
-        ensures memory { PutGives result }
-    {
-        let shown = of_size(0);
-        let values = values_of(alloc, &shown)?;
-        let bytes = sendable(values.bytes())?;
-        let set = shown.set();
-        let name = sendable(name)?;
-        let Some(owner) = Opaque::new(OWNER) else {
-            return Err(ToolFault::Memory);
-        };
-        self.put(Op::Open(OpenArgs {
-            seqid: 0,
-            access: FOR_WRITING,
-            deny: 0,
-            client,
-            owner,
-            how: OpenHow::Unchecked(Attributes { set, values: bytes }),
-            claim: OpenClaim::ByName(name),
-        }))
-    }
+/// OPEN for writing of the file of this name, which is made where there is none, with these attributes by these values.
+fn opening<'a>(
+    client: u64,
+    name: &'a [u8],
+    shown: &ShownAttributes<'_>,
+    values: &'a [u8],
+) -> Result<Op<'a>, ToolFault>
+    ensures asks { IfOk result (λ op. op_view op ≡ open_by (shown_value shown.now) values.entry.now client name.entry.now) }
+    ensures memory { PutGives result }
+{
+    let name = sendable(name)?;
+    let values = sendable(values)?;
+    let set = shown.set();
+    let Some(owner) = Opaque::new(OWNER) else {
+        return Err(ToolFault::Memory);
+    };
+    Ok(Op::Open(OpenArgs {
+        seqid: 0,
+        access: FOR_WRITING,
+        deny: 0,
+        client,
+        owner,
+        how: OpenHow::Unchecked(Attributes { set, values }),
+        claim: OpenClaim::ByName(name),
+    }))
 }
 
 impl<S: Read + Write, A: Allocator + Copy> Client<S, A> {
-    fn prepare_open(&self, path: &[u8]) -> Result<Request<A>, ToolFault>
-        ensures { PrepareGives (OpenAsks self.now path.now) (WrongPath path.now) result }
-    {
-        let place = match Place::read(self.alloc, path) {
-            Ok(place) => place,
-            Err(fault) => return Err(fault),
-        };
-        let mut request = self.request()?;
-        request.walk(&place.directory)?;
-        request.open_emptied(self.alloc, self.client, place.name)?;
-        request.put(Op::GetFh)?;
-        Ok(request)
-    }
-
     fn open_file(&mut self, request: Request<A>) -> Result<Opened<A>, ToolFault>
         ensures { (ops : List Operation) → Asks request ops → AskGives S.contents S.remaining open_in open_value true ops self.old self.new result }
     {
@@ -340,14 +302,25 @@ impl<S: Read + Write, A: Allocator + Copy> Client<S, A> {
         told
     }
 
-    /// Makes a text the bytes of a file, which is made where there is none: OPEN, a WRITE for each 32,768 bytes, CLOSE. The file is closed
-    /// behind a refused WRITE too, which is told then.
-    pub fn put(&mut self, path: &[u8], text: &[u8]) -> Result<(), ToolFault>
-        ensures failed { self.old.usable ≡ false → result ≡ Err Failed }
-        ensures gives { PutCommandGives S.contents S.remaining path.now text.now self.old self.new result }
+    /// The request of an OPEN at the end of a route, and of the filehandle behind it.
+    fn request_open(&self, route: &Route<'_, A>, op: Op<'_>) -> Result<Request<A>, ToolFault>
+        ensures asks { IfOk result (λ r. Asks r (open_along self.now (route_value route.now) (op_view op.entry))) }
+        ensures memory { PutGives result }
     {
-        self.start()?;
-        let request = match self.prepare_open(path) {
+        let mut request = self.request_along(route, op)?;
+        request.put(Op::GetFh)?;
+        Ok(request)
+    }
+
+    /// Opens a file of a directory, writes a text to it, and closes it.
+    fn put_in(&mut self, names: &[&[u8]], op: Op<'_>, text: &[u8]) -> Result<(), ToolFault>
+        ensures { PutAlong S.contents S.remaining (map (λ n. n.now) names.now) (op_view op.entry) text.now self.old self.new result }
+    {
+        let route = match self.reach(names, MOST_BEFORE_TWO) {
+            Ok(route) => route,
+            Err(fault) => return Err(fault),
+        };
+        let request = match self.request_open(&route, op) {
             Ok(request) => request,
             Err(fault) => return Err(fault),
         };
@@ -355,5 +328,22 @@ impl<S: Read + Write, A: Allocator + Copy> Client<S, A> {
             Ok(opened) => self.fill(&opened, text),
             Err(fault) => Err(fault),
         }
+    }
+
+    /// Makes a text the bytes of a file, which is made where there is none: OPEN, a WRITE for each 32,768 bytes, CLOSE. The file is closed
+    /// behind a refused WRITE too, which is told then.
+    pub fn put(&mut self, path: &[u8], text: &[u8]) -> Result<(), ToolFault>
+        ensures failed { self.old.usable ≡ false → result ≡ Err Failed }
+        ensures gives { PutCommandGives S.contents S.remaining path.now text.now self.old self.new result }
+    {
+        self.start()?;
+        let place = match Place::read(self.alloc, path) {
+            Ok(place) => place,
+            Err(fault) => return Err(fault),
+        };
+        let shown = of_size(0);
+        let values = values_of(self.alloc, &shown)?;
+        let op = opening(self.client, place.name, &shown, values.bytes())?;
+        self.put_in(&place.directory, op, text)
     }
 }

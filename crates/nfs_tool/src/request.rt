@@ -80,7 +80,7 @@ fn one_record<A: Allocator>(alloc: A, head: &[u8], body: &[u8]) -> Result<Vec<u8
 
 impl<A: Allocator + Copy> Request<A> {
     ghost use Rattle.nfs_tool.specs.Requests.{Asks, PutGives, SpellGives, asked_of};
-    ghost use Rattle.nfs_tool.specs.Commands.{lookups, walk};
+    ghost use Rattle.nfs_tool.specs.Commands.{lookups};
 
     /// Of no operations.
     pub(crate) fn new(alloc: A) -> Result<Self, ToolFault>
@@ -105,7 +105,7 @@ impl<A: Allocator + Copy> Request<A> {
     }
 
     /// Along these names, from the current directory on.
-    fn lookups(&mut self, names: &[&[u8]]) -> Result<(), ToolFault>
+    pub(crate) fn lookups(&mut self, names: &[&[u8]]) -> Result<(), ToolFault>
         ensures asks { OnOk result ((ops : List Operation) → Asks self.old ops → Asks self.new (ops ++ lookups (map (λ n. n.now) names.now))) }
         ensures memory { PutGives result }
     {
@@ -115,15 +115,6 @@ impl<A: Allocator + Copy> Request<A> {
             }))?;
         }
         Ok(())
-    }
-
-    /// From the root along these names.
-    pub(crate) fn walk(&mut self, names: &[&[u8]]) -> Result<(), ToolFault>
-        ensures asks { OnOk result ((ops : List Operation) → Asks self.old ops → Asks self.new (ops ++ walk (map (λ n. n.now) names.now))) }
-        ensures memory { PutGives result }
-    {
-        self.put(Op::PutRootFh)?;
-        self.lookups(names)
     }
 
     /// The numbers of the operations.

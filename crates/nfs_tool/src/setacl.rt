@@ -3,17 +3,18 @@ ghost use Rattle.std.specs.Prelude.{◌≡◌, false, Err, IfOk, map};
 ghost use Rattle.nfs_types.specs.AceView.{ace_value};
 ghost use Rattle.nfs_types.specs.ShownViews.{shown_value};
 ghost use Rattle.nfs_tool.specs.Acls.{ace_of, kind_number, EntriesGive, SetAclAsks, WrongList};
-ghost use Rattle.nfs_tool.specs.Commands.{PrepareGives, CommandGives};
 ghost use Rattle.nfs_tool.specs.EntryViews.{entry_line};
 ghost use Rattle.nfs_tool.specs.Requests.{PutGives};
 ghost use Rattle.nfs_tool.specs.Setting.{of_entries};
+ghost use Rattle.nfs_tool.specs.Walking.{CommandGives};
 ghost use Rattle.nfs_tool.specs.declared.fault.ToolFault.TheVariants.{Failed};
 
 use crate::client::Client;
 use crate::entry_text::EntryText;
 use crate::fault::ToolFault;
 use crate::path::Path;
-use crate::request::{Request, sendable};
+use crate::request::sendable;
+use crate::setting::{setting, values_of};
 use acl_list::EntryKind;
 use nfs_types::{Ace, Aces, ShownAttributes};
 use std::alloc::Allocator;
@@ -81,9 +82,12 @@ fn of_aces<'a>(aces: &'a [Ace<'a>]) -> Result<ShownAttributes<'a>, ToolFault>
 }
 
 impl<S: Read + Write, A: Allocator + Copy> Client<S, A> {
-    fn prepare_setacl(&self, path: &[u8], texts: &[&[u8]]) -> Result<Request<A>, ToolFault>
-        ensures { PrepareGives (SetAclAsks self.now path.now (map (λ t. t.now) texts.now)) (WrongList path.now (map (λ t. t.now) texts.now)) result }
+    /// Sets the access control list of an object to these entries, each as text. `Entry`: one of them can't be read.
+    pub fn setacl(&mut self, path: &[u8], texts: &[&[u8]]) -> Result<(), ToolFault>
+        ensures failed { self.old.usable ≡ false → result ≡ Err Failed }
+        ensures gives { CommandGives S.contents S.remaining (SetAclAsks path.now (map (λ t. t.now) texts.now)) (WrongList path.now (map (λ t. t.now) texts.now)) self.old self.new result }
     {
+        self.start()?;
         let path = match Path::read(self.alloc, path) {
             Ok(path) => path,
             Err(fault) => return Err(fault),
@@ -92,20 +96,10 @@ impl<S: Read + Write, A: Allocator + Copy> Client<S, A> {
             Ok(aces) => aces,
             Err(fault) => return Err(fault),
         };
-        let mut request = self.request()?;
-        request.walk(path.names())?;
         let shown = of_aces(&aces)?;
-        request.set_attributes(self.alloc, &shown)?;
-        Ok(request)
-    }
-
-    /// Sets the access control list of an object to these entries, each as text. `Entry`: one of them can't be read.
-    pub fn setacl(&mut self, path: &[u8], texts: &[&[u8]]) -> Result<(), ToolFault>
-        ensures failed { self.old.usable ≡ false → result ≡ Err Failed }
-        ensures gives { CommandGives S.contents S.remaining (SetAclAsks self.old path.now (map (λ t. t.now) texts.now)) (WrongList path.now (map (λ t. t.now) texts.now)) self.old self.new result }
-    {
-        self.start()?;
-        match self.prepare_setacl(path, texts) {
+        let values = values_of(self.alloc, &shown)?;
+        let op = setting(&shown, values.bytes())?;
+        match self.ready(path.names(), op) {
             Ok(request) => self.run(request, true),
             Err(fault) => Err(fault),
         }

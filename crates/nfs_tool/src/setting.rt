@@ -1,13 +1,13 @@
 //! Attributes that are set.
-ghost use Rattle.std.specs.Prelude.{◌≡◌, ◌++◌, ◌∷◌, [], List, OnOk, IfOk};
+ghost use Rattle.std.specs.Prelude.{◌≡◌, IfOk};
 ghost use Rattle.nfs_types.specs.Seen.{shown_values};
-ghost use Rattle.nfs_ops.specs.Operations.{Operation};
 ghost use Rattle.nfs_types.specs.ShownViews.{shown_value};
-ghost use Rattle.nfs_tool.specs.Requests.{Asks, PutGives};
-ghost use Rattle.nfs_tool.specs.Setting.{set_attributes};
+ghost use Rattle.nfs_ops.specs.OpViews.{op_view};
+ghost use Rattle.nfs_tool.specs.Requests.{PutGives};
+ghost use Rattle.nfs_tool.specs.Setting.{set_by};
 
 use crate::fault::ToolFault;
-use crate::request::{Request, has_room, sendable};
+use crate::request::{has_room, sendable};
 use nfs_ops::{Op, SetAttrArgs};
 use nfs_types::{Attributes, ShownAttributes, StateId, write_given};
 use rpc_record::RECORD_LIMIT;
@@ -27,24 +27,20 @@ pub(crate) fn values_of<A: Allocator>(
     Ok(values)
 }
 
-impl<A: Allocator + Copy> Request<A> {
-    /// SETATTR of these attributes, without an open.
-    pub(crate) fn set_attributes(
-        &mut self,
-        alloc: A,
-        shown: &ShownAttributes<'_>,
-    ) -> Result<(), ToolFault>
-        ensures asks { OnOk result ((ops : List Operation) → Asks self.old ops → Asks self.new (ops ++ set_attributes (shown_value shown.now) ∷ [])) }
-        ensures memory { PutGives result }
-    {
-        let values = values_of(alloc, shown)?;
-        let bytes = sendable(values.bytes())?;
-        let set = shown.set();
-        let stateid = StateId::anonymous();
-        let attributes = Attributes { set, values: bytes };
-        self.put(Op::SetAttr(SetAttrArgs {
-            stateid,
-            attributes,
-        }))
-    }
+/// SETATTR of these attributes by these values, without an open.
+pub(crate) fn setting<'a>(
+    shown: &ShownAttributes<'_>,
+    values: &'a [u8],
+) -> Result<Op<'a>, ToolFault>
+    ensures asks { IfOk result (λ op. op_view op ≡ set_by (shown_value shown.now) values.entry.now) }
+    ensures memory { PutGives result }
+{
+    let values = sendable(values)?;
+    let set = shown.set();
+    let stateid = StateId::anonymous();
+    let attributes = Attributes { set, values };
+    Ok(Op::SetAttr(SetAttrArgs {
+        stateid,
+        attributes,
+    }))
 }

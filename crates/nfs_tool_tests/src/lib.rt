@@ -10,6 +10,8 @@ mod examples;
 #[cfg(test)]
 mod failing;
 #[cfg(test)]
+mod far;
+#[cfg(test)]
 mod listing;
 #[cfg(test)]
 mod local;

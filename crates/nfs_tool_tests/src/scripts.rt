@@ -198,6 +198,84 @@ fn each_command_is_done(rt: HostRuntime) -> Result<(), Fail> {
     Ok(())
 }
 
+/// What is done with a file in a directory, of which `~` is the path, and what is printed of it.
+const FAR: &[(&str, &str)] = &[
+    ("put ~/f hi", "ok"),
+    ("cat ~/f", "hi"),
+    ("ls ~/f", "refused READDIR NOTDIR"),
+    ("ln ~/f ~/g", "ok"),
+    ("mv ~/g /d/h", "ok"),
+    ("rm /d/h", "ok"),
+    ("chmod 0604 ~/f", "ok"),
+    ("setacl ~/f A:00:00020001:EVERYONE@", "ok"),
+    ("getacl ~/f", "A:00:00020001:EVERYONE@"),
+    ("mv ~/f ~/e", "ok"),
+    ("rm ~/e", "ok"),
+    ("rm ~/e", "refused REMOVE NOENT"),
+    ("cat ~/no/d/d/d/d/d/d/d/d/d/d/d/d/d", "refused LOOKUP NOENT"),
+];
+
+/// How deep the directories lie in which that is done, of forty in one another.
+const DEPTHS: &[u32] = &[1, 5, 6, 12, 13, 14, 26, 40];
+
+/// A line of user 0, with the path of a directory so deep for each `~`.
+fn far_line(text: &mut Vec<u8>, line: &str, depth: u32) -> Result<(), AllocError> {
+    text.extend_from_slice(b"as 0 0 ")?;
+    for byte in line.as_bytes() {
+        if *byte != b'~' {
+            text.push(*byte)?;
+        } else {
+            for _i in 0..depth {
+                text.extend_from_slice(b"/d")?;
+            }
+        }
+    }
+    text.push(b'\n')?;
+    Ok(())
+}
+
+fn far_script(alloc: Global) -> Result<Vec<u8>, AllocError> {
+    let mut text = Vec::new(alloc);
+    for depth in 1..41 {
+        far_line(&mut text, "mkdir ~", depth)?;
+    }
+    for depth in DEPTHS {
+        for (line, _) in FAR {
+            far_line(&mut text, line, *depth)?;
+        }
+    }
+    Ok(text)
+}
+
+fn far_answers(alloc: Global) -> Result<Vec<u8>, AllocError> {
+    let mut wants = Vec::new(alloc);
+    for _depth in 1..41 {
+        wants.extend_from_slice(b"ok\n")?;
+    }
+    for _depth in DEPTHS {
+        for (_, answer) in FAR {
+            wants.extend_from_slice(answer.as_bytes())?;
+            wants.push(b'\n')?;
+        }
+    }
+    wants.extend_from_slice(b"trail 0\n")?;
+    Ok(wants)
+}
+
+fn far_played(alloc: Global, hasher: RandomState) -> Result<bool, ToolFault> {
+    let text = far_script(alloc)?;
+    let wants = far_answers(alloc)?;
+    played(alloc, hasher, &text, &wants, 8000, 4000)
+}
+
+/// Each command finds its end of a path of any number of names.
+#[test]
+fn far_paths_are_walked(rt: HostRuntime) -> Result<(), Fail> {
+    let told = far_played(rt.alloc(), RandomState::new(&rt)?);
+    assert_eq!(rt; told, Ok(true));
+    Ok(())
+}
+
 /// What is skipped prints nothing, and spaces stand between words, however many.
 #[test]
 fn comments_and_blank_lines_are_skipped(rt: HostRuntime) -> Result<(), Fail> {

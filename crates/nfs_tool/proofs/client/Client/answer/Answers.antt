@@ -11,3 +11,6 @@ returns-in-ChMod g c = rw c.in-ChMod.is (c.chmod.result, c.chmod.ensures.gives, 
 
 pub returns-in-SetAcl : goal.returns-in-SetAcl
 returns-in-SetAcl g c = rw c.in-SetAcl.is (c.setacl.result, c.setacl.ensures.gives, c.done-in-SetAcl.ensures)
+
+pub returns-in-Put : goal.returns-in-Put
+returns-in-Put g c = rw c.in-Put.is (c.put.result, c.put.ensures.gives, c.done.ensures)

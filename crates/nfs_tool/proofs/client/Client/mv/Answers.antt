@@ -1,9 +1,14 @@
-use Rattle.nfs_tool.specs.Mv.{MvAsks, WrongNames}
-use Rattle.nfs_tool.specs.Taking.{takes_nothing, nothing}
-use Rattle.nfs_tool.proofs.Commands.{command_runs}
+use Rattle.std.proofs.Common.{refl, map}
+use Rattle.nfs_tool.specs.Mv.{MvAsks, WrongNames, rename}
+use Rattle.nfs_tool.proofs.Walks.{both_run, both_stop}
 use Rattle.nfs_tool.proofs.client.Client.mv.Goals as goal
 
-pub returns-in-Ok-clause-gives : goal.returns-in-Ok-clause-gives
-returns-in-Ok-clause-gives g c =
-    let asked = c.in-Ok.ensures in
-    command_runs _ _ takes_nothing nothing (MvAsks c.args.self.now c.args.old.now c.args.new.now) (WrongNames c.args.old.now c.args.new.now) c.args.self.now c.run.new.self c.run.result asked.0 asked.1 (c.run.ensures asked.0 asked.2)
+pub returns-in-Ok-ready_both-clause-gives : goal.returns-in-Ok-ready_both-clause-gives
+returns-in-Ok-ready_both-clause-gives g c =
+    both_run g.S.Write.contents g.S.Read.remaining (MvAsks c.args.old.now c.args.new.now) (WrongNames c.args.old.now c.args.new.now) c.args.self.now c.run.new.self c.ready_both.new.self c.in-Ok-ready_both.request (map (λ n. n.now) c.in-Ok.source.directory.items) (map (λ n. n.now) c.in-Ok-read.target.directory.items) (rename c.in-Ok.source.name.now c.in-Ok-read.target.name.now) c.run.result
+    (c.in-Ok.source.name.now, c.in-Ok-read.target.name.now, c.in-Ok.ensures, c.in-Ok-read.ensures, refl) (rw (c.deref.ensures.value, c.deref-2.ensures.value, c.in_ok-sendable.ensures, c.in_ok-sendable-2.ensures) at c.in-Ok-ready_both.ensures) c.run.ensures
+
+pub returns-clause-gives : goal.returns-clause-gives
+returns-clause-gives g c =
+    both_stop g.S.Write.contents g.S.Read.remaining (MvAsks c.args.old.now c.args.new.now) (WrongNames c.args.old.now c.args.new.now) c.args.self.now c.ready_both.new.self (map (λ n. n.now) c.in-Ok.source.directory.items) (map (λ n. n.now) c.in-Ok-read.target.directory.items) (rename c.in-Ok.source.name.now c.in-Ok-read.target.name.now) c.in-Err-ready_both.fault
+    (c.in-Ok.source.name.now, c.in-Ok-read.target.name.now, c.in-Ok.ensures, c.in-Ok-read.ensures, refl) (rw (c.deref.ensures.value, c.deref-2.ensures.value) at c.in-Err-ready_both.ensures)

@@ -1,4 +1,4 @@
-use Rattle.std.proofs.Common.{◌+◌, ◌∷◌, [], take, get_or}
+use Rattle.std.proofs.Common.{◌∷◌, [], take, get_or}
 use Rattle.std.proofs.lemmas.List.{take_more, take_all}
 use Rattle.nfs_tool.proofs.Scripts.{goes_nowhere, goes_further}
 use Rattle.nfs_tool.proofs.scripting.Progress.take.Goals as goal
