@@ -17,7 +17,7 @@ use Rattle.nfs_hub.specs.Hub.{IsHub, Goes, ConnectGives, IsUnchanged, SameConnec
 use Rattle.nfs_streams.specs.declared.peer.Peer.{Peer}
 use Rattle.nfs_streams.specs.declared.serving.AllEnd.TheVariants.{Served, Turns, Wait, Keep}
 use Rattle.nfs_streams.specs.Acts.{Act, JustKnocked, IsSettled, Waited, Knocked, Admitted, Closed, Heard, Ended, Told, Failed, Kept, Lost, Adds, Has, conn_at, knocked}
-use Rattle.nfs_streams.specs.Runs.{On, StepAt, CanHear, IsSpent}
+use Rattle.nfs_streams.specs.Runs.{On, StepAt, CanHear, IsSpent, IsWaiting}
 use Rattle.nfs_streams.specs.Filling.{Fills}
 use Rattle.nfs_streams.specs.Seats.{Stands, Drained, IsSeated, IsFresh, place_at, taken}
 use Rattle.nfs_streams.specs.Standing.{Origin, Stage, Listening, Full, Answering, Stopped, Ending, Way, Standing, Refills, IsClosing, closed_stage}
@@ -109,9 +109,19 @@ module _ {A : Type 0} {n : ℕ} {o : Origin} {hub : Hub A} {left : ℕ} {before 
 
 -- ---- bytes are written
 
+held_waits : (held pending : List ℕ) → 0 < length held → held ++ pending ≢ []
+held_waits held pending some none = let len : length (held ++ pending) ≡ 0 = ap (λ (l : List ℕ). length l) none in absurd (omega (arith, length-append held pending, len))
+
+-- some bytes that are held wait to be written
+abbrev is_waiting : {A : Type 0} {start : ℕ} {hub : Hub A} {acts : List Act} {s : State} (ps : List (Option Peer)) (i : ℕ) (p : Peer) (st : Stands start hub (set ps i (Some p)) acts s) → i < length ps → 0 < length p.held → On acts p.place s IsWaiting
+is_waiting {acts = acts} ps i p st lt some =
+    let h = here_at st i p (set_here ps i (Some p) lt) in
+    let c = h.connected in
+    (p.conn, record c { pending = p.held ++ c.pending }, ap (λ (j : ℕ). conn_at acts j) h.place ∙ h.conn, h.behind, held_waits p.held c.pending some)
+
 module _ {A : Type 0} {n : ℕ} {o : Origin} {hub : Hub A} {left : ℕ} {before : Option (List Act)} (ps : List (Option Peer)) (i : ℕ) (p : Peer) (lt : i < length ps) (st : Standing (Answering n) o hub (set ps i (Some p)) left before) where
-  pub told : (k : ℕ) (z : ℤ) (after : Option (List Act)) → k ≤ length p.held → Adds before after (Told p.place (take k p.held) ∷ []) → Standing (Answering n) o hub (set ps i (Some (record p { held = drop k p.held; since = z }))) left after
-  told k z after le said =
+  pub told : (k : ℕ) (z : ℤ) (after : Option (List Act)) → 0 < length p.held → k ≤ length p.held → Adds before after (Told p.place (take k p.held) ∷ []) → Standing (Answering n) o hub (set ps i (Some (record p { held = drop k p.held; since = z }))) left after
+  told k z after some le said =
       let h = here_at st.stands i p (set_here ps i (Some p) lt) in
       let c = h.connected in
       let e : Connected = record c { pending = p.held ++ c.pending } in
@@ -128,7 +138,7 @@ module _ {A : Type 0} {n : ℕ} {o : Origin} {hub : Hub A} {left : ℕ} {before 
         acts = acts';
         machine = s';
         way = (
-          (st.machine, st.way.0, (st.way.2, st.way.3), ((p.conn, e, conn, h.behind, front), (p.conn, conn, steps p.conn (TakeOn (length bytes)) st.machine e d st.machine.served h.behind (refl, within, refl)))),
+          (st.machine, st.way.0, (st.way.2, st.way.3, is_waiting ps i p st.stands lt some), ((p.conn, e, conn, h.behind, front), (p.conn, conn, steps p.conn (TakeOn (length bytes)) st.machine e d st.machine.served h.behind (refl, within, refl)))),
           st.way.1,
           tt,
           inr st.way.3,
@@ -149,11 +159,11 @@ module _ {A : Type 0} {n : ℕ} {o : Origin} {hub : Hub A} {left : ℕ} {before 
       }
 
 -- the bytes were lent, and the written ones are left out
-pub told_of : {A : Type 0} {n : ℕ} {o : Origin} {hub : Hub A} {left : ℕ} {before : Option (List Act)} (ps : List (Option Peer)) (i : ℕ) (p : Peer) → i < length ps → Standing (Answering n) o hub (set ps i (Some p)) left before → (bytes held : List ℕ) (k : ℕ) (z : ℤ) (after : Option (List Act)) → bytes ≡ p.held → held ≡ drop k p.held → k ≤ length bytes
+pub told_of : {A : Type 0} {n : ℕ} {o : Origin} {hub : Hub A} {left : ℕ} {before : Option (List Act)} (ps : List (Option Peer)) (i : ℕ) (p : Peer) → i < length ps → Standing (Answering n) o hub (set ps i (Some p)) left before → (bytes held : List ℕ) (k : ℕ) (z : ℤ) (after : Option (List Act)) → 0 < length p.held → bytes ≡ p.held → held ≡ drop k p.held → k ≤ length bytes
     → Adds before after (Told p.place (take k bytes) ∷ []) → Standing (Answering n) o hub (set ps i (Some (record p { held = held; since = z }))) left after
-told_of {n = n} {o = o} {hub = hub} {left = left} {before = before} ps i p lt st bytes held k z after same rest le said =
+told_of {n = n} {o = o} {hub = hub} {left = left} {before = before} ps i p lt st bytes held k z after some same rest le said =
     subst (λ (l : List ℕ). Standing (Answering n) o hub (set ps i (Some (record p { held = l; since = z }))) left after) (sym rest)
-    (told ps i p lt st k z after (subst (λ (l : List ℕ). k ≤ length l) same le) (subst (λ (l : List ℕ). Adds before after (Told p.place (take k l) ∷ [])) same said))
+    (told ps i p lt st k z after some (subst (λ (l : List ℕ). k ≤ length l) same le) (subst (λ (l : List ℕ). Adds before after (Told p.place (take k l) ∷ [])) same said))
 
 -- ---- a connection is closed
 
@@ -242,16 +252,16 @@ module _ {A : Type 0} {n : ℕ} {o : Origin} {hub : Hub A} {left : ℕ} {before 
       }
 
 -- writing to its stream has failed
-pub failed : {A : Type 0} {n : ℕ} {o : Origin} {hub : Hub A} {left : ℕ} {before : Option (List Act)} (ps : List (Option Peer)) (i : ℕ) (p : Peer) → i < length ps → Standing (Answering n) o hub (set ps i (Some p)) left before → (hub' : Hub A) (mid after : Option (List Act)) → Goes (Close p.conn) hub hub'
+pub failed : {A : Type 0} {n : ℕ} {o : Origin} {hub : Hub A} {left : ℕ} {before : Option (List Act)} (ps : List (Option Peer)) (i : ℕ) (p : Peer) → i < length ps → Standing (Answering n) o hub (set ps i (Some p)) left before → (hub' : Hub A) (mid after : Option (List Act)) → 0 < length p.held → Goes (Close p.conn) hub hub'
     → Adds before mid (Failed p.place ∷ []) → Adds mid after (Closed p.place ∷ []) → Standing (Answering n) o hub' (set ps i None) left after
-failed {o = o} {before = before} ps i p lt st hub' mid after goes said closed =
+failed {o = o} {before = before} ps i p lt st hub' mid after some goes said closed =
     let over = Failed p.place ∷ st.acts in
     let x = shut ps i p (stands_as over (λ j. refl) refl st.stands) lt hub' goes in
     record {
       acts = Closed p.place ∷ over;
       machine = x.machine;
       way = (
-        (st.machine, (st.machine, st.way.0, (st.way.2, st.way.3), refl), inl (inr refl), x.step),
+        (st.machine, (st.machine, st.way.0, (st.way.2, st.way.3, is_waiting ps i p st.stands lt some), refl), inl (inr refl), x.step),
         st.way.1,
         tt,
         inr (inr (subst (λ (w : ServedState). Has (Kept w.state) st.acts) (sym x.served) st.way.3)),

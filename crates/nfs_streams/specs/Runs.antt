@@ -1,5 +1,5 @@
 -- Acts of streams as steps of the written machine, each allowed where it comes.
-use Rattle.std.specs.Prelude.{◌≡◌, ◌⊎◌, ◌≤◌, ◌<◌, ℕ, true, false, List, [], ◌∷◌, ◌++◌, length, take, Some, None}
+use Rattle.std.specs.Prelude.{◌≡◌, ◌≢◌, ◌⊎◌, ◌≤◌, ◌<◌, ℕ, true, false, List, [], ◌∷◌, ◌++◌, length, take, Some, None}
 use Rattle.nfs_types.specs.declared.moment.Moment.{Moment}
 use Rattle.nfs_hub.specs.Machine.{Connected, State, Event, Connect, Piece, Take, Close, Step, fresh}
 use Rattle.nfs_streams.specs.Acts.{Act, Waited, Knocked, Admitted, Closed, Heard, Ended, Told, Failed, Kept, Lost, Has, JustKnocked, JustOver, IsSettled, conn_at, open_in}
@@ -44,6 +44,10 @@ CanHear c = (c.broken ≡ false) × (c.pending ≡ [])
 abbrev pub IsSpent : Connected → Type 0
 IsSpent c = (c.broken ≡ true) × (c.pending ≡ [])
 
+-- bytes wait to be written on a connection
+abbrev pub IsWaiting : Connected → Type 0
+IsWaiting c = c.pending ≢ []
+
 -- The connection at a place may be closed: its stream has just ended or failed; or it is broken, and nothing is pending on it; or as many
 -- are open as may be, and another stream has just come.
 abbrev pub MayClose : ℕ → List Act → ℕ → State → Type 0
@@ -52,7 +56,8 @@ MayClose most earlier place s = JustOver earlier place ⊎ (IsSettled earlier ×
 -- Behind earlier acts another may come, where so many connections may be open at once. Behind an end or a failure of a stream only its
 -- closing comes, and nothing behind a wait that failed or a trail that couldn't be kept. A stream is admitted only just after one has
 -- knocked, at a place below 16 that has none, while fewer are open than may be. A piece has at most 4,096 bytes, and is read only of a
--- connection that is whole and on which nothing is pending. Bytes are written only where the trail of the server as it is has been kept.
+-- connection that is whole and on which nothing is pending. Writing is tried only where bytes are pending on the
+-- connection, and the trail of the server as it is has been kept.
 abbrev pub Allowed : ℕ → List Act → Act → State → Type 0
 Allowed most earlier (Waited well) s = IsSettled earlier
 Allowed most earlier Knocked s = IsSettled earlier
@@ -60,8 +65,8 @@ Allowed most earlier (Admitted place id) s = JustKnocked earlier × (conn_at ear
 Allowed most earlier (Closed place) s = MayClose most earlier place s
 Allowed most earlier (Heard place piece) s = IsSettled earlier × (length piece ≤ MAX_PIECE) × On earlier place s CanHear
 Allowed most earlier (Ended place) s = IsSettled earlier × On earlier place s CanHear
-Allowed most earlier (Told place bytes) s = IsSettled earlier × Has (Kept s.served.state) earlier
-Allowed most earlier (Failed place) s = IsSettled earlier × Has (Kept s.served.state) earlier
+Allowed most earlier (Told place bytes) s = IsSettled earlier × Has (Kept s.served.state) earlier × On earlier place s IsWaiting
+Allowed most earlier (Failed place) s = IsSettled earlier × Has (Kept s.served.state) earlier × On earlier place s IsWaiting
 Allowed most earlier (Kept state) s = IsSettled earlier × (state ≡ s.served.state)
 Allowed most earlier Lost s = IsSettled earlier
 

@@ -1,6 +1,6 @@
 //! One connection and its stream.
-ghost use Rattle.std.specs.Prelude.{◌≡◌, ℕ, [], ◌∷◌, Some};
-ghost use Rattle.std.specs.Bool.{OnFalse};
+ghost use Rattle.std.specs.Prelude.{◌≡◌, ◌<◌, ℕ, [], ◌∷◌, Some, length};
+ghost use Rattle.std.specs.Bool.{OnTrue, OnFalse};
 ghost use Rattle.nfs_hub.specs.Machine.{Close};
 ghost use Rattle.nfs_hub.specs.Hub.{Goes};
 ghost use Rattle.nfs_streams.specs.Acts.{Adds, Closed};
@@ -44,6 +44,7 @@ pub(crate) enum Turned {
 /// Takes pending bytes where none are held. Whether some are held then; none are pending where none are.
 fn refill<A: Allocator + Copy>(hub: &mut Hub<A>, peer: &mut Peer) -> bool
     ensures refills { Refills hub.old peer.old hub.new peer.new }
+    ensures some { OnTrue result (0 < length peer.new.held) }
     ensures drained { OnFalse result (Drained hub.new peer.new) }
 {
     if !peer.held.is_empty() {

@@ -2,8 +2,9 @@
 
 use crate::memory::{Memory, Script, Seat, Time, USUAL};
 use crate::plain::{bare, serve};
-use crate::scenes::{AMPLE, Outcome, add_all, outcome_of, replies_of};
-use nfs_streams::{AllEnd, Limits};
+use crate::scenes::{AMPLE, Outcome, REPLY, add_all, outcome_at};
+use nfs_hub::Hub;
+use nfs_streams::Limits;
 use std::alloc::Global;
 use std::hash::RandomState;
 use std::process::Abort;
@@ -183,12 +184,51 @@ fn see_first(rt: &impl Abort, house: &House, first: Option<(u32, u64)>, most: us
     assert_eq!(rt; most, house.most, "{}", house.name);
 }
 
-fn see_peer(rt: &impl Abort, name: &str, peer: u32, told: Option<Outcome>, replies: usize) {
-    let seen = told.map(|o| (o.told, o.right));
-    assert_eq!(rt; seen, Some((replies, true)), "{name}: peer {peer}");
+fn see_peer(rt: &impl Abort, name: &str, peer: u32, outcome: Option<Outcome>, calls: u32) {
+    let told = (calls as usize).saturating_mul(REPLY);
+    let seen = outcome.map(|o| (o.told, o.right));
+    assert_eq!(rt; seen, Some((told, true)), "{name}: peer {peer}");
+}
+
+fn see_peers(
+    rt: &impl Abort,
+    alloc: Global,
+    streams: &Memory<'_>,
+    house: &House,
+) -> Result<(), Fail> {
+    let mut peer = 0u32;
+    for calls in house.told {
+        peer = peer.saturating_add(1);
+        see_peer(
+            rt,
+            house.name,
+            peer,
+            outcome_at(alloc, streams, peer)?,
+            *calls,
+        );
+    }
+    Ok(())
 }
 
 /// Serves a house for 400 turns.
+fn serve_house(
+    rt: &impl Abort,
+    alloc: Global,
+    hub: &mut Hub,
+    streams: &mut Memory<'_>,
+    time: &Time,
+    house: &House,
+) -> Result<(), Fail> {
+    add_all(alloc, streams, house.scripts)?;
+    let limits = Limits {
+        places: house.places,
+        ..AMPLE
+    };
+    serve(hub, streams, time, limits);
+    see_first(rt, house, first_gone(streams), streams.most);
+    see_peers(rt, alloc, streams, house)
+}
+
 fn see_house(
     rt: &impl Abort,
     alloc: Global,
@@ -198,27 +238,7 @@ fn see_house(
     let time = Time::new();
     let mut hub = bare(alloc, hasher)?;
     let mut streams = Memory::new(alloc, &time);
-    add_all(alloc, &mut streams, house.scripts)?;
-    let limits = Limits {
-        places: house.places,
-        ..AMPLE
-    };
-    let end = serve(&mut hub, &mut streams, &time, limits);
-    assert_eq!(rt; end, AllEnd::Turns, "{}", house.name);
-    see_first(rt, house, first_gone(&streams), streams.most);
-    let mut peer = 0u32;
-    for calls in house.told {
-        peer = peer.saturating_add(1);
-        let replies = replies_of(alloc, peer, *calls)?;
-        see_peer(
-            rt,
-            house.name,
-            peer,
-            outcome_of(&streams, peer, &replies),
-            replies.len(),
-        );
-    }
-    Ok(())
+    serve_house(rt, alloc, &mut hub, &mut streams, &time, house)
 }
 
 #[test]
@@ -230,27 +250,29 @@ fn who_is_let_go(rt: HostRuntime) -> Result<(), Fail> {
     Ok(())
 }
 
-/// Of a peer that never reads one piece is read, and no more.
-#[test]
-fn a_peer_that_never_reads_costs_a_piece(rt: HostRuntime) -> Result<(), Fail> {
+/// How much was read of the first peer, how much it was told, and how many waits were mere looks, behind 400 turns.
+fn looks(
+    alloc: Global,
+    hasher: RandomState,
+    scripts: &[Script],
+) -> Result<(Option<(usize, usize)>, u64), Fail> {
     let time = Time::new();
-    let mut hub = bare(rt.alloc(), RandomState::new(&rt)?)?;
-    let mut streams = Memory::new(rt.alloc(), &time);
-    add_all(rt.alloc(), &mut streams, &[DEAF])?;
+    let mut hub = bare(alloc, hasher)?;
+    let mut streams = Memory::new(alloc, &time);
+    add_all(alloc, &mut streams, scripts)?;
     serve(&mut hub, &mut streams, &time, AMPLE);
-    let deaf = outcome_of(&streams, 1, &[]);
-    assert_eq!(rt; deaf.map(|o| (o.read, o.told)), Some((4096, 0)));
-    Ok(())
+    let first = outcome_at(alloc, &streams, 1)?;
+    let looks = streams.waits.saturating_sub(streams.rests);
+    Ok((first.map(|o| (o.read, o.told)), looks))
 }
 
-/// While nobody speaks it is waited, and not only looked.
+/// Of a peer that never reads one piece is read, and no more; and while nobody speaks it is waited, and not only looked.
 #[test]
 fn silence_is_waited_for(rt: HostRuntime) -> Result<(), Fail> {
-    let time = Time::new();
-    let mut hub = bare(rt.alloc(), RandomState::new(&rt)?)?;
-    let mut streams = Memory::new(rt.alloc(), &time);
-    add_all(rt.alloc(), &mut streams, &[SILENT, SILENT])?;
-    serve(&mut hub, &mut streams, &time, AMPLE);
-    assert_eq!(rt; streams.waits.saturating_sub(streams.rests), 2);
+    let hasher = RandomState::new(&rt)?;
+    let deaf = looks(rt.alloc(), hasher, &[DEAF])?;
+    assert_eq!(rt; deaf, (Some((4096, 0)), 3));
+    let silent = looks(rt.alloc(), hasher, &[SILENT, SILENT])?;
+    assert_eq!(rt; silent, (Some((0, 0)), 2));
     Ok(())
 }

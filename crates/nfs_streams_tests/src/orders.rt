@@ -1,65 +1,82 @@
 //! Streams that are ready in every order, with short reads and writes, and one among them that fails or breaks: each gets the replies to
 //! its own calls.
 
-use crate::memory::{Memory, Script, Time, USUAL};
+use crate::memory::{Memory, Script, Seat, Time, USUAL};
 use crate::plain::{bare, serve};
-use crate::scenes::{AMPLE, add_all, outcome_of, replies_of, see_told};
+use crate::scenes::{AMPLE, Outcome, REPLY, add_all, outcome_at};
+use nfs_hub::Hub;
 use nfs_streams::{AllEnd, Limits};
 use std::alloc::Global;
 use std::hash::RandomState;
 use std::process::Abort;
 use std::test::Fail;
 
-/// Serves three peers, and sees what each is told: the first and the last all, the second the replies to so many calls, or with
-/// `None` a front of them.
-fn see_three(
+/// Three peers, and to how many calls the second gets the replies; with `None` it gets a front of them.
+#[derive(Clone, Copy)]
+struct Three {
+    scripts: [Script; 3],
+    second: Option<u32>,
+}
+
+fn see_end(rt: &impl Abort, end: AllEnd, added: bool) {
+    assert_eq!(rt; end, AllEnd::Served);
+    assert!(rt; added);
+}
+
+/// Sees that a peer was told replies, to so many calls where that is known, and was let go.
+fn see_peer(rt: &impl Abort, peer: u32, outcome: Option<Outcome>, calls: Option<u32>) {
+    assert_eq!(rt; outcome.map(|o| o.right), Some(true), "peer {peer}");
+    let gone = outcome.map(|o| matches!(o.seat, Seat::Gone(_)));
+    assert_eq!(rt; gone, Some(true), "peer {peer}");
+    if let Some(calls) = calls {
+        let bytes = (calls as usize).saturating_mul(REPLY);
+        assert_eq!(rt; outcome.map(|o| o.told), Some(bytes), "peer {peer}");
+    }
+}
+
+/// Sees what each of the three is told: the first and the last all.
+fn see_peers(
     rt: &impl Abort,
     alloc: Global,
-    hasher: RandomState,
-    scripts: &[Script; 3],
-    second: Option<u32>,
+    streams: &Memory<'_>,
+    three: &Three,
 ) -> Result<(), Fail> {
-    let time = Time::new();
-    let mut hub = bare(alloc, hasher)?;
-    let mut streams = Memory::new(alloc, &time);
-    let added = add_all(alloc, &mut streams, scripts)?;
-    assert!(rt; added);
+    for peer in 1..4u32 {
+        let calls = if peer == 2 { three.second } else { Some(2) };
+        see_peer(rt, peer, outcome_at(alloc, streams, peer)?, calls);
+    }
+    Ok(())
+}
+
+/// Serves them.
+fn serve_three(
+    rt: &impl Abort,
+    alloc: Global,
+    hub: &mut Hub,
+    streams: &mut Memory<'_>,
+    time: &Time,
+    three: &Three,
+) -> Result<(), Fail> {
+    let added = add_all(alloc, streams, &three.scripts)?;
     let limits = Limits {
         connections: 3,
         turns: 20_000,
         ..AMPLE
     };
-    let end = serve(&mut hub, &mut streams, &time, limits);
-    assert_eq!(rt; end, AllEnd::Served);
-    for peer in 1..4u32 {
-        let calls = if peer == 2 { second } else { Some(2) };
-        see_one(rt, alloc, &streams, peer, calls)?;
-    }
-    Ok(())
+    see_end(rt, serve(hub, streams, time, limits), added);
+    see_peers(rt, alloc, streams, three)
 }
 
-/// Sees what a peer is told.
-fn see_one(
+fn see_three(
     rt: &impl Abort,
     alloc: Global,
-    streams: &Memory<'_>,
-    peer: u32,
-    calls: Option<u32>,
+    hasher: RandomState,
+    three: &Three,
 ) -> Result<(), Fail> {
-    let all = replies_of(alloc, peer, 2)?;
-    let told = outcome_of(streams, peer, &all);
-    match calls {
-        Some(calls) => {
-            let some = replies_of(alloc, peer, calls)?;
-            see_told(rt, told, some.len(), peer);
-        }
-        None => see_front(rt, told.map(|o| o.right), peer),
-    }
-    Ok(())
-}
-
-fn see_front(rt: &impl Abort, right: Option<bool>, peer: u32) {
-    assert_eq!(rt; right, Some(true), "peer {peer}");
+    let time = Time::new();
+    let mut hub = bare(alloc, hasher)?;
+    let mut streams = Memory::new(alloc, &time);
+    serve_three(rt, alloc, &mut hub, &mut streams, &time, three)
 }
 
 /// In which waits of eight the three are ready.
@@ -85,17 +102,29 @@ fn sizes() -> &'static [(usize, usize)] {
     &SIZES
 }
 
-fn three([a, b, c]: [u8; 3], (piece, takes): (usize, usize)) -> [Script; 3] {
+fn ready_as([a, b, c]: [u8; 3], (piece, takes): (usize, usize)) -> Three {
     let usual = Script {
         piece,
         takes,
         ..USUAL
     };
-    [
+    let scripts = [
         Script { ready: a, ..usual },
         Script { ready: b, ..usual },
         Script { ready: c, ..usual },
-    ]
+    ];
+    Three {
+        scripts,
+        second: Some(2),
+    }
+}
+
+/// One between two that are as usual.
+fn between(script: Script, second: Option<u32>) -> Three {
+    Three {
+        scripts: [USUAL, script, USUAL],
+        second,
+    }
 }
 
 #[test]
@@ -103,7 +132,7 @@ fn streams_are_ready_in_any_order(rt: HostRuntime) -> Result<(), Fail> {
     let hasher = RandomState::new(&rt)?;
     for order in ready() {
         for size in sizes() {
-            see_three(&rt, rt.alloc(), hasher, &three(*order, *size), Some(2))?;
+            see_three(&rt, rt.alloc(), hasher, &ready_as(*order, *size))?;
         }
     }
     Ok(())
@@ -153,31 +182,42 @@ fn second() -> &'static [(Script, Option<u32>)] {
 fn one_breaks_and_leaves_the_others(rt: HostRuntime) -> Result<(), Fail> {
     let hasher = RandomState::new(&rt)?;
     for (script, calls) in second() {
-        see_three(&rt, rt.alloc(), hasher, &[USUAL, *script, USUAL], *calls)?;
+        see_three(&rt, rt.alloc(), hasher, &between(*script, *calls))?;
     }
     Ok(())
+}
+
+/// What its k-th read or write does, in short ones.
+fn failing(k: u32, at_read: bool) -> Three {
+    let slow = Script {
+        piece: 40,
+        takes: 20,
+        ..USUAL
+    };
+    if at_read {
+        return between(
+            Script {
+                fails_read: k,
+                ..slow
+            },
+            None,
+        );
+    }
+    between(
+        Script {
+            fails_write: k,
+            ..slow
+        },
+        None,
+    )
 }
 
 /// Its k-th read fails, or its k-th write: it gets a front of its replies, and the others theirs.
 #[test]
 fn one_fails_and_leaves_the_others(rt: HostRuntime) -> Result<(), Fail> {
     let hasher = RandomState::new(&rt)?;
-    let slow = Script {
-        piece: 40,
-        takes: 20,
-        ..USUAL
-    };
-    for k in 1..8u32 {
-        let reads = Script {
-            fails_read: k,
-            ..slow
-        };
-        see_three(&rt, rt.alloc(), hasher, &[USUAL, reads, USUAL], None)?;
-        let writes = Script {
-            fails_write: k,
-            ..slow
-        };
-        see_three(&rt, rt.alloc(), hasher, &[USUAL, writes, USUAL], None)?;
+    for k in 2..16u32 {
+        see_three(&rt, rt.alloc(), hasher, &failing(k / 2, k % 2 == 0))?;
     }
     Ok(())
 }

@@ -4,7 +4,6 @@ use crate::memory::{Memory, Script, Seat};
 use call_texts::{Caller, put_call_record, reply_of};
 use nfs_streams::Limits;
 use std::alloc::Global;
-use std::process::Abort;
 use std::test::Fail;
 
 /// As many as may be, of all kinds.
@@ -26,7 +25,7 @@ fn first_call(peer: u32) -> u32 {
 }
 
 /// The calls of a peer, and behind them perhaps what breaks its connection.
-pub fn input_of(alloc: Global, peer: u32, script: &Script) -> Result<Vec<u8>, Fail> {
+fn input_of(alloc: Global, peer: u32, script: &Script) -> Result<Vec<u8>, Fail> {
     let mut input = Vec::new(alloc);
     let first = first_call(peer);
     for xid in first..first.saturating_add(script.calls) {
@@ -38,8 +37,11 @@ pub fn input_of(alloc: Global, peer: u32, script: &Script) -> Result<Vec<u8>, Fa
     Ok(input)
 }
 
+/// A reply has so many bytes.
+pub const REPLY: usize = 72;
+
 /// The replies to so many first calls of a peer.
-pub fn replies_of(alloc: Global, peer: u32, calls: u32) -> Result<Vec<u8>, Fail> {
+fn replies_of(alloc: Global, peer: u32, calls: u32) -> Result<Vec<u8>, Fail> {
     let mut replies = Vec::new(alloc);
     let first = first_call(peer);
     for xid in first..first.saturating_add(calls) {
@@ -73,7 +75,7 @@ pub struct Outcome {
 }
 
 /// What became of the stream of a peer, whose number is at least 1.
-pub fn outcome_of(streams: &Memory<'_>, peer: u32, replies: &[u8]) -> Option<Outcome> {
+fn outcome_of(streams: &Memory<'_>, peer: u32, replies: &[u8]) -> Option<Outcome> {
     let index = usize::try_from(peer).ok()?.checked_sub(1)?;
     let stream = streams.streams.get(index)?;
     Some(Outcome {
@@ -84,10 +86,8 @@ pub fn outcome_of(streams: &Memory<'_>, peer: u32, replies: &[u8]) -> Option<Out
     })
 }
 
-/// Sees that a peer was told the replies to so many calls, and no more, and was let go.
-pub fn see_told(rt: &impl Abort, outcome: Option<Outcome>, replies: usize, peer: u32) {
-    let told = outcome.map(|o| (o.told, o.right));
-    assert_eq!(rt; told, Some((replies, true)), "peer {peer}");
-    let gone = outcome.map(|o| matches!(o.seat, Seat::Gone(_)));
-    assert_eq!(rt; gone, Some(true), "peer {peer}");
+/// What became of the stream of a peer with at most two calls, whose number is at least 1.
+pub fn outcome_at(alloc: Global, streams: &Memory<'_>, peer: u32) -> Result<Option<Outcome>, Fail> {
+    let replies = replies_of(alloc, peer, 2)?;
+    Ok(outcome_of(streams, peer, &replies))
 }

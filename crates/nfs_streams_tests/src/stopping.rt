@@ -1,8 +1,9 @@
 //! How serving ends, and what it leaves.
 
-use crate::memory::{Memory, Script, Time, USUAL};
+use crate::memory::{Memory, Time, USUAL};
 use crate::plain::{bare, serve};
-use crate::scenes::{AMPLE, add_all};
+use crate::scenes::{AMPLE, REPLY, add_all};
+use nfs_hub::Hub;
 use nfs_streams::{AllEnd, Limits};
 use std::alloc::Global;
 use std::hash::RandomState;
@@ -22,9 +23,6 @@ struct Stop {
     /// How many bytes were written to both.
     told: usize,
 }
-
-/// A reply has so many bytes.
-const REPLY: usize = 72;
 
 static STOPS: [Stop; 8] = [
     Stop {
@@ -133,17 +131,28 @@ fn told_of(streams: &Memory<'_>) -> usize {
     told
 }
 
+fn serve_stop(
+    rt: &impl Abort,
+    alloc: Global,
+    hub: &mut Hub,
+    streams: &mut Memory<'_>,
+    time: &Time,
+    stop: &Stop,
+) -> Result<(), Fail> {
+    add_all(alloc, streams, &[USUAL, USUAL])?;
+    streams.fails_wait = stop.fails.0;
+    streams.fails_keep = stop.fails.1;
+    let end = serve(hub, streams, time, stop.limits);
+    see_end(rt, stop, end, streams.waits);
+    see_counts(rt, stop, streams.admitted, told_of(streams));
+    Ok(())
+}
+
 fn see_stop(rt: &impl Abort, alloc: Global, hasher: RandomState, stop: &Stop) -> Result<(), Fail> {
     let time = Time::new();
     let mut hub = bare(alloc, hasher)?;
     let mut streams = Memory::new(alloc, &time);
-    let peers: [Script; 2] = [USUAL, USUAL];
-    add_all(alloc, &mut streams, &peers)?;
-    (streams.fails_wait, streams.fails_keep) = stop.fails;
-    let end = serve(&mut hub, &mut streams, &time, stop.limits);
-    see_end(rt, stop, end, streams.waits);
-    see_counts(rt, stop, streams.admitted, told_of(&streams));
-    Ok(())
+    serve_stop(rt, alloc, &mut hub, &mut streams, &time, stop)
 }
 
 #[test]
