@@ -1,6 +1,6 @@
 //! Full houses: who never reads, who is silent, and who knocks at a full house.
 
-use crate::memory::{Memory, Script, Seat, Time, USUAL};
+use crate::memory::{Memory, Seat, Time};
 use crate::plain::{bare, serve};
 use crate::scenes::{AMPLE, Outcome, REPLY, add_all, outcome_at};
 use nfs_hub::Hub;
@@ -10,151 +10,86 @@ use std::hash::RandomState;
 use std::process::Abort;
 use std::test::Fail;
 
-/// It is silent, and stays.
-const SILENT: Script = Script {
-    calls: 0,
-    leaves: false,
-    ..USUAL
-};
-
-/// It says a byte at each wait.
-const SLOW: Script = Script { piece: 1, ..USUAL };
-
-/// It sends many calls and never reads.
-const DEAF: Script = Script {
-    calls: 300,
-    takes: 0,
-    ..USUAL
-};
-
 /// Peers at a house, and what becomes of them in 400 turns.
 #[derive(Clone, Copy)]
 struct House {
     name: &'static str,
     /// How many may be open at once.
     places: usize,
-    scripts: &'static [Script],
+    /// The peers, in the words of `script_of`.
+    peers: &'static str,
     /// The most that were open at once.
     most: usize,
-    /// To how many calls each has the replies.
-    told: &'static [u32],
-    /// Who is let go first, and behind how many waits.
-    first: Option<(u32, u64)>,
+    /// To how many calls each has the replies, a digit a peer.
+    told: &'static str,
+    /// Who is let go first, and behind how many waits; 0: nobody is.
+    first: (u32, u64),
 }
 
 static HOUSES: [House; 8] = [
     House {
         name: "the one that is silent for longest goes",
         places: 2,
-        scripts: &[
-            Script { comes: 5, ..SILENT },
-            Script { comes: 9, ..SILENT },
-            Script { comes: 20, ..USUAL },
-        ],
+        peers: "s5 s9 u20",
         most: 2,
-        told: &[0, 0, 2],
-        first: Some((1, 21)),
+        told: "002",
+        first: (1, 21),
     },
     House {
         name: "the one that has spoken last stays",
         places: 2,
-        scripts: &[
-            Script {
-                calls: 1,
-                leaves: false,
-                ready: 0x80,
-                ..USUAL
-            },
-            SILENT,
-            Script { comes: 10, ..USUAL },
-        ],
+        peers: "o s u10",
         most: 2,
-        told: &[1, 0, 2],
-        first: Some((2, 11)),
+        told: "102",
+        first: (2, 11),
     },
     House {
         name: "nobody goes before two seconds",
         places: 1,
-        scripts: &[SILENT, Script { comes: 1, ..USUAL }],
+        peers: "s u1",
         most: 1,
-        told: &[0, 2],
-        first: Some((1, 3)),
+        told: "02",
+        first: (1, 3),
     },
     House {
         name: "one that says a byte at a time is let finish",
         places: 1,
-        scripts: &[SLOW, USUAL],
+        peers: "w u",
         most: 1,
-        told: &[2, 2],
-        first: Some((1, 218)),
+        told: "22",
+        first: (1, 218),
     },
     House {
         name: "the seventeenth is admitted for one that is silent",
         places: 16,
-        scripts: &[
-            SILENT,
-            SILENT,
-            SILENT,
-            SLOW,
-            SILENT,
-            SILENT,
-            SILENT,
-            SILENT,
-            SILENT,
-            SILENT,
-            SILENT,
-            SILENT,
-            SILENT,
-            SILENT,
-            SILENT,
-            SILENT,
-            Script { comes: 2, ..USUAL },
-        ],
+        peers: "s s s w s s s s s s s s s s s s u2",
         most: 16,
-        told: &[0, 0, 0, 2, 0, 0, 0, 0, 0, 0, 0, 0, 0, 0, 0, 0, 2],
-        first: Some((16, 3)),
+        told: "00020000000000002",
+        first: (16, 3),
     },
     House {
         name: "more than sixteen places are sixteen",
         places: 40,
-        scripts: &[
-            SILENT,
-            SILENT,
-            SILENT,
-            SLOW,
-            SILENT,
-            SILENT,
-            SILENT,
-            SILENT,
-            SILENT,
-            SILENT,
-            SILENT,
-            SILENT,
-            SILENT,
-            SILENT,
-            SILENT,
-            SILENT,
-            Script { comes: 2, ..USUAL },
-        ],
+        peers: "s s s w s s s s s s s s s s s s u2",
         most: 16,
-        told: &[0, 0, 0, 2, 0, 0, 0, 0, 0, 0, 0, 0, 0, 0, 0, 0, 2],
-        first: Some((16, 3)),
+        told: "00020000000000002",
+        first: (16, 3),
     },
     House {
         name: "without a place nobody is admitted",
         places: 0,
-        scripts: &[USUAL, USUAL],
+        peers: "u u",
         most: 0,
-        told: &[0, 0],
-        first: None,
+        told: "00",
+        first: (0, 0),
     },
     House {
         name: "one that never reads doesn't keep the others",
         places: 3,
-        scripts: &[DEAF, USUAL, SLOW],
+        peers: "d u w",
         most: 3,
-        told: &[0, 2, 2],
-        first: Some((2, 3)),
+        told: "022",
+        first: (2, 3),
     },
 ];
 
@@ -162,9 +97,9 @@ fn houses() -> &'static [House] {
     &HOUSES
 }
 
-/// Who was let go first, if anyone was.
-fn first_gone(streams: &Memory<'_>) -> Option<(u32, u64)> {
-    let mut first = None;
+/// Who was let go first, and behind how many waits; 0: nobody was.
+fn first_gone(streams: &Memory<'_>) -> (u32, u64) {
+    let mut first = (0, 0);
     let mut earliest = u64::MAX;
     let mut peer = 0u32;
     for stream in &streams.streams {
@@ -172,14 +107,14 @@ fn first_gone(streams: &Memory<'_>) -> Option<(u32, u64)> {
         if let Seat::Gone(waits) = stream.seat {
             if waits < earliest {
                 earliest = waits;
-                first = Some((peer, waits));
+                first = (peer, waits);
             }
         }
     }
     first
 }
 
-fn see_first(rt: &impl Abort, house: &House, first: Option<(u32, u64)>, most: usize) {
+fn see_first(rt: &impl Abort, house: &House, first: (u32, u64), most: usize) {
     assert_eq!(rt; first, house.first, "{}", house.name);
     assert_eq!(rt; most, house.most, "{}", house.name);
 }
@@ -197,14 +132,15 @@ fn see_peers(
     house: &House,
 ) -> Result<(), Fail> {
     let mut peer = 0u32;
-    for calls in house.told {
+    for digit in house.told.bytes() {
         peer = peer.saturating_add(1);
+        let calls = u32::from(digit.saturating_sub(b'0'));
         see_peer(
             rt,
             house.name,
             peer,
             outcome_at(alloc, streams, peer)?,
-            *calls,
+            calls,
         );
     }
     Ok(())
@@ -219,7 +155,7 @@ fn serve_house(
     time: &Time,
     house: &House,
 ) -> Result<(), Fail> {
-    add_all(alloc, streams, house.scripts)?;
+    add_all(alloc, streams, house.peers)?;
     let limits = Limits {
         places: house.places,
         ..AMPLE
@@ -254,12 +190,12 @@ fn who_is_let_go(rt: HostRuntime) -> Result<(), Fail> {
 fn looks(
     alloc: Global,
     hasher: RandomState,
-    scripts: &[Script],
+    peers: &str,
 ) -> Result<(Option<(usize, usize)>, u64), Fail> {
     let time = Time::new();
     let mut hub = bare(alloc, hasher)?;
     let mut streams = Memory::new(alloc, &time);
-    add_all(alloc, &mut streams, scripts)?;
+    add_all(alloc, &mut streams, peers)?;
     serve(&mut hub, &mut streams, &time, AMPLE);
     let first = outcome_at(alloc, &streams, 1)?;
     let looks = streams.waits.saturating_sub(streams.rests);
@@ -270,9 +206,9 @@ fn looks(
 #[test]
 fn silence_is_waited_for(rt: HostRuntime) -> Result<(), Fail> {
     let hasher = RandomState::new(&rt)?;
-    let deaf = looks(rt.alloc(), hasher, &[DEAF])?;
+    let deaf = looks(rt.alloc(), hasher, "d")?;
     assert_eq!(rt; deaf, (Some((4096, 0)), 3));
-    let silent = looks(rt.alloc(), hasher, &[SILENT, SILENT])?;
+    let silent = looks(rt.alloc(), hasher, "s s")?;
     assert_eq!(rt; silent, (Some((0, 0)), 2));
     Ok(())
 }

@@ -43,6 +43,61 @@ pub const USUAL: Script = Script {
     fails_write: u32::MAX,
 };
 
+/// What a word says of a peer: its kind by a letter, and a number, behind how many waits it knocks.
+///
+/// | Letter | The peer |
+/// |---|---|
+/// | u | sends two calls and leaves |
+/// | b | sends two calls, and then what breaks its connection |
+/// | c | sends one call in single bytes, and then what breaks its connection; it takes three bytes at once |
+/// | g | sends at once what breaks its connection |
+/// | n | leaves at once |
+/// | w | sends two calls in single bytes and leaves |
+/// | o | sends a call, and then is silent; it is ready in one wait of eight |
+/// | d | sends 300 calls and never reads |
+/// | s | is silent |
+pub fn script_of(word: &str) -> Script {
+    let comes = word
+        .get(1..)
+        .and_then(|n| n.parse::<u64>().ok())
+        .unwrap_or(0);
+    let mut script = Script { comes, ..USUAL };
+    match word.as_bytes().first() {
+        Some(b'b') => {
+            script.breaks = true;
+            script.leaves = false;
+        }
+        Some(b'c') => {
+            script.calls = 1;
+            script.breaks = true;
+            script.piece = 1;
+            script.takes = 3;
+        }
+        Some(b'g') => {
+            script.calls = 0;
+            script.breaks = true;
+            script.leaves = false;
+        }
+        Some(b'n') => script.calls = 0,
+        Some(b'w') => script.piece = 1,
+        Some(b'o') => {
+            script.calls = 1;
+            script.leaves = false;
+            script.ready = 0x80;
+        }
+        Some(b'd') => {
+            script.calls = 300;
+            script.takes = 0;
+        }
+        Some(b's') => {
+            script.calls = 0;
+            script.leaves = false;
+        }
+        _ => {}
+    }
+    script
+}
+
 /// Where a stream is.
 #[derive(Clone, Copy, Debug, PartialEq, Eq)]
 pub enum Seat {
@@ -98,10 +153,10 @@ pub struct Memory<'a> {
     pub waits: u64,
     /// How many of them were no mere looks.
     pub rests: u64,
-    /// The wait of this number fails.
+    /// The wait of this number fails; 0: none.
     pub fails_wait: u64,
     pub keeps: u64,
-    /// Keeping fails at this number.
+    /// Keeping fails at this number; 0: never.
     pub fails_keep: u64,
     /// How many lines the trail had where it was kept last.
     pub lines: u64,
@@ -117,9 +172,9 @@ impl<'a> Memory<'a> {
             admitted: 0,
             waits: 0,
             rests: 0,
-            fails_wait: u64::MAX,
+            fails_wait: 0,
             keeps: 0,
-            fails_keep: u64::MAX,
+            fails_keep: 0,
             lines: 0,
             most: 0,
         }

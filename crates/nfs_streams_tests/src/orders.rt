@@ -1,9 +1,9 @@
 //! Streams that are ready in every order, with short reads and writes, and one among them that fails or breaks: each gets the replies to
 //! its own calls.
 
-use crate::memory::{Memory, Script, Seat, Time, USUAL};
+use crate::memory::{Memory, Script, Seat, Time, USUAL, script_of};
 use crate::plain::{bare, serve};
-use crate::scenes::{AMPLE, Outcome, REPLY, add_all, outcome_at};
+use crate::scenes::{AMPLE, Outcome, REPLY, add, outcome_at};
 use nfs_hub::Hub;
 use nfs_streams::{AllEnd, Limits};
 use std::alloc::Global;
@@ -48,6 +48,14 @@ fn see_peers(
     Ok(())
 }
 
+/// Adds their streams. Whether there was memory for them.
+fn add_three(alloc: Global, streams: &mut Memory<'_>, scripts: &[Script; 3]) -> Result<bool, Fail> {
+    let first = add(alloc, streams, 1, scripts[0])?;
+    let second = add(alloc, streams, 2, scripts[1])?;
+    let third = add(alloc, streams, 3, scripts[2])?;
+    Ok(first & second & third)
+}
+
 /// Serves them.
 fn serve_three(
     rt: &impl Abort,
@@ -57,7 +65,7 @@ fn serve_three(
     time: &Time,
     three: &Three,
 ) -> Result<(), Fail> {
-    let added = add_all(alloc, streams, &three.scripts)?;
+    let added = add_three(alloc, streams, &three.scripts)?;
     let limits = Limits {
         connections: 3,
         turns: 20_000,
@@ -138,51 +146,23 @@ fn streams_are_ready_in_any_order(rt: HostRuntime) -> Result<(), Fail> {
     Ok(())
 }
 
-/// The second of three, with the calls whose replies it gets, where that is known.
-static SECOND: [(Script, Option<u32>); 4] = [
-    // it breaks behind its two calls
-    (
-        Script {
-            breaks: true,
-            leaves: false,
-            ..USUAL
-        },
-        Some(2),
-    ),
-    // it breaks behind one call, and its bytes come singly
-    (
-        Script {
-            calls: 1,
-            breaks: true,
-            piece: 1,
-            takes: 3,
-            ..USUAL
-        },
-        Some(1),
-    ),
-    // it breaks at once
-    (
-        Script {
-            calls: 0,
-            breaks: true,
-            leaves: false,
-            ..USUAL
-        },
-        Some(0),
-    ),
-    // it says nothing and leaves
-    (Script { calls: 0, ..USUAL }, Some(0)),
-];
+/// The second of three, in the words of `script_of`, and to how many calls it gets the replies.
+static SECOND: [(&str, u32); 4] = [("b", 2), ("c", 1), ("g", 0), ("n", 0)];
 
-fn second() -> &'static [(Script, Option<u32>)] {
+fn second() -> &'static [(&'static str, u32)] {
     &SECOND
 }
 
 #[test]
 fn one_breaks_and_leaves_the_others(rt: HostRuntime) -> Result<(), Fail> {
     let hasher = RandomState::new(&rt)?;
-    for (script, calls) in second() {
-        see_three(&rt, rt.alloc(), hasher, &between(*script, *calls))?;
+    for (word, calls) in second() {
+        see_three(
+            &rt,
+            rt.alloc(),
+            hasher,
+            &between(script_of(word), Some(*calls)),
+        )?;
     }
     Ok(())
 }

@@ -1,6 +1,6 @@
 //! Peers with their calls, and what each of them is told.
 
-use crate::memory::{Memory, Script, Seat};
+use crate::memory::{Memory, Script, Seat, script_of};
 use call_texts::{Caller, put_call_record, reply_of};
 use nfs_streams::Limits;
 use std::alloc::Global;
@@ -50,15 +50,24 @@ fn replies_of(alloc: Global, peer: u32, calls: u32) -> Result<Vec<u8>, Fail> {
     Ok(replies)
 }
 
-/// Adds a stream for each peer. Whether there was memory for them.
-pub fn add_all(alloc: Global, streams: &mut Memory<'_>, scripts: &[Script]) -> Result<bool, Fail> {
+/// Adds a stream for a peer of this number. Whether there was memory for it.
+pub fn add(
+    alloc: Global,
+    streams: &mut Memory<'_>,
+    peer: u32,
+    script: Script,
+) -> Result<bool, Fail> {
+    let input = input_of(alloc, peer, &script)?;
+    Ok(streams.add(alloc, script, input))
+}
+
+/// Adds a stream for each peer of these words. Whether there was memory for them.
+pub fn add_all(alloc: Global, streams: &mut Memory<'_>, words: &str) -> Result<bool, Fail> {
     let mut peer = 0u32;
     let mut well = true;
-    for script in scripts {
+    for word in words.split_whitespace() {
         peer = peer.saturating_add(1);
-        let input = input_of(alloc, peer, script)?;
-        let added = streams.add(alloc, *script, input);
-        well &= added;
+        well &= add(alloc, streams, peer, script_of(word))?;
     }
     Ok(well)
 }

@@ -1,8 +1,8 @@
 //! How serving ends, and what it leaves.
 
-use crate::memory::{Memory, Time, USUAL};
+use crate::memory::{Memory, Time};
 use crate::plain::{bare, serve};
-use crate::scenes::{AMPLE, REPLY, add_all};
+use crate::scenes::{REPLY, add_all};
 use nfs_hub::Hub;
 use nfs_streams::{AllEnd, Limits};
 use std::alloc::Global;
@@ -10,52 +10,52 @@ use std::hash::RandomState;
 use std::process::Abort;
 use std::test::Fail;
 
-/// Two peers with a call each, and how serving them ends.
+/// Two peers with two calls each, and how serving them ends.
 #[derive(Clone, Copy)]
 struct Stop {
     name: &'static str,
-    limits: Limits,
-    /// The wait and the keeping that fail.
-    fails: (u64, u64),
+    connections: u64,
+    turns: u64,
+    /// The wait that fails; 0: none.
+    fails_wait: u64,
+    /// The keeping that fails; 0: none.
+    fails_keep: u64,
     end: AllEnd,
     waits: u64,
     admitted: usize,
-    /// How many bytes were written to both.
+    /// How many replies were written to both.
     told: usize,
 }
 
 static STOPS: [Stop; 8] = [
     Stop {
         name: "all are served",
-        limits: Limits {
-            connections: 2,
-            ..AMPLE
-        },
-        fails: (u64::MAX, u64::MAX),
+        connections: 2,
+        turns: 400,
+        fails_wait: 0,
+        fails_keep: 0,
         end: AllEnd::Served,
         waits: 3,
         admitted: 2,
-        told: 4 * REPLY,
+        told: 4,
     },
     Stop {
         name: "one connection and no more",
-        limits: Limits {
-            connections: 1,
-            ..AMPLE
-        },
-        fails: (u64::MAX, u64::MAX),
+        connections: 1,
+        turns: 400,
+        fails_wait: 0,
+        fails_keep: 0,
         end: AllEnd::Served,
         waits: 3,
         admitted: 1,
-        told: 2 * REPLY,
+        told: 2,
     },
     Stop {
         name: "no connection",
-        limits: Limits {
-            connections: 0,
-            ..AMPLE
-        },
-        fails: (u64::MAX, u64::MAX),
+        connections: 0,
+        turns: 400,
+        fails_wait: 0,
+        fails_keep: 0,
         end: AllEnd::Served,
         waits: 0,
         admitted: 0,
@@ -63,17 +63,21 @@ static STOPS: [Stop; 8] = [
     },
     Stop {
         name: "two turns",
-        limits: Limits { turns: 2, ..AMPLE },
-        fails: (u64::MAX, u64::MAX),
+        connections: 9,
+        turns: 2,
+        fails_wait: 0,
+        fails_keep: 0,
         end: AllEnd::Turns,
         waits: 2,
         admitted: 2,
-        told: 4 * REPLY,
+        told: 4,
     },
     Stop {
         name: "no turn",
-        limits: Limits { turns: 0, ..AMPLE },
-        fails: (u64::MAX, u64::MAX),
+        connections: 9,
+        turns: 0,
+        fails_wait: 0,
+        fails_keep: 0,
         end: AllEnd::Turns,
         waits: 0,
         admitted: 0,
@@ -81,17 +85,21 @@ static STOPS: [Stop; 8] = [
     },
     Stop {
         name: "the second wait fails",
-        limits: AMPLE,
-        fails: (2, u64::MAX),
+        connections: 9,
+        turns: 400,
+        fails_wait: 2,
+        fails_keep: 0,
         end: AllEnd::Wait,
         waits: 2,
         admitted: 2,
         told: 0,
     },
     Stop {
-        name: "the trail can't be kept when it has a reply to write",
-        limits: AMPLE,
-        fails: (u64::MAX, 2),
+        name: "the trail can't be kept when there are replies to write",
+        connections: 9,
+        turns: 400,
+        fails_wait: 0,
+        fails_keep: 2,
         end: AllEnd::Keep,
         waits: 2,
         admitted: 2,
@@ -99,8 +107,10 @@ static STOPS: [Stop; 8] = [
     },
     Stop {
         name: "the trail can't be kept at first",
-        limits: AMPLE,
-        fails: (u64::MAX, 1),
+        connections: 9,
+        turns: 400,
+        fails_wait: 0,
+        fails_keep: 1,
         end: AllEnd::Keep,
         waits: 1,
         admitted: 2,
@@ -119,7 +129,7 @@ fn see_end(rt: &impl Abort, stop: &Stop, end: AllEnd, waits: u64) {
 
 fn see_counts(rt: &impl Abort, stop: &Stop, admitted: usize, told: usize) {
     assert_eq!(rt; admitted, stop.admitted, "{}", stop.name);
-    assert_eq!(rt; told, stop.told, "{}", stop.name);
+    assert_eq!(rt; told, stop.told.saturating_mul(REPLY), "{}", stop.name);
 }
 
 /// How many bytes were written to all streams.
@@ -139,10 +149,15 @@ fn serve_stop(
     time: &Time,
     stop: &Stop,
 ) -> Result<(), Fail> {
-    add_all(alloc, streams, &[USUAL, USUAL])?;
-    streams.fails_wait = stop.fails.0;
-    streams.fails_keep = stop.fails.1;
-    let end = serve(hub, streams, time, stop.limits);
+    add_all(alloc, streams, "u u")?;
+    streams.fails_wait = stop.fails_wait;
+    streams.fails_keep = stop.fails_keep;
+    let limits = Limits {
+        places: 16,
+        connections: stop.connections,
+        turns: stop.turns,
+    };
+    let end = serve(hub, streams, time, limits);
     see_end(rt, stop, end, streams.waits);
     see_counts(rt, stop, streams.admitted, told_of(streams));
     Ok(())
