@@ -1,4 +1,6 @@
 //! Streams in memory.
+ghost use Rattle.std.specs.Prelude.{length};
+ghost use Rattle.nfs_streams.specs.Acts.{IsWithin};
 
 use compound_run::Server;
 use nfs_hub::{Clock, ConnId};
@@ -222,7 +224,9 @@ impl Stream {
     }
 
     /// Gives a piece.
-    fn give(&mut self, waits: u64, buf: &mut [u8]) -> Moved {
+    fn give(&mut self, waits: u64, buf: &mut [u8]) -> Moved
+        ensures { IsWithin result (length buf.new) }
+    {
         if !self.is_ready(waits) {
             return Moved::NotYet;
         }
@@ -247,7 +251,9 @@ impl Stream {
     }
 
     /// Takes a front of the bytes.
-    fn take(&mut self, waits: u64, bytes: &[u8]) -> Moved {
+    fn take(&mut self, waits: u64, bytes: &[u8]) -> Moved
+        ensures { IsWithin result (length bytes.now) }
+    {
         if !self.is_ready(waits) {
             return Moved::NotYet;
         }
