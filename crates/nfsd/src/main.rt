@@ -11,8 +11,6 @@ mod listening;
 mod loopback;
 mod sockets;
 mod together;
-#[cfg(test)]
-mod together_tests;
 
 use anyhow::Result;
 use clock::SystemClock;

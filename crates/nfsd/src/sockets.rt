@@ -129,14 +129,6 @@ impl<W: Write + Drop> Sockets<W> {
     }
 }
 
-#[cfg(test)]
-impl<W> Sockets<W> {
-    /// The address that is listened on.
-    pub(crate) fn local_addr(&self) -> io::Result<SocketAddr> {
-        self.listener.local_addr()
-    }
-}
-
 impl<W: Write + Drop> Streams<Global> for Sockets<W> {
     fn wait(&mut self, how: Wait) -> bool {
         let most = match how {
