@@ -30,7 +30,7 @@ registries q r caller same = ap (λ s. s.registry) same
 opens : (q r : Realm) (caller : Identity) → view q caller ≡ view r caller → q.opens ≡ r.opens
 opens q r caller same = ap (λ s. s.opens) same
 
--- what is kept of a realm, with the clients and the opens of another
+-- a realm with the clients and the opens of another
 abbrev beside : Realm → Realm → Realm
 beside r new = record r { registry = new.registry; opens = new.opens }
 
@@ -53,7 +53,7 @@ creates_alike caller v q r new outcome same e = record {
   others = ap (λ os. record r { registry = new.registry; opens = os }) (ap (λ (x : Realm). x.opens) e.others ∙ ap (opens_without e.made.gone) (opens q r caller same));
 }
 
--- where it is OK the clients are others, else nothing is
+-- where it is OK the clients change, else nothing changes
 done_alike : (caller : Identity) (change : Registry → Registry) (q r new : Realm) (outcome : Result Outcome Status) → view q caller ≡ view r caller
     → OnOk outcome (new ≡ with_registry (change q.registry) q) → OnOk outcome (beside r new ≡ with_registry (change r.registry) r)
 done_alike caller change q r new (Ok o) same is =

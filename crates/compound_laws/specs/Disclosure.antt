@@ -1,4 +1,4 @@
--- A caller is told by what the caller may see, and by nothing else.
+-- The answer to a caller depends on the caller's view alone.
 use Rattle.std.specs.Prelude.{◌≡◌, List, Result, ℕ}
 use Rattle.xdr_wire.specs.Xdr.{Value}
 use Rattle.rpc_record.specs.Identity.{Identity}
@@ -18,20 +18,20 @@ use Rattle.compound_run.specs.InSession.{ActsAlone, begin_in, begun_in}
 abbrev pub shown : Meaning → Sight → Result Outcome Status × List Line
 shown m s = (told (failure m.caller s m.questions) (m.answer s), trace m.caller m.number s m.questions)
 
--- where two realms look alike to its caller, the caller is told the same, with the same lines
+-- where two realms look alike to the caller, the answers are equal, with equal lines
 abbrev pub DisclosesNothing : Meaning → Type 0
 DisclosesNothing m = (q r : Realm) → view q m.caller ≡ view r m.caller → shown m (whole q) ≡ shown m (whole r)
 
--- ---- clients and sessions, of which realms that look alike have the same
+-- ---- clients and sessions, which are equal in realms that look alike
 
--- what an operation that is the only one of its COMPOUND gives in a realm, it gives in any that looks like it to the caller, with the same
+-- an operation that is the only one of its COMPOUND has an equal result in each realm that looks alike to the caller, with equal
 -- clients, sessions and opens afterwards
 abbrev pub DisclosesNothingAlone : Identity → Operation → Type 0
 DisclosesNothingAlone caller op =
     (q r new : Realm) (outcome : Result Outcome Status) → view q caller ≡ view r caller → ActsAlone caller op q outcome new
     → ActsAlone caller op r outcome (record r { registry = new.registry; opens = new.opens })
 
--- SEQUENCE answers the same, and begins the same
+-- SEQUENCE has equal answers, and begins the call alike
 abbrev pub BeginsAlike : Call → ℕ → Value sequence_args → Type 0
 BeginsAlike call count v =
     (q r : Realm) → view q call.caller ≡ view r call.caller

@@ -1,5 +1,5 @@
-//! Two realms that look alike to a caller give that caller equal answers and equal lines in the audit trail: an operation tells nothing that the
-//! lists hide from it.
+//! Two realms that look alike to a caller give that caller equal answers and equal lines in the audit trail: an operation tells
+//! nothing that the lists hide from the caller.
 ghost use Rattle.std.specs.Prelude.{ℕ};
 ghost use Rattle.rpc_record.specs.Identity.{Identity};
 ghost use Rattle.xdr_wire.specs.Xdr.{Value};

@@ -4,7 +4,7 @@ ghost use Rattle.session_slots.specs.Repeating.{AnswersAll, WithoutRepeats};
 ghost use Rattle.compound_run.specs.State.{Call, State};
 ghost use Rattle.compound_run.specs.InSession.{Reply, RunsCall, fate};
 
-/// Where sessions are in use: for every run over a list of calls there is one over the list with the repeats taken out, with equal replies
+/// Where sessions are in use: for every run over a list of calls there is one over the list without the repeats, with equal replies
 /// to the rest and an equal state.
 #[tactic(auto, using(session_slots::proofs::Repeating::repeats_go))]
 pub fn repeats_change_nothing()

@@ -28,17 +28,38 @@ pub fn sample_server(alloc: Global, hasher: RandomState) -> Result<Server, Alloc
     server_of(alloc, Book::default(alloc), Tree::sample(alloc)?, hasher)
 }
 
-/// A look at a server, by what a test is given.
+/// The book of this text; without a text, one without names.
+pub fn book_of(alloc: Global, text: &str) -> Result<Book, Fail> {
+    if text.is_empty() {
+        return Ok(Book::default(alloc));
+    }
+    Ok(Book::read(alloc, text)?)
+}
+
+/// Loads the book of this text, as [`book_of`] has it.
+pub fn reload<A: Allocator + Copy>(
+    alloc: Global,
+    server: &mut Server<A>,
+    text: &str,
+) -> Result<(), Fail> {
+    let book = book_of(alloc, text)?;
+    if server.reload(book).is_err() {
+        return Err(Fail::new("no epoch"));
+    }
+    Ok(())
+}
+
+/// A test's look at a server.
 pub trait Sight<R> {
     fn see(rt: &R, alloc: Global, server: &mut Server) -> Result<(), Fail>;
 }
 
-/// Sees it on this server, which is dropped here: once for all that is seen.
+/// Checks this server, which is dropped here: once all is checked.
 pub fn on<R, S: Sight<R>>(rt: &R, alloc: Global, mut server: Server) -> Result<(), Fail> {
     S::see(rt, alloc, &mut server)
 }
 
-/// Sees it on a server of the sample tree.
+/// Checks a server of the sample tree.
 pub fn on_sample<R, S: Sight<R>>(rt: &R, alloc: Global, hasher: RandomState) -> Result<(), Fail> {
     on::<R, S>(rt, alloc, sample_server(alloc, hasher)?)
 }
@@ -91,7 +112,7 @@ pub fn run_in_session(
     }
 }
 
-/// Sees that bytes are there and are these. `Err`: they are others; the place of their call, and its words.
+/// Checks the bytes of a call. `Err`: they are others; the place of their call, and its words.
 pub fn see_bytes(given: Option<&[u8]>, wanted: &[u8], place: i64, call: &str) -> Result<(), Fail> {
     if given == Some(wanted) {
         return Ok(());
@@ -99,14 +120,14 @@ pub fn see_bytes(given: Option<&[u8]>, wanted: &[u8], place: i64, call: &str) ->
     Err(Fail::new(format_args!("{place}: {call}: {given:?}")))
 }
 
-/// Sees that these are the results of a row's call.
+/// Checks that these are the results of a row's call.
 pub fn see_answer(alloc: Global, given: Option<&[u8]>, place: i64, row: &Row) -> Result<(), Fail> {
     let (_, call, answer) = row;
     let wanted = answer_of(alloc, answer)?;
     see_bytes(given, &wanted, place, call)
 }
 
-/// Sees that a call at this second is answered so.
+/// Checks that a call at this second is answered so.
 fn see(alloc: Global, server: &mut Server, seconds: i64, row: &Row) -> Result<(), Fail> {
     let (who, call, _) = row;
     let bytes = call_of(alloc, call)?;
@@ -115,7 +136,7 @@ fn see(alloc: Global, server: &mut Server, seconds: i64, row: &Row) -> Result<()
     see_answer(alloc, given, seconds, row)
 }
 
-/// Sees the answers of calls, the first of them at second 1.
+/// Checks the answers of calls, the first of them at second 1.
 pub fn play(alloc: Global, server: &mut Server, rows: &[Row]) -> Result<(), Fail> {
     let mut seconds = 0i64;
     for row in rows {
@@ -125,7 +146,7 @@ pub fn play(alloc: Global, server: &mut Server, rows: &[Row]) -> Result<(), Fail
     Ok(())
 }
 
-/// Sees that a call at this second is answered so, where sessions are in use.
+/// Checks that a call at this second is answered so, where sessions are in use.
 fn see_in_session(alloc: Global, server: &mut Server, seconds: i64, row: &Row) -> Result<(), Fail> {
     let (who, call, _) = row;
     let bytes = call_of(alloc, call)?;
@@ -134,7 +155,7 @@ fn see_in_session(alloc: Global, server: &mut Server, seconds: i64, row: &Row) -
     see_answer(alloc, given, seconds, row)
 }
 
-/// Sees the answers of calls where sessions are in use, the first of them at second 1.
+/// Checks the answers of calls where sessions are in use, the first of them at second 1.
 pub fn play_in_session(alloc: Global, server: &mut Server, rows: &[Row]) -> Result<(), Fail> {
     let mut seconds = 0i64;
     for row in rows {
@@ -144,7 +165,7 @@ pub fn play_in_session(alloc: Global, server: &mut Server, rows: &[Row]) -> Resu
     Ok(())
 }
 
-/// Sees that arguments of these words have these results at second 0, where sessions are in use.
+/// Checks that arguments of these words have these results at second 0, where sessions are in use.
 pub fn see_words_in_session(
     alloc: Global,
     server: &mut Server,
@@ -159,7 +180,7 @@ pub fn see_words_in_session(
     see_bytes(given, &wanted, 0, words)
 }
 
-/// Sees that a call is answered so at second 0, where sessions are in use.
+/// Checks that a call is answered so at second 0, where sessions are in use.
 pub fn see_text_in_session(
     alloc: Global,
     server: &mut Server,
@@ -174,7 +195,7 @@ pub fn see_text_in_session(
     see_bytes(given, &wanted, 0, call)
 }
 
-/// Sees that bob's call is answered so, at second 0.
+/// Checks that bob's call is answered so, at second 0.
 pub fn see_text(alloc: Global, server: &mut Server, call: &str, answer: &str) -> Result<(), Fail> {
     let bytes = call_of(alloc, call)?;
     let wanted = answer_of(alloc, answer)?;
@@ -183,7 +204,7 @@ pub fn see_text(alloc: Global, server: &mut Server, call: &str, answer: &str) ->
     see_bytes(given, &wanted, 0, call)
 }
 
-/// Sees that the trail has these lines, and has had no others.
+/// Checks that the trail has these lines, and has had no others.
 pub fn see_trail(alloc: Global, server: &Server, total: u64, wanted: &str) -> Result<(), Fail> {
     let given = trail_text(alloc, server.guard())?;
     if given.as_slice() == wanted.as_bytes() && server.guard().total() == total {
