@@ -1,5 +1,6 @@
 //! The open files in every state that a server comes to (RFC 8881, section 9.1).
 ghost use Rattle.std.specs.Prelude.{◌≡◌, ℕ, List, Option, Ok};
+ghost use Rattle.who_book.specs.Content.{Content};
 ghost use Rattle.nfs_ops.specs.Operations.{Operation};
 ghost use Rattle.nfs_ops.specs.Results.{Outcome};
 ghost use Rattle.node_tree.specs.World.{World};
@@ -11,6 +12,7 @@ ghost use Rattle.compound_run.specs.Runs.{outcome};
 ghost use Rattle.compound_run.specs.State.{State, Call, Answers};
 ghost use Rattle.compound_run.specs.InSession.{Reply, AnswersInSession};
 ghost use Rattle.compound_laws.specs.LiveOpens.{OpensHold};
+ghost use Rattle.compound_laws.specs.Reloads.{loaded};
 
 /// A server that has run nothing has no opens: the law of open files holds.
 pub fn opens_hold_at_first()
@@ -24,8 +26,9 @@ pub fn operations_keep_opens()
 {}
 
 /// So each call keeps the law, where no session is in use (`bare`) and where sessions are (`in_session`), however its operations
-/// end: the law holds in every state that a server comes to.
+/// end, and so does a book that is loaded (`book`): the law holds in every state that a server comes to.
 pub fn calls_keep_opens()
     ensures bare { (old : State) (call : Call) (results : Option (List ℕ)) (new : State) → OpensHold old.realm → Answers old call results new → OpensHold new.realm }
     ensures in_session { (old : State) (call : Call) (reply : Reply) (new : State) → OpensHold old.realm → AnswersInSession old call reply new → OpensHold new.realm }
+    ensures book { (book : Content) (old : State) → OpensHold old.realm → OpensHold (loaded book old).realm }
 {}

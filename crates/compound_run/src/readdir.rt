@@ -37,7 +37,7 @@ use xdr_wire::{Full, Writer};
 /// The number of the attribute rdattr_error.
 const RDATTR_ERROR: u32 = 11;
 
-/// The supported attributes without acl, as a bitmap is spelled.
+/// The supported attributes without acl, dacl and sacl, as a bitmap is spelled.
 const WITHOUT_LIST: &[u8] = b"\0\0\0\x03\xe8\x18\x2f\xff\0\xb0\0\x3a\0\0\x08\0";
 
 /// The attributes that READ_ATTRIBUTES doesn't govern.

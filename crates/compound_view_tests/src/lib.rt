@@ -8,6 +8,8 @@ mod files;
 #[cfg(test)]
 mod links;
 #[cfg(test)]
+mod members;
+#[cfg(test)]
 mod pairs;
 #[cfg(test)]
 mod sessions;

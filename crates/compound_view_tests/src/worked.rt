@@ -1,5 +1,5 @@
 //! Pairs of worlds over the sample tree, with the results and the lines by hand: the bytes of a file, a directory's only name, and a directory's times
-//! (RFC 8881, sections 6.2.1.3.1, 18.4, 18.7, 18.15, 18.22, 18.25 and 18.26).
+//! (RFC 8881, sections 6.2.1.3.1, 18.4, 18.7, 18.13, 18.22, 18.25 and 18.26).
 
 use crate::pairs::see_equal;
 use crate::worlds::{Answer, told_on_sample};

@@ -2,7 +2,7 @@
 
 use call_texts::{ALICE, BOB, Caller, ROOT, call_of};
 use compound_run::Server;
-use sample_servers::{ALL, root_of, run, run_in_session, sample_server, server_of, trail_text};
+use sample_servers::{ALL, book_of, root_of, run, run_in_session, sample_server, server_of, trail_text};
 use std::alloc::Global;
 use std::hash::RandomState;
 use std::test::Fail;
@@ -13,7 +13,7 @@ type Act = (&'static str, Caller, i64, &'static str);
 
 /// In a root that gives all to everyone: the file `f`, 2, with an open, the link `l`, 3, the directory `d`, 4, with the links 5 and 6, the file `g`, 7, and
 /// the empty directory `e`, 8. A list hides from bob what its name says: data, names or attributes. A name with a number is an act at that second.
-static ACTS: [Act; 36] = [
+static ACTS: [Act; 37] = [
     ("file", ROOT, 1, "PUTROOTFH OPEN 0 3 0 0 0 'o 1 0 0 0 0 'f"),
     ("link", ROOT, 1, "PUTROOTFH CREATE 5 'hi 'l 0 0"),
     ("link-ho", ROOT, 1, "PUTROOTFH CREATE 5 'ho 'l 0 0"),
@@ -45,6 +45,12 @@ static ACTS: [Act; 36] = [
         ROOT,
         3,
         "PUTFH @7 SETATTR anon +12 ( 2 D:0:80:1002 A:0:1f07ff:EVERYONE@ )",
+    ),
+    (
+        "f-shows-staff",
+        ROOT,
+        3,
+        "PUTFH @2 SETATTR anon +12 ( 4 U:30:1:EVERYONE@ A:40:1:staff@lab A:0:1:OWNER@ A:0:1f07fe:EVERYONE@ )",
     ),
     ("f-644", ROOT, 3, "PUTFH @2 SETATTR anon +33 ( 1a4 )"),
     ("f-7644", ROOT, 3, "PUTFH @2 SETATTR anon +33 ( fa4 )"),
@@ -304,6 +310,19 @@ pub fn told(
     asked: (Caller, &str),
 ) -> Result<Answer, Fail> {
     let mut server = open_server(alloc, hasher)?;
+    ask(alloc, &mut server, acts(), names, asked)
+}
+
+/// What a caller is told in the world of these acts over a root alone, by the book of this text.
+pub fn told_by_book(
+    alloc: Global,
+    hasher: RandomState,
+    book: &str,
+    names: &str,
+    asked: (Caller, &str),
+) -> Result<Answer, Fail> {
+    let tree = root_of(alloc, ALL)?;
+    let mut server = server_of(alloc, book_of(alloc, book)?, tree, hasher)?;
     ask(alloc, &mut server, acts(), names, asked)
 }
 
