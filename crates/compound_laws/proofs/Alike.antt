@@ -97,5 +97,4 @@ alone_discloses_nothing caller op viewer q r new outcome same acts = absurd acts
 pub begins_alike : (call : Call) (count : ℕ) (v : Value sequence_args) → BeginsAlike call count v
 begins_alike call count v viewer q r same =
     let registry = registries q r viewer same in
-    (ap (λ x. begin_in x call count v) registry,
-      (ap (λ x. begun_in x call count v) registry, ap (λ x. results_at x (session_of (sequence_session v)) (sequence_slot v)) registry))
+    (ap (λ x. begin_in x call count v) registry, ap (λ x. begun_in x call count v) registry, ap (λ x. results_at x (session_of (sequence_session v)) (sequence_slot v)) registry)
