@@ -168,21 +168,6 @@ struct Left {
     picture: Picture,
 }
 
-/// Sees that a book is loaded however little memory is left, and leaves the rest.
-fn see_reload<A: Allocator + Copy>(
-    rt: &impl Abort,
-    alloc: Global,
-    hub: &mut Hub<A>,
-    before: &Picture,
-) -> Result<(), Fail> {
-    if !reload(hub, Book::default(alloc)) {
-        return Err(Fail::new("no epoch"));
-    }
-    let after = look(alloc, hub)?;
-    assert_eq!(rt; &after, before, "reload");
-    Ok(())
-}
-
 fn run_on<A: Allocator + Copy>(
     rt: &impl Abort,
     alloc: Global,
@@ -194,7 +179,6 @@ fn run_on<A: Allocator + Copy>(
         Err(_) => Fate::Refused,
     };
     let picture = look(alloc, hub)?;
-    see_reload(rt, alloc, hub, &picture)?;
     Ok(Left { fate, picture })
 }
 
@@ -471,6 +455,50 @@ static TWO_CALLS: [Row; 2] = [
 
 fn two_calls() -> &'static [Row] {
     &TWO_CALLS
+}
+
+/// Checks that a book is loaded, and leaves the other parts of the hub.
+fn see_reload<A: Allocator + Copy>(
+    rt: &impl Abort,
+    alloc: Global,
+    hub: &mut Hub<A>,
+    before: &Picture,
+) -> Result<(), Fail> {
+    if !reload(hub, Book::default(alloc)) {
+        return Err(Fail::new("no epoch"));
+    }
+    let after = look(alloc, hub)?;
+    assert_eq!(rt; &after, before, "reload");
+    Ok(())
+}
+
+/// Checks that a book is loaded behind a run over a heap of this size, however little memory is left.
+fn see_reload_over(
+    rt: &impl Abort,
+    alloc: Global,
+    hasher: RandomState,
+    run: &Run,
+    size: usize,
+) -> Result<(), Fail> {
+    let heap = LocalHeap::new(alloc, size)?;
+    let Ok(mut hub) = with_sessions(&heap, Book::default(alloc), hasher) else {
+        return Ok(());
+    };
+    let left = run_on(rt, alloc, &mut hub, run)?;
+    see_reload(rt, alloc, &mut hub, &left.picture)
+}
+
+/// Loading a book takes no memory.
+#[test]
+fn a_book_is_loaded_without_memory(rt: HostRuntime) -> Result<(), Fail> {
+    let hasher = RandomState::new(&rt)?;
+    let run = run_of(rt.alloc(), &SESSION, two_calls())?;
+    let least = least(rt.alloc(), hasher)?;
+    for index in 0..200usize {
+        let size = least.saturating_add(index.saturating_mul(512));
+        see_reload_over(&rt, rt.alloc(), hasher, &run, size)?;
+    }
+    Ok(())
 }
 
 /// The calls of a run with this index, on a connection.
