@@ -39,5 +39,5 @@ abbrev pub BeginsAlike : Call → ℕ → Value sequence_args → Type 0
 BeginsAlike call count v =
     (viewer : Identity) (q r : Realm) → view q viewer ≡ view r viewer
     → (begin_in q.registry call count v ≡ begin_in r.registry call count v)
-        × (begun_in q.registry call count v ≡ begun_in r.registry call count v)
-        × (results_at q.registry (session_of (sequence_session v)) (sequence_slot v) ≡ results_at r.registry (session_of (sequence_session v)) (sequence_slot v))
+    × (begun_in q.registry call count v ≡ begun_in r.registry call count v)
+    × (results_at q.registry (session_of (sequence_session v)) (sequence_slot v) ≡ results_at r.registry (session_of (sequence_session v)) (sequence_slot v))

@@ -2,7 +2,9 @@
 
 use call_texts::{ALICE, BOB, Caller, ROOT, call_of};
 use compound_run::Server;
-use sample_servers::{ALL, book_of, root_of, run, run_in_session, sample_server, server_of, trail_text};
+use sample_servers::{
+    ALL, book_of, root_of, run, run_in_session, sample_server, server_of, trail_text,
+};
 use std::alloc::Global;
 use std::hash::RandomState;
 use std::test::Fail;
