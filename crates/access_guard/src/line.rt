@@ -2,32 +2,32 @@
 
 use crate::decision::Cause;
 
-/// The kind of a line (RFC 8881, section 6.2.1.1).
+/// What a line tells (RFC 8881, section 6.2.1.1).
 #[derive(Clone, Copy, Debug, PartialEq, Eq)]
 pub enum LineKind {
-    /// An AUDIT entry logs an access.
+    /// An AUDIT entry has something written down.
     Audit,
-    /// An ALARM entry reports an access.
+    /// An ALARM entry has something reported.
     Alarm,
-    /// An access was refused.
+    /// Something was refused.
     Deny,
 }
 
 /// A line of the trail.
 #[derive(Clone, Copy, Debug, PartialEq, Eq)]
 pub struct Line {
-    /// The kind of the line.
+    /// What it tells.
     pub kind: LineKind,
-    /// The user of the caller.
+    /// The user who asked.
     pub uid: u32,
-    /// The number of the operation (RFC 8881, section 18).
+    /// The number of the operation that asked (RFC 8881, section 18).
     pub op: u32,
     /// The number of the object.
     pub object: u64,
-    /// The bits that the entry watches, of those demanded of the object; in a DENY line all that were demanded of it.
+    /// The bits that the entry watches, of those that were asked of the object; in a DENY line all that were asked of it.
     pub mask: u32,
-    /// Whether the access was granted. A DENY line has `false`.
+    /// Whether it was granted. A DENY line has `false`.
     pub granted: bool,
-    /// The entry that watches or denies, or the bit that no entry allows.
+    /// The entry that watches or denies, or the bit that none allows.
     pub cause: Cause,
 }

@@ -1,17 +1,17 @@
-//! The facts of an operation's objects that a row of the table uses.
+//! What a row of the table is told of the objects that an operation is about.
 
 use acl_list::Kind;
 
 /// An object that is there.
 #[derive(Clone, Copy, Debug, PartialEq, Eq)]
 pub struct Object {
-    /// The number of the object.
+    /// Its number.
     pub number: u64,
-    /// The type of the object.
+    /// What it is.
     pub kind: Kind,
 }
 
-/// The facts that are known before an operation looks up a name, each where there is one.
+/// What is known before an operation looks up a name, each where there is one.
 #[derive(Clone, Copy, Debug, PartialEq, Eq)]
 pub struct First {
     /// The object of the current filehandle.
@@ -40,14 +40,14 @@ impl First {
     }
 }
 
-/// The facts that are known once an operation has looked up its names, each where there is one.
+/// What is known once an operation has looked up its names, each where there is one.
 #[derive(Clone, Copy, Debug, PartialEq, Eq)]
 pub struct Second {
     /// The object of the current filehandle.
     pub current: Option<Object>,
     /// The object of the saved filehandle: of RENAME the source's directory.
     pub saved: Option<Object>,
-    /// The child of the name: of OPEN and REMOVE in the current directory, of RENAME the child to move, in the saved.
+    /// The child that is named: of OPEN and REMOVE in the current directory, of RENAME the one to move, in the saved.
     pub child: Option<Object>,
     /// Of RENAME, the child of the new name in the current directory.
     pub replaced: Option<Object>,

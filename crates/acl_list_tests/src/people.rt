@@ -1,4 +1,4 @@
-//! The callers, and their entries.
+//! Who asks, and what entries are written as.
 
 use acl_list::{Entry, EntryKind, Who};
 use rpc_record::Caller;
@@ -8,7 +8,7 @@ pub const OWNER: u32 = 1001;
 
 pub const GROUP: u32 = 100;
 
-/// The caller.
+/// Who asks.
 #[derive(Clone, Copy, Debug, PartialEq, Eq)]
 pub enum Person {
     /// The owner, and no member of the group.

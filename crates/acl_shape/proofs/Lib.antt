@@ -2,4 +2,3 @@ pub mod Classes
 pub mod Kept
 pub mod Bounded
 pub mod Faults
-pub mod Parts

@@ -3,4 +3,3 @@ pub mod Bounds
 pub mod Inherited
 pub mod Admitted
 pub mod Permissions
-pub mod Parts

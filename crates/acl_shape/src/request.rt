@@ -1,4 +1,4 @@
-//! A client's list, and the errors that refuse it.
+//! What a client asks for, and why it is refused.
 
 use acl_list::Who;
 use thiserror::Error;
@@ -12,7 +12,7 @@ pub struct Raw {
     pub flags: u32,
     /// acemask4: the bits of [`acl_list::mask::DEFINED`] are known.
     pub mask: u32,
-    /// The who of the entry. `None`: nobody has the name that was sent.
+    /// Whom the entry is about. `None`: nobody has the name that was sent.
     pub who: Option<Who>,
 }
 

@@ -4,7 +4,7 @@ use crate::words::{close, put, put_all, put_answer, put_call};
 use std::alloc::Global;
 use std::test::Fail;
 
-/// The caller: the uid, the gid, and one further group.
+/// Who calls: the uid, the gid, and a group more.
 pub type Caller = (u32, u32, u32);
 
 pub const ROOT: Caller = (0, 0, 0);
@@ -19,7 +19,7 @@ pub const CAROL: Caller = (1003, 7, 100);
 /// A caller, the operations of a COMPOUND, and its status and results.
 pub type Row = (Caller, &'static str, &'static str);
 
-/// Sets the length of the record behind this place, and marks it as one fragment.
+/// Sets the length of the record that stands behind this place, and says that it is one fragment.
 fn close_record(out: &mut Vec<u8>, start: usize) -> Result<(), Fail> {
     close(out, start)?;
     if let Some(byte) = out.get_mut(start) {

@@ -11,7 +11,6 @@
 //! | `^n` | a number of 8 bytes |
 //! | `+a+b` | the bitmap of these attributes, whose numbers are decimal |
 //! | `TYPE:FLAGS:MASK:WHO` | an entry of a list, of type A, D, U or L |
-//! | `n*TYPE:FLAGS:MASK:WHO` | so many of that entry |
 //! | `*n` | so many entries that allow user 5 to read |
 //! | `#n` | attributes: a list of such entries |
 //! | `( words )` | the bytes of words with their length |
@@ -203,16 +202,6 @@ fn put_entry(out: &mut Vec<u8>, letter: &str, rest: &str) -> Result<(), Fail> {
     put_text(out, who.as_bytes())
 }
 
-/// Puts so many of the entry that is spelled so.
-fn put_repeated(out: &mut Vec<u8>, count: &str, entry: &str) -> Result<(), Fail> {
-    let count = hex(count)?;
-    let (letter, rest) = entry.split_once(':').unwrap_or((entry, ""));
-    for _ in 0..count {
-        put_entry(out, letter, rest)?;
-    }
-    Ok(())
-}
-
 fn put_long(out: &mut Vec<u8>, digits: &str) -> Result<(), Fail> {
     let number = u64::from_str_radix(digits, 16)?;
     out.extend_from_slice(&number.to_be_bytes())?;
@@ -240,7 +229,7 @@ fn put_bits(out: &mut Vec<u8>, numbers: &str) -> Result<(), Fail> {
     }
 }
 
-/// Sets the length of the bytes that follow it.
+/// Sets the length that stands before what follows it.
 pub(crate) fn close(out: &mut Vec<u8>, start: usize) -> Result<(), Fail> {
     let len = out.len().saturating_sub(start).saturating_sub(4);
     let bytes = u32::try_from(len)?.to_be_bytes();
@@ -314,9 +303,6 @@ fn put_word(out: &mut Vec<u8>, word: &str) -> Result<(), Fail> {
     }
     if put_signed(out, word)? {
         return Ok(());
-    }
-    if let Some((count, entry)) = word.split_once('*') {
-        return put_repeated(out, count, entry);
     }
     if let Some((letter, rest)) = word.split_once(':') {
         return put_entry(out, letter, rest);

@@ -1,6 +1,6 @@
 //! Every growth of clients and of sessions refused.
 
-use crate::memory::{Site, build, look, see_reload, see_unchanged};
+use crate::memory::{Site, build, look, see_unchanged};
 use call_texts::{ALICE, BOB, Caller, Row, answer_of, call_of};
 use compound_run::{Args, MAX_RESULTS, RunEnd};
 use linked_list_allocator::LocalHeap;
@@ -22,8 +22,8 @@ const CHUNK: usize = 256;
 type Growth = (Row, Row, Row);
 
 /// The owner's name is 1,024 bytes long, and a session has eight slots, each with 1,024 bytes for a request and 4,072 for results. An open stays with
-/// client 1 as long as session 2 isn't created; then client 1 goes with its session. The clients 1 and 2 are of bob, and alice's client 3 takes
-/// their place.
+/// client 1 as long as session 2 isn't made; then it goes with its session. The clients 1 and 2 are of bob, and alice takes their place as
+/// client 3.
 static GROWTHS: [Growth; 7] = [
     (
         (
@@ -146,7 +146,7 @@ static GROWTHS: [Growth; 7] = [
     ),
 ];
 
-/// Calls where no memory is left: none is delayed but the CREATE and the OPEN behind a SEQUENCE, which take some. These delays are kept, as all
+/// Calls where no memory is left: but for the CREATE and the OPEN behind a SEQUENCE, which take some, none is delayed. That those were is kept, as all
 /// results are.
 static FULL: [Row; 18] = [
     (
@@ -241,7 +241,7 @@ static FULL: [Row; 18] = [
     ),
 ];
 
-/// Calls that were delayed are done with memory, at the next number; at the old one they are delayed again, also under another book.
+/// Calls that were delayed are done with memory, at the next number; at the old one they are delayed again.
 static AFTER: [Row; 3] = [
     (
         ALICE,
@@ -260,7 +260,7 @@ static AFTER: [Row; 3] = [
     ),
 ];
 
-/// Sessions and clients are destroyed where no memory is left.
+/// Where no memory is left sessions and clients end.
 static ENDS: [Row; 6] = [
     (
         ALICE,
@@ -340,7 +340,7 @@ fn results(alloc: Global, site: &mut Site<'_>, who: Caller, call: &str) -> Resul
     }
 }
 
-/// Checks the answer to a call.
+/// Sees the answer to a call.
 fn see(
     alloc: Global,
     site: &mut Site<'_>,
@@ -365,7 +365,7 @@ fn delayed(alloc: Global, call: &str) -> Result<Vec<u8>, Fail> {
     answer_of(alloc, words.as_str())
 }
 
-/// Makes a call, and checks that it is answered so, or else that it is delayed and all is as it was. Returns whether it is answered.
+/// Makes a call, and sees that it is answered so, or else that it is delayed and all is as it was. Tells whether it is answered.
 fn is_answered(
     rt: &impl Abort,
     alloc: Global,
@@ -384,7 +384,7 @@ fn is_answered(
     Ok(false)
 }
 
-/// Makes a call until it is answered, as memory is given back chunk by chunk; while it is delayed the other call is answered so. Returns how often it was
+/// Makes a call until it is answered, as memory is given back chunk by chunk; while it is delayed the other call is answered so. Tells how often it was
 /// delayed.
 fn see_until<'a>(
     rt: &impl Abort,
@@ -406,7 +406,7 @@ fn see_until<'a>(
     Err(Fail::new("never answered"))
 }
 
-/// Makes a call that wants memory where none is left, and until it is answered. Returns how often it was delayed.
+/// Makes a call that wants memory where none is left, and until it is answered. Tells how often it was delayed.
 fn see_growth(
     rt: &impl Abort,
     alloc: Global,
@@ -419,7 +419,7 @@ fn see_growth(
     see_until(rt, alloc, site, &mut taken, growth, meanwhile)
 }
 
-/// Checks the growths. Each of a session's requests and replies is refused once at least, since fewer bytes are given back at a time.
+/// Sees the growths. Each of a session's requests and replies is refused once at least, since fewer bytes are given back at a time.
 fn see_growths(
     rt: &impl Abort,
     alloc: Global,
@@ -440,7 +440,7 @@ fn see_growths(
     Ok(())
 }
 
-/// Checks that an owner gets the client of this number, once there is memory for it.
+/// Sees that an owner gets the client of this number, once there is memory for it.
 fn see_client(
     rt: &impl Abort,
     alloc: Global,
@@ -461,7 +461,7 @@ fn see_client(
     Ok(())
 }
 
-/// Checks the clients 4 to 35.
+/// Sees the clients 4 to 35.
 fn see_clients(
     rt: &impl Abort,
     alloc: Global,
@@ -474,20 +474,7 @@ fn see_clients(
     Ok(())
 }
 
-/// Checks that another book is loaded where no memory is left.
-fn see_full_reload(
-    rt: &impl Abort,
-    alloc: Global,
-    heap: &LocalHeap,
-    site: &mut Site<'_>,
-) -> Result<(), Fail> {
-    let taken = take_all(alloc, heap)?;
-    see_reload(rt, alloc, site)?;
-    assert!(rt; taken.len() > 0);
-    Ok(())
-}
-
-/// Checks the answers to calls where no memory is left.
+/// Sees the answers to calls where no memory is left.
 fn see_full(
     rt: &impl Abort,
     alloc: Global,
@@ -501,7 +488,7 @@ fn see_full(
     Ok(())
 }
 
-/// Checks that calls are answered where no memory is left, and that tree and opens are as they were.
+/// Sees that calls are answered where no memory is left, and that tree and opens are as they were.
 fn see_full_unchanged(
     rt: &impl Abort,
     alloc: Global,
@@ -521,7 +508,6 @@ fn act(rt: &impl Abort, alloc: Global, heap: &LocalHeap, site: &mut Site<'_>) ->
     see_growths(rt, alloc, heap, site, growths())?;
     see_clients(rt, alloc, heap, site)?;
     see_full_unchanged(rt, alloc, heap, site, full())?;
-    see_full_reload(rt, alloc, heap, site)?;
     see_all(alloc, site, after())?;
     see_full(rt, alloc, heap, site, ends())
 }

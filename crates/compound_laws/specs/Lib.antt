@@ -1,4 +1,3 @@
 pub mod Disclosure
 pub mod EntriesExact
 pub mod LiveOpens
-pub mod Reloads

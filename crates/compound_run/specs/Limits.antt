@@ -1,11 +1,11 @@
--- The limits of a COMPOUND (RFC 8881, sections 2.10.6 and 16.2), in bytes where no other unit is given.
+-- The limits of a COMPOUND (RFC 8881, sections 2.10.6 and 16.2), in bytes where nothing else is said.
 use Rattle.std.specs.Prelude.{ℕ, ◌-◌}
 
--- the most bytes of a tag
+-- of a tag
 abbrev pub MAX_TAG : ℕ
 MAX_TAG = 1024
 
--- the one minor version that is supported
+-- the one minor version that is spoken
 abbrev pub MINOR_VERSION : ℕ
 MINOR_VERSION = 1
 
@@ -13,27 +13,27 @@ MINOR_VERSION = 1
 abbrev pub MAX_OPERATIONS : ℕ
 MAX_OPERATIONS = 16
 
--- the most bytes of a reply where there is no session, its record's mark not counted
+-- of a reply where there is no session, its record's mark not counted
 abbrev pub MAX_REPLY : ℕ
 MAX_REPLY = 65536
 
--- the bytes of the header of a reply to a COMPOUND
+-- of the header of a reply to a COMPOUND
 abbrev pub REPLY_HEADER : ℕ
 REPLY_HEADER = 24
 
--- the most bytes of the results in a reply
+-- of the results in such a reply
 abbrev pub MAX_RESULTS : ℕ
 MAX_RESULTS = MAX_REPLY - REPLY_HEADER
 
--- the least room that an operation runs in: no result of an operation that changes the tree is longer
+-- the least room that an operation runs in: no result of one that changes something is longer
 abbrev pub MIN_ROOM : ℕ
 MIN_ROOM = 256
 
--- the room of each reply for the result of an operation that is refused
+-- kept back in each reply for the result of an operation that is refused
 abbrev pub REFUSAL_ROOM : ℕ
 REFUSAL_ROOM = 16
 
--- the most bytes that a READ returns
+-- of a file's bytes that a READ gives
 abbrev pub MAX_READ : ℕ
 MAX_READ = 32768
 

@@ -13,7 +13,7 @@ use std::alloc::Allocator;
 use xdr_wire::Writer;
 
 impl<A: Allocator + Copy> Export<A> {
-    /// The data that were written into the current file are kept already.
+    /// What was written of the current file is kept already.
     pub fn commit(
         &self,
         context: Context<'_>,

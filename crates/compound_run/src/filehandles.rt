@@ -10,7 +10,7 @@ pub(crate) struct FileHandles {
 }
 
 impl FileHandles {
-    /// A COMPOUND begins with no filehandle.
+    /// A COMPOUND begins with neither.
     pub fn none() -> Self
         ensures { result ≡ no_handles }
     {

@@ -27,12 +27,12 @@ fn come() -> &'static [Row] {
     &COME
 }
 
-/// The operations of sessions aren't supported where there is no session, and have another status behind a SEQUENCE.
+/// The operations of sessions aren't supported where there is none, and have another status behind a SEQUENCE.
 fn is_of_sessions(call: &str) -> bool {
     call.contains("EXCHANGE_ID") || call.contains("_SESSION") || call.contains("_CLIENTID")
 }
 
-/// Checks the rows that have no operation of sessions, from this turn on, each at the second of its place, and gives the next turn.
+/// Sees the rows that have no operation of sessions, from this turn on, each at the second of its place, and gives the next turn.
 fn see_rows(alloc: Global, server: &mut Server, first: Turn, rows: &[Row]) -> Result<Turn, Fail> {
     let mut turn = first;
     let mut seconds = 0i64;

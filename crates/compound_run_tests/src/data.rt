@@ -1,4 +1,4 @@
-//! READ, WRITE, COMMIT and CLOSE: the outcomes that calls can bring about where nothing is open.
+//! READ, WRITE, COMMIT and CLOSE: what calls can bring about where nothing is open.
 
 use call_texts::{ALICE, BOB, CAROL, Row};
 use compound_run::Server;
@@ -8,7 +8,7 @@ use std::hash::RandomState;
 use std::process::Abort;
 use std::test::Fail;
 
-/// READ (RFC 8881, section 18.22): the type is checked before the stateid, and that before the list. `notes`, 2, is alice's, of mode 0640; `l`, 4, is a link.
+/// READ (RFC 8881, section 18.22): the kind comes before the stateid, and that before the list. `notes`, 2, is alice's, of mode 0640; `l`, 4, is a link.
 static READS: [Row; 13] = [
     (
         BOB,
@@ -73,7 +73,7 @@ fn reads() -> &'static [Row] {
     &READS
 }
 
-/// WRITE (RFC 8881, section 18.32): inside the file WRITE_DATA is demanded, at its end APPEND_DATA, else both, also past the limit.
+/// WRITE (RFC 8881, section 18.32): inside the file WRITE_DATA is asked, at its end APPEND_DATA, else both, also past the limit.
 static REFUSED: [Row; 19] = [
     (BOB, "WRITE anon ^0 3 'x", "badxdr WRITE badxdr"),
     (BOB, "WRITE anon ^0 0", "badxdr WRITE badxdr"),

@@ -8,7 +8,7 @@ use std::hash::RandomState;
 use std::process::Abort;
 use std::test::Fail;
 
-/// `notes`, 2, is alice's, of mode 0640. An owner who opens it again joins the open, and its seqid rises; the opens of a removed file are closed.
+/// `notes`, 2, is alice's, of mode 0640. Whoever opens it again joins the open, and its seqid rises; the open of a removed file ends.
 static OPENS: [Row; 20] = [
     (
         ALICE,
@@ -146,7 +146,7 @@ fn listed() -> &'static [Row] {
     &LISTED
 }
 
-/// The numbers of the open files, in order.
+/// The numbers of the files that are open, in order.
 fn see_opens(rt: &impl Abort, server: &Server, wanted: &[u64]) -> Result<(), Fail> {
     assert_eq!(rt; server.opens().len(), wanted.len());
     for (open, number) in server.opens().iter().zip(wanted) {
@@ -209,7 +209,7 @@ fn more() -> &'static [Row] {
     &MORE
 }
 
-/// Opens `notes` for the owner of this number, and answers whether that is OK.
+/// Opens `notes` for the owner of this number, and tells whether that is OK.
 fn open_notes(alloc: Global, server: &mut Server, number: u32) -> Result<bool, Fail> {
     let call = format!(in alloc; "PUTFH @2 OPEN 0 1 0 0 0 '{number:04x} 0 4")?;
     let arguments = call_of(alloc, call.as_str())?;

@@ -1,4 +1,4 @@
-//! The parts of a COMPOUND around its operations: tag, minor version, count, and the largest results.
+//! The parts of a COMPOUND around its operations: tag, minor version, count, and the most that they give.
 
 use call_texts::{BOB, Row, bytes_of};
 use compound_run::Server;
@@ -8,12 +8,12 @@ use std::hash::RandomState;
 use std::process::Abort;
 use std::test::Fail;
 
-/// Checks the results of the arguments of these words.
+/// Sees that results are there and are these: of the arguments of these words, which are told otherwise.
 fn see_bytes(rt: &impl Abort, given: Option<&[u8]>, wanted: &[u8], words: &str) {
     assert_eq!(rt; given, Some(wanted), "{words}");
 }
 
-/// Checks the results of bob's call with these arguments.
+/// Sees that bob's call with these arguments gives these results.
 fn see(
     rt: &impl Abort,
     alloc: Global,
@@ -41,7 +41,7 @@ fn see_all(
     Ok(())
 }
 
-/// Checks that arguments are garbage.
+/// Sees that arguments are garbage.
 fn see_one_garbage(
     rt: &impl Abort,
     alloc: Global,
@@ -66,8 +66,8 @@ fn see_garbage(
     Ok(())
 }
 
-/// Arguments and results (RFC 8881, section 16.2): the minor version is checked before the count; the operations behind a failed one,
-/// and bytes behind the last, aren't read.
+/// Arguments and results (RFC 8881, section 16.2): the minor version is looked at before the count, what stands behind a failed
+/// operation isn't read, and neither is what stands behind the last.
 static HEADS: [(&str, &str); 16] = [
     ("0 1 0", "ok 0 0"),
     ("'ab 1 0", "ok 'ab 0"),
@@ -102,14 +102,14 @@ static GARBAGE: [&str; 8] = [
     "2",
 ];
 
-/// A link of 1,024 bytes, and the largest results: its text fifteen times, behind a tag of 1,024 bytes.
+/// A link of 1,024 bytes, and what gives most of all: its text fifteen times, behind a tag of 1,024 bytes.
 static LONG_LINK: [Row; 1] = [(
     BOB,
     "PUTFH @3 CREATE 5 ~400 'l 0 0 GETFH",
     "ok PUTFH ok CREATE ok 3>4 0 GETFH ok @4",
 )];
 
-/// A reply with far more room than any operation needs, so that none is refused for want of it.
+/// It leaves far more room than any operation asks for, so none is refused for want of it.
 static MOST: [(&str, &str); 1] = [(
     "~400 1 10 16 @4 1b 1b 1b 1b 1b 1b 1b 1b 1b 1b 1b 1b 1b 1b 1b",
     "0 ~400 10 16 0 1b 0 ~400 1b 0 ~400 1b 0 ~400 1b 0 ~400 1b 0 ~400 1b 0 ~400 1b 0 ~400 1b 0 ~400 1b 0 ~400 1b 0 ~400 1b 0 ~400 1b 0 ~400 1b 0 ~400 1b 0 ~400 1b 0 ~400",

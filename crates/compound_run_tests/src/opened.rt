@@ -2,8 +2,8 @@
 
 use call_texts::{ALICE, BOB, Row};
 
-/// In `pub`, 3, bob creates the file `y`, 13, whose list grants READ_DATA alone, and `z`, 14, whose list grants all; both stay open. Then data
-/// and attributes are refused, in the order of the questions: a refused WRITE or SETATTR takes no tick.
+/// In `pub`, 3, bob makes the file `y`, 13, whose list gives READ_DATA alone, and `z`, 14, whose list gives all; both stay open. Then what data and
+/// attributes are refused for, in the order of the questions: a refused WRITE or SETATTR takes no tick.
 static DATA: [Row; 55] = [
     (
         BOB,
@@ -206,9 +206,9 @@ pub fn data() -> &'static [Row] {
     &DATA
 }
 
-/// OPEN (RFC 8881, section 18.16): the type of the current object, the access, the name, the attributes, the lists, the object of the name,
-/// and the lists once more. Then the file `x`, 15, is created, opened again, truncated, read and written by its opens, closed, and by the
-/// remaining opens.
+/// OPEN (RFC 8881, section 18.16): the kind of the current object, what it is opened for, the name, the attributes, the lists, what has the name, and
+/// the lists once more. Then the file `x`, 15, is made, opened again, truncated, read and written by its opens, closed, and by those that are
+/// left.
 static OPENS: [Row; 54] = [
     (
         BOB,
@@ -482,7 +482,7 @@ pub fn opens() -> &'static [Row] {
     &OPENS
 }
 
-/// READDIR (RFC 8881, section 18.23): the type and the cookie are checked before the list. The first entry of the root takes 32 bytes beside the 16 of a result
+/// READDIR (RFC 8881, section 18.23): the kind and the cookie come before the list. The first entry of the root takes 32 bytes beside the 16 of a result
 /// without entries.
 static LISTINGS: [Row; 12] = [
     (BOB, "READDIR ^0 0 0 0", "badxdr READDIR badxdr"),

@@ -9,7 +9,7 @@ use std::hash::RandomState;
 use std::process::Abort;
 use std::test::Fail;
 
-/// In `pub`, object 3, bob creates the directory `d`, 4, with the directory `e`, 6, in it, the link `l`, 5, which becomes `m`, and a name
+/// In `pub`, object 3, bob makes the directory `d`, 4, with the directory `e`, 6, in it, the link `l`, 5, which becomes `m`, and a name
 /// of `notes`, 2, which goes again. Each change takes a tick, from 4 on; a name of one object onto another takes none.
 static DONE: [Row; 12] = [
     (
@@ -70,7 +70,7 @@ static DONE: [Row; 12] = [
     ),
 ];
 
-/// The rights that ACCESS returns: of the root, of `notes`, of a link, and rights of which none is supported.
+/// The rights that ACCESS tells: of the root, of `notes`, of a link, and of nothing that has a meaning.
 static RIGHTS: [Row; 10] = [
     (BOB, "PUTROOTFH ACCESS 3f", "ok PUTROOTFH ok ACCESS ok 1f 3"),
     (
@@ -96,7 +96,7 @@ static RIGHTS: [Row; 10] = [
     ),
 ];
 
-/// Arguments that can't be read, and operations that aren't supported or need a session.
+/// Arguments that don't spell, and operations that aren't built or need a session.
 static READ: [Row; 24] = [
     (BOB, "PUTROOTFH ACCESS", "badxdr PUTROOTFH ok ACCESS badxdr"),
     (BOB, "PUTFH ~81", "badxdr PUTFH badxdr"),
@@ -172,7 +172,7 @@ static HANDLES: [Row; 12] = [
     ),
 ];
 
-/// LOOKUP and LOOKUPP: the type is checked before the name, and both before the lists.
+/// LOOKUP and LOOKUPP: the kind comes before the name, and both before the lists.
 static LOOKUPS: [Row; 20] = [
     (BOB, "LOOKUP 0", "nofilehandle LOOKUP nofilehandle"),
     (BOB, "PUTFH @2 LOOKUP 0", "notdir PUTFH ok LOOKUP notdir"),
@@ -265,7 +265,7 @@ static LINK_TEXTS: [Row; 5] = [
     ),
 ];
 
-/// CREATE: the type is checked before the name, the name before a link's text, and the lists before an object of that name.
+/// CREATE: the type comes before the name, the name before a link's text, and the lists before what has the name.
 static CREATIONS: [Row; 20] = [
     (BOB, "CREATE 2 'x 0 0", "nofilehandle CREATE nofilehandle"),
     (
@@ -365,9 +365,9 @@ static CREATIONS: [Row; 20] = [
     ),
 ];
 
-/// Attributes: an unsupported attribute, one that can't be set, bytes that don't spell them, then the list, the mode, the owner and the
-/// group; and only a file has a size to set. All these are checked before the lists; that the owner is the caller, and the group one of the
-/// caller's, behind them.
+/// Attributes: one that isn't supported, one that can't be set, bytes that don't spell them, then the list, the mode, the owner and the
+/// group; and a size is for files. All that comes before the lists are asked; that the owner is the caller, and the group one of the caller's,
+/// comes after it.
 static ATTRIBUTES: [Row; 19] = [
     (
         ALICE,
@@ -462,7 +462,7 @@ static ATTRIBUTES: [Row; 19] = [
     (BOB, "PUTFH @3 LOOKUP 'x", "noent PUTFH ok LOOKUP noent"),
 ];
 
-/// LINK: filehandles, types, the name, the lists, and an object of that name; and of an object that is gone.
+/// LINK: filehandles, kinds, the name, the lists, and what has the name; and of an object that is gone.
 static LINKS: [Row; 12] = [
     (BOB, "LINK 0", "nofilehandle LINK nofilehandle"),
     (
@@ -522,7 +522,7 @@ static LINKS: [Row; 12] = [
     ),
 ];
 
-/// REMOVE: the lists are checked before the name is looked up, and once more before the child's entries.
+/// REMOVE: the lists are asked before the name is looked up, and once more before the child is looked into.
 static REMOVALS: [Row; 12] = [
     (BOB, "REMOVE 0", "nofilehandle REMOVE nofilehandle"),
     (BOB, "PUTFH @2 REMOVE 0", "notdir PUTFH ok REMOVE notdir"),
@@ -566,8 +566,8 @@ static REMOVALS: [Row; 12] = [
     ),
 ];
 
-/// RENAME: an impossible move is refused before the lists are checked a second time. At the end directories are created, one of a group
-/// that carol is in but that isn't her first.
+/// RENAME: what can't be is told before the lists are asked a second time. At the end directories are made, one of a group that carol is in
+/// but that isn't her first.
 static RENAMES: [Row; 28] = [
     (BOB, "RENAME 0 0", "nofilehandle RENAME nofilehandle"),
     (
@@ -703,8 +703,8 @@ static RENAMES: [Row; 28] = [
     ),
 ];
 
-/// The refusals, in that order. The line of a demand has all its bits, and the first entry that denies one, else the
-/// lowest bit that no entry allows.
+/// What was refused, in that order. A demand of several bits is told whole; what its line names is the first entry that denies, else the
+/// lowest bit that none allows.
 static LINES: &str = "DENY uid=1001 op=LOOKUP obj=4 mask=00000020 missing=00000020
 DENY uid=1001 op=LOOKUPP obj=4 mask=00000020 missing=00000020
 DENY uid=1001 op=READLINK obj=5 mask=00000001 missing=00000001
@@ -735,7 +735,7 @@ DENY uid=1002 op=OPEN obj=1 mask=00000002 missing=00000002
 DENY uid=1001 op=READDIR obj=4 mask=00000001 missing=00000001
 ";
 
-/// The tables in the order in which they are played: the objects of one are there for the next.
+/// The tables in the order in which they are played: what one makes is there for the next.
 pub fn tables() -> [&'static [Row]; 14] {
     [
         &DONE,
@@ -759,7 +759,7 @@ fn lines() -> &'static str {
     LINES
 }
 
-/// Checks the trail that the tables leave.
+/// Sees the trail that the tables leave.
 pub fn see_lines(alloc: Global, server: &Server) -> Result<(), Fail> {
     see_trail(alloc, server, 28, lines())
 }

@@ -60,7 +60,7 @@ fn stream_of(alloc: Global, rows: &[Row]) -> Result<Vec<u8>, Fail> {
     Ok(stream)
 }
 
-/// Feeds a piece, and takes out the pending bytes.
+/// Feeds a piece, and takes out what is pending then.
 fn pass(
     hub: &mut Hub,
     conn: ConnId,
@@ -91,7 +91,7 @@ fn replies(alloc: Global, hub: &mut Hub, stream: &[u8]) -> Result<Vec<u8>, Fail>
     Ok(given)
 }
 
-/// The first record's content, where it is one fragment, and the bytes behind it.
+/// The first record's content, where it is one fragment, and what stands behind it.
 fn first_record(given: &[u8]) -> Option<(&[u8], &[u8])> {
     let (mark, rest) = given.split_first_chunk::<4>()?;
     let len = u32::from_be_bytes(*mark).checked_sub(LAST)?;
@@ -107,14 +107,14 @@ fn see_words(rt: &impl Abort, given: Option<&[u8]>, wanted: &[u8], xid: u32) {
     assert_eq!(rt; given, Some(wanted), "{xid}");
 }
 
-/// Checks that a record starts with the header of the reply to this call.
+/// Sees that a record starts with the header of the reply to this call.
 fn see_header(rt: &impl Abort, alloc: Global, content: &[u8], xid: u32) -> Result<(), Fail> {
     let header = reply_header(alloc, xid)?;
     see_words(rt, content.get(..HEADER), &header, xid);
     Ok(())
 }
 
-/// Checks that the first record is the reply to a row's call, and gives the bytes behind it.
+/// Sees that the first record is the reply to a row's call, and gives what stands behind it.
 fn see_reply<'a>(
     rt: &impl Abort,
     alloc: Global,
@@ -130,7 +130,7 @@ fn see_reply<'a>(
     Ok(rest)
 }
 
-/// Checks the replies to the calls of rows, one record each, with no bytes behind them.
+/// Sees that these are the replies to the calls of rows, one record each, and that nothing stands behind them.
 fn see_replies(rt: &impl Abort, alloc: Global, given: &[u8], rows: &[Row]) -> Result<(), Fail> {
     let mut rest = given;
     let mut xid = 0u32;

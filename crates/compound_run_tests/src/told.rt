@@ -9,8 +9,8 @@ use std::process::Abort;
 use std::test::Fail;
 
 /// The attributes of the file `notes`, 2: numbers and values (RFC 8881, sections 5.8 and 6.2).
-static NOTES: [(u32, &str); 30] = [
-    (0, "3 e8183fff cb0003a 800"),
+static NOTES: [(u32, &str); 28] = [
+    (0, "3 e8183fff b0003a 800"),
     (1, "1"),
     (2, "0"),
     (3, "^2"),
@@ -40,11 +40,6 @@ static NOTES: [(u32, &str); 30] = [
     (52, "^0 0"),
     (53, "^0 0"),
     (55, "^2"),
-    (
-        58,
-        "0 5 0 0 1e0187 'OWNER@ 1 0 20 'OWNER@ 0 0 1 'GROUP@ 1 0 26 'GROUP@ 0 0 120080 'EVERYONE@",
-    ),
-    (59, "0 0"),
     (75, "0"),
 ];
 
@@ -52,9 +47,9 @@ fn notes() -> &'static [(u32, &'static str)] {
     &NOTES
 }
 
-/// The attributes of the root, 1.
-static ROOT_DIRECTORY: [(u32, &str); 30] = [
-    (0, "3 e8183fff cb0003a 800"),
+/// Those of the root, 1.
+static ROOT_DIRECTORY: [(u32, &str); 28] = [
+    (0, "3 e8183fff b0003a 800"),
     (1, "2"),
     (2, "0"),
     (3, "^1"),
@@ -84,11 +79,6 @@ static ROOT_DIRECTORY: [(u32, &str); 30] = [
     (52, "^0 0"),
     (53, "^0 0"),
     (55, "^1"),
-    (
-        58,
-        "0 5 0 0 1e01e7 'OWNER@ 1 0 0 'OWNER@ 0 0 21 'GROUP@ 1 0 46 'GROUP@ 0 0 1200a1 'EVERYONE@",
-    ),
-    (59, "0 0"),
     (75, "0"),
 ];
 
@@ -96,9 +86,9 @@ fn root_directory() -> &'static [(u32, &'static str)] {
     &ROOT_DIRECTORY
 }
 
-/// The attributes of the directory `pub`, 3.
-static PUB: [(u32, &str); 30] = [
-    (0, "3 e8183fff cb0003a 800"),
+/// Those of the directory `pub`, 3.
+static PUB: [(u32, &str); 28] = [
+    (0, "3 e8183fff b0003a 800"),
     (1, "2"),
     (2, "0"),
     (3, "^3"),
@@ -128,11 +118,6 @@ static PUB: [(u32, &str); 30] = [
     (52, "^0 0"),
     (53, "^0 0"),
     (55, "^3"),
-    (
-        58,
-        "0 5 0 0 1e01e7 'OWNER@ 1 0 0 'OWNER@ 0 0 67 'GROUP@ 1 0 0 'GROUP@ 0 0 1200e7 'EVERYONE@",
-    ),
-    (59, "0 0"),
     (75, "0"),
 ];
 
@@ -140,9 +125,9 @@ fn pub_directory() -> &'static [(u32, &'static str)] {
     &PUB
 }
 
-/// The attributes of a link that bob creates at second 1, 4.
-static LINK: [(u32, &str); 30] = [
-    (0, "3 e8183fff cb0003a 800"),
+/// Those of a link that bob makes at second 1, 4.
+static LINK: [(u32, &str); 28] = [
+    (0, "3 e8183fff b0003a 800"),
     (1, "5"),
     (2, "0"),
     (3, "^4"),
@@ -172,11 +157,6 @@ static LINK: [(u32, &str); 30] = [
     (52, "^1 0"),
     (53, "^1 0"),
     (55, "^4"),
-    (
-        58,
-        "0 5 0 0 1e0187 'OWNER@ 1 0 20 'OWNER@ 0 0 0 'GROUP@ 1 0 27 'GROUP@ 0 0 120080 'EVERYONE@",
-    ),
-    (59, "0 0"),
     (75, "0"),
 ];
 
@@ -195,22 +175,22 @@ fn made() -> &'static [Row] {
     &MADE
 }
 
-/// All attributes of the file, the root and the directory, in one operation each; unsupported ones are left out.
+/// All of them of the file, the root and the directory, in one operation each; what isn't supported is left out.
 static ALL_AT_ONCE: [Row; 3] = [
     (
         BOB,
         "PUTFH @2 GETATTR 3 ffffffff ffffffff ffffffff",
-        "ok PUTFH ok GETATTR ok 3 e8183fff cb0003a 800 ( 3 e8183fff cb0003a 800 1 0 ^2 ^2 1 1 0 ^1 ^0 1 5a 0 5 0 0 1e0187 'OWNER@ 1 0 20 'OWNER@ 0 0 1 'GROUP@ 1 0 26 'GROUP@ 0 0 120080 'EVERYONE@ f @2 ^2 ^100000 ff ^8000 ^f000 1a0 1 '1001 '100 ^0 0 ^0 0 ^2 0 5 0 0 1e0187 'OWNER@ 1 0 20 'OWNER@ 0 0 1 'GROUP@ 1 0 26 'GROUP@ 0 0 120080 'EVERYONE@ 0 0 0 )",
+        "ok PUTFH ok GETATTR ok 3 e8183fff b0003a 800 ( 3 e8183fff b0003a 800 1 0 ^2 ^2 1 1 0 ^1 ^0 1 5a 0 5 0 0 1e0187 'OWNER@ 1 0 20 'OWNER@ 0 0 1 'GROUP@ 1 0 26 'GROUP@ 0 0 120080 'EVERYONE@ f @2 ^2 ^100000 ff ^8000 ^f000 1a0 1 '1001 '100 ^0 0 ^0 0 ^2 0 )",
     ),
     (
         BOB,
         "PUTFH @1 GETATTR 3 ffffffff ffffffff ffffffff",
-        "ok PUTFH ok GETATTR ok 3 e8183fff cb0003a 800 ( 3 e8183fff cb0003a 800 2 0 ^1 ^0 1 1 0 ^1 ^0 1 5a 0 5 0 0 1e01e7 'OWNER@ 1 0 0 'OWNER@ 0 0 21 'GROUP@ 1 0 46 'GROUP@ 0 0 1200a1 'EVERYONE@ f @1 ^1 ^100000 ff ^8000 ^f000 1ed 1 '0 '0 ^0 0 ^0 0 ^1 0 5 0 0 1e01e7 'OWNER@ 1 0 0 'OWNER@ 0 0 21 'GROUP@ 1 0 46 'GROUP@ 0 0 1200a1 'EVERYONE@ 0 0 0 )",
+        "ok PUTFH ok GETATTR ok 3 e8183fff b0003a 800 ( 3 e8183fff b0003a 800 2 0 ^1 ^0 1 1 0 ^1 ^0 1 5a 0 5 0 0 1e01e7 'OWNER@ 1 0 0 'OWNER@ 0 0 21 'GROUP@ 1 0 46 'GROUP@ 0 0 1200a1 'EVERYONE@ f @1 ^1 ^100000 ff ^8000 ^f000 1ed 1 '0 '0 ^0 0 ^0 0 ^1 0 )",
     ),
     (
         BOB,
         "PUTFH @3 GETATTR 3 ffffffff ffffffff ffffffff",
-        "ok PUTFH ok GETATTR ok 3 e8183fff cb0003a 800 ( 3 e8183fff cb0003a 800 2 0 ^3 ^0 1 1 0 ^1 ^0 1 5a 0 5 0 0 1e01e7 'OWNER@ 1 0 0 'OWNER@ 0 0 67 'GROUP@ 1 0 0 'GROUP@ 0 0 1200e7 'EVERYONE@ f @3 ^3 ^100000 ff ^8000 ^f000 1ff 1 '0 '0 ^0 0 ^0 0 ^3 0 5 0 0 1e01e7 'OWNER@ 1 0 0 'OWNER@ 0 0 67 'GROUP@ 1 0 0 'GROUP@ 0 0 1200e7 'EVERYONE@ 0 0 0 )",
+        "ok PUTFH ok GETATTR ok 3 e8183fff b0003a 800 ( 3 e8183fff b0003a 800 2 0 ^3 ^0 1 1 0 ^1 ^0 1 5a 0 5 0 0 1e01e7 'OWNER@ 1 0 0 'OWNER@ 0 0 67 'GROUP@ 1 0 0 'GROUP@ 0 0 1200e7 'EVERYONE@ f @3 ^3 ^100000 ff ^8000 ^f000 1ff 1 '0 '0 ^0 0 ^0 0 ^3 0 )",
     ),
 ];
 
@@ -218,11 +198,11 @@ fn all_at_once() -> &'static [Row] {
     &ALL_AT_ONCE
 }
 
-/// All attributes of the link.
+/// And of the link.
 static ALL_OF_A_LINK: [Row; 1] = [(
     BOB,
     "PUTFH @4 GETATTR 3 ffffffff ffffffff ffffffff",
-    "ok PUTFH ok GETATTR ok 3 e8183fff cb0003a 800 ( 3 e8183fff cb0003a 800 5 0 ^4 ^8 1 1 0 ^1 ^0 1 5a 0 5 0 0 1e0187 'OWNER@ 1 0 20 'OWNER@ 0 0 0 'GROUP@ 1 0 27 'GROUP@ 0 0 120080 'EVERYONE@ f @4 ^4 ^100000 ff ^8000 ^f000 180 1 '1002 '7 ^1 0 ^1 0 ^4 0 5 0 0 1e0187 'OWNER@ 1 0 20 'OWNER@ 0 0 0 'GROUP@ 1 0 27 'GROUP@ 0 0 120080 'EVERYONE@ 0 0 0 )",
+    "ok PUTFH ok GETATTR ok 3 e8183fff b0003a 800 ( 3 e8183fff b0003a 800 5 0 ^4 ^8 1 1 0 ^1 ^0 1 5a 0 5 0 0 1e0187 'OWNER@ 1 0 20 'OWNER@ 0 0 0 'GROUP@ 1 0 27 'GROUP@ 0 0 120080 'EVERYONE@ f @4 ^4 ^100000 ff ^8000 ^f000 180 1 '1002 '7 ^1 0 ^1 0 ^4 0 )",
 )];
 
 fn all_of_a_link() -> &'static [Row] {
@@ -256,7 +236,7 @@ fn asked() -> &'static [Row] {
     &ASKED
 }
 
-/// VERIFY compares the bytes that are sent with those of GETATTR, whether they spell values or not (RFC 8881, sections 18.15 and 18.31).
+/// VERIFY compares the bytes that are sent with those of GETATTR, be they spelled well or not (RFC 8881, sections 18.15 and 18.31).
 static COMPARED: [Row; 42] = [
     (BOB, "PUTFH @2 VERIFY 0 0", "ok PUTFH ok VERIFY ok"),
     (BOB, "PUTFH @2 NVERIFY 0 0", "same PUTFH ok NVERIFY same"),
@@ -358,22 +338,22 @@ static COMPARED: [Row; 42] = [
     ),
     (
         BOB,
-        "PUTFH @2 VERIFY 3 e81837ff cb0003a 800 ( 3 e8183fff cb0003a 800 1 0 ^2 ^2 1 1 0 ^1 ^0 1 5a 5 0 0 1e0187 'OWNER@ 1 0 20 'OWNER@ 0 0 1 'GROUP@ 1 0 26 'GROUP@ 0 0 120080 'EVERYONE@ f @2 ^2 ^100000 ff ^8000 ^f000 1a0 1 '1001 '100 ^0 0 ^0 0 ^2 0 5 0 0 1e0187 'OWNER@ 1 0 20 'OWNER@ 0 0 1 'GROUP@ 1 0 26 'GROUP@ 0 0 120080 'EVERYONE@ 0 0 0 )",
+        "PUTFH @2 VERIFY 3 e81837ff b0003a 800 ( 3 e8183fff b0003a 800 1 0 ^2 ^2 1 1 0 ^1 ^0 1 5a 5 0 0 1e0187 'OWNER@ 1 0 20 'OWNER@ 0 0 1 'GROUP@ 1 0 26 'GROUP@ 0 0 120080 'EVERYONE@ f @2 ^2 ^100000 ff ^8000 ^f000 1a0 1 '1001 '100 ^0 0 ^0 0 ^2 0 )",
         "ok PUTFH ok VERIFY ok",
     ),
     (
         BOB,
-        "PUTFH @2 NVERIFY 3 e81837ff cb0003a 800 ( 3 e8183fff cb0003a 800 1 0 ^2 ^2 1 1 0 ^1 ^0 1 5a 5 0 0 1e0187 'OWNER@ 1 0 20 'OWNER@ 0 0 1 'GROUP@ 1 0 26 'GROUP@ 0 0 120080 'EVERYONE@ f @2 ^2 ^100000 ff ^8000 ^f000 1a0 1 '1001 '100 ^0 0 ^0 0 ^2 0 5 0 0 1e0187 'OWNER@ 1 0 20 'OWNER@ 0 0 1 'GROUP@ 1 0 26 'GROUP@ 0 0 120080 'EVERYONE@ 0 0 0 )",
+        "PUTFH @2 NVERIFY 3 e81837ff b0003a 800 ( 3 e8183fff b0003a 800 1 0 ^2 ^2 1 1 0 ^1 ^0 1 5a 5 0 0 1e0187 'OWNER@ 1 0 20 'OWNER@ 0 0 1 'GROUP@ 1 0 26 'GROUP@ 0 0 120080 'EVERYONE@ f @2 ^2 ^100000 ff ^8000 ^f000 1a0 1 '1001 '100 ^0 0 ^0 0 ^2 0 )",
         "same PUTFH ok NVERIFY same",
     ),
     (
         BOB,
-        "PUTFH @2 VERIFY 3 e81837ff cb0003a 800 ( 3 e8183fff cb0003a 800 1 0 ^2 ^2 1 1 0 ^1 ^0 1 5a 5 0 0 1e0187 'OWNER@ 1 0 20 'OWNER@ 0 0 1 'GROUP@ 1 0 26 'GROUP@ 0 0 120080 'EVERYONE@ f @2 ^2 ^100000 ff ^8000 ^f000 1a0 1 '1001 '100 ^0 0 ^0 0 ^2 0 5 0 0 1e0187 'OWNER@ 1 0 20 'OWNER@ 0 0 1 'GROUP@ 1 0 26 'GROUP@ 0 0 120080 'EVERYONE@ 0 0 0 0 )",
+        "PUTFH @2 VERIFY 3 e81837ff b0003a 800 ( 3 e8183fff b0003a 800 1 0 ^2 ^2 1 1 0 ^1 ^0 1 5a 5 0 0 1e0187 'OWNER@ 1 0 20 'OWNER@ 0 0 1 'GROUP@ 1 0 26 'GROUP@ 0 0 120080 'EVERYONE@ f @2 ^2 ^100000 ff ^8000 ^f000 1a0 1 '1001 '100 ^0 0 ^0 0 ^2 0 0 )",
         "notsame PUTFH ok VERIFY notsame",
     ),
     (
         BOB,
-        "PUTFH @2 NVERIFY 3 e81837ff cb0003a 800 ( 3 e8183fff cb0003a 800 1 0 ^2 ^2 1 1 0 ^1 ^0 1 5a 5 0 0 1e0187 'OWNER@ 1 0 20 'OWNER@ 0 0 1 'GROUP@ 1 0 26 'GROUP@ 0 0 120080 'EVERYONE@ f @2 ^2 ^100000 ff ^8000 ^f000 1a0 1 '1001 '100 ^0 0 ^0 0 ^2 0 5 0 0 1e0187 'OWNER@ 1 0 20 'OWNER@ 0 0 1 'GROUP@ 1 0 26 'GROUP@ 0 0 120080 'EVERYONE@ 0 0 0 0 )",
+        "PUTFH @2 NVERIFY 3 e81837ff b0003a 800 ( 3 e8183fff b0003a 800 1 0 ^2 ^2 1 1 0 ^1 ^0 1 5a 5 0 0 1e0187 'OWNER@ 1 0 20 'OWNER@ 0 0 1 'GROUP@ 1 0 26 'GROUP@ 0 0 120080 'EVERYONE@ f @2 ^2 ^100000 ff ^8000 ^f000 1a0 1 '1001 '100 ^0 0 ^0 0 ^2 0 0 )",
         "ok PUTFH ok NVERIFY ok",
     ),
     (
@@ -426,7 +406,7 @@ fn compared() -> &'static [Row] {
     &COMPARED
 }
 
-/// Checks an attribute of an object.
+/// Sees an attribute of an object.
 fn see_value(
     alloc: Global,
     server: &mut Server,
@@ -438,7 +418,7 @@ fn see_value(
     see_text(alloc, server, call.as_str(), answer.as_str())
 }
 
-/// Checks each attribute of an object alone.
+/// Sees each attribute of an object alone.
 fn see_values(
     alloc: Global,
     server: &mut Server,

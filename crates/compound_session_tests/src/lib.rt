@@ -1,8 +1,6 @@
-//! Tests of `compound_run` where sessions are in use: clients, sessions, slots, repeats, books that are loaded, and limits.
+//! Tests of `compound_run` where sessions are in use: clients, sessions, slots, repeats and their limits.
 #![tactic(auto)]
 
-#[cfg(test)]
-mod reloads;
 #[cfg(test)]
 mod repeats;
 #[cfg(test)]

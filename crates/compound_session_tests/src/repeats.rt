@@ -11,8 +11,8 @@ use std::test::Fail;
 /// A call with its status, and the places of the calls that come again behind it, of which the first is 1.
 type Step = (Caller, &'static str, &'static str, &'static [usize]);
 
-/// Clients 1 to 3 of alice, bob and carol get the sessions 1 to 3. The first CREATE_SESSION of carol requests too little, the second is sent by bob,
-/// the third creates her session, and the sequence ID of the fourth isn't the next.
+/// Clients 1 to 3 of alice, bob and carol get the sessions 1 to 3. The first CREATE_SESSION of carol asks for too little, the second is sent by bob,
+/// the third makes her session, and the number of the fourth isn't the next.
 static COME: [Step; 9] = [
     (ALICE, "EXCHANGE_ID ^0 'a 0 0 0", "ok", &[]),
     (BOB, "EXCHANGE_ID ^0 'b 0 0 0", "ok", &[]),
@@ -191,8 +191,8 @@ static FAILURES: [Step; 11] = [
     ),
 ];
 
-/// Alice creates session 4 by the same client, and destroys session 1: calls of each are repeated as long as it is there, and the CREATE_SESSION also once
-/// session 4 is destroyed. Another one requests too little, and then there is session 5.
+/// Alice makes session 4 by the same client, and ends session 1: calls of each come again as long as it is there, and the CREATE_SESSION also once
+/// session 4 has ended. Another one asks for too little, and then there is session 5.
 static SESSIONS: [Step; 8] = [
     (
         ALICE,
@@ -234,7 +234,7 @@ static SESSIONS: [Step; 8] = [
     ),
 ];
 
-/// Alice restarts, as client 4: until she has session 6 by it, client 1 is there, and then it goes with session 5 and her open.
+/// Alice comes anew, as client 4: until she has session 6 by it, client 1 is there, and then it goes with session 5 and her open.
 static ANEW: [Step; 7] = [
     (ALICE, "EXCHANGE_ID ^1 'a 0 0 0", "ok", &[38, 37]),
     (
@@ -275,7 +275,7 @@ static ANEW: [Step; 7] = [
     ),
 ];
 
-/// Calls of bob's client that were refused are refused again, until it is destroyed with its session.
+/// Calls of bob's client that were refused are refused again, until it ends with its session.
 static LEAVE: [Step; 6] = [
     (BOB, "DESTROY_CLIENTID ^2", "clientidbusy", &[46, 30]),
     (BOB, "SEQUENCE ^0 ^2 a 0 0 0 LOCK", "notsupp", &[47]),
@@ -314,14 +314,14 @@ fn see_same(rt: &impl Abort, given: &[u8], wanted: &[u8], call: &str) {
     assert_eq!(rt; given, wanted, "{call}");
 }
 
-/// Checks that results begin with a call's status.
+/// Sees that results begin with a call's status.
 fn see_status(rt: &impl Abort, alloc: Global, given: &[u8], step: &Step) -> Result<(), Fail> {
     let wanted = bytes_of(alloc, step.2)?;
     see_same(rt, given.get(..4).unwrap_or(&[]), &wanted, step.1);
     Ok(())
 }
 
-/// Checks that a call has on both servers the same results, which begin with its status, and gives them.
+/// Sees that a call has on both servers the same results, which begin with its status, and gives them.
 fn see_step(
     rt: &impl Abort,
     alloc: Global,
@@ -336,7 +336,7 @@ fn see_step(
     Ok(first)
 }
 
-/// Checks that the call of a place has the results again that it had.
+/// Sees that the call of a place has the results again that it had.
 fn see_again(
     rt: &impl Abort,
     alloc: Global,
@@ -353,7 +353,7 @@ fn see_again(
     Ok(())
 }
 
-/// Checks that the calls of these places have the results again that they had, each at a later second.
+/// Sees that the calls of these places have the results again that they had, each at a later second.
 fn see_all_again(
     rt: &impl Abort,
     alloc: Global,
@@ -400,7 +400,7 @@ fn see_counts(rt: &impl Abort, one: &Server, other: &Server) {
     assert_eq!(rt; one.opens().len(), other.opens().len());
 }
 
-/// Checks for an equal tree, an equal trail and as many opens.
+/// Sees an equal tree, an equal trail and as many opens.
 fn see_alike(rt: &impl Abort, alloc: Global, one: &Server, other: &Server) -> Result<(), Fail> {
     let given = picture(alloc, one)?;
     let wanted = picture(alloc, other)?;

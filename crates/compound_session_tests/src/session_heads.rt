@@ -1,4 +1,4 @@
-//! The beginning of a COMPOUND where sessions are in use: tag, minor version, count, and the first operation (RFC 8881, sections 2.10.6.2 and 16.2.3).
+//! How a COMPOUND begins where sessions are in use: tag, minor version, count, and the first operation (RFC 8881, sections 2.10.6.2 and 16.2.3).
 
 use call_texts::{ALICE, BOB, Row, bytes_of};
 use compound_run::Server;
@@ -11,8 +11,8 @@ use std::hash::RandomState;
 use std::process::Abort;
 use std::test::Fail;
 
-/// Arguments and results without a session: the minor version is checked first, then the count, then the first operation, which has its own
-/// status where it can't be read or isn't one. The operations behind it aren't read, and no count is too high.
+/// Arguments and results without a session: the minor version is looked at first, then the count, then the first operation, which has its own
+/// status where it can't be read or isn't one. What stands behind it isn't looked at, and no count is too high.
 static HEADS: [(&str, &str); 23] = [
     ("0 1 0", "ok 0 0"),
     ("'ab 1 0", "ok 'ab 0"),
@@ -72,13 +72,13 @@ static GARBAGE: [&str; 8] = [
     "2",
 ];
 
-/// The numbers of unsupported operations.
+/// The numbers of operations that aren't built.
 static UNSUPPORTED: [u32; 27] = [
     7, 8, 12, 13, 14, 19, 20, 21, 23, 30, 33, 35, 36, 39, 40, 41, 45, 46, 47, 48, 49, 50, 51, 52,
     54, 55, 56,
 ];
 
-/// Operations whose arguments can't be read, or aren't supported, and their status at any place.
+/// Operations with arguments that don't spell, or that aren't supported as they are read, and their status wherever they stand.
 static FAULTS: [(&str, &str, &str); 28] = [
     ("PUTFH", "~81", "badxdr"),
     ("LOOKUP", "ffffffff", "badxdr"),
@@ -126,7 +126,7 @@ static FAULTS: [(&str, &str, &str); 28] = [
     ("DESTROY_CLIENTID", "0", "badxdr"),
 ];
 
-/// The four operations that have to be the only one of their COMPOUND, with arguments of success.
+/// The four that are to be the only operation of their COMPOUND, as they would be done.
 static LONE: [(&str, &str); 4] = [
     ("EXCHANGE_ID", "^7 'other 0 0 0"),
     (
@@ -156,7 +156,7 @@ static COME: [Row; 3] = [
     ),
 ];
 
-/// No refused call has changed anything: the next numbers are due, and clients and sessions are there.
+/// Nothing of what was refused has been done: the next numbers are due, and clients and sessions are there.
 static STANDS: [Row; 6] = [
     (
         ALICE,
@@ -182,7 +182,7 @@ static STANDS: [Row; 6] = [
     (ALICE, "DESTROY_SESSION ^0 ^1", "ok DESTROY_SESSION ok"),
 ];
 
-/// The arguments of a second SEQUENCE aren't checked, and the operations behind it aren't read.
+/// A second SEQUENCE isn't looked at, neither its session nor its slot, and what stands behind it isn't read.
 static SECOND: [(&str, &str); 3] = [
     ("SEQUENCE", "^0 ^1 1 0 0 0"),
     ("SEQUENCE", "^0 ^9 0 ffffffff ffffffff 1"),
@@ -221,7 +221,7 @@ fn stands() -> &'static [Row] {
     &STANDS
 }
 
-/// All of these rows but the slot's call, whose number has risen.
+/// All of these but the call of the slot, whose number has risen.
 fn still_there() -> &'static [Row] {
     STANDS.get(1..).unwrap_or(&[])
 }
@@ -233,7 +233,7 @@ fn see_heads(alloc: Global, server: &mut Server, rows: &[(&str, &str)]) -> Resul
     Ok(())
 }
 
-/// Checks that arguments are garbage.
+/// Sees that arguments are garbage.
 fn see_one_garbage(
     rt: &impl Abort,
     alloc: Global,
@@ -258,7 +258,7 @@ fn see_garbage(
     Ok(())
 }
 
-/// Checks that the first of so many operations has this status, and that no other is run.
+/// Sees that the first of so many operations has this status, and that no other is run.
 fn see_first(
     alloc: Global,
     server: &mut Server,
@@ -272,7 +272,7 @@ fn see_first(
     see_words_in_session(alloc, server, ALICE, words.as_str(), results.as_str())
 }
 
-/// Checks that each operation is refused that is first without a session, also where it is the only one.
+/// Sees that each operation is refused that is first without a session, also where it is the only one.
 fn see_firsts(alloc: Global, server: &mut Server, operations: &[(&str, &str)]) -> Result<(), Fail> {
     for operation in operations {
         see_first(alloc, server, 1, *operation, "opnotinsession")?;
@@ -281,7 +281,7 @@ fn see_firsts(alloc: Global, server: &mut Server, operations: &[(&str, &str)]) -
     Ok(())
 }
 
-/// Checks the status of a first unsupported operation, alone and among several.
+/// Sees the status of a first operation that isn't built, alone and among several.
 fn see_unsupported(alloc: Global, server: &mut Server, numbers: &[u32]) -> Result<(), Fail> {
     for number in numbers {
         let operation = format!(in alloc; "{number:x}")?;
@@ -297,7 +297,7 @@ fn see_unsupported(alloc: Global, server: &mut Server, numbers: &[u32]) -> Resul
     Ok(())
 }
 
-/// Checks the status of a first operation that has a fault, alone and among several.
+/// Sees the status of a first operation that has a fault, alone and among several.
 fn see_faults(alloc: Global, server: &mut Server, rows: &[(&str, &str, &str)]) -> Result<(), Fail> {
     for (operation, arguments, status) in rows {
         let call = (*operation, *arguments);
@@ -308,7 +308,7 @@ fn see_faults(alloc: Global, server: &mut Server, rows: &[(&str, &str, &str)]) -
     Ok(())
 }
 
-/// Checks that an operation that has to be the only one is refused in front of another, however many there are.
+/// Sees that an operation that is to be the only one is refused in front of another, however many there are.
 fn see_lone(alloc: Global, server: &mut Server, rows: &[(&str, &str)]) -> Result<(), Fail> {
     for (operation, arguments) in rows {
         let more = format!(in alloc; "{arguments} PUTROOTFH")?;
@@ -324,7 +324,7 @@ fn see_lone(alloc: Global, server: &mut Server, rows: &[(&str, &str)]) -> Result
     Ok(())
 }
 
-/// Checks that an operation behind the SEQUENCE of this number has this status, and also behind one more PUTROOTFH, at the next number.
+/// Sees that an operation behind the SEQUENCE of this number has this status, and so it has behind a PUTROOTFH more, at the next number.
 fn see_behind(
     alloc: Global,
     server: &mut Server,
@@ -348,7 +348,7 @@ fn see_behind(
     see_words_in_session(alloc, server, ALICE, words.as_str(), results.as_str())
 }
 
-/// Checks that each operation has this status behind a SEQUENCE, from this number on, and gives the next number.
+/// Sees that each operation has this status behind a SEQUENCE, from this number on, and gives the next number.
 fn see_all_behind(
     alloc: Global,
     server: &mut Server,
@@ -364,7 +364,7 @@ fn see_all_behind(
     Ok(number)
 }
 
-/// Checks the status of operations that have a fault behind a SEQUENCE, from this number on, and gives the next number.
+/// Sees the status of operations that have a fault behind a SEQUENCE, from this number on, and gives the next number.
 fn see_faults_behind(
     alloc: Global,
     server: &mut Server,

@@ -1,4 +1,4 @@
-//! The limits of clients, sessions and slots, and the channels that a session is granted (RFC 8881, sections 2.10.6, 18.35, 18.36 and 18.46).
+//! The limits of clients, sessions and slots, and what a session is granted (RFC 8881, sections 2.10.6, 18.35, 18.36 and 18.46).
 
 use call_texts::{ALICE, BOB, Caller, Row, answer_of, call_of};
 use compound_run::{Args, MAX_RESULTS, Server};
@@ -16,7 +16,7 @@ use xdr_wire::Writer;
 /// Behind the clients 1 to 64 of the owners `c0` to `c3f`, of whom `c0` and `c1` have the sessions 1 and 2, and `c0` a file open.
 ///
 /// The 65th record is refused, and takes no number. An owner without a confirmed record gets a new one in place of the old one. A confirmed record stays
-/// beside the new one of the same user, so there is no room for it, and goes as another user gets one, with its session; where a file is
+/// beside the new one of the same user, so there is no place for it, and goes as another user gets one, with its session; where a file is
 /// open it is in use.
 static CLIENTS: [Row; 22] = [
     (
@@ -138,14 +138,14 @@ static FIRST_SESSIONS: [Row; 3] = [
     ),
 ];
 
-/// A client that creates sessions.
+/// A client that makes sessions.
 static OWNER: [Row; 1] = [(
     ALICE,
     "EXCHANGE_ID ^0 'own 0 0 0",
     "ok EXCHANGE_ID ok ^1 1 10000 0 ^0 'nfs41-lists 'nfs41-lists 0",
 )];
 
-/// Behind the sessions 1 to 64 of client 1. The 65th is refused: its sequence ID is accepted, so it is refused again, also once there is room; it
+/// Behind the sessions 1 to 64 of client 1. The 65th is refused: its number is accepted, so it is refused again, also once there is place; it
 /// has taken no number of a session. The sessions are counted before those of the owner's other record go.
 static SESSIONS: [Row; 23] = [
     (
@@ -264,7 +264,7 @@ static EIGHT: [Row; 1] = [(
     "ok CREATE_SESSION ok ^0 ^1 1 0 0 10000 1000 1000 10 8 0 0 0 0 0 0 0 0",
 )];
 
-/// The slots in the order in which their first calls come, each of which creates a directory of the slot's name; and another order.
+/// The slots in the order in which their first calls come, each of which makes a directory of the slot's name; and another order.
 static ORDERS: [[u32; 8]; 2] = [[5, 0, 7, 3, 1, 6, 2, 4], [2, 7, 0, 1, 4, 6, 5, 3]];
 
 /// Each slot counts for itself, whatever the others do. `pub` has had the tick 11.
@@ -431,8 +431,8 @@ static FAULTS: [Row; 15] = [
     ),
 ];
 
-/// The channels are granted so: sizes up to 65,536, from 1 to 16 operations, from 1 to 8 slots, a cached size like the reply's, no
-/// padding and no RDMA. No flag is granted. The backchannel is answered as requested, without RDMA. Callback parameters are ignored.
+/// So much is granted of what is asked: sizes up to 65,536, from 1 to 16 operations, from 1 to 8 slots, a cached size like the reply's, no
+/// padding and no RDMA. Of the flags none is granted. The back channel is answered as asked, without RDMA. Callback parameters say nothing.
 static GRANTS: [Row; 13] = [
     (
         ALICE,
@@ -501,7 +501,7 @@ static GRANTS: [Row; 13] = [
     ),
 ];
 
-/// Sixteen operations are granted where more are requested, in session 2: with SEQUENCE there are as many here, then one more, and then far more.
+/// Sixteen operations are granted of more that are asked, in session 2: with SEQUENCE there are as many here, then one more, and then far more.
 static MOST: [(&str, &str); 3] = [
     (
         "0 1 10 SEQUENCE ^0 ^2 1 0 7 0 18 18 18 18 18 18 18 18 18 18 18 18 18 18 a",
@@ -567,7 +567,7 @@ fn short() -> (&'static str, &'static str) {
     SHORT
 }
 
-/// Checks that an owner gets the client of the next number.
+/// Sees that an owner gets the client of the next number.
 fn see_client(alloc: Global, server: &mut Server, owner: u32) -> Result<(), Fail> {
     let client = owner.saturating_add(1);
     let call = format!(in alloc; "EXCHANGE_ID ^0 'c{owner:x} 0 0 0")?;
@@ -584,7 +584,7 @@ fn see_clients(alloc: Global, server: &mut Server) -> Result<(), Fail> {
     Ok(())
 }
 
-/// Checks that client 1 gets the session of this number by a CREATE_SESSION of the same number.
+/// Sees that client 1 gets the session of this number by a CREATE_SESSION of the same number.
 fn see_session(alloc: Global, server: &mut Server, number: u32) -> Result<(), Fail> {
     let call = format!(in alloc;
         "CREATE_SESSION ^1 {number:x} 0 0 40 1000 0 2 1 0 0 0 0 0 0 0 0 0 0"
@@ -602,7 +602,7 @@ fn see_sessions(alloc: Global, server: &mut Server) -> Result<(), Fail> {
     Ok(())
 }
 
-/// Checks that the first call of a slot makes a directory at the tick behind this one, or has made it.
+/// Sees that the first call of a slot makes a directory at the tick behind this one, or has made it.
 fn see_slot(alloc: Global, server: &mut Server, slot: u32, tick: u32) -> Result<(), Fail> {
     let next = tick.saturating_add(1);
     let call = format!(in alloc; "SEQUENCE ^0 ^1 1 {slot} 7 0 PUTFH @3 CREATE 2 'd{slot} 0 0")?;
@@ -624,7 +624,7 @@ fn tick_of(order: &[u32; 8], slot: u32) -> u32 {
     tick
 }
 
-/// Checks the first calls of slots in one order, and again in another.
+/// Sees the first calls of slots in one order, and again in another.
 fn see_slots(
     alloc: Global,
     server: &mut Server,
@@ -639,7 +639,7 @@ fn see_slots(
     Ok(())
 }
 
-/// Checks the answer to a call whose record has so many bytes.
+/// Sees the answer to a call whose record has so many bytes.
 fn see_record(
     alloc: Global,
     server: &mut Server,
@@ -663,7 +663,7 @@ fn see_record(
     see_bytes(Some(out.bytes()), &wanted, 0, call)
 }
 
-/// The whole record is counted, with its header: with 56 bytes the call is answered again, with 57 it is too long.
+/// The whole record is counted, header and all: with 56 bytes the call is answered again, with 57 it is too long.
 fn see_records(alloc: Global, server: &mut Server) -> Result<(), Fail> {
     let (call, results) = short();
     let too_big = "reqtoobig SEQUENCE reqtoobig";

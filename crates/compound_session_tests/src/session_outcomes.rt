@@ -1,5 +1,5 @@
-//! Each outcome of the operations of sessions that calls can bring about (RFC 8881, sections 18.35 to 18.37, 18.46, 18.50 and 18.51). A repeated call
-//! is answered alike, by the kept result, or since nothing has changed; but a client or a session is created or destroyed once.
+//! Each outcome of the operations of sessions that calls can bring about (RFC 8881, sections 18.35 to 18.37, 18.46, 18.50 and 18.51). What is answered
+//! is answered alike as it comes again, by what is kept, or since nothing has changed; but a client or a session is made or ended once.
 
 use call_texts::{ALICE, BOB, CAROL, Row};
 use compound_run::Server;
@@ -9,8 +9,8 @@ use std::hash::RandomState;
 use std::process::Abort;
 use std::test::Fail;
 
-/// EXCHANGE_ID, where no owner has a confirmed record: another record takes the place of an unconfirmed one, also by another user. Flags that aren't
-/// refused are ignored, and so is the implementation's name.
+/// EXCHANGE_ID, where no owner has a confirmed record: another record takes the place of the one that isn't confirmed, also by another user. Flags that aren't
+/// refused say nothing, nor does the implementation's name.
 static EXCHANGES: [Row; 14] = [
     (ALICE, "EXCHANGE_ID ^0 'own", "badxdr EXCHANGE_ID badxdr"),
     (
@@ -80,8 +80,8 @@ static EXCHANGES: [Row; 14] = [
     ),
 ];
 
-/// CREATE_SESSION: the user of an unconfirmed record is checked, of a confirmed one not. A sequence ID that was accepted gets its result again, for
-/// any caller and any arguments, also once the session is gone.
+/// CREATE_SESSION: a record that isn't confirmed is asked for its user, a confirmed one isn't. A number that was accepted gets its result again, by whomever
+/// and with whatever arguments, also once the session is gone.
 static CREATIONS: [Row; 18] = [
     (BOB, "CREATE_SESSION ^3", "badxdr CREATE_SESSION badxdr"),
     (
@@ -289,7 +289,7 @@ static SEQUENCES: [Row; 26] = [
     ),
 ];
 
-/// RECLAIM_COMPLETE: for all file systems once for a client, whichever of its sessions it uses; for that of the current filehandle at any time.
+/// RECLAIM_COMPLETE: of all file systems once for a client, whichever of its sessions it uses; of the one of the current filehandle at any time.
 static RECLAIMS: [Row; 13] = [
     (
         BOB,
@@ -358,7 +358,7 @@ static RECLAIMS: [Row; 13] = [
     ),
 ];
 
-/// Opens are those of a client, whichever of its sessions it uses; the client that an owner names is ignored.
+/// Opens are those of a client, whichever of its sessions it uses; the client that an owner names says nothing.
 static OPENS: [Row; 10] = [
     (
         ALICE,
@@ -507,8 +507,8 @@ static ENDS: [Row; 23] = [
     (CAROL, "DESTROY_CLIENTID ^5", "ok DESTROY_CLIENTID ok"),
 ];
 
-/// EXCHANGE_ID, where the owner has a confirmed record: with the same verifier this record is answered, and the unconfirmed one goes. With another verifier
-/// there are both, until a session is created by the new one. Another user takes its place where no file is open.
+/// EXCHANGE_ID, where the owner has a confirmed record: with the same verifier that is told, and the one that isn't confirmed goes. With another verifier
+/// there are both, until a session is made by the new one. Another user takes its place where no file is open.
 static ANEW: [Row; 17] = [
     (
         ALICE,
@@ -603,13 +603,13 @@ fn tables() -> [&'static [Row]; 7] {
     ]
 }
 
-/// Whether a call that is answered so has created or destroyed something, and isn't answered alike when repeated.
+/// Whether a call that is answered so has made or ended something, and isn't answered alike as it comes again.
 fn is_once(answer: &str) -> bool {
     answer.starts_with("ok DESTROY")
         || answer.starts_with("ok EXCHANGE_ID") && answer.contains(" 10000 ")
 }
 
-/// Checks the answer to a call, and the answer to its repeat.
+/// Sees the answer to a call, and the answer as it comes again.
 fn see_twice(alloc: Global, server: &mut Server, (who, call, answer): &Row) -> Result<(), Fail> {
     see_text_in_session(alloc, server, *who, call, answer)?;
     if is_once(answer) {

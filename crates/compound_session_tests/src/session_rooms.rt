@@ -1,5 +1,5 @@
-//! Replies of a session that are full: a COMPOUND has no more bytes than a reply was granted, its header of 24 included, of which 16 stay free; and
-//! all its results are kept (RFC 8881, sections 2.10.6.4 and 18.46).
+//! Replies of a session that are full: a COMPOUND gives no more bytes than a reply was granted, its header of 24 included, of which 16 stay free; and
+//! all that it gives is kept (RFC 8881, sections 2.10.6.4 and 18.46).
 
 use call_texts::{ROOT, Row};
 use compound_run::Server;
@@ -74,8 +74,8 @@ static FILES: [(u32, Row); 4] = [
 ];
 
 /// Replies of 4,096 bytes. Behind the header, the COMPOUND's 12 bytes, SEQUENCE's 44 and PUTFH's 8 there are 3,992 left, of which READ takes 16 and its
-/// data. An operation needs 256, attributes and a link's text their own size. Each reply is first not to be cached, and then it is.
-/// Refused operations have changed nothing. Entries of READDIR with the long name and with `a` take 280 and 28 bytes beside the 16 of a result
+/// data. An operation needs 256, attributes and a link's text what they take. Where it is first the reply is not to be kept, and then it is.
+/// What is refused has changed nothing. Entries of READDIR with the long name and with `a` take 280 and 28 bytes beside the 16 of a result
 /// without entries, and the 8 of operation and status.
 static ROOMS: [(u32, Row); 29] = [
     (
@@ -312,7 +312,7 @@ static ROOMS: [(u32, Row); 29] = [
     ),
 ];
 
-/// No RECLAIM_COMPLETE that was refused for want of room has been done.
+/// RECLAIM_COMPLETE hasn't been done by what was refused for want of room.
 static RECLAIM: [(u32, Row); 2] = [
     (0, (ROOT, "RECLAIM_COMPLETE 0", "ok RECLAIM_COMPLETE ok")),
     (
@@ -325,7 +325,7 @@ static RECLAIM: [(u32, Row); 2] = [
     ),
 ];
 
-/// Replies of 4,099 bytes, of which 3 more stay free, and of 65,536; and a tag, whose padding counts too.
+/// Replies of 4,099 bytes, of which 3 stay free more, and of 65,536; and a tag, of which the padding counts too.
 static WORDS: [(&str, &str); 4] = [
     (
         "0 1 4 SEQUENCE ^0 ^2 1 0 0 1 PUTFH @4 READ anon ^0 ffffffff SAVEFH",
@@ -365,7 +365,7 @@ fn words() -> &'static [(&'static str, &'static str)] {
     &WORDS
 }
 
-/// Checks rows, each first whether its reply is to be cached, from this turn on, and gives the next turn.
+/// Sees rows, each first whether its reply is to be kept, from this turn on, and gives the next turn.
 fn see_rows(
     alloc: Global,
     server: &mut Server,
@@ -384,7 +384,7 @@ fn see_rows(
     Ok(turn)
 }
 
-/// Checks that an operation isn't run where 252 bytes are left.
+/// Sees that an operation isn't run where 252 bytes are left.
 fn see_operation(
     alloc: Global,
     server: &mut Server,
@@ -399,7 +399,7 @@ fn see_operation(
     see_turn(alloc, server, turn, 2, row)
 }
 
-/// Checks that no operation is run where 252 bytes are left, and the status of that, from this turn on; and gives the next turn.
+/// Sees that no operation is run where 252 bytes are left, and what that is called, from this turn on; and gives the next turn.
 fn see_operations(
     alloc: Global,
     server: &mut Server,
@@ -415,7 +415,7 @@ fn see_operations(
     Ok(turn)
 }
 
-/// Checks that no operation is run, whether the reply is to be cached or not, and gives the next turn.
+/// Sees that no operation is run, whether the reply is to be kept or not, and gives the next turn.
 fn see_refused(alloc: Global, server: &mut Server, first: Turn) -> Result<Turn, Fail> {
     let reclaim = [("RECLAIM_COMPLETE", "0")];
     let turn = Turn { keeps: 0, ..first };
@@ -426,7 +426,7 @@ fn see_refused(alloc: Global, server: &mut Server, first: Turn) -> Result<Turn, 
     see_operations(alloc, server, turn, "reptoobigtocache", &reclaim)
 }
 
-/// Checks that no operation is run, and that tree and opens are as before.
+/// Sees that no operation is run, and that tree and opens are as before.
 fn see_unchanged(
     rt: &impl Abort,
     alloc: Global,
@@ -440,7 +440,7 @@ fn see_unchanged(
     Ok(turn)
 }
 
-/// Checks calls, and their repeats.
+/// Sees calls, and each again.
 fn see_words(alloc: Global, server: &mut Server, rows: &[(&str, &str)]) -> Result<(), Fail> {
     for (words, results) in rows {
         see_words_in_session(alloc, server, ROOT, words, results)?;

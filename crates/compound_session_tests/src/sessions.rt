@@ -8,7 +8,7 @@ use std::hash::RandomState;
 use std::process::Abort;
 use std::test::Fail;
 
-/// A client gets a session, opens a file and closes it; another user sends EXCHANGE_ID for its owner meanwhile and afterwards.
+/// A client comes, gets a session, opens a file and closes it; another user asks for its record meanwhile and afterwards.
 static CLIENT: [Row; 16] = [
     (
         ALICE,
@@ -92,7 +92,7 @@ static CLIENT: [Row; 16] = [
     ),
 ];
 
-/// A call is new with the next sequence ID; the last one gets its results again, with equal bytes and an equal caller alone.
+/// A call is new with the number that is due; the last one again gets its results again, with equal bytes and an equal caller alone.
 static SLOTS: [Row; 20] = [
     (
         ALICE,
@@ -345,7 +345,7 @@ static REFUSALS: [Row; 25] = [
     ),
 ];
 
-/// A client that restarts: its old record, the sessions and the opens of it stay until it gets a session by the new one.
+/// A client that comes anew: its old record, the sessions and the opens of it stay until it gets a session by the new one.
 static ANEW: [Row; 9] = [
     (
         ALICE,

@@ -1,4 +1,4 @@
-//! Lists that are set, and their refusals.
+//! Lists that are set, and what they then refuse.
 
 use acl_list::Kind;
 use call_texts::{ALICE, BOB, CAROL, Row};
@@ -62,7 +62,7 @@ fn name_lines() -> &'static str {
     NAME_LINES
 }
 
-/// Files whose lists grant all are written, and get lists that audit reading, and that grant APPEND_DATA. A size that is refused leaves the list, the mode and the bytes.
+/// Files whose lists give all are written, and get lists that audit reading, and that give APPEND_DATA. What is refused for its size leaves the list, the mode and the bytes.
 static WORKED: [Row; 12] = [
     (
         BOB,

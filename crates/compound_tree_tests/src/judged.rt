@@ -11,7 +11,7 @@ use std::process::Abort;
 use std::test::Fail;
 use who_book::Book;
 
-/// READ_ATTRIBUTES is demanded for eight attributes, READ_ACL for the list, both in one demand, none for the rest (RFC 8881, section 5.6). The file 2 grants READ_ACL alone, 3 READ_ATTRIBUTES alone, 4 nothing.
+/// READ_ATTRIBUTES is asked for eight attributes, READ_ACL for the list, both in one demand, none for the rest (RFC 8881, section 5.6). The file 2 gives READ_ACL alone, 3 READ_ATTRIBUTES alone, 4 nothing.
 static ASKS: [Row; 21] = [
     (
         BOB,
@@ -112,7 +112,7 @@ fn asks() -> &'static [Row] {
     &ASKS
 }
 
-/// The files 5 and 6 may be read, which is audited of 5, and written at their ends; 7 may be written inside, and its refusals raise an alarm.
+/// The files 5 and 6 may be read, which is audited of 5, and written at their ends; 7 may be written inside, and what is refused of it raises an alarm.
 static APPENDED: [Row; 11] = [
     (
         BOB,

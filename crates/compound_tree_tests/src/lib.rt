@@ -1,10 +1,8 @@
-//! Tests of `compound_run` over trees of their own: lists and their parts, modes, groups and books, listings, removals, limits and rooms of replies.
+//! Tests of `compound_run` over trees of their own: lists, modes, listings, removals, limits and rooms of replies.
 #![tactic(auto)]
 
 #[cfg(test)]
 mod governed;
-#[cfg(test)]
-mod groups;
 #[cfg(test)]
 mod judged;
 #[cfg(test)]
@@ -13,14 +11,6 @@ mod limits;
 mod listings;
 #[cfg(test)]
 mod modes;
-#[cfg(test)]
-mod parts_made;
-#[cfg(test)]
-mod parts_refused;
-#[cfg(test)]
-mod parts_set;
-#[cfg(test)]
-mod parts_told;
 #[cfg(test)]
 mod remembered;
 #[cfg(test)]

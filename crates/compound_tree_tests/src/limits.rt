@@ -12,7 +12,7 @@ use std::test::Fail;
 use who_book::Book;
 
 /// Over a root with the directory `d`, 2, of 4,096 names, the links `l`, 3, and `m`, 4, of which `m` has 1,000 names, and the directory `s`, 5.
-/// Within a full directory, and onto an existing name, an object still moves.
+/// Within a full directory, and onto a name that is there, an object still moves.
 static FULL_DIRECTORY: [Row; 14] = [
     (
         BOB,
@@ -129,8 +129,8 @@ fn a_full_directory_is_told(rt: HostRuntime) -> Result<(), Fail> {
     on::<HostRuntime, FullDirectory>(&rt, rt.alloc(), server)
 }
 
-/// Over 16,384 objects: the root, the directories `a` to `d`, 2 to 5, and their entries, last of all the link `z` in `d`. One more name is
-/// no further object.
+/// Over 16,384 objects: the root, the directories `a` to `d`, 2 to 5, and what is in them, last of all the link `z` in `d`. A name more is no
+/// object more.
 static FULL_TREE: [Row; 7] = [
     (
         BOB,
@@ -201,7 +201,7 @@ impl<R: Abort> Sight<R> for FullTree {
     }
 }
 
-/// The tree looks through all names for each that it adds, so `rt try --test` needs more seconds.
+/// It looks through as many names for each that it adds, so `rt try --test` needs more seconds for it.
 #[test]
 fn a_full_tree_is_told(rt: HostRuntime) -> Result<(), Fail> {
     let server = full_tree_server(rt.alloc(), RandomState::new(&rt)?)?;

@@ -1,4 +1,4 @@
-//! READDIR: entries that lists refuse, and directories that are read over many calls.
+//! READDIR: what lists refuse of entries, and directories that areread over  many calls.
 
 use acl_list::Kind;
 use call_texts::{BOB, Row, bytes_of, call_of};
@@ -11,9 +11,9 @@ use std::process::Abort;
 use std::test::Fail;
 use who_book::Book;
 
-/// In the directory 2 is the file `f`, 4, whose list grants nothing. In 3 are `a`, whose list grants all, `b`, 6, READ_ATTRIBUTES alone, `c`, 7, READ_ACL alone,
+/// In the directory 2 is the file `f`, 4, whose list gives nothing. In 3 are `a`, whose list gives all, `b`, 6, READ_ATTRIBUTES alone, `c`, 7, READ_ACL alone,
 /// and `x`, 8, nothing. Of 9 no list may be read. An entry with its mode takes 40 bytes, and each is judged before it is measured. Behind the cookie of
-/// a removed name are the names after it.
+/// a name that is gone are the names after it.
 static JUDGED: [Row; 13] = [
     (
         BOB,
@@ -137,8 +137,8 @@ fn entries_are_judged(rt: HostRuntime) -> Result<(), Fail> {
     on::<HostRuntime, Entries>(&rt, rt.alloc(), server)
 }
 
-/// A directory of so many files, with the numbers from 0 on as names, of four digits, listed by results of so many bytes at most. Where it
-/// changes, between calls two names go, the last that was returned and the next one, and up to ten come.
+/// A directory of so many files, which are named for the numbers from 0 on, with four digits, listed by results of so many bytes at most. Where it
+/// changes, between calls two names go, the last that was given and the next one, and up to ten come.
 #[derive(Clone, Copy, Debug)]
 struct Plan {
     directory: u32,
@@ -174,7 +174,7 @@ fn plans() -> &'static [(u32, u32, u32, bool)] {
     &PLANS
 }
 
-/// The place of a listing: the cookie that is sent next, the number in the next name, and whether the end was returned.
+/// Where a listing stands: the cookie that is sent next, the number in the name that is given next, and whether the end was told.
 #[derive(Clone, Copy, Debug)]
 struct Place {
     cookie: u64,
@@ -187,7 +187,7 @@ fn word(bytes: &[u8]) -> Option<(u32, &[u8])> {
     Some((u32::from_be_bytes(*first), rest))
 }
 
-/// The cookie of the first entry, the number in its name, and the bytes behind it.
+/// The cookie of the first entry, the number in its name, and what stands behind it.
 fn entry(bytes: &[u8]) -> Option<(u64, u32, &[u8])> {
     let (cookie, rest) = bytes.split_first_chunk::<8>()?;
     let (_, rest) = word(rest)?;
@@ -198,7 +198,7 @@ fn entry(bytes: &[u8]) -> Option<(u64, u32, &[u8])> {
     Some((u64::from_be_bytes(*cookie), number, rest))
 }
 
-/// The place behind these entries, where each has the next number and a higher cookie than the one before. `None`: one hasn't.
+/// Behind these entries, where each has the number that is due and a higher cookie than the one before. `None`: one hasn't.
 fn behind(entries: &[u8], from: Place) -> Option<Place> {
     let mut place = from;
     let mut rest = entries;
@@ -222,7 +222,7 @@ fn behind(entries: &[u8], from: Place) -> Option<Place> {
 /// The bytes before the entries of a READDIR that is OK.
 const FRONT: usize = 36;
 
-/// Reads on from the place of a listing.
+/// Reads on where a listing stands.
 fn read_on(alloc: Global, server: &mut Server, plan: Plan, place: Place) -> Result<Place, Fail> {
     let (directory, cookie, most) = (plan.directory, place.cookie, plan.most);
     let call = format!(in alloc; "PUTFH @{directory:x} READDIR ^{cookie:x} 0 0 0 {most:x} 0")?;
@@ -240,14 +240,14 @@ fn read_on(alloc: Global, server: &mut Server, plan: Plan, place: Place) -> Resu
     }
 }
 
-/// Makes a call and ignores its results.
+/// Makes a call of which nothing is looked at.
 fn act(alloc: Global, server: &mut Server, call: &str) -> Result<(), Fail> {
     let arguments = call_of(alloc, call)?;
     run(alloc, server, BOB, 0, &arguments)?;
     Ok(())
 }
 
-/// The last name that was returned goes, and the next one; a name comes behind all.
+/// The last name that was given goes, and the next one; a name comes behind all.
 fn change(
     alloc: Global,
     server: &mut Server,
@@ -263,7 +263,7 @@ fn change(
     act(alloc, server, call.as_str())
 }
 
-/// Lists a directory to its end, and answers the last number, and how many names have come.
+/// Lists a directory to its end, and tells behind which number it ends, and how many names have come.
 fn list(alloc: Global, server: &mut Server, plan: Plan) -> Result<(u32, u32), Fail> {
     let mut place = Place {
         cookie: 0,
@@ -336,7 +336,7 @@ impl<R: Abort> Sight<R> for Long {
     }
 }
 
-/// Each name that is there all the time is returned once, in the order of the cookies; so are those that come behind the last one that was returned.
+/// Each name that is there all the time is given once, in the order of the cookies; so are those that come behind the last one that was given.
 #[test]
 fn listings_are_complete(rt: HostRuntime) -> Result<(), Fail> {
     let server = named_server(rt.alloc(), RandomState::new(&rt)?)?;

@@ -1,4 +1,4 @@
-//! The lists and the modes of new objects.
+//! The lists and the modes of what is made.
 
 use call_texts::{BOB, Caller, Row};
 use compound_run::Server;
@@ -26,10 +26,10 @@ A:00:00120080:EVERYONE@
 0000
 ";
 
-/// One entry, which no further object inherits.
+/// One entry, to no other.
 const PLAIN: &str = "A:00:00000027:1002\n0000\n";
 
-/// A directory and a link are created in a root.
+/// A directory and a link are made in a root.
 static MADE: [Row; 2] = [
     (
         BOB,
@@ -48,7 +48,7 @@ fn made() -> &'static [Row] {
 }
 
 /// A server whose root has this list.
-pub fn server(alloc: Global, hasher: RandomState, list: &str) -> Result<Server, Fail> {
+fn server(alloc: Global, hasher: RandomState, list: &str) -> Result<Server, Fail> {
     let tree = root_of(alloc, list)?;
     Ok(server_of(alloc, Book::default(alloc), tree, hasher)?)
 }
@@ -65,7 +65,7 @@ fn see_list(
     Ok(())
 }
 
-/// Checks the lists of objects, the first of them object 2.
+/// Sees the lists of objects, the first of them object 2.
 fn see_lists(rt: &impl Abort, alloc: Global, server: &Server, wanted: &[&str]) -> Result<(), Fail> {
     let mut number = 2u64;
     for list in wanted {
@@ -75,8 +75,8 @@ fn see_lists(rt: &impl Abort, alloc: Global, server: &Server, wanted: &[&str]) -
     Ok(())
 }
 
-/// Checks calls, and the lists of the objects that they create.
-pub fn see_made(
+/// Sees calls, and the lists of what they make.
+fn see_made(
     rt: &impl Abort,
     alloc: Global,
     server: &mut Server,
@@ -87,8 +87,8 @@ pub fn see_made(
     see_lists(rt, alloc, server, wanted)
 }
 
-/// A list of a root, and the lists that a directory and a link in it inherit. An entry for files alone is inherited by a directory as
-/// INHERIT_ONLY, and an entry that isn't inherited on is plain. Where nothing is inherited the list is that of the mode of a new object.
+/// A list of a root, and what a directory and a link in it inherit. An entry for files alone goes to a directory as one to be inherited
+/// only, and what isn't inherited on is plain. Where nothing is inherited the list is that of the mode of a new object.
 static INHERITED: [(&str, &str, &str); 8] = [
     ("A:0:67:EVERYONE@", DIRECTORY, LINK),
     ("A:0:27:1002 A:0:67:EVERYONE@", DIRECTORY, LINK),
@@ -139,8 +139,8 @@ fn lists_are_inherited(rt: HostRuntime) -> Result<(), Fail> {
     Ok(())
 }
 
-/// Modes, lists, and both, under a root whose entry for user 1002 is inherited. A mode cuts the inherited entries; a list is taken as it is,
-/// on a link without entries for directories; of a mode beside a list the high bits alone are taken.
+/// Modes, lists, and both, under a root whose entry for user 1002 is inherited. A mode cuts what is inherited; a list is taken as it is, on a
+/// link without what is for directories; of a mode beside a list the high bits alone are taken.
 static SETTINGS: [Row; 8] = [
     (
         BOB,
@@ -267,7 +267,7 @@ static FIRST: [Row; 4] = [
     ),
 ];
 
-/// The lists of `notes`, of `pub`, and of the new objects.
+/// The lists of `notes`, of `pub`, and of what is made.
 static FIRST_LISTS: [&str; 4] = [
     "A:00:001e0187:OWNER@
 D:00:00000020:OWNER@

@@ -14,7 +14,7 @@ fn once() -> &'static [Row] {
     &ONCE
 }
 
-/// The second of two equal calls looks at no list: the guard remembers the summary of the first.
+/// The second of two equal calls looks at no list: the guard remembers what the first one learnt.
 struct Remembered;
 
 impl<R: Abort> Sight<R> for Remembered {
@@ -34,8 +34,8 @@ fn decisions_are_remembered(rt: HostRuntime) -> Result<(), Fail> {
     on_sample::<HostRuntime, Remembered>(&rt, rt.alloc(), RandomState::new(&rt)?)
 }
 
-/// In `pub`, alice grants everyone READ_DATA, and then no more. She removes it, and creates another under its name, which bob reads; the old
-/// filehandle is of a removed object.
+/// In `pub`, alice gives everyone READ_DATA, and then no more. She removes it, and makes another under its name, which bob reads; the old filehandle
+/// is of an object that is gone.
 static REPLACED: [Row; 7] = [
     (
         ALICE,

@@ -13,8 +13,8 @@ use std::process::Abort;
 use std::test::Fail;
 use who_book::Book;
 
-/// The lists of a root, and of the files `t` and `u` in it, objects 2 and 3; bob's call over that tree and its answer; and the lines that it
-/// writes, with their number.
+/// The lists of a root, and of the files `t` and `u` in it, objects 2 and 3; bob's call over that tree and its answer; and how many lines it
+/// writes, and which.
 type Case = (
     (&'static str, &'static str, &'static str),
     (&'static str, &'static str),
@@ -67,8 +67,8 @@ const NOT_RENAMED: (&str, &str) = (
     "access PUTROOTFH ok SAVEFH ok RENAME access",
 );
 
-/// Whether a name may be removed (RFC 8881, section 6.2.1.3.2): DELETE is checked on the object, DELETE_CHILD on the directory, and where
-/// neither is mentioned ADD_FILE.
+/// Whether a name goes (RFC 8881, section 6.2.1.3.2): of its object DELETE is asked, of the directory DELETE_CHILD, and where neither is
+/// mentioned ADD_FILE.
 static REMOVALS: [Case; 9] = [
     (
         ("A:0:60:EVERYONE@", "D:0:10000:EVERYONE@", ""),
@@ -210,11 +210,11 @@ AUDIT uid=1002 op=RENAME obj=1 mask=00000042 granted entry=1
     ),
 ];
 
-/// An entry for access granted to bob, one for refused access, and one that is INHERIT_ONLY.
+/// An entry that tells what bob is granted, one that tells what is refused, and one that is only inherited.
 const TELLING: &str = "L:10:27:1002 U:20:26:EVERYONE@ U:3b:27:EVERYONE@ A:0:20:EVERYONE@";
 
-/// The lines of granted access are written also where the operation then fails. A refusal has all bits demanded. Before its row an
-/// operation writes no line, and ACCESS never does.
+/// The lines of what is granted stand also where the operation then fails. A refusal tells all that was asked. Before its row an operation
+/// writes nothing, and ACCESS never does.
 static TOLD: [Case; 6] = [
     (
         (TELLING, "", ""),
@@ -294,7 +294,7 @@ fn names_go_and_are_told(rt: HostRuntime) -> Result<(), Fail> {
     see_all(rt.alloc(), hasher, told())
 }
 
-/// Each call is at the second of its place. An object that moves, or that loses a name and keeps others, has its metadata changed.
+/// Each call is at the second of its place. What is moved, and what loses a name and keeps others, has its metadata changed.
 static MOVES: [Row; 7] = [
     (
         BOB,
@@ -348,7 +348,7 @@ fn moved() -> &'static str {
     MOVED
 }
 
-/// Checks the state of a tree.
+/// Sees how a tree stands.
 fn see_tree(rt: &impl Abort, alloc: Global, server: &Server, wanted: &str) -> Result<(), Fail> {
     let text = tree_text(alloc, server.tree(), 12)?;
     assert_eq!(rt; text.as_slice(), wanted.as_bytes());

@@ -1,4 +1,4 @@
-//! COMPOUNDs with too little room: a reply has at most 65,536 bytes, its header of 24 included, of which 16 stay free.
+//! COMPOUNDs with too little room: one gives at most 65,536 bytes, its header of 24 included, of which 16 stay free.
 
 use acl_list::Kind;
 use call_texts::{BOB, Row};
@@ -13,8 +13,8 @@ use std::process::Abort;
 use std::test::Fail;
 use who_book::Book;
 
-/// A READ returns at most 32,768 bytes, and as many as fit. Behind 44 bytes and a READ of so many, 32,692 are left; another READ leaves as many as the
-/// next operation needs, or fewer. An operation needs 256, an attribute and a link's text their own size. An entry of READDIR with a list of 16 entries
+/// A READ gives at most 32,768 bytes, and what fits. Behind 44 bytes and a READ of so many, 32,692 are left; another READ leaves as many as the next
+/// operation needs, or fewer. An operation needs 256, an attribute and a link's text what they take. An entry of READDIR with a list of 16 entries
 /// takes 364 bytes beside the 16 of a result without entries, and the 8 of operation and status.
 static ROOMS: [Row; 17] = [
     (
@@ -108,7 +108,7 @@ fn rooms() -> &'static [Row] {
     &ROOMS
 }
 
-/// Checks that an operation isn't run where 252 bytes are left.
+/// Sees that an operation isn't run where 252 bytes are left.
 fn see_operation(
     alloc: Global,
     server: &mut Server,
@@ -135,7 +135,7 @@ fn see_operations(
     Ok(())
 }
 
-/// A list of 16 entries, of which GETATTR returns 332 bytes.
+/// A list of 16 entries, of which GETATTR gives 332 bytes.
 const LONG: &str =
     "A:0:1:5 A:0:1:5 A:0:1:5 A:0:1:5 A:0:1:5 A:0:1:5 A:0:1:5 A:0:1:5 A:0:1:5 A:0:1:5 A:0:1:5 A:0:1:5 A:0:1:5 A:0:1:5 A:0:1:5 A:0:1f07ff:EVERYONE@";
 

@@ -8,7 +8,7 @@ use std::hash::RandomState;
 use std::process::Abort;
 use std::test::Fail;
 
-/// Calls and their statuses, each at the second of its place. A change takes the next tick, from 4 on.
+/// Calls and their statuses, each at the second of its place. What changes something takes the next tick, from 4 on.
 static CALLS: [Row; 100] = [
     (ALICE, "PUTFH @3 CREATE 2 'a 2 0 2 4 1ed", "ok"),
     (BOB, "PUTFH @3 CREATE 2 'b 0 0", "ok"),
@@ -140,7 +140,7 @@ static CALLS: [Row; 100] = [
     ),
 ];
 
-/// Of the objects 4 to 19, which have the stamps of their numbers, nine are gone. Names are in the order of their cookies.
+/// Of the objects 4 to 19, which have the stamps of their numbers, nine are gone. Names stand by their cookies.
 static LEFT: &str = "1 dir 0:0 links=0 change=40 times=91,91 stamp=1
   4 3 pub
   25 14 etc
@@ -188,7 +188,7 @@ DENY uid=1002 op=CREATE obj=18 mask=00000024 missing=00000004
 DENY uid=0 op=LOOKUP obj=8 mask=00000020 missing=00000020
 ";
 
-/// Checks that a call at this second has this status.
+/// Sees that a call at this second has this status.
 fn see(alloc: Global, server: &mut Server, seconds: i64, row: &Row) -> Result<(), Fail> {
     let (who, call, status) = row;
     let bytes = call_of(alloc, call)?;
@@ -219,7 +219,7 @@ fn lines() -> &'static str {
     LINES
 }
 
-/// Checks the state of the tree, and its next tick and stamp.
+/// Sees how the tree stands, and what its next tick and stamp are.
 fn see_tree(rt: &impl Abort, alloc: Global, server: &Server) -> Result<(), Fail> {
     let text = tree_text(alloc, server.tree(), 40)?;
     assert_eq!(rt; text.as_slice(), left().as_bytes());

@@ -8,7 +8,7 @@ use std::hash::RandomState;
 use std::process::Abort;
 use std::test::Fail;
 
-/// A size that grows, shrinks and stays; a mode, a list, an owner, a group, all of them, none, and once more a mode; and the list and the mode of a directory. Each takes one tick, but for none. A size sets both times, the others that of metadata.
+/// A size that grows, shrinks and stays; a mode, a list, an owner, a group, all of them, none, and once more a mode; and the list and the mode of a directory. Each takes one tick, but for none. A size sets both times, the rest that of metadata.
 static SETTINGS: [Row; 12] = [
     (
         ALICE,
@@ -88,10 +88,10 @@ fn left() -> &'static str {
     LEFT
 }
 
-/// On a directory an INHERIT_ONLY entry stays.
+/// On a directory an entry stays that is to be inherited only.
 const PUB_LIST: &str = "A:0b:001f07ff:EVERYONE@\n1000\n";
 
-/// Refusals, in the order in which they are checked. All of them leave `notes` as it was.
+/// Refusals, in the order in which they are looked for. All of them leave `notes` as it was.
 static REFUSED: [Row; 37] = [
     (
         BOB,

@@ -7,7 +7,6 @@ mod hub;
 mod server;
 mod serving;
 
-pub use access_guard::next_epoch;
-pub use fault::{HubFault, Unloaded};
+pub use fault::HubFault;
 pub use hub::{ConnId, Hub, MAX_CONNECTIONS};
 pub use serving::{Clock, ServeEnd, serve};

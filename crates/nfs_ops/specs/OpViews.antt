@@ -1,2 +1,2 @@
--- The parts of an operation, passed on to the crates above.
+-- What an operation says, passed on to the crates above.
 pub use Rattle.nfs_ops.specs.Views.{op_view, after}

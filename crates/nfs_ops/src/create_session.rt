@@ -6,22 +6,22 @@ use xdr_wire::{Array, Full, Reader, Spell, Wire, Writer, XdrFault};
 /// The number of CREATE_SESSION.
 pub const OP_CREATE_SESSION: u32 = 43;
 
-/// Creates a session of a client. The arguments of CREATE_SESSION (RFC 8881, section 18.36).
+/// Makes a session of a client. The arguments of CREATE_SESSION (RFC 8881, section 18.36).
 #[derive(Drop)]
 pub struct CreateSessionArgs<'a> {
-    /// The client ID.
+    /// Its number.
     pub client: u64,
-    /// The sequence ID: one more than that of the last CREATE_SESSION.
+    /// One more than that of the last CREATE_SESSION.
     pub sequence: u32,
     /// CREATE_SESSION4_FLAG bits.
     pub flags: u32,
-    /// The attributes of the fore channel.
+    /// What calls of the client may carry.
     pub fore: Channel,
-    /// The attributes of the backchannel.
+    /// What callbacks may carry.
     pub back: Channel,
     /// The program of callbacks.
     pub program: u32,
-    /// The credentials of callbacks.
+    /// With which credentials callbacks come.
     pub security: Array<'a, CallbackSecurity<'a>, 8>,
 }
 
@@ -68,18 +68,18 @@ impl<'a> Wire<'a> for CreateSessionArgs<'a> {
     }
 }
 
-/// The session was created. The result of CREATE_SESSION (RFC 8881, section 18.36).
+/// The session was made. The result of CREATE_SESSION (RFC 8881, section 18.36).
 #[derive(Clone, Copy)]
 pub struct CreateSessionResult {
-    /// The session ID.
+    /// Its id.
     pub session: [u8; 16],
-    /// The sequence ID of the request.
+    /// That of the call.
     pub sequence: u32,
     /// CREATE_SESSION4_FLAG bits.
     pub flags: u32,
-    /// The attributes of the fore channel.
+    /// What calls of the client may carry.
     pub fore: Channel,
-    /// The attributes of the backchannel.
+    /// What callbacks may carry.
     pub back: Channel,
 }
 

@@ -12,13 +12,13 @@ pub const MAX_SERVER: u32 = 11;
 /// Makes a client known, without protection of its state. The arguments of EXCHANGE_ID (RFC 8881, section 18.35).
 #[derive(Clone, Copy)]
 pub struct ExchangeIdArgs<'a> {
-    /// The verifier of this incarnation of the client.
+    /// Of this start of the client.
     pub verifier: [u8; 8],
-    /// The client owner's ID.
+    /// The client's own name.
     pub owner: Opaque<'a, 1024>,
     /// EXCHGID4_FLAG bits.
     pub flags: u32,
-    /// The client's implementation.
+    /// Who made the client.
     pub implementation: Option<Implementation<'a>>,
 }
 
@@ -57,15 +57,15 @@ impl<'a> Wire<'a> for ExchangeIdArgs<'a> {
 /// The client's record. The result of EXCHANGE_ID (RFC 8881, section 18.35).
 #[derive(Clone, Copy)]
 pub struct ExchangeIdResult<'a> {
-    /// The client ID.
+    /// Its number.
     pub client: u64,
-    /// The sequence ID of the next CREATE_SESSION.
+    /// The number that its next CREATE_SESSION is to have.
     pub sequence: u32,
     /// EXCHGID4_FLAG bits.
     pub flags: u32,
-    /// The server owner's major ID.
+    /// The server's name.
     pub server: Opaque<'a, MAX_SERVER>,
-    /// The server scope.
+    /// Where its names are known.
     pub scope: Opaque<'a, MAX_SERVER>,
 }
 

@@ -12,16 +12,16 @@ use crate::readdir::GivenEntry;
 use std::alloc::Allocator;
 use xdr_wire::{Full, Spell, Writer};
 
-/// The outcome of the next entry.
+/// What became of the next entry.
 #[derive(Clone, Copy)]
 pub enum Next<R> {
-    /// The entry is written.
+    /// It is written.
     Written,
-    /// There is no entry.
+    /// There is none.
     End,
-    /// The entry is refused, with this refusal.
+    /// It is refused, by this.
     Refused(R),
-    /// There is no room for the entry.
+    /// There is no room for it.
     Full,
 }
 
@@ -30,12 +30,12 @@ pub trait Entries {
     ghost use Rattle.std.specs.Prelude.{◌≡◌, List};
     ghost use Rattle.nfs_ops.specs.Listing.{Judged, NextGives};
 
-    /// The refusal of an entry.
+    /// What refuses an entry.
     type Refusal: Copy;
 
-    // The entries that are left, as they are judged.
+    // Those that are left, as they are judged.
     ghost left: { Self → List (Judged Self.Refusal) };
-    // The state that judging and writing leave as it was.
+    // What judging and writing leave as it was.
     ghost Kept: { Type 0 } = { Unit {0} };
 
     ghost kept: { Self → Self.Kept };
@@ -57,9 +57,9 @@ pub fn write_entry<A: Allocator>(given: GivenEntry<'_>, writer: &mut Writer<A>) 
 /// Why there are no entries.
 #[derive(Clone, Copy)]
 pub enum ListFault<R> {
-    /// An entry is refused, with this refusal.
+    /// This refuses an entry.
     Refused(R),
-    /// Not even one entry fits, or there is none and a result without entries doesn't fit.
+    /// Not even one entry fits, or there is none and a result without entries doesn't.
     TooSmall,
 }
 

@@ -9,9 +9,9 @@ pub const OP_RENAME: u32 = 29;
 /// Moves a name. The arguments of RENAME (RFC 8881, section 18.26).
 #[derive(Clone, Copy)]
 pub struct RenameArgs<'a> {
-    /// The old name in the saved directory.
+    /// Of the saved directory.
     pub old: Bytes<'a>,
-    /// The new name in the current directory.
+    /// Of the current directory.
     pub new: Bytes<'a>,
 }
 

@@ -5,18 +5,18 @@ use xdr_wire::{Full, Reader, Spell, Wire, Writer, XdrFault};
 /// The number of SEQUENCE.
 pub const OP_SEQUENCE: u32 = 53;
 
-/// Begins a request of a session. The arguments of SEQUENCE (RFC 8881, section 18.46).
+/// Begins a call of a session. The arguments of SEQUENCE (RFC 8881, section 18.46).
 #[derive(Clone, Copy)]
 pub struct SequenceArgs {
-    /// The session ID.
+    /// Its id.
     pub session: [u8; 16],
-    /// The sequence ID: one more than that of the slot's last request, or that of a request that is retried.
+    /// One more than that of the slot's last call, or that of a call that is repeated.
     pub number: u32,
-    /// The slot ID.
+    /// The slot.
     pub slot: u32,
-    /// The highest slot ID that the client uses.
+    /// The highest slot that the client uses.
     pub highest: u32,
-    /// Whether the reply is to be cached for a retry.
+    /// Whether the reply is to be kept for a repeat.
     pub keep: bool,
 }
 
@@ -51,18 +51,18 @@ impl<'a> Wire<'a> for SequenceArgs {
     }
 }
 
-/// The request goes on. The result of SEQUENCE (RFC 8881, section 18.46).
+/// The call goes on. The result of SEQUENCE (RFC 8881, section 18.46).
 #[derive(Clone, Copy)]
 pub struct SequenceResult {
-    /// The session ID.
+    /// Its id.
     pub session: [u8; 16],
-    /// The sequence ID of the request.
+    /// That of the call.
     pub number: u32,
-    /// The slot ID.
+    /// The slot.
     pub slot: u32,
-    /// The highest slot ID that the client may use.
+    /// The highest slot that the client may use.
     pub highest: u32,
-    /// The target highest slot ID.
+    /// The highest slot that it is to use.
     pub target: u32,
 }
 

@@ -1,8 +1,6 @@
-//! Tests of `nfs_streams`: streams in memory, ready in any order, some of which fail, break or are silent, and books that come meanwhile.
+//! Tests of `nfs_streams`: streams in memory, ready in any order, some of which fail, break or are silent.
 #![tactic(auto)]
 
-#[cfg(test)]
-mod books;
 #[cfg(test)]
 mod house;
 #[cfg(test)]

@@ -8,24 +8,23 @@ use nfs_streams::{Moved, Streams, Wait};
 use nfs_types::Moment;
 use std::alloc::{Allocator, Global};
 use std::cell::Cell;
-use who_book::Book;
 
-/// The acts of the peer of a stream.
+/// What the peer of a stream does.
 #[derive(Clone, Copy)]
 pub struct Script {
-    /// How many waits come before its knock.
+    /// Behind how many waits it knocks.
     pub comes: u64,
     /// How many calls it sends.
     pub calls: u32,
-    /// Behind its calls the peer sends bytes that break the connection.
+    /// Behind its calls it sends what breaks a connection.
     pub breaks: bool,
-    /// Behind all its bytes the stream ends; else the peer stays silent.
+    /// Behind all that its stream ends; else it stays silent.
     pub leaves: bool,
     /// The most bytes that a read gives.
     pub piece: usize,
-    /// The most bytes that a write takes; 0: the peer never reads.
+    /// The most bytes that a write takes; 0: it never reads.
     pub takes: usize,
-    /// The waits of eight in which bytes can be read or written.
+    /// In which waits of eight something can be read or written.
     pub ready: u8,
     /// The read of this number fails.
     pub fails_read: u32,
@@ -46,14 +45,14 @@ pub const USUAL: Script = Script {
     fails_write: u32::MAX,
 };
 
-/// The script of a word: the kind of the peer by a letter, and a number, how many waits come before its knock.
+/// What a word says of a peer: its kind by a letter, and a number, behind how many waits it knocks.
 ///
 /// | Letter | The peer |
 /// |---|---|
 /// | u | sends two calls and leaves |
-/// | b | sends two calls, and then bytes that break its connection |
-/// | c | sends one call in single bytes, and then bytes that break its connection; it takes three bytes at once |
-/// | g | sends at once bytes that break its connection |
+/// | b | sends two calls, and then what breaks its connection |
+/// | c | sends one call in single bytes, and then what breaks its connection; it takes three bytes at once |
+/// | g | sends at once what breaks its connection |
 /// | n | leaves at once |
 /// | w | sends two calls in single bytes and leaves |
 /// | o | sends a call, and then is silent; it is ready in one wait of eight |
@@ -106,7 +105,7 @@ pub fn script_of(word: &str) -> Script {
 pub enum Seat {
     Outside,
     At(usize),
-    /// The stream was let go behind so many waits.
+    /// It was let go behind so many waits.
     Gone(u64),
 }
 
@@ -114,11 +113,11 @@ pub enum Seat {
 pub struct Stream {
     script: Script,
     input: Vec<u8>,
-    /// How many bytes of the stream were read.
+    /// How many bytes of it were read.
     pub read: usize,
     reads: u32,
     writes: u32,
-    /// The bytes that were written to the stream.
+    /// The bytes that were written to it.
     pub told: Vec<u8>,
     pub seat: Seat,
 }
@@ -146,7 +145,7 @@ impl Clock for Time {
     }
 }
 
-/// Streams that knock in turn, a trail that is kept, and a book that comes.
+/// Streams that knock in their order, and a trail that is kept.
 #[derive(Drop)]
 pub struct Memory<'a> {
     time: &'a Time,
@@ -154,7 +153,7 @@ pub struct Memory<'a> {
     /// How many streams were admitted.
     pub admitted: usize,
     pub waits: u64,
-    /// How many waits didn't only look.
+    /// How many of them were no mere looks.
     pub rests: u64,
     /// The wait of this number fails; 0: none.
     pub fails_wait: u64,
@@ -165,12 +164,6 @@ pub struct Memory<'a> {
     pub lines: u64,
     /// The most streams that were at places at once.
     pub most: usize,
-    /// The book, while it hasn't come.
-    pub book: Option<Book>,
-    /// How many waits come before the book.
-    pub brings: u64,
-    /// How often `book` was called.
-    pub asked: u64,
 }
 
 impl<'a> Memory<'a> {
@@ -186,9 +179,6 @@ impl<'a> Memory<'a> {
             fails_keep: 0,
             lines: 0,
             most: 0,
-            book: None,
-            brings: 0,
-            asked: 0,
         }
     }
 
@@ -291,14 +281,6 @@ impl<A: Allocator + Copy> Streams<A> for Memory<'_> {
         let now = self.time.seconds.get();
         self.time.seconds.set(now.saturating_add(1));
         self.waits != self.fails_wait
-    }
-
-    fn book(&mut self) -> Option<Book> {
-        self.asked = self.asked.saturating_add(1);
-        if self.waits < self.brings {
-            return None;
-        }
-        self.book.take()
     }
 
     fn knocks(&mut self) -> bool {

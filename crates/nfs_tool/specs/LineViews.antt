@@ -1,4 +1,4 @@
--- The known attributes of an entry, without their place.
+-- What is known of an entry, without where it lies.
 use Rattle.std.specs.Prelude.{option_map}
 use Rattle.nfs_tool.specs.Lines as specs
 use Rattle.nfs_tool.specs.declared.listing.Listed.{Listed}

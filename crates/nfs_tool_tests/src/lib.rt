@@ -24,8 +24,6 @@ mod putting;
 #[cfg(test)]
 mod refusals;
 #[cfg(test)]
-mod reloads;
-#[cfg(test)]
 mod removing;
 #[cfg(test)]
 mod replies;

@@ -42,7 +42,7 @@ const CALL: &[u32] = &[
     0x6600_0000,
 ];
 
-/// All operations are OK.
+/// All of it is OK.
 const DONE: &[u32] = &[
     0x8000_0074,
     1,

@@ -1,4 +1,4 @@
--- The numbers that two sets share.
+-- What two sets share.
 use Rattle.std.specs.Prelude.{ℕ, List, [], ◌∷◌, bit_and}
 
 -- the words of the numbers that two sets share

@@ -1,4 +1,4 @@
--- The value of each type, as it is spelled.
+-- What a value of each type spells.
 use Rattle.xdr_wire.specs.Xdr.{Value}
 use Rattle.nfs_types.specs.Forms.{handle, stateid, bitmap, attributes, trimmed}
 use Rattle.nfs_types.specs.Handles.{object_handle}

@@ -4,32 +4,32 @@ use crate::moment::Moment;
 use crate::status::Status;
 use acl_list::{Entry, Kind};
 
-/// The facts of an object that GETATTR and READDIR return, lent.
+/// What GETATTR and READDIR say of an object, lent.
 #[derive(Clone, Copy, Debug)]
 pub struct ObjectFacts<'a> {
-    /// The type of the object.
+    /// What it is.
     pub kind: Kind,
-    /// The number of the object, of which its filehandle and its file ids are made.
+    /// Its number, which its filehandle and its file ids are made of.
     pub number: u64,
     /// A number that each change of the object makes larger.
     pub change: u64,
     /// How many bytes a file or a link text has; 0 of a directory.
     pub size: u64,
-    /// Why READDIR returns less than was requested, else `Ok`.
+    /// Why READDIR gives less than was asked, else `Ok`.
     pub error: Status,
-    /// The list, of at most 64 entries.
+    /// Its list, of at most 64 entries.
     pub entries: &'a [Entry],
-    /// The mode: its high bits, and the mode that the list stands for.
+    /// Its mode: its high bits, and what the list stands for.
     pub mode: u32,
-    /// How many names the object has.
+    /// How many names it has.
     pub links: u32,
-    /// The number of the owner.
+    /// The number of the user it belongs to.
     pub owner: u32,
-    /// The number of the owner's group.
+    /// The number of the group it belongs to.
     pub group: u32,
-    /// The time of the last change.
+    /// When anything about it was changed last.
     pub metadata: Moment,
-    /// The time of the last change of the content.
+    /// When its content was changed last.
     pub modify: Moment,
     ghost few: { length entries.now ≤ 64 },
 }

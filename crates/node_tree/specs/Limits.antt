@@ -1,4 +1,4 @@
--- The limits of a tree.
+-- How much of each there may be.
 use Rattle.std.specs.Prelude.{ℕ}
 
 -- the number of the root

@@ -1,26 +1,26 @@
-//! The tick and the time of a change.
+//! When a change is made.
 
 ghost use Rattle.std.specs.Prelude.{◌≡◌};
 ghost use Rattle.node_tree.specs.Changes.{epoch};
 
 use nfs_types::Moment;
 
-/// The moment of the objects that were there from the start.
+/// The moment of what was there from the start.
 pub const EPOCH: Moment = Moment {
     seconds: 0,
     nanoseconds: 0,
 };
 
-/// The tick and the time of a change. The changes of one operation share them.
+/// When a change is made. The changes of one operation share it.
 #[derive(Clone, Copy, Debug, PartialEq, Eq)]
 pub struct At {
-    /// The change attribute of the changed objects (RFC 8881, section 5.8.1.4).
+    /// What the objects that are changed get as their change attribute (RFC 8881, section 5.8.1.4).
     pub tick: u64,
-    /// The times of the changed objects (RFC 8881, sections 5.8.2.37 to 5.8.2.43).
+    /// What they get as their times (RFC 8881, sections 5.8.2.37 to 5.8.2.43).
     pub moment: Moment,
 }
 
-/// The tick and the time of the objects that were there from the start.
+/// When what was there from the start was made.
 pub(crate) fn from_start(tick: u64) -> At
     ensures { result ≡ record { tick = tick; moment = epoch } }
 {

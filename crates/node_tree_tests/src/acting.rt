@@ -11,13 +11,13 @@ use std::alloc::Allocator;
 /// The outcome of a call.
 #[derive(Clone, Copy, Debug, PartialEq, Eq)]
 pub enum Outcome {
-    /// The call was done.
+    /// It was done.
     Done,
-    /// The call was done, and made this object.
+    /// It was done, and made this object.
     Made(u64),
-    /// The call was refused.
+    /// It was refused.
     Refused(TreeFault),
-    /// The call's requirements don't hold.
+    /// It may not be called so.
     Misused,
 }
 
@@ -187,17 +187,17 @@ pub fn size<A: Allocator + Copy>(tree: &Tree<A>, number: u64) -> Option<u64> {
     tree.object(number).map(|node| node.size())
 }
 
-/// The tick of the last change.
+/// The tick of its last change.
 pub fn change<A: Allocator + Copy>(tree: &Tree<A>, number: u64) -> Option<u64> {
     tree.object(number).map(|node| node.change())
 }
 
-/// The stamp.
+/// Its stamp.
 pub fn stamp<A: Allocator + Copy>(tree: &Tree<A>, number: u64) -> Option<u64> {
     tree.object(number).map(|node| node.stamp())
 }
 
-/// The seconds of the two times.
+/// The seconds of its two times.
 pub fn times<A: Allocator + Copy>(tree: &Tree<A>, number: u64) -> Option<(i64, i64)> {
     tree.object(number).map(|node| (node.time_modify().seconds, node.time_metadata().seconds))
 }

@@ -31,7 +31,7 @@ pub fn operations() -> &'static [(&'static str, &'static str)] {
     &OPERATIONS
 }
 
-/// SETATTR alone has more than its status when refused: the empty set.
+/// A refused SETATTR alone gives more than its status: the empty set.
 pub fn tail_of(operation: &str) -> &'static str {
     if operation == "SETATTR" { "0" } else { "" }
 }

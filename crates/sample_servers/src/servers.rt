@@ -28,38 +28,17 @@ pub fn sample_server(alloc: Global, hasher: RandomState) -> Result<Server, Alloc
     server_of(alloc, Book::default(alloc), Tree::sample(alloc)?, hasher)
 }
 
-/// The book of this text; without a text, one without names.
-pub fn book_of(alloc: Global, text: &str) -> Result<Book, Fail> {
-    if text.is_empty() {
-        return Ok(Book::default(alloc));
-    }
-    Ok(Book::read(alloc, text)?)
-}
-
-/// Loads the book of this text, as [`book_of`] has it.
-pub fn reload<A: Allocator + Copy>(
-    alloc: Global,
-    server: &mut Server<A>,
-    text: &str,
-) -> Result<(), Fail> {
-    let book = book_of(alloc, text)?;
-    if server.reload(book).is_err() {
-        return Err(Fail::new("no epoch"));
-    }
-    Ok(())
-}
-
-/// A test's look at a server.
+/// A look at a server, by what a test is given.
 pub trait Sight<R> {
     fn see(rt: &R, alloc: Global, server: &mut Server) -> Result<(), Fail>;
 }
 
-/// Checks this server, which is dropped here: once all is checked.
+/// Sees it on this server, which is dropped here: once for all that is seen.
 pub fn on<R, S: Sight<R>>(rt: &R, alloc: Global, mut server: Server) -> Result<(), Fail> {
     S::see(rt, alloc, &mut server)
 }
 
-/// Checks a server of the sample tree.
+/// Sees it on a server of the sample tree.
 pub fn on_sample<R, S: Sight<R>>(rt: &R, alloc: Global, hasher: RandomState) -> Result<(), Fail> {
     on::<R, S>(rt, alloc, sample_server(alloc, hasher)?)
 }
@@ -112,7 +91,7 @@ pub fn run_in_session(
     }
 }
 
-/// Checks the bytes of a call. `Err`: they are others; the place of their call, and its words.
+/// Sees that bytes are there and are these. `Err`: they are others; the place of their call, and its words.
 pub fn see_bytes(given: Option<&[u8]>, wanted: &[u8], place: i64, call: &str) -> Result<(), Fail> {
     if given == Some(wanted) {
         return Ok(());
@@ -120,14 +99,14 @@ pub fn see_bytes(given: Option<&[u8]>, wanted: &[u8], place: i64, call: &str) ->
     Err(Fail::new(format_args!("{place}: {call}: {given:?}")))
 }
 
-/// Checks that these are the results of a row's call.
+/// Sees that these are the results of a row's call.
 pub fn see_answer(alloc: Global, given: Option<&[u8]>, place: i64, row: &Row) -> Result<(), Fail> {
     let (_, call, answer) = row;
     let wanted = answer_of(alloc, answer)?;
     see_bytes(given, &wanted, place, call)
 }
 
-/// Checks that a call at this second is answered so.
+/// Sees that a call at this second is answered so.
 fn see(alloc: Global, server: &mut Server, seconds: i64, row: &Row) -> Result<(), Fail> {
     let (who, call, _) = row;
     let bytes = call_of(alloc, call)?;
@@ -136,7 +115,7 @@ fn see(alloc: Global, server: &mut Server, seconds: i64, row: &Row) -> Result<()
     see_answer(alloc, given, seconds, row)
 }
 
-/// Checks the answers of calls, the first of them at second 1.
+/// Sees the answers of calls, the first of them at second 1.
 pub fn play(alloc: Global, server: &mut Server, rows: &[Row]) -> Result<(), Fail> {
     let mut seconds = 0i64;
     for row in rows {
@@ -146,7 +125,7 @@ pub fn play(alloc: Global, server: &mut Server, rows: &[Row]) -> Result<(), Fail
     Ok(())
 }
 
-/// Checks that a call at this second is answered so, where sessions are in use.
+/// Sees that a call at this second is answered so, where sessions are in use.
 fn see_in_session(alloc: Global, server: &mut Server, seconds: i64, row: &Row) -> Result<(), Fail> {
     let (who, call, _) = row;
     let bytes = call_of(alloc, call)?;
@@ -155,7 +134,7 @@ fn see_in_session(alloc: Global, server: &mut Server, seconds: i64, row: &Row) -
     see_answer(alloc, given, seconds, row)
 }
 
-/// Checks the answers of calls where sessions are in use, the first of them at second 1.
+/// Sees the answers of calls where sessions are in use, the first of them at second 1.
 pub fn play_in_session(alloc: Global, server: &mut Server, rows: &[Row]) -> Result<(), Fail> {
     let mut seconds = 0i64;
     for row in rows {
@@ -165,7 +144,7 @@ pub fn play_in_session(alloc: Global, server: &mut Server, rows: &[Row]) -> Resu
     Ok(())
 }
 
-/// Checks that arguments of these words have these results at second 0, where sessions are in use.
+/// Sees that arguments of these words have these results at second 0, where sessions are in use.
 pub fn see_words_in_session(
     alloc: Global,
     server: &mut Server,
@@ -180,7 +159,7 @@ pub fn see_words_in_session(
     see_bytes(given, &wanted, 0, words)
 }
 
-/// Checks that a call is answered so at second 0, where sessions are in use.
+/// Sees that a call is answered so at second 0, where sessions are in use.
 pub fn see_text_in_session(
     alloc: Global,
     server: &mut Server,
@@ -195,7 +174,7 @@ pub fn see_text_in_session(
     see_bytes(given, &wanted, 0, call)
 }
 
-/// Checks that bob's call is answered so, at second 0.
+/// Sees that bob's call is answered so, at second 0.
 pub fn see_text(alloc: Global, server: &mut Server, call: &str, answer: &str) -> Result<(), Fail> {
     let bytes = call_of(alloc, call)?;
     let wanted = answer_of(alloc, answer)?;
@@ -204,7 +183,7 @@ pub fn see_text(alloc: Global, server: &mut Server, call: &str, answer: &str) ->
     see_bytes(given, &wanted, 0, call)
 }
 
-/// Checks that the trail has these lines, and has had no others.
+/// Sees that the trail has these lines, and has had no others.
 pub fn see_trail(alloc: Global, server: &Server, total: u64, wanted: &str) -> Result<(), Fail> {
     let given = trail_text(alloc, server.guard())?;
     if given.as_slice() == wanted.as_bytes() && server.guard().total() == total {

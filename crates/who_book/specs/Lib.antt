@@ -1,6 +1,5 @@
 pub mod Names
 pub mod Content
-pub mod Members
 pub mod Document
 pub mod Outlines
 pub mod Indexes

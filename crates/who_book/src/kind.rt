@@ -1,6 +1,6 @@
-//! The two tables of names.
+//! Which of the two tables a name stands in.
 
-/// The table that a name is in.
+/// Which of the two tables a name stands in.
 #[derive(Clone, Copy, Debug, PartialEq, Eq)]
 pub enum NameKind {
     /// The names of users.

@@ -1,9 +1,7 @@
-//! The tests of the book of names: texts with their answers, how whos are spelled, and the groups of callers.
+//! The tests of the book of names: texts with their answers, and how whos are spelled.
 #![tactic(auto)]
 
 #[cfg(test)]
 mod books;
-#[cfg(test)]
-mod members;
 #[cfg(test)]
 mod spelled;

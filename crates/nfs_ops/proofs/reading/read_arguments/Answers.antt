@@ -1,4 +1,4 @@
--- The arguments of each operation are read by its row.
+-- What is read of each is what its row says.
 use Rattle.std.proofs.Common.{refl, ap}
 use Rattle.nfs_ops.specs.Operations.{arguments_of, supported}
 use Rattle.nfs_ops.specs.declared.op_kind.OpKind.TheVariants as kinds

@@ -1,4 +1,4 @@
--- Each operation is written as the spelling of its value in its form.
+-- What is written of each is what its form and its value spell.
 use Rattle.nfs_ops.proofs.writing.write_op.Goals as goal
 
 pub returns-in-Access : goal.returns-in-Access
