@@ -1,4 +1,4 @@
--- A decision that is told by summaries which are remembered looks at no entry.
+-- A decision that remembered summaries tell looks at no entry.
 use Rattle.std.proofs.Common.{◌≡◌, ℕ, ◌^◌, ◌<◌, ◌∙◌, Bool, true, false, ◌&&◌, ◌||◌, cond, List, [], ◌∷◌, ◌++◌, length, Some, None, refl, ap, subst, inl, inr, ◌⊎◌, arith}
 use Rattle.std.specs.Prelude.{Option, All, MatchOption, IsSome}
 use Rattle.std.specs.Option.{option_map, option_map_or}
@@ -23,6 +23,7 @@ use Rattle.node_tree.specs.Judged.{Judged}
 use Rattle.access_rows.specs.declared.demand.Demand.{Demand}
 use Rattle.access_rows.specs.declared.demand.Demand.TheVariants.{Bits, Removal}
 use Rattle.access_guard.specs.declared.memory.Key.{Key}
+use Rattle.access_guard.specs.Asker.{Asker, member_of}
 use Rattle.access_guard.specs.Keys.{is_key}
 use Rattle.access_guard.specs.Lists.{Lists, names, sum_of, grants, is_quiet}
 use Rattle.access_guard.specs.Memory.{Memory, LooksUp, LooksUpFor, Decides, key_of, examined_more, used, learnt, tells, tells_removal, is_told, walked}
@@ -30,7 +31,7 @@ use Rattle.access_guard.specs.History.{looks_for}
 use Rattle.access_guard.specs.Telling.{IsAllow, IsAllowed, IsQuiet, AreHits}
 use Rattle.access_guard.proofs.Telling.{Fits}
 
--- ---- what a summary tells
+-- ---- the decision that a summary tells
 
 both : (a b : Bool) → a ≡ true → b ≡ true → a && b ≡ true
 both a b p q = rw p q
@@ -80,7 +81,7 @@ picked true back v w rest old h more = refl
 picked false true v w rest old h more = refl
 picked false false v w rest old h more = more h
 
--- what is there is there after an entry went to the front
+-- a summary that is there is there after an entry went to the front
 found_after : {K V : Type 0} (test p : K → Bool) (es : List (K × V)) (e : K × V) → lookup_entry test es ≡ Some e → IsSome (lookup p es) → IsSome (lookup p (e ∷ remove_entry test es))
 found_after test p [] e at there = cc
 found_after {K} {V} test p (f ∷ es) e at there = go (test f.0) (found_after test p es e) at
@@ -97,50 +98,51 @@ found_promoted {K} {V} test p es there = go (lookup_entry test es) refl
     go None is = there
     go (Some e) is = found_after test p es e is there
 
--- what a hit leaves
+-- the memory after a hit
 record Left (old new : Memory) : Type 0 where
   examined : new.examined ≡ old.examined
   found : (key : Key) → IsSome (lookup (is_key key) old.remembered) → IsSome (lookup (is_key key) new.remembered)
 
-hit : (j : Judged) (caller : Identity) (old new : Memory) → LooksUp j caller old new → IsSome (lookup (is_key (key_of j caller)) old.remembered) → Left old new
-hit j caller old new step there = go (lookup (is_key (key_of j caller)) old.remembered) step there
+hit : (j : Judged) (asker : Asker) (old new : Memory) → LooksUp j asker old new → IsSome (lookup (is_key (key_of j asker)) old.remembered) → Left old new
+hit j asker old new step there = go (lookup (is_key (key_of j asker)) old.remembered) step there
   where
-    go : (o : Option Summary) → MatchOption o ((new ≡ learnt (key_of j caller) (sum_of j caller) (examined_more (length j.list) old)) ⊎ (new ≡ examined_more (length j.list) old)) (λ s. new ≡ used (key_of j caller) old) → IsSome o → Left old new
+    go : (o : Option Summary) → MatchOption o ((new ≡ learnt (key_of j asker) (sum_of j (member_of asker)) (examined_more (length j.list) old)) ⊎ (new ≡ examined_more (length j.list) old)) (λ s. new ≡ used (key_of j asker) old) → IsSome o → Left old new
     go None h none = cc
-    go (Some s) is some = rw is (record { examined = refl; found = λ key. found_promoted (is_key (key_of j caller)) (is_key key) old.remembered })
+    go (Some s) is some = rw is (record { examined = refl; found = λ key. found_promoted (is_key (key_of j asker)) (is_key key) old.remembered })
 
-abbrev look : Identity → Option Judged → List (Key × Summary)
-look caller o = option_map_or (λ j. (key_of j caller, sum_of j caller) ∷ []) o []
+abbrev look : Asker → Option Judged → List (Key × Summary)
+look asker o = option_map_or (λ j. (key_of j asker, sum_of j (member_of asker)) ∷ []) o []
 
-hit-at : (caller : Identity) (o : Option Judged) (old new : Memory) → MatchOption o (new ≡ old) (λ j. LooksUp j caller old new) → AreHits (look caller o) old.remembered → Left old new
-hit-at caller None old new same hits = rw same (record { examined = refl; found = λ key h. h })
-hit-at caller (Some j) old new step hits = hit j caller old new step (All-head (λ (l : Key × Summary). IsSome (lookup (is_key l.0) old.remembered)) (key_of j caller, sum_of j caller) [] hits)
+hit-at : (asker : Asker) (o : Option Judged) (old new : Memory) → MatchOption o (new ≡ old) (λ j. LooksUp j asker old new) → AreHits (look asker o) old.remembered → Left old new
+hit-at asker None old new same hits = rw same (record { examined = refl; found = λ key h. h })
+hit-at asker (Some j) old new step hits = hit j asker old new step (All-head (λ (l : Key × Summary). IsSome (lookup (is_key l.0) old.remembered)) (key_of j asker, sum_of j (member_of asker)) [] hits)
 
 -- the second look-up hits after the first
-hits-apart : (caller : Identity) (t p : Option Judged) (remembered : List (Key × Summary)) → AreHits (look caller t ++ look caller p) remembered → AreHits (look caller t) remembered × AreHits (look caller p) remembered
-hits-apart caller None p remembered hits = (All-nil (λ (l : Key × Summary). IsSome (lookup (is_key l.0) remembered)), hits)
-hits-apart caller (Some j) p remembered hits = (
+hits-apart : (asker : Asker) (t p : Option Judged) (remembered : List (Key × Summary)) → AreHits (look asker t ++ look asker p) remembered → AreHits (look asker t) remembered × AreHits (look asker p) remembered
+hits-apart asker None p remembered hits = (All-nil (λ (l : Key × Summary). IsSome (lookup (is_key l.0) remembered)), hits)
+hits-apart asker (Some j) p remembered hits = (
   All-cons (λ (l : Key × Summary). IsSome (lookup (is_key l.0) remembered)) _ [] (All-head (λ (l : Key × Summary). IsSome (lookup (is_key l.0) remembered)) _ _ hits) (All-nil (λ (l : Key × Summary). IsSome (lookup (is_key l.0) remembered))),
   All-tail (λ (l : Key × Summary). IsSome (lookup (is_key l.0) remembered)) _ _ hits,
 )
 
-still-hits : (caller : Identity) (o : Option Judged) (old new : Memory) → Left old new → AreHits (look caller o) old.remembered → AreHits (look caller o) new.remembered
-still-hits caller None old new left hits = All-nil (λ (l : Key × Summary). IsSome (lookup (is_key l.0) new.remembered))
-still-hits caller (Some j) old new left hits =
-    All-cons (λ (l : Key × Summary). IsSome (lookup (is_key l.0) new.remembered)) _ [] (left.found (key_of j caller) (All-head (λ (l : Key × Summary). IsSome (lookup (is_key l.0) old.remembered)) (key_of j caller, sum_of j caller) [] hits)) (All-nil (λ (l : Key × Summary). IsSome (lookup (is_key l.0) new.remembered)))
+still-hits : (asker : Asker) (o : Option Judged) (old new : Memory) → Left old new → AreHits (look asker o) old.remembered → AreHits (look asker o) new.remembered
+still-hits asker None old new left hits = All-nil (λ (l : Key × Summary). IsSome (lookup (is_key l.0) new.remembered))
+still-hits asker (Some j) old new left hits =
+    All-cons (λ (l : Key × Summary). IsSome (lookup (is_key l.0) new.remembered)) _ [] (left.found (key_of j asker) (All-head (λ (l : Key × Summary). IsSome (lookup (is_key l.0) old.remembered)) (key_of j asker, sum_of j (member_of asker)) [] hits)) (All-nil (λ (l : Key × Summary). IsSome (lookup (is_key l.0) new.remembered)))
 
 module _ (lists : Lists) (caller : Identity) where
-  pub told : (demand : Demand) → Fits demand → IsAllowed lists caller demand → IsQuiet lists caller demand → is_told lists caller demand ≡ true
+  told : (demand : Demand) → Fits demand → IsAllowed lists caller demand → IsQuiet lists caller demand → is_told lists caller demand ≡ true
   told (Bits object mask) fits h q = bits_told caller (lists object) mask fits h q
   told (Removal parent target) fits h q = removal_told caller (lists target) (lists parent) h q.0 q.1
 
-  all_hit : (demand : Demand) (old new : Memory) → LooksUpFor lists caller demand old new → AreHits (looks_for lists caller demand) old.remembered → new.examined ≡ old.examined
-  all_hit (Bits object mask) old new step hits = (hit-at caller (lists object) old new step hits).examined
+module _ (lists : Lists) (asker : Asker) where
+  all_hit : (demand : Demand) (old new : Memory) → LooksUpFor lists asker demand old new → AreHits (looks_for lists asker demand) old.remembered → new.examined ≡ old.examined
+  all_hit (Bits object mask) old new step hits = (hit-at asker (lists object) old new step hits).examined
   all_hit (Removal parent target) old new (between, first, second) hits =
-      let apart = hits-apart caller (lists target) (lists parent) old.remembered hits in
-      let one = hit-at caller (lists target) old between first apart.0 in
-      (hit-at caller (lists parent) between new second (still-hits caller (lists parent) old between one apart.1)).examined ∙ one.examined
+      let apart = hits-apart asker (lists target) (lists parent) old.remembered hits in
+      let one = hit-at asker (lists target) old between first apart.0 in
+      (hit-at asker (lists parent) between new second (still-hits asker (lists parent) old between one apart.1)).examined ∙ one.examined
 
-  pub quiet_hits : (demand : Demand) (old new : Memory) → Fits demand → IsAllowed lists caller demand → IsQuiet lists caller demand → AreHits (looks_for lists caller demand) old.remembered → Decides lists caller demand old new → new.examined ≡ old.examined
+  pub quiet_hits : (demand : Demand) (old new : Memory) → Fits demand → IsAllowed lists (member_of asker) demand → IsQuiet lists (member_of asker) demand → AreHits (looks_for lists asker demand) old.remembered → Decides lists asker demand old new → new.examined ≡ old.examined
   quiet_hits demand old new fits h q hits (between, looks, walk) =
-      ap (λ (m : Memory). m.examined) (walk ∙ ap (λ b. cond b between (walked lists demand between)) (told demand fits h q)) ∙ all_hit demand old between looks hits
+      ap (λ (m : Memory). m.examined) (walk ∙ ap (λ b. cond b between (walked lists demand between)) (told lists (member_of asker) demand fits h q)) ∙ all_hit demand old between looks hits

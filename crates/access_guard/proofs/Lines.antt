@@ -15,7 +15,7 @@ use Rattle.access_guard.specs.Decisions.{removal, is_granted}
 use Rattle.access_guard.specs.Lines.{watch_lines, deny_lines, parent_mask, lines}
 use Rattle.access_guard.specs.Log.{Log, held}
 
--- a step of a loop that collects what f gives
+-- a step of a loop that collects the values of f
 pub step-some : {X Y : Type 0} (f : ℕ × X → Option Y) (xs ys : List X) (i : ℕ) (d : X) (done : List Y) (y : Y) → ys ≡ xs → i < length ys → f (i, get_or ys i d) ≡ Some y
     → (done ++ y ∷ []) ++ filter_map f (enumerate_from (i + 1) (drop (i + 1) xs)) ≡ done ++ filter_map f (enumerate_from i (drop i xs))
 step-some f xs ys i d done y same below gives = rw (sym same) (rw (drop-cons ys i d below) (rw add-one (rw gives (simp append_assoc))))

@@ -1,4 +1,4 @@
--- What summaries tell is what lists answer.
+-- Summaries tell the verdicts of lists.
 use Rattle.std.proofs.Common.{◌≡◌, ℕ, ◌+◌, ◌^◌, ◌<◌, ◌∙◌, Bool, true, false, ◌||◌, List, [], ◌∷◌, ◌++◌, Some, None, refl, ap, sym, inl, inr, ◌⊎◌, arith}
 use Rattle.std.specs.Prelude.{Option, All}
 use Rattle.std.specs.List.{filter_map, enumerate_from}
@@ -56,13 +56,13 @@ module _ (caller : Identity) (j : Judged) (mask : ℕ) (fits : mask < 2 ^ 32) wh
       from n [] all = refl
       from n (e ∷ es) all = rw (none n e (All-head (λ x. watched_bits (names j caller) (told true) mask x ≡ 0) e es all)) (from (n + 1) es (All-tail (λ x. watched_bits (names j caller) (told true) mask x ≡ 0) e es all))
 
--- a bit that is granted is mentioned by an ALLOW
+-- an ALLOW mentions a bit that is granted
 allowed : (place : ℕ) (m : Mention) → verdict_on_bit place m ≡ verdicts.Granted → (index : ℕ) × (m ≡ AllowedBy index)
 allowed place Unmentioned h = cc
 allowed place (AllowedBy index) h = (index, refl)
 allowed place (DeniedBy index) h = cc
 
--- ---- what is known of an object, if it is there
+-- ---- an object, if it is there
 
 module _ (caller : Identity) where
   abbrev sum : Option Judged → Option Summary
@@ -78,7 +78,7 @@ module _ (caller : Identity) where
 
 -- ---- removal
 
--- one of the two is mentioned by an ALLOW
+-- an ALLOW mentions one of the two bits
 abbrev Allows : Mention → Mention → Type 0
 Allows m n = ((index : ℕ) × (m ≡ AllowedBy index)) ⊎ ((index : ℕ) × (n ≡ AllowedBy index))
 

@@ -1,4 +1,4 @@
--- What lists answer to a demand.
+-- The decision of lists on a demand.
 use Rattle.std.specs.Prelude.{ℕ, Bool, true, false}
 use Rattle.rpc_record.specs.Identity.{Identity}
 use Rattle.acl_list.specs.Places as places
@@ -14,16 +14,16 @@ use Rattle.access_guard.specs.declared.decision.Decision.TheVariants.{Granted, R
 use Rattle.access_guard.specs.declared.decision.Cause.TheVariants.{ByEntry, Missing}
 use Rattle.access_guard.specs.Lists.{Lists, verdict_at, mention_at}
 
--- a refusal names the object, the bits that were asked of it, and the entry that denies or the bit that none allows
+-- a refusal names the object, the bits demanded of it, and the entry that denies or the bit that no entry allows
 abbrev pub answer : ℕ → ℕ → Verdict → Decision
 answer object mask verdicts.Granted = Granted
 answer object mask (verdicts.Denied index) = Refused object mask (ByEntry index)
 answer object mask (verdicts.Missing bit) = Refused object mask (Missing bit)
 
--- Whether a name of the target may go from the parent, by what the target's list says of DELETE, what the parent's says of
--- DELETE_CHILD, and what the parent's answers to ADD_FILE (RFC 8881, section 6.2.1.3.2). An ALLOW of either of the first two
--- suffices, whatever the other says; ADD_FILE suffices where neither is mentioned. A refusal names the parent's DENY of
--- DELETE_CHILD if there is one, else the target's of DELETE if there is one, else what ADD_FILE lacks.
+-- Whether a name of the target may be removed from the parent, by DELETE in the target's list, and DELETE_CHILD and ADD_FILE in the
+-- parent's (RFC 8881, section 6.2.1.3.2). An ALLOW of DELETE or of DELETE_CHILD suffices, whatever the other list says; ADD_FILE
+-- suffices where neither is mentioned. A refusal names the parent's DENY of DELETE_CHILD if there is one, else the target's of DELETE
+-- if there is one, else the refusal of ADD_FILE.
 abbrev pub removal : ℕ → ℕ → Mention → Mention → Verdict → Decision
 removal parent target (AllowedBy index) on_parent add = Granted
 removal parent target (DeniedBy index) (AllowedBy other) add = Granted

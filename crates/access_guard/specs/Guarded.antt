@@ -1,14 +1,26 @@
--- A tree beside the guard of its lists. What the guard remembers makes no difference to it, only how much it may.
+-- A tree beside the guard of its lists, and the book of its callers. The summaries that the guard remembers make no difference,
+-- only how many they may be.
 use Rattle.std.specs.Prelude.{ℕ, []}
+use Rattle.who_book.specs.Content.{Content}
 use Rattle.node_tree.specs.World.{World}
+use Rattle.access_guard.specs.Epochs.{FIRST_EPOCH}
 use Rattle.access_guard.specs.Log.{Log}
 
 pub record Guarded : Type 0 where
   pub world : World
+  pub book : Content
+  -- the epoch of the book, counted from 1
+  pub epoch : ℕ
   pub log : Log
   -- how many summaries are remembered at most
   pub capacity : ℕ
 
--- a tree beside a guard that has decided nothing yet
-abbrev pub unjudged : World → ℕ → Guarded
-unjudged w capacity = record { world = w; log = record { held = []; trail = []; total = 0 }; capacity = capacity }
+-- a tree and its first book, beside a guard that has decided nothing yet
+abbrev pub unjudged : World → Content → ℕ → Guarded
+unjudged w book capacity = record {
+  world = w;
+  book = book;
+  epoch = FIRST_EPOCH;
+  log = record { held = []; trail = []; total = 0 };
+  capacity = capacity;
+}

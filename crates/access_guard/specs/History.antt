@@ -1,19 +1,19 @@
--- What is remembered after any list of look-ups.
+-- The summaries that are remembered after any list of look-ups.
 use Rattle.std.specs.Prelude.{◌≡◌, ◌⊎◌, ℕ, ◌-◌, List, [], ◌∷◌, ◌++◌, take, MatchOption}
 use Rattle.std.specs.Option.{option_map_or}
 use Rattle.std.specs.Map.{lookup}
 use Rattle.lru.specs.LruCache.{promoted}
-use Rattle.rpc_record.specs.Identity.{Identity}
 use Rattle.acl_list.specs.declared.answer.Summary.{Summary}
 use Rattle.access_rows.specs.declared.demand.Demand.{Demand}
 use Rattle.access_rows.specs.declared.demand.Demand.TheVariants.{Bits, Removal}
 use Rattle.access_guard.specs.declared.memory.Key.{Key}
+use Rattle.access_guard.specs.Asker.{Asker, member_of}
 use Rattle.access_guard.specs.Keys.{is_key}
 use Rattle.access_guard.specs.Lists.{Lists, sum_of}
 use Rattle.access_guard.specs.Memory.{key_of}
 
--- A look-up of a summary that is there moves it to the front. Another goes in front, and the last one goes if there were as many
--- as there may be; or, where memory is refused for it, the list stays.
+-- A look-up of a summary that is there moves it to the front. Another summary goes in front, and the last one goes if the list was
+-- full; or, where memory is refused for it, the list stays.
 abbrev pub IsLookUp : ℕ → Key × Summary → List (Key × Summary) → List (Key × Summary) → Type 0
 IsLookUp capacity (key, sum) old new =
     MatchOption (lookup (is_key key) old)
@@ -26,10 +26,10 @@ AreLookUps capacity [] old new = new ≡ old
 AreLookUps capacity (look ∷ more) old new = (between : List (Key × Summary)) × IsLookUp capacity look old between × AreLookUps capacity more between new
 
 -- the look-up of an object, if it is there
-abbrev pub looks_at : Lists → Identity → ℕ → List (Key × Summary)
-looks_at lists caller object = option_map_or (λ j. (key_of j caller, sum_of j caller) ∷ []) (lists object) []
+abbrev pub looks_at : Lists → Asker → ℕ → List (Key × Summary)
+looks_at lists asker object = option_map_or (λ j. (key_of j asker, sum_of j (member_of asker)) ∷ []) (lists object) []
 
 -- the look-ups of a demand: of a removal the target's, then the parent's
-abbrev pub looks_for : Lists → Identity → Demand → List (Key × Summary)
-looks_for lists caller (Bits object mask) = looks_at lists caller object
-looks_for lists caller (Removal parent target) = looks_at lists caller target ++ looks_at lists caller parent
+abbrev pub looks_for : Lists → Asker → Demand → List (Key × Summary)
+looks_for lists asker (Bits object mask) = looks_at lists asker object
+looks_for lists asker (Removal parent target) = looks_at lists asker target ++ looks_at lists asker parent

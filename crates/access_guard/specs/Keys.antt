@@ -1,7 +1,7 @@
--- Which remembered summaries are of one list and one caller.
+-- Whether two remembered summaries are of one list and one caller, under one book.
 use Rattle.std.specs.Prelude.{Bool, ◌==◌, ◌&&◌}
 use Rattle.rpc_record.specs.Identity.{is_same}
 use Rattle.access_guard.specs.declared.memory.Key.{Key}
 
 abbrev pub is_key : Key → Key → Bool
-is_key a b = (a.stamp == b.stamp) && is_same a.caller b.caller
+is_key a b = (a.epoch == b.epoch) && (a.stamp == b.stamp) && is_same a.caller b.caller

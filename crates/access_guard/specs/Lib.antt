@@ -2,6 +2,8 @@ pub mod Lists
 pub mod Decisions
 pub mod Lines
 pub mod Log
+pub mod Asker
+pub mod Epochs
 pub mod Keys
 pub mod Memory
 pub mod State

@@ -26,15 +26,15 @@ use Rattle.access_guard.specs.Decisions.{decision, is_granted}
 
 -- ---- AUDIT and ALARM lines
 
--- the line that an entry writes, if it is one to write lines
+-- the kind of an entry's lines: AUDIT and ALARM entries alone write lines
 abbrev pub line_kind : EntryKind → Option LineKind
 line_kind kinds.Allow = None
 line_kind kinds.Deny = None
 line_kind kinds.Audit = Some Audit
 line_kind kinds.Alarm = Some Alarm
 
--- The line of the entry at an index, where the mask was granted or refused: it tells the bits of the mask that the entry
--- watches. An entry that watches none writes none.
+-- The line of the entry at an index, where the mask was granted or refused: it has the bits of the mask that the entry
+-- watches. An entry that watches no bit writes no line.
 abbrev pub watch_line : Identity → ℕ → ℕ → ℕ → Bool → Judged → ℕ × Entry → Option Line
 watch_line caller op object mask granted j (index, e) =
     let bits = watched_bits (names j caller) (told granted) mask e in
@@ -66,7 +66,7 @@ deny_lines caller op (Refused object mask cause) =
 
 -- ---- both
 
--- the bits of the parent that a removal looks at: ADD_FILE too where neither DELETE nor DELETE_CHILD is mentioned
+-- the bits of the parent that a removal checks: ADD_FILE too where neither DELETE nor DELETE_CHILD is mentioned
 abbrev pub parent_mask : Mention → Mention → ℕ
 parent_mask (AllowedBy index) on_parent = DELETE_CHILD
 parent_mask (DeniedBy index) on_parent = DELETE_CHILD
@@ -74,7 +74,7 @@ parent_mask Unmentioned (AllowedBy other) = DELETE_CHILD
 parent_mask Unmentioned (DeniedBy other) = DELETE_CHILD
 parent_mask Unmentioned Unmentioned = bit_or DELETE_CHILD ADD_FILE
 
--- the lines of the entries that the demand looks at: of a removal the target's, then the parent's
+-- the lines of the entries that the demand checks: of a removal the target's, then the parent's
 abbrev pub demand_lines : Lists → Identity → ℕ → Bool → Demand → List Line
 demand_lines lists caller op granted (Bits object mask) = watch_lines lists caller op granted object mask
 demand_lines lists caller op granted (Removal parent target) =
@@ -87,7 +87,7 @@ lines lists caller op demand =
     let d = decision lists caller demand in
     demand_lines lists caller op (is_granted d) demand ++ deny_lines caller op d
 
--- ---- how many there are at most
+-- ---- how many lines there are at most
 
 -- the lines of a decision at most: one for each entry of its lists, and the DENY line
 abbrev pub most_lines : Demand → ℕ

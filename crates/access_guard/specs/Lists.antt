@@ -1,4 +1,4 @@
--- What objects are judged by, and what their lists answer to one who asks (RFC 8881, section 6.2.1).
+-- The access attributes of objects, and the verdicts of their lists on a requester (RFC 8881, section 6.2.1).
 use Rattle.std.specs.Prelude.{ℕ, ◌==◌, Bool, length, Option, bit_and}
 use Rattle.std.specs.Option.{option_map, option_map_or}
 use Rattle.rpc_record.specs.Identity.{Identity}
@@ -13,33 +13,33 @@ use Rattle.acl_list.specs.declared.answer.Mention.TheVariants.{Unmentioned}
 use Rattle.acl_list.specs.declared.answer.Summary.{Summary}
 use Rattle.node_tree.specs.Judged.{Judged}
 
--- what the object of each number is judged by, if there is one
+-- the access attributes of the object of each number, if there is one
 abbrev pub Lists : Type 0
 Lists = ℕ → Option Judged
 
--- which whos are true of the caller, for the object
+-- whether a who is true of the caller, for the object
 abbrev pub names : Judged → Identity → Who → Bool
 names j caller = is_true_for j.owner j.group caller
 
--- what the list of an object answers to a mask: an object that isn't there grants nothing
+-- the verdict of an object's list on a mask: an object that isn't there grants nothing
 abbrev pub verdict_of : Option Judged → Identity → ℕ → Verdict
 verdict_of o caller mask = option_map_or (λ j. verdict (names j caller) j.list mask) o (Missing 0)
 
 abbrev pub verdict_at : Lists → Identity → ℕ → ℕ → Verdict
 verdict_at lists caller object mask = verdict_of (lists object) caller mask
 
--- which entry of an object's list decides the bit of a place
+-- the entry of an object's list that decides the bit of a place
 abbrev pub mention_of : Option Judged → Identity → ℕ → Mention
 mention_of o caller place = option_map_or (λ j. mentioned (mention (names j caller) j.list place)) o Unmentioned
 
 abbrev pub mention_at : Lists → Identity → ℕ → ℕ → Mention
 mention_at lists caller object place = mention_of (lists object) caller place
 
--- what the list of the object comes to for the caller
+-- the summary of the object's list for the caller
 abbrev pub sum_of : Judged → Identity → Summary
 sum_of j caller = summary (names j caller) j.list
 
--- the same, where there is such an object
+-- the summary of the list of this object, if it is there
 abbrev pub sum_at : Lists → Identity → ℕ → Option Summary
 sum_at lists caller object = option_map (λ j. sum_of j caller) (lists object)
 
@@ -54,10 +54,10 @@ entries_of o = option_map_or (λ j. length j.list) o 0
 abbrev pub entries_at : Lists → ℕ → ℕ
 entries_at lists object = entries_of (lists object)
 
--- a list that comes to this grants each bit of the mask
+-- a list with this summary grants each bit of the mask
 abbrev pub grants : Summary → ℕ → Bool
 grants s mask = bit_and mask s.granted == mask
 
--- no entry of it tells of a bit of the mask where that is granted
+-- no entry of a list with this summary watches a bit of the mask for success
 abbrev pub is_quiet : Summary → ℕ → Bool
 is_quiet s mask = bit_and mask s.watch_ok == 0

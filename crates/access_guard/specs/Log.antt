@@ -1,4 +1,4 @@
--- What a guard has written: the lines of the operation that runs, and the trail of those before it.
+-- The lines that a guard has written: those of the operation that runs, and the trail of those before it.
 use Rattle.std.specs.Prelude.{ℕ, ◌+◌, ◌-◌, ◌^◌, min, Bool, if◌then◌else◌, List, [], ◌++◌, length}
 use Rattle.circular_buffer.specs.Buffer.{keep_last}
 use Rattle.access_guard.specs.declared.line.Line.{Line}
@@ -8,7 +8,7 @@ pub record Log : Type 0 where
   pub held : List Line
   -- the last lines of the operations before it, in order
   pub trail : List Line
-  -- how many there were in all, as far as 64 bits count
+  -- how many lines there were in all, as far as 64 bits count
   pub total : ℕ
 
 -- how many lines the trail keeps at most
@@ -19,7 +19,7 @@ MOST_KEPT = 4096
 abbrev pub held : List Line → Log → Log
 held lines log = record log { held = log.held ++ lines }
 
--- the operation ends, and its lines stand behind those before it, or are dropped
+-- the operation ends, and its lines go behind those before it, or are dropped
 abbrev pub settled : Bool → Log → Log
 settled keep log = record {
   held = [];

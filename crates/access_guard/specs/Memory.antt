@@ -1,8 +1,10 @@
--- Which summaries a guard remembers, how that agrees with a tree, and how many entries it has looked at.
-use Rattle.std.specs.Prelude.{◌≡◌, ◌⊎◌, ℕ, ◌+◌, ◌-◌, ◌^◌, ◌<◌, min, Bool, false, ◌&&◌, ◌||◌, if◌then◌else◌, List, ◌∷◌, length, take, Option, Some, None, Contains, MatchOption}
+-- The summaries that a guard remembers, their agreement with a tree and a book, and how many entries it has looked at.
+use Rattle.std.specs.Prelude.{◌≡◌, ◌⊎◌, ℕ, ◌+◌, ◌-◌, ◌^◌, ◌<◌, ◌≤◌, min, Bool, false, ◌&&◌, ◌||◌, if◌then◌else◌, List, ◌∷◌, length, take, Option, Some, None, Contains, MatchOption}
 use Rattle.std.specs.Map.{lookup}
 use Rattle.lru.specs.LruCache.{promoted}
 use Rattle.rpc_record.specs.Identity.{Identity}
+use Rattle.who_book.specs.Content.{Content}
+use Rattle.who_book.specs.Members.{member}
 use Rattle.acl_list.specs.declared.mask.TheConstants.{DELETE, DELETE_CHILD}
 use Rattle.acl_list.specs.declared.answer.Summary.{Summary}
 use Rattle.node_tree.specs.World.{World}
@@ -10,29 +12,33 @@ use Rattle.node_tree.specs.Judged.{Judged, judged_of}
 use Rattle.access_rows.specs.declared.demand.Demand.{Demand}
 use Rattle.access_rows.specs.declared.demand.Demand.TheVariants.{Bits, Removal}
 use Rattle.access_guard.specs.declared.memory.Key.{Key}
+use Rattle.access_guard.specs.Asker.{Asker, member_of}
 use Rattle.access_guard.specs.Keys.{is_key}
 use Rattle.access_guard.specs.Lists.{Lists, sum_of, sum_at, entries_at, grants, is_quiet}
 
 pub record Memory : Type 0 where
   -- how many summaries are remembered at most
   pub capacity : ℕ
-  -- the summaries by list and caller, the one that was asked last first
+  -- the summaries by book, list and caller, the last one used first
   pub remembered : List (Key × Summary)
   -- how many entries of lists were looked at, as far as 64 bits count
   pub examined : ℕ
 
 -- ---- agreement
 
--- Each summary is what the list with that stamp comes to now, and no stamp is yet to come.
-pub record Agrees (remembered : List (Key × Summary)) (w : World) : Type 0 where
+-- Each summary of this epoch is the summary of the list with that stamp now, for the caller by the book. No stamp and no
+-- epoch is yet to come.
+pub record Agrees (remembered : List (Key × Summary)) (book : Content) (epoch : ℕ) (w : World) : Type 0 where
   pub known : (key : Key) (sum : Summary) → Contains remembered (key, sum) → key.stamp < w.next_stamp
-  pub now : (key : Key) (sum : Summary) → Contains remembered (key, sum) → (number : ℕ) (j : Judged) → judged_of w number ≡ Some j → j.stamp ≡ key.stamp → sum ≡ sum_of j key.caller
+  pub past : (key : Key) (sum : Summary) → Contains remembered (key, sum) → key.epoch ≤ epoch
+  pub now : (key : Key) (sum : Summary) → Contains remembered (key, sum) → key.epoch ≡ epoch → (number : ℕ) (j : Judged) → judged_of w number ≡ Some j → j.stamp ≡ key.stamp
+      → sum ≡ sum_of j (member book key.caller)
 
 -- ---- look-ups
 
--- the caller, and the list that the object has now
-abbrev pub key_of : Judged → Identity → Key
-key_of j caller = record { stamp = j.stamp; caller = caller }
+-- the caller as sent, the epoch of the book, and the list that the object has now
+abbrev pub key_of : Judged → Asker → Key
+key_of j asker = record { epoch = asker.epoch; stamp = j.stamp; caller = asker.sent }
 
 -- so many more entries were looked at
 abbrev pub examined_more : ℕ → Memory → Memory
@@ -42,27 +48,27 @@ examined_more entries m = record m { examined = min (m.examined + entries) (2 ^ 
 abbrev pub used : Key → Memory → Memory
 used key m = record m { remembered = promoted (is_key key) m.remembered }
 
--- another is put first, and the last goes if there were as many as there may be
+-- a new summary goes first, and the last one goes if the list was full
 abbrev pub learnt : Key → Summary → Memory → Memory
 learnt key sum m = record m { remembered = (key, sum) ∷ take (m.capacity - 1) m.remembered }
 
--- A look-up of what an object's list comes to. One that isn't remembered is worked out from the whole list and put first, or,
+-- A look-up of the summary of an object's list. A summary that isn't remembered is computed from the whole list and put first, or,
 -- where memory is refused for it, isn't remembered.
-abbrev pub LooksUp : Judged → Identity → Memory → Memory → Type 0
-LooksUp j caller old new =
-    MatchOption (lookup (is_key (key_of j caller)) old.remembered)
-    ((new ≡ learnt (key_of j caller) (sum_of j caller) (examined_more (length j.list) old)) ⊎ (new ≡ examined_more (length j.list) old))
-    (λ sum. new ≡ used (key_of j caller) old)
+abbrev pub LooksUp : Judged → Asker → Memory → Memory → Type 0
+LooksUp j asker old new =
+    MatchOption (lookup (is_key (key_of j asker)) old.remembered)
+    ((new ≡ learnt (key_of j asker) (sum_of j (member_of asker)) (examined_more (length j.list) old)) ⊎ (new ≡ examined_more (length j.list) old))
+    (λ sum. new ≡ used (key_of j asker) old)
 
 -- an object that isn't there isn't looked up
-abbrev pub LooksUpAt : Lists → Identity → ℕ → Memory → Memory → Type 0
-LooksUpAt lists caller object old new = MatchOption (lists object) (new ≡ old) (λ j. LooksUp j caller old new)
+abbrev pub LooksUpAt : Lists → Asker → ℕ → Memory → Memory → Type 0
+LooksUpAt lists asker object old new = MatchOption (lists object) (new ≡ old) (λ j. LooksUp j asker old new)
 
 -- the look-ups of a demand: of a removal the target's, then the parent's
-abbrev pub LooksUpFor : Lists → Identity → Demand → Memory → Memory → Type 0
-LooksUpFor lists caller (Bits object mask) old new = LooksUpAt lists caller object old new
-LooksUpFor lists caller (Removal parent target) old new =
-    (between : Memory) × LooksUpAt lists caller target old between × LooksUpAt lists caller parent between new
+abbrev pub LooksUpFor : Lists → Asker → Demand → Memory → Memory → Type 0
+LooksUpFor lists asker (Bits object mask) old new = LooksUpAt lists asker object old new
+LooksUpFor lists asker (Removal parent target) old new =
+    (between : Memory) × LooksUpAt lists asker target old between × LooksUpAt lists asker parent between new
 
 -- ---- decisions
 
@@ -71,8 +77,8 @@ abbrev pub tells : Option Summary → ℕ → Bool
 tells None mask = false
 tells (Some s) mask = grants s mask && is_quiet s mask
 
--- The summaries of the target and of the parent alone tell that a removal is granted and that no line is written. It is
--- granted so by DELETE or by DELETE_CHILD, and not by ADD_FILE: a summary doesn't tell a denied bit from one that isn't
+-- The summaries of the target and of the parent alone tell that a removal is granted and that no line is written. It is granted so
+-- by DELETE or by DELETE_CHILD, and not by ADD_FILE: a summary doesn't distinguish a denied bit from a bit that isn't
 -- mentioned.
 abbrev pub tells_removal : Option Summary → Option Summary → Bool
 tells_removal None on_parent = false
@@ -89,7 +95,7 @@ abbrev pub walked : Lists → Demand → Memory → Memory
 walked lists (Bits object mask) m = examined_more (entries_at lists object) m
 walked lists (Removal parent target) m = examined_more (entries_at lists parent) (examined_more (entries_at lists target) m)
 
--- What a decision leaves in memory: its look-ups, and where the summaries don't tell it a walk over its lists.
-abbrev pub Decides : Lists → Identity → Demand → Memory → Memory → Type 0
-Decides lists caller demand old new =
-    (between : Memory) × LooksUpFor lists caller demand old between × (new ≡ (if is_told lists caller demand then between else walked lists demand between))
+-- The memory after a decision: its look-ups, and where the summaries don't tell it a walk over its lists.
+abbrev pub Decides : Lists → Asker → Demand → Memory → Memory → Type 0
+Decides lists asker demand old new =
+    (between : Memory) × LooksUpFor lists asker demand old between × (new ≡ (if is_told lists (member_of asker) demand then between else walked lists demand between))

@@ -1,4 +1,4 @@
--- What a guard is.
+-- The state of a guard.
 use Rattle.std.specs.Prelude.{ℕ, []}
 use Rattle.access_guard.specs.Log.{Log}
 use Rattle.access_guard.specs.Memory.{Memory}
@@ -7,7 +7,7 @@ pub record State : Type 0 where
   pub memory : Memory
   pub log : Log
 
--- one that has decided nothing yet
+-- a guard that has decided nothing yet
 abbrev pub fresh : ℕ → State
 fresh capacity = record {
   memory = record { capacity = capacity; remembered = []; examined = 0 };

@@ -1,4 +1,4 @@
--- Which demands need no walk over a list.
+-- The demands that need no walk over a list.
 use Rattle.std.specs.Prelude.{◌≡◌, ◌⊎◌, ℕ, All, MatchOption, IsSome, List}
 use Rattle.std.specs.Map.{lookup}
 use Rattle.rpc_record.specs.Identity.{Identity}
@@ -19,16 +19,16 @@ use Rattle.access_guard.specs.Lists.{Lists, names, verdict_at, mention_at}
 abbrev pub IsAllow : Mention → Type 0
 IsAllow m = (index : ℕ) × (m ≡ AllowedBy index)
 
--- it is granted, and a removal by DELETE or by DELETE_CHILD
+-- the demand is granted, and a removal by DELETE or by DELETE_CHILD
 abbrev pub IsAllowed : Lists → Identity → Demand → Type 0
 IsAllowed lists caller (Bits object mask) = verdict_at lists caller object mask ≡ Granted
 IsAllowed lists caller (Removal parent target) = IsAllow (mention_at lists caller target places.delete) ⊎ IsAllow (mention_at lists caller parent places.delete_child)
 
--- the object is there, and no entry of its list tells of a bit of the mask where that is granted
+-- the object is there, and no entry of its list watches a bit of the mask for success
 abbrev pub IsQuietAt : Lists → Identity → ℕ → ℕ → Type 0
 IsQuietAt lists caller object mask = MatchOption (lists object) ⊥ (λ j. All (λ e. watched_bits (names j caller) places.successful mask e ≡ 0) j.list)
 
--- so it is with all that the demand asks
+-- no entry watches a bit of the demand for success
 abbrev pub IsQuiet : Lists → Identity → Demand → Type 0
 IsQuiet lists caller (Bits object mask) = IsQuietAt lists caller object mask
 IsQuiet lists caller (Removal parent target) = IsQuietAt lists caller target DELETE × IsQuietAt lists caller parent DELETE_CHILD

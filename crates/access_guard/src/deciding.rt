@@ -1,4 +1,4 @@
-//! What the lists of objects answer.
+//! The decisions of the lists of objects.
 ghost use Rattle.std.specs.Prelude.{◌≡◌, ◌^◌, ℕ};
 ghost use Rattle.access_guard.specs.Decisions as specs;
 ghost use Rattle.access_guard.specs.Lists as lists;
@@ -10,7 +10,7 @@ use acl_list::mask::{ADD_FILE, DELETE, DELETE_CHILD};
 use acl_list::{Caller, Mention, Verdict, judge, mention};
 use std::alloc::Allocator;
 
-/// What the list of an object answers to a mask.
+/// The verdict of an object's list on a mask.
 pub(crate) fn verdict_of<A: Allocator + Copy>(
     opened: &Opened<'_, A>,
     caller: &Caller,
@@ -24,7 +24,7 @@ pub(crate) fn verdict_of<A: Allocator + Copy>(
     }
 }
 
-/// Which entry of an object's list decides a bit.
+/// The entry of an object's list that decides a bit.
 pub(crate) fn mention_of<A: Allocator + Copy>(
     opened: &Opened<'_, A>,
     caller: &Caller,
@@ -38,8 +38,8 @@ pub(crate) fn mention_of<A: Allocator + Copy>(
     }
 }
 
-/// Whether a name of the target may go from the parent, by what the lists say of DELETE on the one and of DELETE_CHILD on the
-/// other. Only where neither is mentioned is the parent asked for ADD_FILE.
+/// Whether a name of the target may be removed from the parent, by DELETE in the target's list and DELETE_CHILD in the
+/// parent's. Only where neither is mentioned is ADD_FILE checked on the parent.
 pub(crate) fn removal<A: Allocator + Copy>(
     opened_parent: &Opened<'_, A>,
     caller: &Caller,
@@ -75,7 +75,7 @@ pub(crate) fn removal<A: Allocator + Copy>(
     }
 }
 
-/// The bits of the parent that a removal looks at.
+/// The bits of the parent that a removal checks.
 pub(crate) fn parent_mask(on_target: Mention, on_parent: Mention) -> u32
     ensures { result ≡ lines.parent_mask on_target on_parent }
 {

@@ -1,28 +1,28 @@
-//! What is answered to a demand.
+//! The decision on a demand.
 ghost use Rattle.std.specs.Prelude.{◌≡◌};
 ghost use Rattle.access_guard.specs.Decisions as specs;
 
 use acl_list::Verdict;
 
-/// Why a list refuses something, or which entry tells of it.
+/// The cause of a refusal, or of a line: an entry, or a bit that no entry allows.
 #[derive(Clone, Copy, Debug, PartialEq, Eq)]
 pub enum Cause {
     /// The entry at this index of the list, counted from 0.
     ByEntry(usize),
-    /// No entry allows this bit, which is told as a mask. 0: there is no such object.
+    /// No entry allows this bit, given as a mask. 0: there is no such object.
     Missing(u32),
 }
 
 /// Whether the lists grant a demand.
 #[derive(Clone, Copy, Debug, PartialEq, Eq)]
 pub enum Decision {
-    /// They do.
+    /// The lists grant the demand.
     Granted,
-    /// They don't.
+    /// The lists refuse the demand.
     Refused {
         /// The object whose list refuses it.
         object: u64,
-        /// What was asked of that object: the whole mask of the demand, also the bits that the list grants. Of a removal
+        /// The bits demanded of that object: the whole mask of the demand, also the bits that the list grants. Of a removal
         /// DELETE_CHILD, DELETE or ADD_FILE.
         mask: u32,
         /// The first entry that denies a bit of it, else the lowest bit that no entry allows.
@@ -39,7 +39,7 @@ impl Decision {
     }
 }
 
-/// The answer where a verdict on the bits of one object decides.
+/// The decision where a verdict on the bits of one object decides.
 pub(crate) fn answer(object: u64, mask: u32, verdict: Verdict) -> Decision
     ensures { result ≡ specs.answer object mask verdict }
 {

@@ -1,19 +1,23 @@
 //! The guard.
-ghost use Rattle.std.specs.Prelude.{◌≡◌, ◌+◌, ◌≤◌, [], length, IfOk, IsTrue};
+ghost use Rattle.std.specs.Prelude.{◌≡◌, ℕ, ◌+◌, ◌≤◌, [], length, IfOk, IsTrue};
 ghost use Rattle.std.specs.Map.Iter.{ShowsInOrder, deref, deref_pair};
 ghost use Rattle.std.specs.NonZero.{non_zero_usize_get};
 ghost use Rattle.acl_list.specs.declared.answer.Summary.{Summary};
 ghost use Rattle.access_guard.specs.declared.line.Line.{Line};
 ghost use Rattle.access_guard.specs.declared.memory.Key.{Key};
 ghost use Rattle.node_tree.specs.Judged.{judged_of};
+ghost use Rattle.access_guard.specs.Asker.{asker};
 ghost use Rattle.access_guard.specs.Lists.{granted_at};
 ghost use Rattle.access_guard.specs.Decisions.{decision, is_granted};
 ghost use Rattle.access_guard.specs.Lines.{lines, most_lines};
 ghost use Rattle.access_guard.specs.Log.{held, settled};
 ghost use Rattle.node_tree.specs.World.{World};
+ghost use Rattle.who_book.specs.Content.{Content};
+ghost use Rattle.who_book.specs.Members.{member};
 ghost use Rattle.access_guard.specs.Memory.{Agrees, Decides, LooksUpAt, walked};
 ghost use Rattle.access_guard.specs.State.{fresh};
 
+use crate::asker::Asker;
 use crate::deciding::{mention_of, parent_mask, removal, verdict_of};
 use crate::decision::{Decision, answer};
 use crate::line::Line;
@@ -27,8 +31,9 @@ use std::alloc::{AllocError, Allocator, Global};
 use std::hash::RandomState;
 use std::marker::Model;
 use std::num::NonZeroUsize;
+use who_book::Book;
 
-/// Decides on demands, remembers what lists come to, and keeps the trail.
+/// Decides on demands, remembers summaries of lists, and keeps the trail.
 #[derive(Drop)]
 pub struct Guard<A: Allocator = Global> {
     memory: Summaries<A>,
@@ -45,10 +50,10 @@ impl<A: Allocator> Model for Guard<A> {
 
 impl<A: Allocator + Copy> Guard<A> {
     /// A guard that has decided nothing yet. It remembers at most `capacity` summaries, and hashes their keys by `hasher`. It
-    /// agrees with every tree. `Err`: there is no memory for it.
+    /// agrees with every tree and every book. `Err`: there is no memory for it.
     pub fn new(alloc: A, capacity: NonZeroUsize, hasher: RandomState) -> Result<Self, AllocError>
         ensures value { IfOk result (λ guard. guard ≡ fresh (non_zero_usize_get capacity)) }
-        ensures agrees { IfOk result (λ guard. (w : World) → Agrees guard.memory.remembered w) }
+        ensures agrees { IfOk result (λ guard. (book : Content) (epoch : ℕ) (w : World) → Agrees guard.memory.remembered book epoch w) }
     {
         Ok(Guard {
             memory: Summaries::new(alloc, capacity, hasher)?,
@@ -56,51 +61,54 @@ impl<A: Allocator + Copy> Guard<A> {
         })
     }
 
-    /// Whether the lists of the tree, as they are now, grant a demand to the caller (RFC 8881, section 6.2.1). `op` is the number
-    /// of the operation that asks. It takes no memory that it needs.
+    /// Whether the lists of the tree, as they are now, grant a demand to the caller by the book (RFC 8881, section 6.2.1).
+    /// `epoch` is that of the book, and `op` the number of the operation. It takes no memory that it needs.
     ///
     /// [`Demand::Bits`] is granted where the object's list grants each bit of the mask, by first mention. Else the refusal names
     /// the first entry that denies one, else the lowest bit that no entry allows. An object that isn't there grants nothing.
     ///
-    /// [`Demand::Removal`] goes by this table (RFC 8881, section 6.2.1.3.2). The rows are what the target's list says of DELETE,
-    /// the columns what the parent's says of DELETE_CHILD.
+    /// [`Demand::Removal`] goes by this table (RFC 8881, section 6.2.1.3.2). The rows are DELETE in the target's list, the
+    /// columns DELETE_CHILD in the parent's.
     ///
     /// | | ALLOW | DENY | not mentioned |
     /// |---|---|---|---|
     /// | ALLOW | granted | granted | granted |
     /// | DENY | granted | refused by the parent's DENY | refused by the target's DENY |
-    /// | not mentioned | granted | refused by the parent's DENY | as the parent's list answers ADD_FILE |
+    /// | not mentioned | granted | refused by the parent's DENY | as the parent's list decides ADD_FILE |
     ///
-    /// Its lines are held until [`Guard::settle`]. First come those of the AUDIT and ALARM entries that watch, entry by entry:
+    /// The lines are held until [`Guard::settle`]. First come those of the AUDIT and ALARM entries that watch, entry by entry:
     /// of a removal the target's with DELETE, then the parent's with DELETE_CHILD, and with ADD_FILE too where neither DELETE nor
     /// DELETE_CHILD is mentioned. Then on refusal comes the DENY line. A grant has at most one line for each entry of the lists
-    /// that it looks at: 64 of [`Demand::Bits`], and 128 of [`Demand::Removal`].
+    /// that it checks: 64 of [`Demand::Bits`], and 128 of [`Demand::Removal`].
     ///
-    /// What lists come to is remembered, if there is memory for it: the answer and the lines are the same without. Each object is
-    /// looked up once, of a removal the target first. Where what is remembered tells that the demand is granted and that no entry
-    /// watches it, no list is walked; a removal by ADD_FILE is never told so.
+    /// Summaries of lists are remembered by epoch, stamp and caller as sent, if there is memory for them: the decision and the
+    /// lines are the same without. Each object is looked up once, of a removal the target first. Where remembered summaries tell
+    /// that the demand is granted and that no entry watches it, no list is walked; they never tell so of a removal by ADD_FILE.
     pub fn decide<B: Allocator + Copy>(
         &mut self,
         demand: Demand,
         tree: &Tree<B>,
+        book: &Book,
+        epoch: u64,
         caller: &Caller,
         op: u32,
     ) -> Decision
-        requires agrees { Agrees self.old.memory.remembered tree.now }
+        requires agrees { Agrees self.old.memory.remembered book.now epoch tree.now }
         requires room { length self.old.log.held + most_lines demand ≤ MOST_HELD }
-        ensures decision { result ≡ decision (judged_of tree.now) caller.now demand }
-        ensures lines { self.new.log ≡ held (lines (judged_of tree.now) caller.now op demand) self.old.log }
+        ensures decision { result ≡ decision (judged_of tree.now) (member book.now caller.now) demand }
+        ensures lines { self.new.log ≡ held (lines (judged_of tree.now) (member book.now caller.now) op demand) self.old.log }
         ensures few { IsTrue (is_granted result) → length self.new.log.held + 1 ≤ length self.old.log.held + most_lines demand }
-        ensures memory { Decides (judged_of tree.now) caller.now demand self.old.memory self.new.memory }
-        ensures agrees { Agrees self.new.memory.remembered tree.now }
+        ensures memory { Decides (judged_of tree.now) (asker book.now epoch caller.now) demand self.old.memory self.new.memory }
+        ensures agrees { Agrees self.new.memory.remembered book.now epoch tree.now }
     {
-        if self.memory.tells(demand, tree, caller) {
+        let mut asker = Asker::new(book, epoch, caller);
+        if self.memory.tells(demand, tree, &mut asker) {
             return Decision::Granted;
         }
-        self.decide_by_lists(demand, tree, caller, op)
+        self.decide_by_lists(demand, tree, &asker.member(), op)
     }
 
-    /// What the lists answer to a demand, which are walked and counted, with its lines.
+    /// The decision on a demand by its lists, which are walked and counted, with its lines.
     fn decide_by_lists<B: Allocator + Copy>(
         &mut self,
         demand: Demand,
@@ -188,26 +196,28 @@ impl<A: Allocator + Copy> Guard<A> {
         decision
     }
 
-    /// The bits that an object's list grants the caller, of all 32: none where there is no such object. No line is written. The
-    /// object is looked up once, as in [`Guard::decide`].
+    /// The bits that an object's list grants the caller by the book, of all 32: none where there is no such object. No
+    /// line is written. The object is looked up once, as in [`Guard::decide`].
     pub fn grants<B: Allocator + Copy>(
         &mut self,
         object: u64,
         tree: &Tree<B>,
+        book: &Book,
+        epoch: u64,
         caller: &Caller,
     ) -> u32
-        requires { Agrees self.old.memory.remembered tree.now }
-        ensures mask { result ≡ granted_at (judged_of tree.now) caller.now object }
-        ensures memory { LooksUpAt (judged_of tree.now) caller.now object self.old.memory self.new.memory }
-        ensures agrees { Agrees self.new.memory.remembered tree.now }
+        requires { Agrees self.old.memory.remembered book.now epoch tree.now }
+        ensures mask { result ≡ granted_at (judged_of tree.now) (member book.now caller.now) object }
+        ensures memory { LooksUpAt (judged_of tree.now) (asker book.now epoch caller.now) object self.old.memory self.new.memory }
+        ensures agrees { Agrees self.new.memory.remembered book.now epoch tree.now }
         ensures log { self.new.log ≡ self.old.log }
     {
         self.memory
-            .sum_at(object, tree, caller)
+            .sum_at(object, tree, &mut Asker::new(book, epoch, caller))
             .map_or(0, |sum| sum.granted)
     }
 
-    /// The summaries that are remembered, the one that was asked last first.
+    /// The summaries that are remembered, the last one used first.
     pub fn remembered(&self) -> lru::Iter<'_, Key, Summary>
         ensures rest { result ≡ self.now.memory.remembered }
         ensures runs { ShowsInOrder (deref_pair {K = Key} {X = Summary}) }
@@ -215,8 +225,8 @@ impl<A: Allocator + Copy> Guard<A> {
         self.memory.iter()
     }
 
-    /// How many entries of lists were looked at. It stays at 2^64 - 1. A list counts whole where a look-up doesn't find what it
-    /// comes to, and once more where a decision walks it.
+    /// How many entries of lists were looked at. It stays at 2^64 - 1. A list counts whole where a look-up doesn't find its
+    /// summary, and once more where a decision walks it.
     pub fn examined(&self) -> u64
         ensures { result ≡ self.now.memory.examined }
     {

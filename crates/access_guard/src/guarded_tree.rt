@@ -1,4 +1,4 @@
-//! A tree beside its guard.
+//! A tree beside its guard, and the book.
 ghost use Rattle.std.specs.Prelude.{◌≡◌, ◌≢◌, ◌+◌, ◌<◌, ◌≤◌, ◌^◌, [], ◌++◌, length, drop, if◌then◌else◌, MatchOption, OnOk, OnErr, IfOk, IsOk, IsOkUnless, IfSome, IsSome, IsTrue, Some};
 ghost use Rattle.std.specs.Option.{option_copied};
 ghost use Rattle.std.specs.NonZero.{non_zero_usize_get};
@@ -14,8 +14,11 @@ ghost use Rattle.access_guard.specs.Lines.{lines, most_lines};
 ghost use Rattle.access_guard.specs.Log.{held, settled};
 ghost use Rattle.access_guard.specs.Memory.{Agrees};
 ghost use Rattle.access_guard.specs.Guarded.{unjudged};
+ghost use Rattle.access_guard.specs.Epochs as epochs;
+ghost use Rattle.who_book.specs.Members.{member};
 
 use crate::decision::Decision;
+use crate::epoch::{FIRST_EPOCH, next_epoch};
 use crate::guard::Guard;
 use crate::trail::MOST_HELD;
 use access_rows::Demand;
@@ -24,14 +27,18 @@ use node_tree::{At, DirEntry, NewObject, Node, ROOT, Tree, TreeFault};
 use std::alloc::{AllocError, Allocator, Global};
 use std::hash::RandomState;
 use std::marker::Model;
+use std::mem;
 use std::num::NonZeroUsize;
+use who_book::Book;
 
-/// A tree, and the guard of its lists. What the guard remembers is what the lists come to now, through every change of the
-/// tree: so nothing here has a condition on it.
+/// A tree, the guard of its lists, and the book of its callers. The guard's remembered summaries are those of the lists now,
+/// through every change of the tree and every reload of the book: so nothing here has a condition on it.
 #[derive(Drop)]
 pub struct GuardedTree<A: Allocator = Global> {
     tree: Tree<A>,
     guard: Guard<A>,
+    book: Book,
+    epoch: u64,
 }
 
 impl<A: Allocator> Model for GuardedTree<A> {
@@ -40,44 +47,52 @@ impl<A: Allocator> Model for GuardedTree<A> {
 
     ghost Value = { Guarded };
 
-    ghost view = { λ t. record { world = t.tree; log = t.guard.log; capacity = t.guard.memory.capacity } };
+    ghost view = { λ t. record { world = t.tree; book = t.book; epoch = t.epoch; log = t.guard.log; capacity = t.guard.memory.capacity } };
 
-    ghost invariant = { λ t. Agrees t.guard.memory.remembered t.tree };
+    ghost invariant = { λ t. Agrees t.guard.memory.remembered t.book t.epoch t.tree };
 }
 
 // Decisions.
 impl<A: Allocator + Copy> GuardedTree<A> {
-    /// The tree beside a guard that has decided nothing yet, and remembers at most `capacity` summaries. `Err`: there is no
-    /// memory for the guard.
+    /// The tree and its first book, beside a guard that has decided nothing yet and remembers at most `capacity` summaries. `Err`:
+    /// there is no memory for the guard.
     pub fn new(
         alloc: A,
         tree: Tree<A>,
+        book: Book,
         capacity: NonZeroUsize,
         hasher: RandomState,
     ) -> Result<Self, AllocError>
-        ensures { IfOk result (λ guarded. guarded ≡ unjudged tree (non_zero_usize_get capacity)) }
+        ensures { IfOk result (λ guarded. guarded ≡ unjudged tree book (non_zero_usize_get capacity)) }
     {
         let guard = Guard::new(alloc, capacity, hasher)?;
-        Ok(GuardedTree { tree, guard })
+        Ok(GuardedTree {
+            tree,
+            guard,
+            book,
+            epoch: FIRST_EPOCH,
+        })
     }
 
-    /// Whether the lists grant a demand to the caller, as in [`Guard::decide`].
+    /// Whether the lists grant a demand to the caller by the book, as in [`Guard::decide`].
     pub fn decide(&mut self, demand: Demand, caller: &Caller, op: u32) -> Decision
         requires { length self.old.log.held + most_lines demand ≤ MOST_HELD }
-        ensures decision { result ≡ decision (judged_of self.old.world) caller.now demand }
-        ensures state { self.new ≡ record self.old { log = held (lines (judged_of self.old.world) caller.now op demand) self.old.log } }
+        ensures decision { result ≡ decision (judged_of self.old.world) (member self.old.book caller.now) demand }
+        ensures state { self.new ≡ record self.old { log = held (lines (judged_of self.old.world) (member self.old.book caller.now) op demand) self.old.log } }
         ensures few { IsTrue (is_granted result) → length self.new.log.held + 1 ≤ length self.old.log.held + most_lines demand }
     {
-        self.guard.decide(demand, &self.tree, caller, op)
+        self.guard
+            .decide(demand, &self.tree, &self.book, self.epoch, caller, op)
     }
 
-    /// The bits that an object's list grants the caller, as in [`Guard::grants`].
+    /// The bits that an object's list grants the caller by the book, as in [`Guard::grants`].
     #[tactic(auto, using(crate::proofs::Calls::look_up_keeps))]
     pub fn grants(&mut self, object: u64, caller: &Caller) -> u32
-        ensures mask { result ≡ granted_at (judged_of self.old.world) caller.now object }
+        ensures mask { result ≡ granted_at (judged_of self.old.world) (member self.old.book caller.now) object }
         ensures state { self.new ≡ self.old }
     {
-        self.guard.grants(object, &self.tree, caller)
+        self.guard
+            .grants(object, &self.tree, &self.book, self.epoch, caller)
     }
 
     /// Ends an operation: its lines go to the trail in their order, or are dropped. It takes no memory.
@@ -87,11 +102,11 @@ impl<A: Allocator + Copy> GuardedTree<A> {
         self.guard.settle(keep);
     }
 
-    /// The guard, which agrees with the tree.
+    /// The guard, which agrees with the tree and the book.
     pub fn guard(&self) -> &Guard<A>
         ensures log { result.now.log ≡ self.now.log }
         ensures capacity { result.now.memory.capacity ≡ self.now.capacity }
-        ensures agrees { Agrees result.now.memory.remembered self.now.world }
+        ensures agrees { Agrees result.now.memory.remembered self.now.book self.now.epoch self.now.world }
     {
         &self.guard
     }
@@ -101,6 +116,45 @@ impl<A: Allocator + Copy> GuardedTree<A> {
         ensures { result.now ≡ self.now.world }
     {
         &self.tree
+    }
+}
+
+// The book. None of these calls takes memory.
+impl<A: Allocator + Copy> GuardedTree<A> {
+    /// Takes another book, and gives the old one back. The epoch rises by 1, so that no summary that was remembered under the old
+    /// book is used again; the tree, the lines and the trail stay. `Err`: the epoch has none after it ([`next_epoch`]), the new book
+    /// is handed back, and nothing changes.
+    pub fn reload(&mut self, book: Book) -> Result<Book, Book>
+        ensures given { MatchOption (epochs.next_epoch self.old.epoch) (result ≡ Err book) (λ epoch. result ≡ Ok self.old.book) }
+        ensures ok { OnOk result (self.new ≡ record self.old { book = book; epoch = self.old.epoch + 1 }) }
+        ensures err { OnErr result (self.new ≡ self.old) }
+    {
+        let Some(epoch) = next_epoch(self.epoch) else {
+            return Err(book);
+        };
+        self.epoch = epoch;
+        Ok(mem::replace(&mut self.book, book))
+    }
+
+    /// The book.
+    pub fn book(&self) -> &Book
+        ensures { result.now ≡ self.now.book }
+    {
+        &self.book
+    }
+
+    /// The epoch of the book, counted from 1.
+    pub fn epoch(&self) -> u64
+        ensures { result ≡ self.now.epoch }
+    {
+        self.epoch
+    }
+
+    /// The caller by the book, as in [`Book::member`].
+    pub fn member(&self, caller: &Caller) -> Caller
+        ensures { result ≡ member self.now.book caller.now }
+    {
+        self.book.member(caller)
     }
 }
 

@@ -2,32 +2,32 @@
 
 use crate::decision::Cause;
 
-/// What a line tells (RFC 8881, section 6.2.1.1).
+/// The kind of a line (RFC 8881, section 6.2.1.1).
 #[derive(Clone, Copy, Debug, PartialEq, Eq)]
 pub enum LineKind {
-    /// An AUDIT entry has something written down.
+    /// An AUDIT entry logs an access.
     Audit,
-    /// An ALARM entry has something reported.
+    /// An ALARM entry reports an access.
     Alarm,
-    /// Something was refused.
+    /// An access was refused.
     Deny,
 }
 
 /// A line of the trail.
 #[derive(Clone, Copy, Debug, PartialEq, Eq)]
 pub struct Line {
-    /// What it tells.
+    /// The kind of the line.
     pub kind: LineKind,
-    /// The user who asked.
+    /// The user of the caller.
     pub uid: u32,
-    /// The number of the operation that asked (RFC 8881, section 18).
+    /// The number of the operation (RFC 8881, section 18).
     pub op: u32,
     /// The number of the object.
     pub object: u64,
-    /// The bits that the entry watches, of those that were asked of the object; in a DENY line all that were asked of it.
+    /// The bits that the entry watches, of those demanded of the object; in a DENY line all that were demanded of it.
     pub mask: u32,
-    /// Whether it was granted. A DENY line has `false`.
+    /// Whether the access was granted. A DENY line has `false`.
     pub granted: bool,
-    /// The entry that watches or denies, or the bit that none allows.
+    /// The entry that watches or denies, or the bit that no entry allows.
     pub cause: Cause,
 }

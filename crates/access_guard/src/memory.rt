@@ -1,4 +1,4 @@
-//! What lists come to for those who asked, as far as it is remembered.
+//! The summaries of lists for callers, as far as they are remembered.
 ghost use Rattle.std.specs.Prelude.{◌≡◌, ◌<◌, ◌≤◌, ◌^◌, ℕ, [], length, Some, IfOk, IsTrue};
 ghost use Rattle.std.specs.Map.{lookup};
 ghost use Rattle.std.specs.Map.Iter.{ShowsInOrder, deref_pair};
@@ -6,6 +6,7 @@ ghost use Rattle.std.specs.NonZero.{non_zero_usize_get};
 ghost use Rattle.lru.specs.LruCache.{lru_cache, promoted};
 ghost use Rattle.acl_list.specs.declared.answer.Summary.{Summary};
 ghost use Rattle.node_tree.specs.Judged.{judged, judged_of};
+ghost use Rattle.access_guard.specs.Asker.{member_of};
 ghost use Rattle.access_guard.specs.Keys.{is_key};
 ghost use Rattle.access_guard.specs.Lists.{sum_of, sum_at, entries_of};
 ghost use Rattle.acl_shape.specs.declared.bounds.TheConstants.{MAX_ENTRIES};
@@ -16,6 +17,7 @@ ghost use Rattle.access_guard.specs.declared.decision.Decision.TheVariants.{Gran
 ghost use Rattle.access_guard.specs.Memory.{Agrees, LooksUp, LooksUpAt, LooksUpFor, examined_more, key_of, is_told};
 ghost use Rattle.access_guard.specs.Memory as specs;
 
+use crate::asker::Asker;
 use access_rows::Demand;
 use acl_list::mask::{DELETE, DELETE_CHILD};
 use acl_list::{Caller, Summary, summary};
@@ -26,13 +28,15 @@ use std::hash::{Hash, Hasher, RandomState};
 use std::marker::Model;
 use std::num::NonZeroUsize;
 
-/// Whose summary is remembered, and of which list.
+/// The key of a remembered summary: book, list and caller.
 #[derive(Clone, Copy, Debug)]
 pub struct Key {
+    /// The epoch of the book.
+    pub epoch: u64,
     /// The stamp of the list. An object has a new one whenever its list, its owner or its group may have changed, and no two
     /// objects ever have the same.
     pub stamp: u64,
-    /// Who asked.
+    /// The caller, as the call was sent.
     pub caller: Caller,
 }
 
@@ -46,7 +50,7 @@ impl PartialEq for Key {
     ghost laws = { Prim.search (comparing, rules) };
 
     fn eq(&self, other: &Self) -> bool {
-        self.stamp == other.stamp && self.caller == other.caller
+        self.epoch == other.epoch && self.stamp == other.stamp && self.caller == other.caller
     }
 }
 
@@ -63,19 +67,24 @@ impl Hash for Key {
     ghost use Rattle.std.specs.Hash as fed;
     ghost use Rattle.std.proofs.Common.{rules};
 
-    ghost hash_input = { λ k. fed.u64 k.stamp ++ fed.u32 k.caller.uid ++ fed.u32 k.caller.gid ++ fed.slice fed.u32 k.caller.groups };
+    ghost hash_input = { λ k. fed.u64 k.epoch ++ fed.u64 k.stamp ++ fed.u32 k.caller.uid ++ fed.u32 k.caller.gid ++ fed.slice fed.u32 k.caller.groups };
 
     ghost respects_eq = { Prim.search (hashing, rules) };
 
     fn hash<H: Hasher>(&self, state: &mut H) {
-        let Key { stamp, caller } = self;
+        let Key {
+            epoch,
+            stamp,
+            caller,
+        } = self;
+        epoch.hash(state);
         stamp.hash(state);
         caller.hash(state);
     }
 }
 
-/// An object's list, if there is such an object, that a decision may walk. [`Summaries::open`] alone makes one, and counts its
-/// entries.
+/// An object's list, if there is such an object, that a decision may walk. [`Summaries::open`] alone makes it, and counts
+/// its entries.
 #[derive(Drop)]
 pub(crate) struct Opened<'n, A: Allocator> {
     node: Option<&'n Node<A>>,
@@ -103,7 +112,7 @@ impl<'n, A: Allocator + Copy> Opened<'n, A> {
     }
 }
 
-/// What the lists that were asked last come to, and how many entries of lists were looked at.
+/// The summaries of the lists that were looked up last, and how many entries of lists were looked at.
 #[derive(Drop)]
 pub(crate) struct Summaries<A: Allocator> {
     pairs: LruCache<Key, Summary, RandomState, A>,
@@ -119,7 +128,7 @@ impl<A: Allocator> Model for Summaries<A> {
 }
 
 impl<A: Allocator + Copy> Summaries<A> {
-    /// Remembers nothing yet, and at most `capacity` summaries ever. `Err`: there is no memory for them.
+    /// Remembers no summary yet, and at most `capacity` summaries ever. `Err`: there is no memory for them.
     pub(crate) fn new(
         alloc: A,
         capacity: NonZeroUsize,
@@ -133,7 +142,7 @@ impl<A: Allocator + Copy> Summaries<A> {
         })
     }
 
-    /// The summaries, the one that was asked last first.
+    /// The summaries, the last one used first.
     pub(crate) fn iter(&self) -> Iter<'_, Key, Summary>
         ensures rest { result ≡ self.now.remembered }
         ensures runs { ShowsInOrder (deref_pair {K = Key} {X = Summary}) }
@@ -155,7 +164,7 @@ impl<A: Allocator + Copy> Summaries<A> {
         self.examined = self.examined.saturating_add(entries as u64);
     }
 
-    /// The summary that is remembered, which then is the one that was asked last.
+    /// The summary that is remembered, which then is the last one used.
     fn recall(&mut self, key: &Key) -> Option<Summary>
         ensures sum { result ≡ lookup (is_key key.now) self.old.remembered }
         ensures used { self.new ≡ specs.used key.now self.old }
@@ -163,40 +172,43 @@ impl<A: Allocator + Copy> Summaries<A> {
         self.pairs.get(key).copied()
     }
 
-    /// What an object's list comes to. It is worked out where it isn't remembered.
-    fn sum_of<B: Allocator + Copy>(&mut self, node: &Node<B>, caller: &Caller) -> Summary
-        requires { (sum : Summary) → lookup (is_key (key_of (judged node.now) caller.now)) self.old.remembered ≡ Some sum → sum ≡ sum_of (judged node.now) caller.now }
-        ensures sum { result ≡ sum_of (judged node.now) caller.now }
-        ensures looks_up { LooksUp (judged node.now) caller.now self.old self.new }
+    /// The summary of an object's list. It is computed where it isn't remembered.
+    fn sum_of<B: Allocator + Copy>(&mut self, node: &Node<B>, asker: &mut Asker<'_>) -> Summary
+        requires { (sum : Summary) → lookup (is_key (key_of (judged node.now) asker.old)) self.old.remembered ≡ Some sum → sum ≡ sum_of (judged node.now) (member_of asker.old) }
+        ensures sum { result ≡ sum_of (judged node.now) (member_of asker.old) }
+        ensures looks_up { LooksUp (judged node.now) asker.old self.old self.new }
+        ensures same { asker.new ≡ asker.old }
     {
         let key = Key {
+            epoch: asker.epoch(),
             stamp: node.stamp(),
-            caller: *caller,
+            caller: asker.sent(),
         };
         if let Some(sum) = self.recall(&key) {
             return sum;
         }
         let list = node.list();
-        let sum = summary(list, node.owner(), node.group(), caller);
+        let sum = summary(list, node.owner(), node.group(), &asker.member());
         self.examine(list.len());
         let _ = self.pairs.put(key, sum);
         sum
     }
 
-    /// What the list of the object of a number comes to, if there is such an object.
+    /// The summary of the list of the object of a number, if there is such an object.
     pub(crate) fn sum_at<B: Allocator + Copy>(
         &mut self,
         object: u64,
         tree: &Tree<B>,
-        caller: &Caller,
+        asker: &mut Asker<'_>,
     ) -> Option<Summary>
-        requires { Agrees self.old.remembered tree.now }
-        ensures sum { result ≡ sum_at (judged_of tree.now) caller.now object }
-        ensures looks_up { LooksUpAt (judged_of tree.now) caller.now object self.old self.new }
-        ensures agrees { Agrees self.new.remembered tree.now }
+        requires { Agrees self.old.remembered asker.old.book asker.old.epoch tree.now }
+        ensures sum { result ≡ sum_at (judged_of tree.now) (member_of asker.old) object }
+        ensures looks_up { LooksUpAt (judged_of tree.now) asker.old object self.old self.new }
+        ensures agrees { Agrees self.new.remembered asker.old.book asker.old.epoch tree.now }
+        ensures same { asker.new ≡ asker.old }
     {
         let node = tree.object(object)?;
-        Some(self.sum_of(node, caller))
+        Some(self.sum_of(node, asker))
     }
 
     /// Whether summaries alone tell that a demand is granted, and that no line is written.
@@ -204,20 +216,21 @@ impl<A: Allocator + Copy> Summaries<A> {
         &mut self,
         demand: Demand,
         tree: &Tree<B>,
-        caller: &Caller,
+        asker: &mut Asker<'_>,
     ) -> bool
-        requires { Agrees self.old.remembered tree.now }
-        ensures told { result ≡ is_told (judged_of tree.now) caller.now demand }
-        ensures granted { IsTrue result → decision (judged_of tree.now) caller.now demand ≡ Granted }
-        ensures silent { IsTrue result → (op : ℕ) → lines (judged_of tree.now) caller.now op demand ≡ [] }
-        ensures looks_up { LooksUpFor (judged_of tree.now) caller.now demand self.old self.new }
-        ensures agrees { Agrees self.new.remembered tree.now }
+        requires { Agrees self.old.remembered asker.old.book asker.old.epoch tree.now }
+        ensures told { result ≡ is_told (judged_of tree.now) (member_of asker.old) demand }
+        ensures granted { IsTrue result → decision (judged_of tree.now) (member_of asker.old) demand ≡ Granted }
+        ensures silent { IsTrue result → (op : ℕ) → lines (judged_of tree.now) (member_of asker.old) op demand ≡ [] }
+        ensures looks_up { LooksUpFor (judged_of tree.now) asker.old demand self.old self.new }
+        ensures agrees { Agrees self.new.remembered asker.old.book asker.old.epoch tree.now }
+        ensures same { asker.new ≡ asker.old }
     {
         match demand {
-            Demand::Bits { object, mask } => tells(self.sum_at(object, tree, caller), mask),
+            Demand::Bits { object, mask } => tells(self.sum_at(object, tree, asker), mask),
             Demand::Removal { parent, target } => {
-                let on_target = self.sum_at(target, tree, caller);
-                let on_parent = self.sum_at(parent, tree, caller);
+                let on_target = self.sum_at(target, tree, asker);
+                let on_parent = self.sum_at(parent, tree, asker);
                 tells_removal(on_target, on_parent)
             }
         }
@@ -239,14 +252,14 @@ impl<A: Allocator + Copy> Summaries<A> {
     }
 }
 
-/// Whether a list that comes to this grants each bit of the mask.
+/// Whether a list with this summary grants each bit of the mask.
 fn grants(sum: Summary, mask: u32) -> bool
     ensures { result ≡ lists.grants sum mask }
 {
     mask & sum.granted == mask
 }
 
-/// Whether no entry of it tells of a bit of the mask where that is granted.
+/// Whether no entry of a list with this summary watches a bit of the mask for success.
 fn is_quiet(sum: Summary, mask: u32) -> bool
     ensures { result ≡ lists.is_quiet sum mask }
 {

@@ -107,7 +107,7 @@ impl LineText {
 /// The text of a line, as in `DENY uid=1001 op=READ obj=2 mask=00000001 entry=3`. It takes no memory.
 ///
 /// The mask and a missing bit have eight hexadecimal digits, in lower case. The operation has its name, and a number that no
-/// operation of this server has stands as it is. An AUDIT or ALARM line has ` granted` or ` refused` in front of its entry.
+/// operation of this server has is in decimal digits. An AUDIT or ALARM line has ` granted` or ` refused` in front of its entry.
 pub fn write_line(line: &Line) -> LineText
     ensures text { result ≡ line_text line.now }
     ensures short { length result ≤ MOST_TEXT }

@@ -20,13 +20,13 @@ use std::alloc::{AllocError, Allocator};
 use std::marker::Model;
 
 /// The lines that wait at most for the end of an operation. No operation has more: RENAME has two demands of EXECUTE, two
-/// removals and one demand on the target directory, which look at seven lists of at most 64 entries, and one DENY line.
+/// removals and one demand on the target directory, which check seven lists of at most 64 entries, and one DENY line.
 pub const MOST_HELD: usize = 449;
 
 /// The lines that the trail keeps at most.
 pub const MOST_KEPT: usize = 4096;
 
-/// What was asked of one object, and whether the demand was granted.
+/// The bits demanded of one object, and whether the demand was granted.
 #[derive(Clone, Copy)]
 pub(crate) struct Asked {
     pub(crate) op: u32,
@@ -153,7 +153,7 @@ impl<A: Allocator + Copy> Trail<A> {
     }
 }
 
-/// The line of the entry at an index of the object's list, if it watches what was asked.
+/// The line of the entry at an index of the object's list, if it watches a bit that was demanded.
 fn watch_line<B: Allocator + Copy>(
     asked: Asked,
     node: &Node<B>,

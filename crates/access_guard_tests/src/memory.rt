@@ -1,10 +1,10 @@
-//! The remembered decisions, and that they are what the lists come to now.
+//! The remembered summaries, and that they are those of the lists now.
 ghost use Rattle.std.specs.Prelude.{◌≡◌, []};
 
 use crate::trees::{LOOKUP, READ, add, allow, decide, entry, guarded, mode_755, root, sample};
 use Cause::Missing;
 use Decision::{Granted, Refused};
-use access_guard::{Cause, Decision, Demand, Guard, GuardedTree};
+use access_guard::{Cause, Decision, Demand, Guard, GuardedTree, next_epoch};
 use acl_list::{AclList, Entry, EntryKind, Kind, Summary, Who};
 use acl_shape::is_bounded;
 use node_tree::{At, EPOCH, NewObject};
@@ -13,8 +13,9 @@ use std::alloc::{AllocError, Global};
 use std::hash::RandomState;
 use std::process::Abort;
 use std::test::Fail;
+use who_book::Book;
 
-/// The remembered decisions, the one asked last first: stamps, and the bits that are granted.
+/// The remembered summaries, the last one used first: stamps, and the bits that are granted.
 fn remembered(alloc: Global, guard: &Guard) -> Result<Vec<(u64, Summary)>, AllocError> {
     let mut pairs = Vec::new(alloc);
     for (key, sum) in guard.remembered() {
@@ -34,7 +35,7 @@ fn bits(object: u64, mask: u32) -> Demand {
     Demand::Bits { object, mask }
 }
 
-/// Sees that user 1002 in group 100 is granted bits of an object.
+/// Checks that user 1002 in group 100 is granted bits of an object.
 fn see_granted(rt: &impl Abort, guarded: &mut GuardedTree, demand: Demand, operation: u32)
     requires { guarded.old.log.held ≡ [] }
     ensures { guarded.new.log.held ≡ [] }
@@ -43,7 +44,7 @@ fn see_granted(rt: &impl Abort, guarded: &mut GuardedTree, demand: Demand, opera
     assert_eq!(rt; decide(guarded, demand, &caller, operation), Granted);
 }
 
-/// Sees that these decisions are remembered, the one asked last first.
+/// Checks that these summaries are remembered, the last one used first.
 fn see_remembered(
     rt: &impl Abort,
     alloc: Global,
@@ -55,7 +56,7 @@ fn see_remembered(
     Ok(())
 }
 
-/// Sees how many entries were looked at so far.
+/// Checks how many entries were looked at so far.
 fn see_examined(rt: &impl Abort, guard: &Guard, want: u64) {
     assert_eq!(rt; guard.examined(), want);
 }
@@ -119,6 +120,107 @@ fn grants_look_up_their_object_alone(rt: HostRuntime) -> Result<(), Fail> {
     let mut guarded = guarded(alloc, sample(alloc)?, 2, RandomState::new(&rt)?)?;
     ask_grants(&rt, &mut guarded);
     see_remembered(&rt, alloc, guarded.guard(), &[(3, sum(0x12_00e7))])
+}
+
+/// The remembered summaries, the last one used first: the epochs of their books, and their stamps.
+fn epochs(alloc: Global, guard: &Guard) -> Result<Vec<(u64, u64)>, AllocError> {
+    let mut epochs = Vec::new(alloc);
+    for (key, _) in guard.remembered() {
+        epochs.push((key.epoch, key.stamp))?;
+    }
+    Ok(epochs)
+}
+
+/// Checks the epochs and stamps of the remembered summaries.
+fn see_epochs(
+    rt: &impl Abort,
+    alloc: Global,
+    guard: &Guard,
+    want: &[(u64, u64)],
+) -> Result<(), Fail> {
+    let epochs = epochs(alloc, guard)?;
+    assert_eq!(rt; epochs.as_slice(), want);
+    Ok(())
+}
+
+/// Checks the epoch of a guarded tree.
+fn see_epoch(rt: &impl Abort, guarded: &GuardedTree, want: u64) {
+    assert_eq!(rt; guarded.epoch(), want);
+}
+
+/// Asks twice for the bits of `notes`, whose list has five entries, and twice again under another book.
+fn ask_under_two_books(rt: &impl Abort, guarded: &mut GuardedTree, book: Book) -> Result<(), Fail>
+    requires { guarded.old.log.held ≡ [] }
+{
+    see_epoch(rt, guarded, 1);
+    see_granted(rt, guarded, bits(2, 0x1), READ);
+    see_granted(rt, guarded, bits(2, 0x1), READ);
+    see_examined(rt, guarded.guard(), 5);
+    if guarded.reload(book).is_err() {
+        return Err(Fail::new("no epoch"));
+    }
+    see_epoch(rt, guarded, 2);
+    see_granted(rt, guarded, bits(2, 0x1), READ);
+    see_granted(rt, guarded, bits(2, 0x1), READ);
+    see_examined(rt, guarded.guard(), 10);
+    Ok(())
+}
+
+/// A summary that was remembered under a book isn't used under the next one, though that has the same content.
+#[test]
+fn a_reload_ends_what_was_remembered(rt: HostRuntime) -> Result<(), Fail> {
+    let alloc = rt.alloc();
+    let mut guarded = guarded(alloc, sample(alloc)?, 2, RandomState::new(&rt)?)?;
+    ask_under_two_books(&rt, &mut guarded, Book::default(alloc))?;
+    see_epochs(&rt, alloc, guarded.guard(), &[(2, 2), (1, 2)])
+}
+
+/// A book by which user 1002 alone is in the group 100.
+const STAFF: &str = "domain = 'lab'
+root_owner = 0
+root_group = 0
+root_mode = 0
+[users]
+bob = 1002
+[groups]
+staff = 100
+[members]
+staff = ['bob']
+";
+
+/// Asks for the bits of `notes`, whose group is 100, by users in groups that they send and that the book says.
+fn ask_by_the_book(rt: &impl Abort, guarded: &mut GuardedTree, book: Book) -> Result<(), Fail>
+    requires { guarded.old.log.held ≡ [] }
+{
+    let alone = Caller::new(1002, 7, &[]);
+    let sent = Caller::new(1003, 100, &[]);
+    let want = refused(2, 0x1);
+    assert_eq!(rt; decide(guarded, bits(2, 0x1), &alone, READ), want);
+    assert_eq!(rt; decide(guarded, bits(2, 0x1), &sent, READ), Granted);
+    if guarded.reload(book).is_err() {
+        return Err(Fail::new("no epoch"));
+    }
+    assert_eq!(rt; decide(guarded, bits(2, 0x1), &alone, READ), Granted);
+    assert_eq!(rt; decide(guarded, bits(2, 0x1), &sent, READ), want);
+    assert_eq!(rt; guarded.grants(2, &alone), 0x12_0081);
+    assert_eq!(rt; guarded.grants(2, &sent), 0x12_0080);
+    Ok(())
+}
+
+/// The groups of a caller are those of the book.
+#[test]
+fn callers_are_whom_the_book_says(rt: HostRuntime) -> Result<(), Fail> {
+    let alloc = rt.alloc();
+    let mut guarded = guarded(alloc, sample(alloc)?, 4, RandomState::new(&rt)?)?;
+    ask_by_the_book(&rt, &mut guarded, Book::read(alloc, STAFF)?)
+}
+
+/// The last epoch is 2^63.
+#[test]
+fn no_epoch_comes_after_the_last(rt: HostRuntime) {
+    assert_eq!(&rt; next_epoch(1), Some(2));
+    assert_eq!(&rt; next_epoch((1 << 63) - 1), Some(1 << 63));
+    assert_eq!(&rt; next_epoch(1 << 63), None);
 }
 
 /// Asks for READ_DATA on the object.
@@ -194,7 +296,7 @@ fn replace(alloc: Global, guarded: &mut GuardedTree, list: &[Entry]) -> Result<u
     Ok(guarded.add(directory, b"f", new, at)?)
 }
 
-/// Sees what is decided of reading an object.
+/// Checks the decision on reading an object.
 fn see_read(rt: &impl Abort, guarded: &mut GuardedTree, object: u64, want: Decision)
     requires { guarded.old.log.held ≡ [] }
     ensures { guarded.new.log.held ≡ [] }
@@ -220,7 +322,7 @@ fn see_changes(
     Ok(())
 }
 
-/// It is so on a guard that remembers so many summaries.
+/// The changes, with a guard that remembers so many summaries.
 fn changes(
     rt: &impl Abort,
     alloc: Global,

@@ -21,7 +21,7 @@ fn refused(object: u64, mask: u32, cause: Cause) -> Decision {
     }
 }
 
-/// Sees what user 1002 in group 7 is told of the removal of an object.
+/// Checks the decision for user 1002 in group 7 on the removal of an object.
 fn see_asked(rt: &impl Abort, guarded: &mut GuardedTree, target: u64, want: Decision, line: &str)
     requires { guarded.old.log.held ≡ [] }
 {

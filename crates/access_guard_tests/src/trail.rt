@@ -16,12 +16,13 @@ use std::alloc::Global;
 use std::hash::RandomState;
 use std::process::Abort;
 use std::test::Fail;
+use who_book::Book;
 
 fn bits(object: u64, mask: u32) -> Demand {
     Demand::Bits { object, mask }
 }
 
-/// Sees that user 1002 in this group gets this decision.
+/// Checks the decision for user 1002 in this group.
 fn see_decided(
     rt: &impl Abort,
     guarded: &mut GuardedTree,
@@ -36,14 +37,14 @@ fn see_decided(
     assert_eq!(rt; decide(guarded, demand, &caller, op), want);
 }
 
-/// Sees the lines of a trail.
+/// Checks the lines of a trail.
 pub fn see_lines(rt: &impl Abort, alloc: Global, guard: &Guard, wanted: &str) -> Result<(), Fail> {
     let text = text(alloc, guard)?;
     assert_eq!(rt; text.as_slice(), wanted.as_bytes());
     Ok(())
 }
 
-/// Sees how many lines there were.
+/// Checks how many lines there were.
 fn see_total(rt: &impl Abort, guard: &Guard, want: u64) {
     assert_eq!(rt; guard.total(), want);
 }
@@ -97,7 +98,7 @@ fn audited_reads(rt: HostRuntime) -> Result<(), Fail> {
     see_lines(&rt, alloc, guarded.guard(), AUDITED)
 }
 
-/// How far a guard came over a small heap: none could be made, or it answers and may have remembered nothing.
+/// How far a guard came over a small heap: none could be made, or it decides and may have remembered nothing.
 #[derive(Clone, Copy, Debug, PartialEq, Eq)]
 enum Made {
     None,
@@ -110,19 +111,20 @@ fn ask(
     rt: &impl Abort,
     alloc: Global,
     hasher: RandomState,
-    tree: &Tree,
+    sample: (&Tree, &Book),
     size: usize,
 ) -> Result<Made, Fail> {
+    let (tree, book) = sample;
     let heap = LocalHeap::new(alloc, size)?;
     let Ok(mut guard) = guard(&heap, hasher) else {
         return Ok(Made::None);
     };
     let caller = Caller::new(1002, 100, &[]);
     assert_eq!(rt;
-        decide_on(&mut guard, bits(1, 0x20), tree, &caller, LOOKUP),
+        decide_on(&mut guard, bits(1, 0x20), tree, book, &caller, LOOKUP),
         Granted
     );
-    let refused = decide_on(&mut guard, bits(2, 0x2), tree, &caller, WRITE);
+    let refused = decide_on(&mut guard, bits(2, 0x2), tree, book, &caller, WRITE);
     assert!(rt; !refused.is_granted());
     assert_eq!(rt; guard.total(), 1);
     if guard.remembered().next().is_some() {
@@ -132,13 +134,19 @@ fn ask(
     }
 }
 
-/// Over each size of a heap the answers and the lines are the same, whether or not there is memory to remember.
+/// Over each size of a heap the decisions and the lines are the same, whether or not there is memory to remember.
 #[test]
 fn a_refused_memory_changes_no_answer(rt: HostRuntime) -> Result<(), Fail> {
-    let tree = sample(rt.alloc())?;
+    let (tree, book) = (sample(rt.alloc())?, Book::default(rt.alloc()));
     let (mut none, mut forgot, mut kept) = (false, false, false);
     for size in 0..4000usize {
-        match ask(&rt, rt.alloc(), RandomState::new(&rt)?, &tree, size * 100)? {
+        match ask(
+            &rt,
+            rt.alloc(),
+            RandomState::new(&rt)?,
+            (&tree, &book),
+            size * 100,
+        )? {
             Made::None => none = true,
             Made::Forgot => forgot = true,
             Made::Kept => kept = true,

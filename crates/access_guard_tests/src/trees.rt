@@ -1,16 +1,18 @@
 //! Trees to decide on, and the guards of their lists.
-ghost use Rattle.std.specs.Prelude.{◌≡◌, [], IfOk};
+ghost use Rattle.std.specs.Prelude.{◌≡◌, ℕ, [], IfOk};
+ghost use Rattle.who_book.specs.Content.{Content};
 ghost use Rattle.node_tree.specs.World.{World};
 ghost use Rattle.access_guard.specs.Memory.{Agrees};
 
-use access_guard::{Decision, Demand, Guard, GuardedTree, write_line};
+use access_guard::{Decision, Demand, FIRST_EPOCH, Guard, GuardedTree, write_line};
 use acl_list::{AclList, Entry, EntryKind, Kind, Who};
 use acl_shape::is_bounded;
 use node_tree::{At, EPOCH, NewObject, Tree, TreeFault};
 use rpc_record::Caller;
-use std::alloc::{AllocError, Allocator};
+use std::alloc::{AllocError, Allocator, Global};
 use std::hash::RandomState;
 use std::num::NonZeroUsize;
+use who_book::Book;
 
 pub const LOOKUP: u32 = 15;
 
@@ -117,17 +119,17 @@ pub fn sample<A: Allocator + Copy>(alloc: A) -> Result<Tree<A>, TreeFault> {
     Ok(tree)
 }
 
-/// The tree beside a guard that remembers so many summaries.
-pub fn guarded<A: Allocator + Copy>(
-    alloc: A,
-    tree: Tree<A>,
+/// The tree and a book without names, beside a guard that remembers so many summaries.
+pub fn guarded(
+    alloc: Global,
+    tree: Tree,
     capacity: usize,
     hasher: RandomState,
-) -> Result<GuardedTree<A>, AllocError>
+) -> Result<GuardedTree, AllocError>
     ensures { IfOk result (λ guarded. guarded.log.held ≡ []) }
 {
     let capacity = NonZeroUsize::new(capacity).unwrap_or(NonZeroUsize::MIN);
-    GuardedTree::new(alloc, tree, capacity, hasher)
+    GuardedTree::new(alloc, tree, Book::default(alloc), capacity, hasher)
 }
 
 /// Decides, and keeps the lines.
@@ -148,25 +150,26 @@ pub fn decide<A: Allocator + Copy>(
 /// A guard that remembers one summary.
 pub fn guard<A: Allocator + Copy>(alloc: A, hasher: RandomState) -> Result<Guard<A>, AllocError>
     ensures none { IfOk result (λ guard. guard.log.held ≡ []) }
-    ensures agrees { IfOk result (λ guard. (w : World) → Agrees guard.memory.remembered w) }
+    ensures agrees { IfOk result (λ guard. (book : Content) (epoch : ℕ) (w : World) → Agrees guard.memory.remembered book epoch w) }
 {
     Guard::new(alloc, NonZeroUsize::MIN, hasher)
 }
 
-/// Decides on the lists of a tree that the guard agrees with, and keeps the lines.
+/// Decides on the lists of a tree that the guard agrees with, under its first book, and keeps the lines.
 pub fn decide_on<A: Allocator + Copy, B: Allocator + Copy>(
     guard: &mut Guard<A>,
     demand: Demand,
     tree: &Tree<B>,
+    book: &Book,
     caller: &Caller,
     op: u32,
 ) -> Decision
     requires none { guard.old.log.held ≡ [] }
-    requires agrees { Agrees guard.old.memory.remembered tree.now }
+    requires agrees { Agrees guard.old.memory.remembered book.now FIRST_EPOCH tree.now }
     ensures none { guard.new.log.held ≡ [] }
-    ensures agrees { Agrees guard.new.memory.remembered tree.now }
+    ensures agrees { Agrees guard.new.memory.remembered book.now FIRST_EPOCH tree.now }
 {
-    let decision = guard.decide(demand, tree, caller, op);
+    let decision = guard.decide(demand, tree, book, FIRST_EPOCH, caller, op);
     guard.settle(true);
     decision
 }

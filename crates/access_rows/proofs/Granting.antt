@@ -14,7 +14,7 @@ term false n = 0
 abbrev word : Bool → Bool → Bool → Bool → Bool → Bool → ℕ
 word a b c d e f = bit_or (bit_or (bit_or (bit_or (bit_or (term a 1) (term b 2)) (term c 4)) (term d 8)) (term e 16)) (term f 32)
 
--- what each of six truth values does
+-- the effect of each of six truth values
 abbrev for_both : (Bool → Bool) → Bool
 for_both p = p true && p false
 

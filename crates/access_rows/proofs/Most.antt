@@ -1,4 +1,4 @@
--- How many lists an operation's demands are decided by.
+-- How many lists decide an operation's demands.
 use Rattle.std.proofs.Common.{◌≡◌, ℕ, ◌+◌, ◌≤◌, ◌==◌, arith, cond, Bool, true, false, List, ap}
 use Rattle.std.specs.Prelude.{[], ◌∷◌, Option, Some, None}
 use Rattle.acl_list.specs.declared.mask.TheConstants.{EXECUTE}

@@ -1,4 +1,4 @@
--- What ACCESS tells of an object (RFC 8881, section 18.1).
+-- The result of ACCESS (RFC 8881, section 18.1).
 use Rattle.std.specs.Prelude.{◌≡◌, ◌≤◌, ℕ, Bool, false, ◌==◌, ◌&&◌, ◌||◌, if◌then◌else◌, bit_and, bit_or}
 use Rattle.acl_list.specs.Mask.{has_bit}
 use Rattle.acl_list.specs.Places.{read_data, write_data, append_data, execute, delete_child}
@@ -7,7 +7,7 @@ use Rattle.acl_list.specs.declared.entry.Kind.{Kind}
 use Rattle.acl_list.specs.declared.entry.Kind.TheVariants.{File, Directory, Link}
 use Rattle.access_rows.specs.declared.rights.Rights.{Rights}
 
--- the rights that have a meaning for the kind: READ 1, LOOKUP 2, MODIFY 4, EXTEND 8, DELETE 16, EXECUTE 32
+-- the rights that are supported for the kind: READ 1, LOOKUP 2, MODIFY 4, EXTEND 8, DELETE 16, EXECUTE 32
 abbrev pub meaningful : Kind → ℕ
 meaningful File = 0x2d
 meaningful Directory = 0x1f
@@ -27,8 +27,8 @@ granted_rights supported grants =
 abbrev pub rights_of : Kind → ℕ → ℕ → Rights
 rights_of kind asked grants = record { supported = bit_and asked (meaningful kind); granted = granted_rights (bit_and asked (meaningful kind)) grants }
 
--- Each right stands in the granted word exactly where it is supported and the list allows the bit of the mask that it takes, told
--- by its place; and no other bit stands there.
+-- Each right is in the granted word exactly where it is supported and the list allows the bit of the mask that it takes, by the
+-- bit's place; and no other bit is there.
 pub record RightsAre (allows : ℕ → Bool) (supported granted : ℕ) : Type 0 where
   pub read : has_bit granted 0 ≡ has_bit supported 0 && allows read_data
   pub lookup : has_bit granted 1 ≡ has_bit supported 1 && allows execute

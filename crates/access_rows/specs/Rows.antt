@@ -1,4 +1,4 @@
--- What each operation asks of the lists (RFC 8881, sections 6.2.1.3.1 and 18): a line for each operation, by its number.
+-- The bits that each operation demands of the lists (RFC 8881, sections 6.2.1.3.1 and 18): a line for each operation, by its number.
 use Rattle.std.specs.Prelude.{ℕ, ◌+◌, ◌%◌, Bool, true, false, ◌==◌, ◌&&◌, ◌||◌, nat_le, if◌then◌else◌, List, [], ◌∷◌, length, Option, Some, None, bit_or}
 use Rattle.std.specs.List.{list_any}
 use Rattle.std.specs.Option.{option_map_or}
@@ -18,18 +18,18 @@ use Rattle.access_rows.specs.declared.facts.Second.{Second}
 
 -- ---- demands
 
--- the bits of an object's list; where there is no object, or no bit is asked, there is no demand
+-- the bits of an object's list; without an object or a bit there is no demand
 abbrev pub bits : Option Object → ℕ → Option Demand
 bits None mask = None
 bits (Some o) mask = if mask == 0 then None else Some (Bits o.number mask)
 
--- that a name of the target goes from the parent (section 6.2.1.3.2)
+-- the removal of a name of the target from the parent (section 6.2.1.3.2)
 abbrev pub removal : Option Object → Option Object → Option Demand
 removal (Some parent) (Some target) = Some (Removal parent.number target.number)
 removal (Some parent) None = None
 removal None target = None
 
--- what is asked in a phase, in order; at a place without a demand nothing is
+-- the demands of a phase, in order; at a place there may be none
 abbrev pub Demands : Type 0
 Demands = List (Option Demand)
 
@@ -37,7 +37,7 @@ Demands = List (Option Demand)
 abbrev pub row : Option Demand → Demands
 row a = a ∷ None ∷ []
 
--- of three
+-- one demand alone, of three
 abbrev pub one_of_three : Option Demand → Demands
 one_of_three a = a ∷ None ∷ None ∷ []
 
@@ -53,7 +53,7 @@ lists_in [] = 0
 lists_in (None ∷ others) = lists_in others
 lists_in (Some d ∷ others) = lists_of d + lists_in others
 
--- the most lists that a first phase is decided by, a second one, and an entry of READDIR
+-- the most lists that decide a first phase, a second phase, and an entry of READDIR
 abbrev pub most_first : ℕ
 most_first = 2
 
@@ -65,32 +65,43 @@ most_of_entry = 2
 
 -- ---- the bits that depend on the arguments
 
--- any of these numbers is in the set
+-- one of these numbers is in the set
 abbrev pub has_any : List ℕ → List ℕ → Bool
 has_any set numbers = list_any (λ n. has_number set n) numbers
 
--- what is given by READ_ATTRIBUTES: change, size, mode, numlinks, owner, owner_group, time_metadata, time_modify
+-- the attributes read by READ_ATTRIBUTES: change, size, mode, numlinks, owner, owner_group, time_metadata, time_modify
 abbrev pub governed : List ℕ
 governed = 3 ∷ 4 ∷ 33 ∷ 35 ∷ 36 ∷ 37 ∷ 52 ∷ 53 ∷ []
 
--- these by READ_ATTRIBUTES, acl by READ_ACL; what else is given is given to everyone
-abbrev pub reading_mask : List ℕ → ℕ
-reading_mask set =
-    bit_or (if has_any set governed then READ_ATTRIBUTES else 0) (if has_number set 12 then READ_ACL else 0)
+-- the attributes read by READ_ACL: acl, dacl, sacl
+abbrev pub list_giving : List ℕ
+list_giving = 12 ∷ 58 ∷ 59 ∷ []
 
--- a size that is set takes WRITE_DATA, and APPEND_DATA too where the file grows, or where it isn't known that it doesn't
+-- all other attributes can be read by everyone
+abbrev pub reading_mask : List ℕ → ℕ
+reading_mask set = bit_or (if has_any set governed then READ_ATTRIBUTES else 0) (if has_any set list_giving then READ_ACL else 0)
+
+-- the attributes set by WRITE_ACL: acl, mode, dacl, sacl
+abbrev pub list_setting : List ℕ
+list_setting = 12 ∷ 33 ∷ 58 ∷ 59 ∷ []
+
+-- the attributes set by WRITE_OWNER: owner, owner_group
+abbrev pub owner_setting : List ℕ
+owner_setting = 36 ∷ 37 ∷ []
+
+-- setting a size takes WRITE_DATA, and APPEND_DATA too where the file grows, or where it isn't known that it doesn't
 abbrev pub sizing_mask : Option ℕ → Option ℕ → ℕ
 sizing_mask (Some size) (Some new) = if nat_le new size then WRITE_DATA else bit_or WRITE_DATA APPEND_DATA
 sizing_mask (Some size) None = bit_or WRITE_DATA APPEND_DATA
 sizing_mask None new = bit_or WRITE_DATA APPEND_DATA
 
--- size as above, mode and acl by WRITE_ACL, owner and owner_group by WRITE_OWNER
+-- size as above, the other attributes by WRITE_ACL and by WRITE_OWNER
 abbrev pub setting_mask : List ℕ → First → ℕ
 setting_mask set facts =
-    bit_or (bit_or (if has_number set 4 then sizing_mask facts.size facts.new_size else 0)
-    (if has_number set 12 || has_number set 33 then WRITE_ACL else 0)) (if has_number set 36 || has_number set 37 then WRITE_OWNER else 0)
+    bit_or (bit_or (if has_number set 4 then sizing_mask facts.size facts.new_size else 0) (if has_any set list_setting then WRITE_ACL else 0))
+    (if has_any set owner_setting then WRITE_OWNER else 0)
 
--- Bytes within the file take WRITE_DATA, as no bytes do; bytes at its end APPEND_DATA; bytes across the end or past it both.
+-- Writing within the file, or nothing, takes WRITE_DATA; writing at its end APPEND_DATA; across the end or past it both.
 abbrev pub writing_mask : Option ℕ → ℕ → ℕ → ℕ
 writing_mask None offset count = bit_or WRITE_DATA APPEND_DATA
 writing_mask (Some size) offset count =
@@ -105,7 +116,7 @@ adding_mask File = ADD_FILE
 adding_mask Directory = ADD_SUBDIRECTORY
 adding_mask LinkKind = ADD_FILE
 
--- of a new object of this type; other types than a directory and a link aren't made by CREATE
+-- a new object of this type; CREATE makes directories and links, and no other
 abbrev pub creating_mask : Created → ℕ
 creating_mask parts.Directory = bit_or EXECUTE ADD_SUBDIRECTORY
 creating_mask (parts.Link text) = bit_or EXECUTE ADD_FILE
@@ -136,25 +147,25 @@ abbrev pub opening_mask : ℕ → How → Option ℕ → ℕ
 opening_mask access how new_size =
     bit_or (bit_or (if is_to_read access then READ_DATA else 0) (if is_to_write access then APPEND_DATA else 0)) (if is_truncating how new_size then WRITE_DATA else 0)
 
--- a file that is there is opened; one that isn't may be made
+-- a file that is there is opened; else it may be created
 abbrev pub opening : Option Object → ℕ → How → Second → Option Demand
 opening None access how facts = if is_creating how then bits facts.current ADD_FILE else None
 opening (Some file) access how facts = bits (Some file) (opening_mask access how facts.new_size)
 
--- by name the directory is asked first
+-- by name the directory is checked first
 abbrev pub open_first : Claim → Option Object → Option Demand
 open_first (parts.ByName name) current = bits current EXECUTE
 open_first parts.ByHandle current = None
 
--- by name it is the child of the current directory, by filehandle the current object itself
+-- by name the child of the current directory is opened, by filehandle the current object itself
 abbrev pub open_second : Claim → ℕ → How → Second → Option Demand
 open_second (parts.ByName name) access how facts = opening facts.child access how facts
 open_second parts.ByHandle access how facts = bits facts.current (opening_mask access how facts.new_size)
 
 -- ---- RENAME (section 18.26)
 
--- Both directories are asked once where they are one. Then the child goes from its directory and comes into the other, and what
--- has its new name goes.
+-- The source's and the target's directory are checked once if they are the same. Then the child goes from its directory and comes
+-- into the other, and a target of the new name goes.
 abbrev pub is_one : Option Object → Option Object → Bool
 is_one (Some a) (Some b) = a.number == b.number
 is_one (Some a) None = false
@@ -169,7 +180,7 @@ rename_second facts =
 
 -- ---- the table
 
--- What each operation asks first: EXECUTE on the directories that names are looked up in, or the whole row of one that looks up no name.
+-- The demands of an operation before it looks up a name: EXECUTE on the directories of its names, or all if it has no names.
 abbrev pub first_demands : Operation → First → Demands
 first_demands (Known kinds.Create v) facts = row (bits facts.current (creating_mask (created_type v)))
 first_demands (Known kinds.GetAttr v) facts = row (bits facts.current (reading_mask v))
@@ -188,13 +199,13 @@ first_demands (Known kinds.Verify v) facts = row (bits facts.current (reading_ma
 first_demands (Known kinds.Write v) facts = row (bits facts.current (writing_mask facts.size (write_offset v) (length (written_bytes v))))
 first_demands _ facts = row None
 
--- What each asks once the names are known to be there; a phase that isn't reached asks nothing.
+-- The demands of each operation once the names are known to be there; there are none in a phase that isn't reached.
 abbrev pub second_demands : Operation → Second → Demands
 second_demands (Known kinds.Open v) facts = one_of_three (open_second (claim_of v) (open_access v) (how_of v) facts)
 second_demands (Known kinds.Remove v) facts = one_of_three (removal facts.current facts.child)
 second_demands (Known kinds.Rename v) facts = rename_second facts
 second_demands _ facts = one_of_three None
 
--- What READDIR asks of each entry, as it is listed, where these attributes are asked: READ_ATTRIBUTES, and then READ_ACL.
+-- The demands of READDIR on each entry, as it is listed, for these attributes: READ_ATTRIBUTES, and then READ_ACL.
 abbrev pub entry_demands : List ℕ → Option Object → Demands
-entry_demands set entry = bits entry (if has_any set governed then READ_ATTRIBUTES else 0) ∷ bits entry (if has_number set 12 then READ_ACL else 0) ∷ []
+entry_demands set entry = bits entry (if has_any set governed then READ_ATTRIBUTES else 0) ∷ bits entry (if has_any set list_giving then READ_ACL else 0) ∷ []

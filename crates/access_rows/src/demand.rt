@@ -1,16 +1,16 @@
-//! What is asked of lists.
+//! The demands of operations on lists.
 
-/// Something that the lists of objects have to grant before an operation may go on.
+/// Access that the lists of objects have to grant before an operation may go on.
 #[derive(Clone, Copy, Debug, PartialEq, Eq)]
 pub enum Demand {
-    /// Each of these bits of the object's list (RFC 8881, section 6.2.1.3). The mask 0 asks nothing.
+    /// Each of these bits of the object's list (RFC 8881, section 6.2.1.3). The mask 0 demands nothing.
     Bits {
         /// The number of the object.
         object: u64,
-        /// Bits of an entry's mask, of which any may be asked.
+        /// Bits of an entry's mask, any of them.
         mask: u32,
     },
-    /// That a name of the target may go from the parent: DELETE on the target or DELETE_CHILD on the parent
+    /// The removal of a name of the target from the parent: DELETE on the target or DELETE_CHILD on the parent
     /// (RFC 8881, section 6.2.1.3.2).
     Removal {
         /// The number of the directory that loses a name.

@@ -1,17 +1,17 @@
-//! What a row of the table is told of the objects that an operation is about.
+//! The facts of an operation's objects that a row of the table uses.
 
 use acl_list::Kind;
 
 /// An object that is there.
 #[derive(Clone, Copy, Debug, PartialEq, Eq)]
 pub struct Object {
-    /// Its number.
+    /// The number of the object.
     pub number: u64,
-    /// What it is.
+    /// The type of the object.
     pub kind: Kind,
 }
 
-/// What is known before an operation looks up a name, each where there is one.
+/// The facts that are known before an operation looks up a name, each where there is one.
 #[derive(Clone, Copy, Debug, PartialEq, Eq)]
 pub struct First {
     /// The object of the current filehandle.
@@ -40,14 +40,14 @@ impl First {
     }
 }
 
-/// What is known once an operation has looked up its names, each where there is one.
+/// The facts that are known once an operation has looked up its names, each where there is one.
 #[derive(Clone, Copy, Debug, PartialEq, Eq)]
 pub struct Second {
     /// The object of the current filehandle.
     pub current: Option<Object>,
     /// The object of the saved filehandle: of RENAME the source's directory.
     pub saved: Option<Object>,
-    /// The child that is named: of OPEN and REMOVE in the current directory, of RENAME the one to move, in the saved.
+    /// The child of the name: of OPEN and REMOVE in the current directory, of RENAME the child to move, in the saved.
     pub child: Option<Object>,
     /// Of RENAME, the child of the new name in the current directory.
     pub replaced: Option<Object>,

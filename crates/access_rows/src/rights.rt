@@ -1,4 +1,4 @@
-//! What ACCESS tells: which rights have a meaning for an object, and which its list grants (RFC 8881, section 18.1).
+//! The result of ACCESS: the rights that are supported for an object, and those that its list grants (RFC 8881, section 18.1).
 ghost use Rattle.std.specs.Prelude.{◌≡◌, bit_and};
 ghost use Rattle.acl_list.specs.Mask.{has_bit};
 ghost use Rattle.access_rows.specs.Rights as specs;
@@ -26,16 +26,16 @@ const EXECUTE: u32 = 0x20;
 /// The two words of ACCESS's result.
 #[derive(Clone, Copy, Debug, PartialEq, Eq)]
 pub struct Rights {
-    /// The rights that were asked and have a meaning for the kind of object.
+    /// The rights that were requested and are supported for the kind of object.
     pub supported: u32,
-    /// Those of them that the object's list grants.
+    /// The supported rights that the object's list grants.
     pub granted: u32,
 }
 
-/// What ACCESS tells of an object of this kind, where these rights are asked and its list grants the caller these bits of a
-/// mask: READ by READ_DATA, LOOKUP by EXECUTE, MODIFY by WRITE_DATA, EXTEND by APPEND_DATA, DELETE by DELETE_CHILD, EXECUTE
-/// by EXECUTE. DELETE and LOOKUP have a meaning for directories, EXECUTE for files, MODIFY and EXTEND for both, READ for
-/// every kind. No operation of the table is asked: ACCESS tells, and is never refused by a list.
+/// The result of ACCESS for an object of this kind, where these rights are requested and its list grants the caller these bits
+/// of a mask: READ by READ_DATA, LOOKUP by EXECUTE, MODIFY by WRITE_DATA, EXTEND by APPEND_DATA, DELETE by DELETE_CHILD, EXECUTE
+/// by EXECUTE. DELETE and LOOKUP are supported for directories, EXECUTE for files, MODIFY and EXTEND for both, READ for
+/// every kind. ACCESS has no demands in the table: it is never refused by a list.
 pub fn rights_of(kind: Kind, asked: u32, grants: u32) -> Rights
     ensures value { result ≡ specs.rights_of kind asked grants }
     ensures exact { specs.RightsAre (has_bit grants) result.supported result.granted }
@@ -60,7 +60,7 @@ fn granted_rights(supported: u32, grants: u32) -> u32
     read | lookup | modify | extend | delete | execute
 }
 
-/// The rights that have a meaning for the kind.
+/// The rights that are supported for the kind.
 fn meaningful(kind: Kind) -> u32
     ensures { result ≡ specs.meaningful kind }
 {

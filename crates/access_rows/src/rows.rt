@@ -1,7 +1,6 @@
-//! The table of what each operation asks.
+//! The table of the demands of each operation.
 ghost use Rattle.std.specs.Prelude.{◌≡◌, ◌≤◌, if◌then◌else◌};
 ghost use Rattle.acl_list.specs.declared.mask.TheConstants as mask;
-ghost use Rattle.nfs_types.specs.Sets.{has_number};
 ghost use Rattle.nfs_types.specs.Views.{bitmap_value};
 ghost use Rattle.nfs_ops.specs.OpViews.{op_view};
 ghost use Rattle.nfs_ops.specs.Parts as parts;
@@ -15,8 +14,8 @@ use acl_list::{Kind, mask};
 use nfs_ops::{CreateType, Op, OpenArgs, OpenClaim, OpenHow};
 use nfs_types::Bitmap;
 
-/// What an operation asks of lists first, in order (RFC 8881, sections 6.2.1.3.1 and 18): EXECUTE on the directories that names are
-/// looked up in, or the whole row of an operation that looks up no name. It takes no memory, and reads at most two lists.
+/// The first demands of an operation on lists, in order (RFC 8881, sections 6.2.1.3.1 and 18): EXECUTE on the directories of
+/// its names, or all demands of an operation without names. It takes no memory, and reads at most two lists.
 ///
 /// | Operation | Demands |
 /// |---|---|
@@ -25,16 +24,16 @@ use nfs_types::Bitmap;
 /// | READ, READLINK | READ_DATA |
 /// | WRITE | within the file, or nothing: WRITE_DATA; at its end: APPEND_DATA; across or past it: both |
 /// | OPEN by name | EXECUTE on the directory; then of a file that is there READ_DATA to read, APPEND_DATA to write, WRITE_DATA to truncate; of a new file ADD_FILE on the directory |
-/// | OPEN by filehandle | the same of the file alone |
+/// | OPEN by filehandle | the demands on the file alone |
 /// | CREATE | EXECUTE with ADD_FILE (a link) or ADD_SUBDIRECTORY (a directory) |
 /// | LINK | EXECUTE with ADD_FILE on the target directory |
-/// | REMOVE | EXECUTE; then that the name goes |
-/// | RENAME | EXECUTE on the source's directory, then on the target's if it is another; then that the source goes, ADD_FILE or ADD_SUBDIRECTORY on the target's directory, that a replaced target goes |
-/// | GETATTR, VERIFY, NVERIFY | READ_ATTRIBUTES for 3, 4, 33, 35, 36, 37, 52 and 53; READ_ACL for 12 |
-/// | SETATTR | for a size WRITE_DATA, with APPEND_DATA where the file grows; for mode and acl WRITE_ACL; for owner and group WRITE_OWNER |
+/// | REMOVE | EXECUTE; then the removal of the name |
+/// | RENAME | EXECUTE on the source's directory, then on the target's if it is another; then the removal of the source, ADD_FILE or ADD_SUBDIRECTORY on the target's directory, the removal of a replaced target |
+/// | GETATTR, VERIFY, NVERIFY | READ_ATTRIBUTES for 3, 4, 33, 35, 36, 37, 52 and 53; READ_ACL for 12, 58 and 59 |
+/// | SETATTR | for a size WRITE_DATA, with APPEND_DATA where the file grows; for mode, acl, dacl and sacl WRITE_ACL; for owner and group WRITE_OWNER |
 /// | all others, ACCESS among them | nothing |
 ///
-/// What stands behind a "then" is asked by `second_demands`. Bits of one object in one phase are one demand.
+/// The demands behind a "then" are those of `second_demands`. Bits of one object in one phase are one demand.
 #[tactic(auto, using(crate::proofs::Most::first_few))]
 pub fn first_demands(op: &Op<'_>, facts: &First) -> [Option<Demand>; 2]
     ensures value { result ≡ specs.first_demands (op_view op.now) facts.now }
@@ -69,7 +68,7 @@ pub fn first_demands(op: &Op<'_>, facts: &First) -> [Option<Demand>; 2]
     }
 }
 
-/// What an operation asks of lists once the names that it is about are known to be there, in order: what stands behind a "then" in
+/// The demands of an operation on lists once its names are known to be there, in order: those behind a "then" in
 /// the table of `first_demands`. It takes no memory, and reads at most five lists.
 #[tactic(auto, using(crate::proofs::Most::second_few))]
 pub fn second_demands(op: &Op<'_>, facts: &Second) -> [Option<Demand>; 3]
@@ -84,7 +83,7 @@ pub fn second_demands(op: &Op<'_>, facts: &Second) -> [Option<Demand>; 3]
     }
 }
 
-/// What READDIR asks of an entry's list as it lists it, where these attributes are asked: READ_ATTRIBUTES, and then READ_ACL, each a
+/// The demands of READDIR on an entry's list as it is listed, for these attributes: READ_ATTRIBUTES, and then READ_ACL, each a
 /// demand of its own (RFC 8881, section 18.23). It takes no memory, and reads the list at most twice.
 #[tactic(auto, using(crate::proofs::Most::entry_few))]
 pub fn entry_demands(asked: &Bitmap, entry: Option<Object>) -> [Option<Demand>; 2]
@@ -111,7 +110,7 @@ fn bits(object: Option<Object>, mask: u32) -> Option<Demand>
     }
 }
 
-/// That a name of the target goes from the parent, where both are there.
+/// The removal of a name of the target from the parent, where both are there.
 fn removal(parent: Option<Object>, target: Option<Object>) -> Option<Demand>
     ensures { result ≡ specs.removal parent target }
 {
@@ -126,30 +125,27 @@ fn removal(parent: Option<Object>, target: Option<Object>) -> Option<Demand>
 
 // ---- the bits that depend on the arguments
 
-/// The attributes that are given by READ_ATTRIBUTES (RFC 8881, section 5.6): change, size, mode, numlinks, owner,
+/// The attributes that are read by READ_ATTRIBUTES (RFC 8881, section 5.6): change, size, mode, numlinks, owner,
 /// owner_group, time_metadata, time_modify.
 const GOVERNED: [u32; 8] = [3, 4, 33, 35, 36, 37, 52, 53];
 
 /// The number of the attribute size.
 const SIZE: u32 = 4;
 
-/// The number of the attribute acl.
-const ACL: u32 = 12;
+/// The attributes that are read by READ_ACL: acl, dacl, sacl.
+const LIST_GIVING: [u32; 3] = [12, 58, 59];
 
-/// The number of the attribute mode.
-const MODE: u32 = 33;
+/// The attributes that are set by WRITE_ACL: acl, mode, dacl, sacl.
+const LIST_SETTING: [u32; 4] = [12, 33, 58, 59];
 
-/// The number of the attribute owner.
-const OWNER: u32 = 36;
-
-/// The number of the attribute owner_group.
-const OWNER_GROUP: u32 = 37;
+/// The attributes that are set by WRITE_OWNER: owner, owner_group.
+const OWNER_SETTING: [u32; 2] = [36, 37];
 
 /// READ_ATTRIBUTES, where one of these attributes takes it.
 fn attributes_mask(set: &Bitmap) -> u32
     ensures { result ≡ if specs.has_any (bitmap_value set.now) specs.governed then mask.READ_ATTRIBUTES else 0 }
 {
-    if is_governed(set) {
+    if has_any(set, &GOVERNED) {
         mask::READ_ATTRIBUTES
     } else {
         0
@@ -158,26 +154,30 @@ fn attributes_mask(set: &Bitmap) -> u32
 
 /// READ_ACL, where one of these attributes takes it.
 fn list_mask(set: &Bitmap) -> u32
-    ensures { result ≡ if has_number (bitmap_value set.now) 12 then mask.READ_ACL else 0 }
+    ensures { result ≡ if specs.has_any (bitmap_value set.now) specs.list_giving then mask.READ_ACL else 0 }
 {
-    if set.has(ACL) { mask::READ_ACL } else { 0 }
+    if has_any(set, &LIST_GIVING) {
+        mask::READ_ACL
+    } else {
+        0
+    }
 }
 
-/// What reading these attributes takes.
+/// The bits for reading these attributes.
 fn reading_mask(set: &Bitmap) -> u32
     ensures { result ≡ specs.reading_mask (bitmap_value set.now) }
 {
     attributes_mask(set) | list_mask(set)
 }
 
-/// Whether an attribute that READ_ATTRIBUTES gives is in the set.
-fn is_governed(set: &Bitmap) -> bool
-    ensures { result ≡ specs.has_any (bitmap_value set.now) specs.governed }
+/// Whether one of these attributes is in the set.
+fn has_any(set: &Bitmap, numbers: &[u32]) -> bool
+    ensures { result ≡ specs.has_any (bitmap_value set.now) numbers.now }
 {
-    GOVERNED.iter().any(|number| set.has(*number))
+    numbers.iter().any(|number| set.has(*number))
 }
 
-/// What setting these attributes takes.
+/// The bits for setting these attributes.
 fn setting_mask(set: &Bitmap, facts: &First) -> u32
     ensures { result ≡ specs.setting_mask (bitmap_value set.now) facts.now }
 {
@@ -186,12 +186,12 @@ fn setting_mask(set: &Bitmap, facts: &First) -> u32
     } else {
         0
     };
-    let list = if set.has(ACL) || set.has(MODE) {
+    let list = if has_any(set, &LIST_SETTING) {
         mask::WRITE_ACL
     } else {
         0
     };
-    let owner = if set.has(OWNER) || set.has(OWNER_GROUP) {
+    let owner = if has_any(set, &OWNER_SETTING) {
         mask::WRITE_OWNER
     } else {
         0
@@ -199,7 +199,7 @@ fn setting_mask(set: &Bitmap, facts: &First) -> u32
     size | list | owner
 }
 
-/// What setting a size takes: growing takes APPEND_DATA too.
+/// The bits for setting a size: growing takes APPEND_DATA too.
 fn sizing_mask(size: Option<u64>, new_size: Option<u64>) -> u32
     ensures { result ≡ specs.sizing_mask size new_size }
 {
@@ -209,7 +209,7 @@ fn sizing_mask(size: Option<u64>, new_size: Option<u64>) -> u32
     }
 }
 
-/// What writing so many bytes takes.
+/// The bits for writing so many bytes.
 fn writing_mask(size: Option<u64>, offset: u64, count: u64) -> u32
     ensures { result ≡ specs.writing_mask size offset count }
 {
@@ -227,7 +227,7 @@ fn writing_mask(size: Option<u64>, offset: u64, count: u64) -> u32
     }
 }
 
-/// What a new name of an object of this kind takes.
+/// The bits for a new name of an object of this kind.
 fn adding_mask(kind: Kind) -> u32
     ensures { result ≡ specs.adding_mask kind }
 {
@@ -237,7 +237,7 @@ fn adding_mask(kind: Kind) -> u32
     }
 }
 
-/// What making an object of this type takes. CREATE makes directories and links, and no other.
+/// The bits for creating an object of this type. CREATE makes directories and links, and no other.
 fn creating_mask(kind: &CreateType<'_>) -> u32
     ensures { result ≡ specs.creating_mask (created (create_type_value kind.now)) }
 {
@@ -250,7 +250,7 @@ fn creating_mask(kind: &CreateType<'_>) -> u32
 
 // ---- OPEN (RFC 8881, section 18.16)
 
-/// What OPEN asks of the directory, where it looks up a name.
+/// The demand of OPEN on the directory, where it looks up a name.
 fn open_first(claim: &OpenClaim<'_>, current: Option<Object>) -> Option<Demand>
     ensures { result ≡ specs.open_first (parts.claim (open_claim_value claim.now)) current }
 {
@@ -260,7 +260,7 @@ fn open_first(claim: &OpenClaim<'_>, current: Option<Object>) -> Option<Demand>
     }
 }
 
-/// What OPEN asks of the file, or of the directory to make it.
+/// The demand of OPEN on the file, or on the directory to create it.
 fn open_second(args: &OpenArgs<'_>, facts: &Second) -> Option<Demand>
     ensures { result ≡ specs.open_second (parts.claim (open_claim_value args.now.claim)) args.now.access (parts.how (open_how_value args.now.how)) facts.now }
 {
@@ -273,7 +273,7 @@ fn open_second(args: &OpenArgs<'_>, facts: &Second) -> Option<Demand>
     }
 }
 
-/// What opening the child of a directory asks, or making it.
+/// The demand for opening the child of a directory, or creating it.
 fn opening(child: Option<Object>, access: u32, how: &OpenHow<'_>, facts: &Second) -> Option<Demand>
     ensures { result ≡ specs.opening child access (parts.how (open_how_value how.now)) facts.now }
 {
@@ -286,7 +286,7 @@ fn opening(child: Option<Object>, access: u32, how: &OpenHow<'_>, facts: &Second
     }
 }
 
-/// What opening a file takes.
+/// The bits for opening a file.
 fn opening_mask(access: u32, how: &OpenHow<'_>, new_size: Option<u64>) -> u32
     ensures { result ≡ specs.opening_mask access (parts.how (open_how_value how.now)) new_size }
 {
@@ -309,7 +309,7 @@ fn opening_mask(access: u32, how: &OpenHow<'_>, new_size: Option<u64>) -> u32
     read | write | truncate
 }
 
-/// Whether the file may be made.
+/// Whether the file may be created.
 fn is_creating(how: &OpenHow<'_>) -> bool
     ensures { result ≡ specs.is_creating (parts.how (open_how_value how.now)) }
 {
@@ -331,7 +331,7 @@ fn is_truncating(how: &OpenHow<'_>, new_size: Option<u64>) -> bool
 
 // ---- RENAME (RFC 8881, section 18.26)
 
-/// What RENAME asks of the two directories.
+/// The demands of RENAME on the two directories.
 fn rename_first(facts: &First) -> [Option<Demand>; 2]
     ensures { result ≡ specs.rename_first facts.now }
 {
@@ -343,7 +343,7 @@ fn rename_first(facts: &First) -> [Option<Demand>; 2]
     [bits(facts.saved, mask::EXECUTE), target]
 }
 
-/// What RENAME asks for the names that go and come.
+/// The demands of RENAME for the names that go and come.
 fn rename_second(facts: &Second) -> [Option<Demand>; 3]
     ensures { result ≡ specs.rename_second facts.now }
 {
@@ -358,7 +358,7 @@ fn rename_second(facts: &Second) -> [Option<Demand>; 3]
     ]
 }
 
-/// Whether both are there and are one.
+/// Whether both are there and are the same.
 fn is_one(a: Option<Object>, b: Option<Object>) -> bool
     ensures { result ≡ specs.is_one a b }
 {

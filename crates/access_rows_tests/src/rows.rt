@@ -4,8 +4,8 @@ use access_rows::{
     Demand, First, Object, Second, entry_demands, first_demands, rights_of, second_demands,
 };
 use acl_list::Kind;
-use nfs_ops::{Op, RenameArgs, StableHow, WriteArgs};
-use nfs_types::{Bitmap, StateId};
+use nfs_ops::{GetAttrArgs, Op, RenameArgs, SetAttrArgs, StableHow, WriteArgs};
+use nfs_types::{Attributes, Bitmap, StateId};
 use std::test::Fail;
 use xdr_wire::Opaque;
 
@@ -73,7 +73,7 @@ fn writing(rt: HostRuntime) -> Result<(), Fail> {
     Ok(())
 }
 
-/// A RENAME of a child onto another, and what it asks, each demand as an object, a target and bits.
+/// A RENAME of a child onto another, and its demands, each as an object, a target and bits.
 #[test]
 fn renaming(rt: HostRuntime) -> Result<(), Fail> {
     let (Some(old), Some(new)) = (Opaque::new(b"a"), Opaque::new(b"b")) else {
@@ -115,13 +115,19 @@ fn renaming(rt: HostRuntime) -> Result<(), Fail> {
     Ok(())
 }
 
-/// An entry of READDIR of which mode and acl are asked takes READ_ATTRIBUTES and then READ_ACL; fileid takes nothing.
+/// An entry of READDIR for which mode and acl are requested takes READ_ATTRIBUTES and then READ_ACL, sacl READ_ACL alone; fileid
+/// takes nothing.
 #[test]
 fn listing(rt: HostRuntime) -> Result<(), Fail> {
     let governed = Bitmap::empty().with(33).with(12);
     assert_eq!(rt;
         entry_demands(&governed, Some(FILE)).map(asked),
         [(2, 0, 0x80), (2, 0, 0x2_0000)]
+    );
+    let part = Bitmap::empty().with(59);
+    assert_eq!(rt;
+        entry_demands(&part, Some(FILE)).map(asked),
+        [(0, 0, 0), (2, 0, 0x2_0000)]
     );
     let open_to_all = Bitmap::empty().with(20);
     assert_eq!(rt;
@@ -131,7 +137,45 @@ fn listing(rt: HostRuntime) -> Result<(), Fail> {
     Ok(())
 }
 
-/// A kind, the rights asked, the bits granted, and the two words of ACCESS.
+/// An attribute, and the bits that GETATTR and SETATTR of it alone take.
+static ATTRIBUTES: [(u32, u32, u32); 8] = [
+    (12, 0x2_0000, 0x4_0000),
+    (20, 0, 0),
+    (33, 0x80, 0x4_0000),
+    (36, 0x80, 0x8_0000),
+    (37, 0x80, 0x8_0000),
+    (57, 0, 0),
+    (58, 0x2_0000, 0x4_0000),
+    (59, 0x2_0000, 0x4_0000),
+];
+
+/// The bits that an operation takes of the file.
+fn bits_of(op: &Op<'_>) -> u32 {
+    let facts = First::of(Some(FILE), None);
+    let (_, _, mask) = asked(first_demands(op, &facts)[0]);
+    mask
+}
+
+/// A list and its parts are read by READ_ACL, and set, as a mode is, by WRITE_ACL.
+#[test]
+fn reading_and_setting(rt: HostRuntime) -> Result<(), Fail> {
+    for (number, reading, setting) in &ATTRIBUTES {
+        let set = Bitmap::empty().with(*number.min(&255));
+        let Some(values) = Opaque::new(b"") else {
+            unreachable!()
+        };
+        let get = Op::GetAttr(GetAttrArgs { asked: set });
+        assert_eq!(rt; bits_of(&get), *reading, "{number}");
+        let put = Op::SetAttr(SetAttrArgs {
+            stateid: StateId::anonymous(),
+            attributes: Attributes { set, values },
+        });
+        assert_eq!(rt; bits_of(&put), *setting, "{number}");
+    }
+    Ok(())
+}
+
+/// A kind, the rights requested, the bits granted, and the two words of ACCESS.
 static RIGHTS: [(Kind, u32, u32, u32, u32); 6] = [
     (Kind::File, 0xffff_ffff, 0xffff_ffff, 0x2d, 0x2d),
     (Kind::Directory, 0xffff_ffff, 0xffff_ffff, 0x1f, 0x1f),

@@ -103,7 +103,7 @@ fn answer_inherit(alloc: Global, words: &[&str]) -> Result<Option<String>, Alloc
     Ok(Some(write_list(alloc, &made)?))
 }
 
-/// The answer to a line, if it can be read.
+/// The answer to a line, if the line can be read.
 pub(crate) fn answer(alloc: Global, line: &str) -> Result<Option<String>, AllocError> {
     let words: Vec<&str> = line.split(' ').collect(alloc)?;
     match words.as_slice() {

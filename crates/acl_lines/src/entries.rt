@@ -1,11 +1,11 @@
-//! Lists of entries as text: `TYPE:FLAGS:MASK:WHO`, joined by commas, or `-` for none.
+//! Lists of entries as text: `TYPE:FLAGS:MASK:WHO`, joined by commas, or `-` for the empty list.
 
 ghost use Rattle.std.specs.Prelude.{◌≤◌};
 
 use acl_list::{AclList, Entry, EntryKind, Who, flag};
 use std::alloc::{AllocError, Global};
 
-/// A number in digits of this base, at most this many of them.
+/// A number in digits of this base, at most this many digits.
 pub(crate) fn number(text: &str, radix: u32, most: usize) -> Option<u32>
     requires least { 2 ≤ radix }
     requires most { radix ≤ 36 }
@@ -58,7 +58,7 @@ fn read_entry(text: &str) -> Option<Entry> {
     })
 }
 
-/// The list that a text spells, if it spells one.
+/// The list that a text spells, if the text spells a list.
 pub(crate) fn read_list(alloc: Global, text: &str) -> Result<Option<AclList>, AllocError> {
     let mut list = AclList::new(alloc);
     if text == "-" {

@@ -1,4 +1,4 @@
--- How far a summary has come, and what a step of it keeps.
+-- The progress of a summary, entry by entry.
 use Rattle.std.proofs.Common.{◌≡◌, ℕ, ◌+◌, ◌<◌, ◌∙◌, Bool, true, false, not, ◌&&◌, ◌||◌, List, [], ◌∷◌, drop, ap, sym, arith, cond, bit_and, bit_or, w32, ◌^◌, inl, inr, ◌⊎◌}
 use Rattle.std.specs.Int.{bit_not}
 use Rattle.std.specs.List.{list_any}
@@ -69,7 +69,7 @@ watch_only kind h = elim h [ inl audit ↦ ap allows_or_denies audit | inr alarm
 
 -- ---- the bits that are allowed
 
--- what the bits granted say of the bits that the entries before the index decide, and what is left to the entries from there on
+-- for each bit: once an entry before the index decides it, its grant; else the entries from the index on decide it
 pub record Granting (names : Who → Bool) (entries : List Entry) (granted done index : ℕ) : Type 0 where
   pub covered : (bit : ℕ) → bit < 32 → has_bit done bit ≡ false → has_bit granted bit ≡ false
   pub allowed : (bit : ℕ) → bit < 32
@@ -148,7 +148,7 @@ pub record Adds (names : Who → Bool) (e : Entry) (s t : Summary) (done done' :
   pub watch_ok : (bit : ℕ) → bit < 32 → has_bit t.watch_ok bit ≡ has_bit s.watch_ok bit || watches names successful bit e
   pub watch_fail : (bit : ℕ) → bit < 32 → has_bit t.watch_fail bit ≡ has_bit s.watch_fail bit || watches names failed bit e
 
--- nothing is said yet
+-- before the first entry the summary is empty
 pub summed_none : (names : Who → Bool) (entries : List Entry) (s : Summary) → s.granted ≡ 0 → s.watch_ok ≡ 0 → s.watch_fail ≡ 0 → Summed names entries s 0 0
 summed_none names entries s p q r = record {
   granting = rw p (granting_none names entries);

@@ -1,4 +1,4 @@
--- The verdict, from its two questions.
+-- The verdict, from the denied bits and the bits that no entry mentions.
 use Rattle.std.proofs.Common.{◌≡◌, ℕ, ◌^◌, ◌<◌, ◌≤◌, ◌∙◌, Bool, true, false, ◌&&◌, cond, List, [], ◌∷◌, Option, Some, None, min, refl, ap, sym, inl, inr, ◌⊎◌}
 use Rattle.std.specs.Prelude.{filter, find, is_none}
 use Rattle.std.specs.List.{filter_map, cons_option, reduce}
@@ -13,7 +13,7 @@ use Rattle.acl_list.specs.declared.answer.Verdict.{Verdict}
 use Rattle.acl_list.specs.declared.answer.Verdict.TheVariants.{Granted, Denied, Missing}
 use Rattle.acl_list.proofs.Bits.{has_bit_above}
 
--- what is asked where a test passes is asked of those that pass
+-- a map under a test is the map of the values that pass it
 asked_where : (test : ℕ → Bool) (f : ℕ → Option ℕ) (xs : List ℕ) → filter_map (λ x. cond (test x) (f x) None) xs ≡ filter_map f (filter test xs)
 asked_where test f [] = refl
 asked_where test f (x ∷ xs) = go (test x) (asked_where test f xs)
@@ -27,7 +27,7 @@ first : List ℕ → Option ℕ
 first [] = None
 first (x ∷ xs) = Some x
 
--- the first that passes both tests
+-- the first value that passes both tests
 find_both : (test q : ℕ → Bool) (xs : List ℕ) → find (λ x. test x && q x) xs ≡ first (filter q (filter test xs))
 unfolding first
 find_both test q [] = refl

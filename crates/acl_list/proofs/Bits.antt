@@ -1,4 +1,4 @@
--- The bits of what the mask operations give.
+-- The bits of the results of the mask operations.
 use Rattle.std.proofs.Common.{◌≡◌, ◌≢◌, ℕ, ◌-◌, ◌*◌, ◌^◌, ◌<◌, ◌≤◌, ◌∙◌, Bool, true, false, not, ◌&&◌, ◌||◌, nat_eq, bit_and, bit_or, min, max, ap, sym, arith, w32, inl, inr, ◌⊎◌}
 use Rattle.std.specs.Int.{bit_at, bit_not, trailing_zeros}
 use Rattle.std.proofs.lemmas.Nat.Bits.{bit_at_and, bit_at_or, bit_at_not, bit_at-lt, bit_at-zero, bit_at_above, and_pow, same_from_bits, bit_at-pow_same, bit_at-pow_other, bit_at-trailing_zeros}
@@ -49,7 +49,7 @@ has_bit-without a b i h k = go (cases_lt i 32)
 from_test : (x : ℕ) → x < 2 → nat_eq x 1 ≡ false → x ≡ 0
 from_test x p e = grind (arith, nat_tests)
 
--- a mask with no bit is 0
+-- a mask that has no bit is 0
 pub zero_from_bits : (n : ℕ) → ((i : ℕ) → has_bit n i ≡ false) → n ≡ 0
 unfolding has_bit
 zero_from_bits n h = same_from_bits n 0 (λ i. from_test (bit_at n i) (bit_at-lt n i) (h i) ∙ sym (bit_at-zero i))
@@ -57,7 +57,7 @@ zero_from_bits n h = same_from_bits n 0 (λ i. from_test (bit_at n i) (bit_at-lt
 digit_from_test : (x y : ℕ) → x < 2 → y < 2 → nat_eq x 1 ≡ nat_eq y 1 → x ≡ y
 digit_from_test x y p q e = grind (arith, nat_tests)
 
--- two masks with the same bits are one
+-- two masks with the same bits are equal
 pub same_masks : (a b : ℕ) → ((i : ℕ) → has_bit a i ≡ has_bit b i) → a ≡ b
 unfolding has_bit
 same_masks a b h = same_from_bits a b (λ i. digit_from_test (bit_at a i) (bit_at b i) (bit_at-lt a i) (bit_at-lt b i) (h i))
@@ -107,7 +107,7 @@ successful_bit flags = bit_by_test flags 4
 pub failed_bit : (flags : ℕ) → has_bit flags 5 ≡ not (nat_eq (bit_and flags 32) 0)
 failed_bit flags = bit_by_test flags 5
 
--- what a test of a flag says of its bit
+-- the test of a flag is the test of its bit
 pub ruleset flag_bits = (file_inherit_bit, directory_inherit_bit, no_propagate_bit, inherit_only_bit, successful_bit, failed_bit)
 
 -- the bits of a mask under a flag

@@ -1,4 +1,4 @@
--- How far a decision has come, and what each step of it keeps.
+-- The progress of a decision, entry by entry.
 use Rattle.std.proofs.Common.{◌≡◌, ◌≢◌, ℕ, ◌+◌, ◌^◌, ◌<◌, ◌≤◌, ◌∙◌, Bool, true, false, not, ◌&&◌, bit_and, List, [], ◌∷◌, Option, Some, None, drop, length, refl, ap, sym, subst, arith, w32, inl, inr, cond}
 use Rattle.std.proofs.lemmas.List.{drop_all}
 use Rattle.std.proofs.lemmas.Bool.{and_parts, and_from, and_left, and_right, cases_Bool, cond-true, cond-false, not-true, not-false}
@@ -22,7 +22,7 @@ use Rattle.acl_list.proofs.Bits.{has_bit-zero, has_bit-and, has_bit-without, low
 abbrev pub mention_from : (Who → Bool) → ℕ → List Entry → ℕ → Option (ℕ × Entry)
 mention_from names index entries bit = find (λ p. counts_for names bit p.1) (enumerate_from index entries)
 
--- the entries before the index have allowed the bits of the mask that are not left, and say nothing of those that are
+-- the entries before the index have allowed the bits of the mask that are not left, and mention none of the bits that are
 pub record Progress (names : Who → Bool) (entries : List Entry) (mask left index : ℕ) : Type 0 where
   pub within : (bit : ℕ) → has_bit left bit ≡ true → has_bit mask bit ≡ true
   pub ahead : (bit : ℕ) → has_bit left bit ≡ true → mention names entries bit ≡ mention_from names index (drop index entries) bit
@@ -40,7 +40,7 @@ and_rest false y h k = cc
 and_flip : (x y : Bool) → x && y ≡ y && x
 and_flip x y = grind arith
 
--- an entry that applies is a DENY, or else an ALLOW, as the test says
+-- the test tells a DENY among the entries that apply from an ALLOW
 pub is_deny : (kind : EntryKind) → sameb the_type kind Deny ≡ true → kind ≡ Deny
 is_deny Allow h = cc
 is_deny Deny h = refl

@@ -1,4 +1,4 @@
--- The mask whose bits are those that pass a test.
+-- The mask of the bits that pass a test.
 use Rattle.std.proofs.Common.{◌≡◌, ℕ, zero, suc, ◌+◌, ◌*◌, ◌/◌, ◌%◌, ◌^◌, ◌<◌, ◌≤◌, ◌∙◌, Bool, true, false, cond, List, ◌∷◌, ap, sym, arith, inl, inr, ◌⊎◌, nat_eq, sum_by}
 use Rattle.std.specs.Prelude.{filter}
 use Rattle.std.specs.Int.{bit_at}
@@ -15,7 +15,7 @@ use Rattle.acl_list.specs.declared.entry.Entry.{Entry}
 use Rattle.acl_list.specs.declared.entry.Who.{Who}
 use Rattle.acl_list.proofs.Bits.{has_bit_above, same_masks}
 
--- the mask of the n places from a on that pass, moved down by a
+-- the mask of those of the n places from a on that pass, moved down by a
 mask_from : ℕ → ℕ → (ℕ → Bool) → ℕ
 mask_from zero a test = 0
 mask_from (suc n) a test = cond (test a) 1 0 + 2 * mask_from n (a + 1) test
@@ -77,7 +77,7 @@ mask_of-lt test = rw (mask_of-is test) (mask_from-lt 32 0 test)
 pub mask_of-bits : (test : ℕ → Bool) → BitsAre (mask_of test) test
 mask_of-bits test bit h = ap (λ m. has_bit m bit) (mask_of-is test) ∙ has_bit-mask_from 32 0 test bit h ∙ ap test (omega arith)
 
--- a mask of 32 whose bits are those that pass is that mask
+-- a mask of 32 bits is the mask of the bits that pass, if these are its bits
 pub mask_of_bits : (mask : ℕ) (test : ℕ → Bool) → mask < 2 ^ 32 → BitsAre mask test → mask ≡ mask_of test
 mask_of_bits mask test fits are = same_masks mask (mask_of test) (λ i. go i (cases_lt i 32))
   where
@@ -91,7 +91,7 @@ same_summary s t p q r =
     ∙ ap (λ n. record { granted = t.granted; watch_ok = n; watch_fail = s.watch_fail }) q
     ∙ ap (λ n. record { granted = t.granted; watch_ok = t.watch_ok; watch_fail = n }) r
 
--- a summary that is right bit by bit is the summary
+-- a summary with the right bits is the summary
 pub summary_is : (names : Who → Bool) (entries : List Entry) (s : Summary) → s.granted < 2 ^ 32 → s.watch_ok < 2 ^ 32 → s.watch_fail < 2 ^ 32 → IsSummary names entries s
     → s ≡ summary names entries
 summary_is names entries s p q r is =

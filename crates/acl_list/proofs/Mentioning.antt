@@ -1,4 +1,4 @@
--- What the first mention of a bit, or of a mask, is.
+-- The first mention of a bit, or of a mask.
 use Rattle.std.proofs.Common.{◌≡◌, ℕ, ◌+◌, ◌^◌, ◌∙◌, Bool, true, false, not, ◌&&◌, bit_and, cond, List, [], ◌∷◌, Option, Some, None, refl, ap, sym, nat_eq, drop, length, ◌≤◌}
 use Rattle.std.specs.Prelude.{find}
 use Rattle.std.specs.List.{enumerate_from}
@@ -19,7 +19,7 @@ use Rattle.acl_list.proofs.Judging.{mention_from}
 abbrev pub meets : (Who → Bool) → ℕ → Entry → Bool
 meets names mask e = applies names e && not (nat_eq (bit_and e.mask mask) 0)
 
--- the first such entry, in a list whose first entry has this index
+-- the first entry that applies and has a bit of the mask, in a list whose first entry has this index
 abbrev pub meeting_from : (Who → Bool) → ℕ → List Entry → ℕ → Option (ℕ × Entry)
 meeting_from names index entries mask = find (λ p. meets names mask p.1) (enumerate_from index entries)
 
@@ -32,7 +32,7 @@ meeting_bit names place index (e ∷ es) =
     ap (λ b. cond b (Some (index, e)) (meeting_from names (index + 1) es (2 ^ place))) (bit_meets names place e)
     ∙ ap (cond (counts_for names place e) (Some (index, e))) (meeting_bit names place (index + 1) es)
 
--- of a mask of one bit it is the first mention
+-- of a mask of one bit that entry is the first mention
 pub mention_of_bit : (names : Who → Bool) (entries : List Entry) (mask place : ℕ) → mask ≡ 2 ^ place → mention_of_mask names entries mask ≡ mention names entries place
 mention_of_bit names entries mask place is = ap (mention_of_mask names entries) is ∙ meeting_bit names place 0 entries
 
@@ -57,7 +57,7 @@ module _ {names : Who → Bool} {entries : List Entry} {mask index : ℕ} (so_fa
   pub is_unfound : length entries ≤ index → mention_of_mask names entries mask ≡ None
   is_unfound past = so_far.found ∙ ap (λ es. meeting_from names index es mask) (drop_all index entries past)
 
--- what is found counts
+-- the entry that is found counts for the bit
 pub found_counts : (names : Who → Bool) (bit index : ℕ) (entries : List Entry) (p : ℕ × Entry) → mention_from names index entries bit ≡ Some p → counts_for names bit p.1 ≡ true
 found_counts names bit index [] p h = absurd (none-some p h)
 found_counts names bit index (e ∷ es) p h = go (counts_for names bit e) refl (found_counts names bit (index + 1) es p) h
@@ -70,7 +70,7 @@ found_counts names bit index (e ∷ es) p h = go (counts_for names bit e) refl (
 pub found_allows_or_denies : (names : Who → Bool) (bit index : ℕ) (entries : List Entry) (p : ℕ × Entry) → mention_from names index entries bit ≡ Some p → allows_or_denies p.1.kind ≡ true
 found_allows_or_denies names bit index entries p h = (and_parts _ _ (and_parts _ _ (found_counts names bit index entries p h)).0).0
 
--- a mention by a DENY is one by its index
+-- the mention of a bit by a DENY entry has the index of that entry
 pub denied_by : (names : Who → Bool) (entries : List Entry) (bit index : ℕ) → DeniedBy index ≡ mentioned (mention names entries bit) → Some index ≡ denied_at (mention names entries bit)
 denied_by names entries bit index h = go (mention names entries bit) (λ p found. found_allows_or_denies names bit 0 entries p found) h
   where

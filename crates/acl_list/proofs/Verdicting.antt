@@ -1,4 +1,4 @@
--- The answer by facts is the one that is worked out.
+-- A verdict that meets the facts is the verdict that the function gives.
 use Rattle.std.proofs.Common.{◌≡◌, ◌↔◌, ℕ, zero, suc, ◌+◌, ◌^◌, ◌<◌, ◌≤◌, ◌∙◌, Bool, true, false, cond, List, [], ◌∷◌, Option, Some, None, min, refl, ap, sym, subst, arith, inl, inr, ◌⊎◌}
 use Rattle.std.specs.Prelude.{filter, fold, is_none}
 use Rattle.std.specs.List.{filter_map, cons_option, range_with_len, reduce, AllByRecursion}
@@ -107,7 +107,7 @@ module _ (test q : ℕ → Bool) where
       )
       go (inr apart) later = ((later apart).0, skip (test a) (λ passes. low a (omega arith) passes) ∙ (later apart).1)
 
--- ---- what is found
+-- ---- the entry that is found
 
 allowed_not_denied : (found : Option (ℕ × Entry)) → Allows found → denied_at found ≡ None
 allowed_not_denied None h = absurd h
@@ -176,7 +176,7 @@ module _ (names : Who → Bool) (entries : List Entry) (mask : ℕ) (fits : mask
         | inr some ↦ some
       ]
 
--- ---- the one that is worked out meets the facts
+-- ---- the verdict that the function gives meets the facts
 
 -- the least of some numbers is one of them, and no greater than each
 record Least (n : ℕ) (xs : List ℕ) : Type 0 where
@@ -233,7 +233,7 @@ module _ (test : ℕ → Bool) (f : ℕ → Option ℕ) where
       go later true is None gives j = later (subst (λ p. IsIn n (cons_option p (filter_map f (filter test xs)))) gives j)
       go later true is (Some m) gives j = now is m gives later (subst (λ p. IsIn n (cons_option p (filter_map f (filter test xs)))) gives j)
 
--- the first that passes both tests, of numbers that rise by one
+-- the first number that passes both tests, of numbers that rise by one
 record First (test q : ℕ → Bool) (a len b : ℕ) : Type 0 where
   passes : test b ≡ true
   passes_too : q b ≡ true

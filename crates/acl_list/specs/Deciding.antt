@@ -1,4 +1,4 @@
--- Which entry of a list decides a bit (RFC 8881, section 6.2.1).
+-- The entry of a list that decides a bit (RFC 8881, section 6.2.1).
 use Rattle.std.specs.Prelude.{ℕ, Bool, true, false, not, ◌==◌, ◌&&◌, if◌then◌else◌, List, Option, Some, None, find, bit_and}
 use Rattle.std.specs.List.{enumerate_from}
 use Rattle.acl_list.specs.Mask.{has_bit}
@@ -12,8 +12,8 @@ use Rattle.acl_list.specs.declared.entry.Who.TheVariants.{Owner, Group, Everyone
 use Rattle.acl_list.specs.declared.answer.Mention.{Mention}
 use Rattle.acl_list.specs.declared.answer.Mention.TheVariants.{Unmentioned, AllowedBy, DeniedBy}
 
--- Whether a who is true of the caller, for an object of this owner and group (section 6.2.1.5). Everyone is among
--- EVERYONE@: the owner and the group's members too. The flags of the entry have no say in it.
+-- Whether a who is true of the caller, for an object of this owner and group (section 6.2.1.5). EVERYONE@ is true of
+-- everyone, the owner and the group's members too. The flags of the entry don't count.
 abbrev pub is_true_for : ℕ → ℕ → Identity → Who → Bool
 is_true_for owner group caller Owner = caller.uid == owner
 is_true_for owner group caller Group = is_member caller group
@@ -21,14 +21,14 @@ is_true_for owner group caller Everyone = true
 is_true_for owner group caller (User uid) = caller.uid == uid
 is_true_for owner group caller (GroupOf gid) = is_member caller gid
 
--- whether a who is this special one, or EVERYONE@
+-- whether a who is this special identifier, or EVERYONE@
 abbrev pub is_class : Who → Who → Bool
 is_class Owner Owner = true
 is_class Group Group = true
 is_class class Everyone = true
 is_class class other = false
 
--- AUDIT and ALARM entries watch, and have no say in what is granted (section 6.2.1.1)
+-- AUDIT and ALARM entries watch, and don't grant or deny access (section 6.2.1.1)
 abbrev pub allows_or_denies : EntryKind → Bool
 allows_or_denies Allow = true
 allows_or_denies Deny = true
@@ -47,17 +47,17 @@ is_deny Deny = true
 is_deny Audit = false
 is_deny Alarm = false
 
--- Below, names tells whose entries are asked: which whos are true.
+-- Below, `names` is true of the whos that match the requester.
 
--- an entry of the object itself whose who is true: not one that is only there to be inherited (section 6.2.1.4.1)
+-- an entry for the object itself whose who is true: it isn't INHERIT_ONLY (section 6.2.1.4.1)
 abbrev pub concerns : (Who → Bool) → Entry → Bool
 concerns names e = not (has_bit e.flags inherit_only) && names e.who
 
--- an ALLOW or DENY entry that concerns the one who asks
+-- an ALLOW or DENY entry that concerns the requester
 abbrev pub applies : (Who → Bool) → Entry → Bool
 applies names e = allows_or_denies e.kind && concerns names e
 
--- it applies, and has the bit
+-- the entry applies, and has the bit
 abbrev pub counts_for : (Who → Bool) → ℕ → Entry → Bool
 counts_for names bit e = applies names e && has_bit e.mask bit
 
@@ -69,7 +69,7 @@ mention names entries bit = find (λ p. counts_for names bit p.1) (enumerate_fro
 abbrev pub mention_of_mask : (Who → Bool) → List Entry → ℕ → Option (ℕ × Entry)
 mention_of_mask names entries mask = find (λ p. applies names p.1 && not (bit_and p.1.mask mask == 0)) (enumerate_from 0 entries)
 
--- what was found, as an answer
+-- the mention by the entry that was found
 abbrev pub mentioned : Option (ℕ × Entry) → Mention
 mentioned None = Unmentioned
 mentioned (Some p) = if is_allow p.1.kind then AllowedBy p.0 else DeniedBy p.0

@@ -1,4 +1,4 @@
--- What a list comes to for one who asks: the bits that it allows, and the bits that it watches (RFC 8881, section 6.2.1).
+-- The summary of a list for a requester: the bits that it allows, and the bits that it watches (RFC 8881, section 6.2.1).
 use Rattle.std.specs.Prelude.{ℕ, Bool, not, ◌&&◌, if◌then◌else◌, List, bit_and}
 use Rattle.std.specs.List.{list_any}
 use Rattle.acl_list.specs.Mask.{has_bit, BitsAre, mask_of}
@@ -8,16 +8,16 @@ use Rattle.acl_list.specs.declared.entry.Entry.{Entry}
 use Rattle.acl_list.specs.declared.entry.Who.{Who}
 use Rattle.acl_list.specs.declared.answer.Summary.{Summary}
 
--- an AUDIT or ALARM entry that concerns the one who asks and has this flag: SUCCESSFUL for what is granted, FAILED for what
--- is refused (section 6.2.1.4.1)
+-- an AUDIT or ALARM entry that concerns the requester and has this flag: SUCCESSFUL for granted access, FAILED for refused
+-- access (section 6.2.1.4.1)
 abbrev pub is_watching : (Who → Bool) → ℕ → Entry → Bool
 is_watching names flag e = not (allows_or_denies e.kind) && concerns names e && has_bit e.flags flag
 
--- the flag that tells of what is granted, or of what is refused
+-- the flag for granted access, or for refused access
 abbrev pub told : Bool → ℕ
 told granted = if granted then successful else failed
 
--- it watches the bit
+-- the entry watches the bit
 abbrev pub watches : (Who → Bool) → ℕ → ℕ → Entry → Bool
 watches names flag bit e = is_watching names flag e && has_bit e.mask bit
 
@@ -45,7 +45,7 @@ summary names entries = record {
   watch_fail = watched_mask names failed entries;
 }
 
--- the same, bit by bit
+-- the summary, bit by bit
 pub record IsSummary (names : Who → Bool) (entries : List Entry) (s : Summary) : Type 0 where
   pub granted : BitsAre s.granted (allows names entries)
   pub watch_ok : BitsAre s.watch_ok (is_watched names successful entries)

@@ -1,5 +1,5 @@
--- What a list answers to a mask (RFC 8881, section 6.2.1): each bit is asked alone. It stands here twice, as a relation
--- that says which answer is right, and as a function that works it out.
+-- The verdict of a list on a mask (RFC 8881, section 6.2.1): each bit is decided alone. A relation says which verdict
+-- is right, and a function gives it.
 use Rattle.std.specs.Prelude.{◌≡◌, ℕ, ◌^◌, ◌≤◌, true, min, Bool, if◌then◌else◌, is_none, List, [], ◌∷◌, Option, Some, None, filter, IsSomeAnd}
 use Rattle.std.specs.List.{filter_map, reduce}
 use Rattle.acl_list.specs.Mask.{has_bit, places}
@@ -46,7 +46,7 @@ IsVerdict names entries mask (Missing value) =
 abbrev pub bits_of : ℕ → List ℕ
 bits_of mask = filter (has_bit mask) places
 
--- the index of what was found, if it is a DENY
+-- the index of the entry that was found, if it is a DENY
 abbrev pub denied_at : Option (ℕ × Entry) → Option ℕ
 denied_at None = None
 denied_at (Some p) = if is_deny p.1.kind then Some p.0 else None

@@ -1,6 +1,6 @@
-//! What a list answers.
+//! The verdict of a list on a mask.
 
-/// What a list answers to a mask (RFC 8881, section 6.2.1).
+/// The verdict of a list on a mask (RFC 8881, section 6.2.1).
 #[derive(Clone, Copy, Debug, PartialEq, Eq)]
 pub enum Verdict {
     /// Each bit of the mask is first mentioned by an ALLOW entry. The mask 0 is always granted.
@@ -11,7 +11,7 @@ pub enum Verdict {
     Missing(u32),
 }
 
-/// Which entry decides a bit: the first that has it, of those that apply.
+/// The entry that decides a bit: the first that applies and has it.
 #[derive(Clone, Copy, Debug, PartialEq, Eq)]
 pub enum Mention {
     /// No entry that applies has the bit.
@@ -22,13 +22,13 @@ pub enum Mention {
     DeniedBy(usize),
 }
 
-/// What a list comes to for one caller, over all 32 bits of a mask.
+/// The summary of a list for one caller, over all 32 bits of a mask.
 #[derive(Clone, Copy, Debug, Default, PartialEq, Eq)]
 pub struct Summary {
     /// The bits that are first mentioned by an ALLOW entry.
     pub granted: u32,
-    /// The bits of the AUDIT and ALARM entries that tell of what is granted.
+    /// The bits of the AUDIT and ALARM entries for granted access.
     pub watch_ok: u32,
-    /// The bits of the AUDIT and ALARM entries that tell of what is refused.
+    /// The bits of the AUDIT and ALARM entries for refused access.
     pub watch_fail: u32,
 }

@@ -1,4 +1,4 @@
-//! Which entry of a list decides a bit, and what the list answers to a mask.
+//! The entry of a list that decides a bit, and the verdict of the list on a mask.
 ghost use Rattle.std.specs.Prelude.{◌≡◌, ℕ, ◌^◌, if◌then◌else◌};
 ghost use Rattle.acl_list.specs.Mask.{BitsAre, mask_of};
 ghost use Rattle.acl_list.specs.Deciding.{allows, is_allow, is_class, is_true_for, mentioned, mention_of_mask};
@@ -25,7 +25,7 @@ fn is_true_of(who: Who, owner: u32, group: u32, caller: &Caller) -> bool
     }
 }
 
-/// Whether an entry is about the object itself, which has this owner and group, and about this caller: it isn't
+/// Whether an entry is for the object itself, which has this owner and group, and for this caller: it isn't
 /// INHERIT_ONLY, and its who is true of the caller.
 pub fn concerns(entry: &Entry, owner: u32, group: u32, caller: &Caller) -> bool
     ensures { result ≡ specs.concerns (is_true_for owner group caller.now) entry.now }
@@ -33,7 +33,7 @@ pub fn concerns(entry: &Entry, owner: u32, group: u32, caller: &Caller) -> bool
     !entry.is_inherit_only() && is_true_of(entry.who, owner, group, caller)
 }
 
-/// Whether an entry takes part in a decision.
+/// Whether an entry is an ALLOW or a DENY for this object and caller.
 fn applies(entry: &Entry, owner: u32, group: u32, caller: &Caller) -> bool
     ensures { result ≡ specs.applies (is_true_for owner group caller.now) entry.now }
 {
@@ -41,10 +41,10 @@ fn applies(entry: &Entry, owner: u32, group: u32, caller: &Caller) -> bool
         && concerns(entry, owner, group, caller)
 }
 
-/// Which entry of the list of an object decides a bit for the caller: the first that applies and has it.
+/// The entry of an object's list that decides a bit for the caller: the first that applies and has it.
 ///
-/// `bit` is a mask of one bit. Of a mask with several, the first entry is told that applies and has any of them; the mask
-/// 0 is mentioned by none. The object has this owner and group. It takes no memory.
+/// `bit` is a mask of one bit. Of a mask with several, the first entry that applies and has any of them is given; no
+/// entry mentions the mask 0. The object has this owner and group. It takes no memory.
 pub fn mention<A: Allocator>(
     list: &AclList<A>,
     owner: u32,
@@ -58,7 +58,7 @@ pub fn mention<A: Allocator>(
     mention_in(list.as_slice(), owner, group, caller, bit)
 }
 
-/// The same, of a slice.
+/// The entry of a slice that decides a bit.
 pub(crate) fn mention_in(
     entries: &[Entry],
     owner: u32,
@@ -76,7 +76,7 @@ pub(crate) fn mention_in(
     Mention::Unmentioned
 }
 
-/// The answer for the entry of this kind and index, which decides.
+/// The mention by the entry of this type and index.
 fn decided_by(kind: EntryKind, index: usize) -> Mention
     ensures { result ≡ (if is_allow kind then AllowedBy index else DeniedBy index) }
 {
@@ -87,10 +87,10 @@ fn decided_by(kind: EntryKind, index: usize) -> Mention
     }
 }
 
-/// What the list of an object answers to the mask, for the caller (RFC 8881, section 6.2.1).
+/// The verdict of an object's list on the mask, for the caller (RFC 8881, section 6.2.1).
 ///
-/// Entries are asked in order. Those count that are ALLOW or DENY, aren't INHERIT_ONLY, and whose who is true of the
-/// caller; the first that has a bit decides it. All 32 bits of the mask are judged. The object has this owner and
+/// Entries are processed in order. Those count that are ALLOW or DENY, aren't INHERIT_ONLY, and whose who is true of
+/// the caller; the first that has a bit decides it. All 32 bits of the mask are judged. The object has this owner and
 /// group. It takes no memory.
 pub fn judge<A: Allocator>(
     list: &AclList<A>,
@@ -124,8 +124,8 @@ fn judge_entries(entries: &[Entry], owner: u32, group: u32, caller: &Caller, mas
     }
 }
 
-/// The bits that the list allows a class, for the mode that it stands for (RFC 8881, section 6.3.2): only the entries of
-/// this special identifier and of EVERYONE@ are asked. Of a user or a group of its own, those of EVERYONE@ alone. It
+/// The bits that the list allows a class, for its mode (RFC 8881, section 6.3.2): only the entries of this special
+/// identifier and of EVERYONE@ count. For the who of a user or a group of its own, only those of EVERYONE@ count. It
 /// takes no memory.
 pub fn class_grant<A: Allocator>(list: &AclList<A>, class: Who) -> u32
     ensures exact { result ≡ mask_of (allows (is_class class) list.now) }
@@ -154,7 +154,7 @@ fn class_grant_of(entries: &[Entry], class: Who) -> u32
     granted
 }
 
-/// Whether an entry is about the object itself, and about this class or everyone.
+/// Whether an entry is for the object itself, and for this class or EVERYONE@.
 fn is_for_class(entry: &Entry, class: Who) -> bool
     ensures { result ≡ specs.concerns (is_class class) entry.now }
 {

@@ -1,11 +1,11 @@
-//! What one entry of a list says.
+//! One entry of a list.
 ghost use Rattle.std.specs.Prelude.{◌≡◌};
 ghost use Rattle.acl_list.specs.Mask.{has_bit};
 ghost use Rattle.acl_list.specs.Places as places;
 
 use crate::flag;
 
-/// What an object is.
+/// The type of an object.
 #[derive(Clone, Copy, Debug, PartialEq, Eq)]
 pub enum Kind {
     /// A regular file, NF4REG.
@@ -16,20 +16,20 @@ pub enum Kind {
     Link,
 }
 
-/// What an entry does with the bits of its mask: acetype4 (RFC 8881, section 6.2.1.1).
+/// The type of an entry: acetype4 (RFC 8881, section 6.2.1.1).
 #[derive(Clone, Copy, Debug, PartialEq, Eq)]
 pub enum EntryKind {
-    /// ACE4_ACCESS_ALLOWED_ACE_TYPE: allows them.
+    /// ACE4_ACCESS_ALLOWED_ACE_TYPE: allows the bits of the mask.
     Allow = 0,
     /// ACE4_ACCESS_DENIED_ACE_TYPE: denies them.
     Deny = 1,
-    /// ACE4_SYSTEM_AUDIT_ACE_TYPE: has their use written down.
+    /// ACE4_SYSTEM_AUDIT_ACE_TYPE: logs their use.
     Audit = 2,
-    /// ACE4_SYSTEM_ALARM_ACE_TYPE: has their use reported.
+    /// ACE4_SYSTEM_ALARM_ACE_TYPE: raises an alarm at their use.
     Alarm = 3,
 }
 
-/// Whom an entry is about (RFC 8881, section 6.2.1.5).
+/// The who of an entry (RFC 8881, section 6.2.1.5).
 #[derive(Clone, Copy, Debug, PartialEq, Eq)]
 pub enum Who {
     /// OWNER@: the owner of the object.
@@ -47,13 +47,13 @@ pub enum Who {
 /// An entry of a list: nfsace4 (RFC 8881, section 6.2.1).
 #[derive(Clone, Copy, Debug, PartialEq, Eq)]
 pub struct Entry {
-    /// What it does.
+    /// The type of the entry.
     pub kind: EntryKind,
     /// Bits of [`crate::flag`]. Any number is kept.
     pub flags: u32,
     /// Bits of [`crate::mask`]. Any number is kept, and each of the 32 bits is judged.
     pub mask: u32,
-    /// Whom it is about. It alone says so: `flag::IDENTIFIER_GROUP` has no say.
+    /// The who of the entry. `flag::IDENTIFIER_GROUP` doesn't count.
     pub who: Who,
 }
 
@@ -68,7 +68,7 @@ impl EntryKind {
         self as u32
     }
 
-    /// The type of this number. `None`: there is none, since the number is above 3.
+    /// The type of this number. `None`: the number is above 3.
     pub fn from_number(number: u32) -> Option<EntryKind>
         ensures { result ≡ kind_of number }
     {
@@ -112,14 +112,14 @@ impl Entry {
         self.flags & flag::INHERIT_ONLY != 0
     }
 
-    /// Whether an AUDIT or ALARM entry tells of what is granted.
+    /// Whether an AUDIT or ALARM entry is for granted access.
     pub fn tells_success(&self) -> bool
         ensures { result ≡ has_bit self.now.flags places.successful }
     {
         self.flags & flag::SUCCESSFUL != 0
     }
 
-    /// Whether an AUDIT or ALARM entry tells of what is refused.
+    /// Whether an AUDIT or ALARM entry is for refused access.
     pub fn tells_failure(&self) -> bool
         ensures { result ≡ has_bit self.now.flags places.failed }
     {
@@ -131,7 +131,7 @@ impl Who {
     ghost use Rattle.std.specs.Prelude.{◌≡◌};
     ghost use Rattle.acl_list.specs.Whos.{is_special};
 
-    /// Whether it is one of the special identifiers OWNER@, GROUP@ and EVERYONE@.
+    /// Whether the who is one of the special identifiers OWNER@, GROUP@ and EVERYONE@.
     pub fn is_special(self) -> bool
         ensures { result ≡ is_special self }
     {

@@ -9,17 +9,17 @@ pub const DIRECTORY_INHERIT: u32 = 0x02;
 /// ACE4_NO_PROPAGATE_INHERIT_ACE: the entry goes one level down and no further.
 pub const NO_PROPAGATE: u32 = 0x04;
 
-/// ACE4_INHERIT_ONLY_ACE: the entry is there to be inherited, and has no say on the directory itself.
+/// ACE4_INHERIT_ONLY_ACE: the entry is there to be inherited, and doesn't apply to the directory itself.
 pub const INHERIT_ONLY: u32 = 0x08;
 
-/// ACE4_SUCCESSFUL_ACCESS_ACE_FLAG: an AUDIT or ALARM entry tells of what is granted.
+/// ACE4_SUCCESSFUL_ACCESS_ACE_FLAG: an AUDIT or ALARM entry is for granted access.
 pub const SUCCESSFUL: u32 = 0x10;
 
-/// ACE4_FAILED_ACCESS_ACE_FLAG: an AUDIT or ALARM entry tells of what is refused.
+/// ACE4_FAILED_ACCESS_ACE_FLAG: an AUDIT or ALARM entry is for refused access.
 pub const FAILED: u32 = 0x20;
 
 /// ACE4_IDENTIFIER_GROUP: the who is the name of a group. A [`crate::Who`] says that by itself: the flag is kept with the
-/// entry and has no say in a decision.
+/// entry and decides nothing.
 pub const IDENTIFIER_GROUP: u32 = 0x40;
 
 /// ACE4_INHERITED_ACE: the entry was inherited. Kept with the entry.

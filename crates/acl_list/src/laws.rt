@@ -1,4 +1,4 @@
-//! What follows from the definitions alone.
+//! Laws that follow from the definitions alone.
 ghost use Rattle.std.specs.Prelude.{◌≡◌, ◌↔◌, ℕ, ◌^◌, ◌<◌, Bool, List, All, bit_and};
 ghost use Rattle.acl_list.specs.Deciding.{mention, mentioned};
 ghost use Rattle.acl_list.specs.Verdicts.{IsVerdict, verdict, verdict_on_bit};
@@ -9,7 +9,7 @@ ghost use Rattle.acl_list.specs.declared.answer.Verdict.TheVariants.{Granted};
 ghost use Rattle.acl_list.specs.declared.entry.Entry.{Entry};
 ghost use Rattle.acl_list.specs.declared.entry.Who.{Who};
 
-/// The facts on each bit have one verdict, and it is the one that is worked out.
+/// The facts on each bit have one verdict, which the function gives.
 pub fn verdict_is_by_bits()
     ensures { (names : Who → Bool) (entries : List Entry) (mask : ℕ) (answer : Verdict) → mask < 2 ^ 32 →
         (IsVerdict names entries mask answer) ↔ (answer ≡ verdict names entries mask) }

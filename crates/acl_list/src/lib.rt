@@ -1,6 +1,6 @@
-//! Access control lists: what they hold, and what they decide (RFC 8881, sections 6.2.1 and 6.3.2).
+//! Access control lists: their entries and their verdicts (RFC 8881, sections 6.2.1 and 6.3.2).
 //!
-//! Nothing here but the making of lists takes memory: a decision always has an answer.
+//! Only the making of lists takes memory: a decision always has an answer.
 #![tactic(auto)]
 
 mod answer;

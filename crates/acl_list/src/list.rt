@@ -7,7 +7,7 @@ use std::marker::Model;
 
 /// An access control list: entries, in order. The first entry has the index 0.
 ///
-/// It holds what it is given. Which entries a list of an object may have, and how many, is for those above to say.
+/// It holds any entries. The number of entries of an object's list, and their form, are limited elsewhere.
 #[derive(Debug, Drop)]
 pub struct AclList<A: Allocator = Global> {
     entries: Vec<Entry, A>,
@@ -70,7 +70,7 @@ impl<A: Allocator> AclList<A> {
         self.entries.len()
     }
 
-    /// Whether there are none.
+    /// Whether there are no entries.
     pub fn is_empty(&self) -> bool
         ensures { result ≡ (length self.now == 0) }
     {

@@ -1,4 +1,4 @@
-//! The definition of a verdict as a program: plain and slow, to compare the other with.
+//! The definition of a verdict as a program: plain and slow, for comparison.
 ghost use Rattle.std.specs.Prelude.{◌≡◌, ◌<◌, min, is_none, find, ◌&&◌, if◌then◌else◌, None, IsTrue};
 ghost use Rattle.std.specs.List.{filter_map, reduce};
 ghost use Rattle.acl_list.specs.Mask.{has_bit, places};
@@ -13,9 +13,9 @@ use crate::list::AclList;
 use rpc_record::Caller;
 use std::alloc::Allocator;
 
-/// What the list of an object answers to the mask, by the definition: each bit is asked alone, by a walk over the list.
+/// The verdict of an object's list on the mask, by the definition: each bit is decided alone, by a walk over the list.
 ///
-/// It answers what [`crate::judge`] does, which walks once.
+/// The verdict is that of [`crate::judge`], which walks once.
 pub fn judge_bit_by_bit<A: Allocator>(
     list: &AclList<A>,
     owner: u32,
@@ -98,7 +98,7 @@ fn is_unsaid(
         && mention_at(entries, owner, group, caller, place) == Mention::Unmentioned
 }
 
-/// Which entry decides the bit of the place.
+/// The entry that decides the bit of the place.
 fn mention_at(entries: &[Entry], owner: u32, group: u32, caller: &Caller, place: u32) -> Mention
     requires { place < 32 }
     ensures { result ≡ mentioned (specs.mention (is_true_for owner group caller.now) entries.now place) }

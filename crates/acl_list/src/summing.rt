@@ -1,4 +1,4 @@
-//! What a list comes to for a caller, and what its entries watch.
+//! The summary of a list for a caller, and the bits that its entries watch.
 ghost use Rattle.std.specs.Prelude.{◌≡◌, ℕ, ◌^◌, ◌&&◌};
 ghost use Rattle.acl_list.specs.Mask.{has_bit};
 ghost use Rattle.acl_list.specs.Deciding.{is_true_for};
@@ -27,7 +27,7 @@ fn mask_under(entry: &Entry, flag: u32) -> u32
 /// The bits of the mask that an entry of the object's list watches, where the mask is granted to the caller or refused.
 ///
 /// An AUDIT or ALARM entry watches that isn't INHERIT_ONLY, whose who is true of the caller, and that has the flag
-/// SUCCESSFUL for what is granted, FAILED for what is refused (RFC 8881, section 6.2.1.4.1). Any other entry watches no
+/// SUCCESSFUL for granted access, FAILED for refused access (RFC 8881, section 6.2.1.4.1). Any other entry watches no
 /// bit. The object has this owner and group.
 pub fn watched_bits(
     entry: &Entry,
@@ -46,7 +46,7 @@ pub fn watched_bits(
     }
 }
 
-/// Whether an entry tells of what is granted to the caller, or of what is refused.
+/// Whether an entry is for access granted to the caller, or for refused access.
 fn is_watching(entry: &Entry, owner: u32, group: u32, caller: &Caller, granted: bool) -> bool
     ensures { result ≡ specs.is_watching (is_true_for owner group caller.now) (told granted) entry.now }
 {
@@ -60,7 +60,7 @@ fn is_watching(entry: &Entry, owner: u32, group: u32, caller: &Caller, granted: 
         && tells
 }
 
-/// What the list of an object comes to for the caller: the bits that it grants, and the bits that it watches for
+/// The summary of an object's list for the caller: the bits that it grants, and the bits that it watches for
 /// success and for failure. The object has this owner and group. It takes no memory.
 ///
 /// A mask is granted exactly where the bits `granted` cover it: [`crate::covered_is_granted`]. An entry writes a line on

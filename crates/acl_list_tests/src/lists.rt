@@ -17,12 +17,12 @@ fn five() -> [Entry; 5] {
     ]
 }
 
-/// Sees that these are the entries of a list.
+/// Checks the entries of a list.
 fn see(rt: &impl Abort, entries: &[Entry], wanted: &[Entry]) {
     assert_eq!(rt; entries, wanted);
 }
 
-/// Sees that a list, its copy, and what it is made into and from, have these entries.
+/// Checks the entries of a list, of its copy, and of the lists that it is made into and from.
 fn see_all_ways(rt: &impl Abort, alloc: Global, wanted: &[Entry]) -> Result<(), Fail> {
     let list = AclList::from_slice(alloc, wanted)?;
     see(rt, list.as_slice(), wanted);
@@ -81,7 +81,7 @@ fn copies_are_whole_or_refused(rt: HostRuntime) -> Result<(), Fail> {
     Ok(())
 }
 
-/// Over a heap a list grows until memory is refused, and then has what it had; says whether it became whole.
+/// Over a heap a list grows until memory is refused, and then keeps its entries; says whether it became whole.
 fn grows<A: Allocator + Copy>(rt: &impl Abort, alloc: A, entries: &[Entry]) -> bool {
     let mut list = AclList::new(alloc);
     let held = add(&mut list, entries);
@@ -90,7 +90,7 @@ fn grows<A: Allocator + Copy>(rt: &impl Abort, alloc: A, entries: &[Entry]) -> b
     held == entries.len()
 }
 
-/// Over each size of a heap a list grows until memory is refused, and then has what it had.
+/// Over each size of a heap a list grows until memory is refused, and then keeps its entries.
 #[test]
 fn a_refused_push_leaves_the_list(rt: HostRuntime) -> Result<(), Fail> {
     let five = five();

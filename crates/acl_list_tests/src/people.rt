@@ -1,4 +1,4 @@
-//! Who asks, and what entries are written as.
+//! The callers, and their entries.
 
 use acl_list::{Entry, EntryKind, Who};
 use rpc_record::Caller;
@@ -8,7 +8,7 @@ pub const OWNER: u32 = 1001;
 
 pub const GROUP: u32 = 100;
 
-/// Who asks.
+/// The caller.
 #[derive(Clone, Copy, Debug, PartialEq, Eq)]
 pub enum Person {
     /// The owner, and no member of the group.

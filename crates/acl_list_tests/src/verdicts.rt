@@ -9,7 +9,7 @@ use std::alloc::Global;
 use std::process::Abort;
 use std::test::Fail;
 
-/// A list, and what it answers to each who asks and mask.
+/// A list, and its verdict for each caller and mask.
 #[derive(Clone, Copy)]
 struct Case<'a> {
     name: &'a str,
@@ -17,7 +17,7 @@ struct Case<'a> {
     asked: &'a [(Person, u32, Verdict)],
 }
 
-/// Asks the judge and the plain program.
+/// Runs the judge and the plain program.
 fn ask(rt: &impl Abort, alloc: Global, case: &Case<'_>) -> Result<(), Fail> {
     let list = AclList::from_slice(alloc, case.entries)?;
     for (person, mask, want) in case.asked {

@@ -1,4 +1,4 @@
--- How long lists get.
+-- The length of lists.
 use Rattle.std.proofs.Common.{◌≡◌, ℕ, ◌-◌, ◌≤◌, ◌∙◌, Bool, true, false, not, ◌||◌, cond, length, List, [], ◌∷◌, ◌++◌, Option, Some, None, refl, ap, sym, subst, arith, append-nil, length-append}
 use Rattle.std.specs.Prelude.{filter, is_some, IfSome, IfOk, IsErrAnd, MatchResult, Result, Ok, Err}
 use Rattle.std.specs.List.{filter_map, cons_option}
@@ -45,7 +45,7 @@ shorter f (x ∷ xs) = go (f x) (shorter f xs)
     go None h = omega arith
     go (Some y) h = omega arith
 
--- at most 59 entries are within the bounds, whatever they are
+-- at most 59 entries are within the bounds
 pub IsBounded-short : (entries : List Entry) → length entries ≤ 59 → IsBounded entries
 IsBounded-short entries h = record { all = omega arith; kept = omega (arith, count_by-le-length keeps entries) }
 
@@ -62,7 +62,7 @@ uncounted : (kind : EntryKind) (mask : ℕ) (who : Who) (es : List Entry) → al
     → filter keeps (plain kind mask who ∷ es) ≡ filter keeps es
 uncounted kind mask who es h k = rw (h, k, has_bit-zero 3, has_bit-zero 0, has_bit-zero 1)
 
--- what is kept is of the kinds that are kept
+-- the entries that a new mode keeps are of the kinds that it keeps
 kept_counts : (lacking : ℕ) (e k : Entry) → kept lacking e ≡ Some k → keeps e ≡ true
 kept_counts lacking e k h = go (not (allows_or_denies e.kind) || has_bit e.flags 3) (is_special e.who) (has_bit e.flags 0) (has_bit e.flags 1) _ _ _ h
   where
@@ -118,7 +118,7 @@ IsBounded-inherit entries kind h =
     let short : length (inherit entries kind) ≤ 59 = omega (arith, length-filter_map (child kind) keeps (child_counts kind) entries, counted_kept entries h) in
     IsBounded-short (inherit entries kind) short
 
--- ---- what is admitted, made and changed
+-- ---- lists that are admitted, made and changed
 
 pub IsBounded-admitted : (kind : Kind) (raws : List Raw) → length raws ≤ 59 → IsBounded (admitted kind raws)
 IsBounded-admitted kind raws h = let short : length (admitted kind raws) ≤ 59 = omega (arith, shorter (entry_of kind) raws) in IsBounded-short (admitted kind raws) short
@@ -140,7 +140,7 @@ IsBounded-changed old kind mode (Some list) h k = k
 IsBounded-changed old kind (Some mode) None h k = IsBounded-set_mode old kind mode h
 IsBounded-changed old kind None None h k = h
 
--- ---- what is counted
+-- ---- the entries that are counted
 
 -- a new mode keeps an entry exactly where the bounds count it
 pub is_some-kept : (lacking : ℕ) (e : Entry) → is_some (kept lacking e) ≡ keeps e
@@ -157,7 +157,7 @@ is_some-kept lacking e = go (allows_or_denies e.kind) (has_bit e.flags 3) (is_sp
     go true false true false true allow x y z = grind arith
     go true false true false false allow x y z = grind arith
 
--- a list that is made, where it is what is within the bounds
+-- a list that is made is within the bounds where its definition is
 pub bounded_result : {E : Type 0} (r : Result (List Entry) E) (entries : List Entry) → IfOk r (λ new. new ≡ entries) → IsBounded entries → IfOk r IsBounded
 bounded_result (Ok new) entries h k = subst IsBounded (sym h) k
 bounded_result (Err e) entries h k = tt
@@ -166,7 +166,7 @@ ok_or_err : {F : Type 0} (Q : F → Type 0) (s : Result (List Entry) F) → IsEr
 ok_or_err Q (Ok new) h = absurd h
 ok_or_err Q (Err f) h = tt
 
--- the same, where the error is told as another
+-- a list that is made by another call is within the bounds where its definition is
 pub bounded_fault : {E F : Type 0} (Q : E → F → Type 0) (r : Result (List Entry) E) (s : Result (List Entry) F) (entries : List Entry)
     → MatchResult r (λ x. s ≡ Ok x) (λ x. IsErrAnd s (Q x)) → IfOk r (λ new. new ≡ entries) → IsBounded entries → IfOk s IsBounded
 bounded_fault Q (Ok new) s entries h k l = subst (λ (x : Result (List Entry) _). IfOk x IsBounded) (sym h) (subst IsBounded (sym k) l)

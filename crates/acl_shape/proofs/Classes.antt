@@ -1,4 +1,4 @@
--- Which bits a list made from a mode allows.
+-- The bits that a list made from a mode allows.
 use Rattle.std.proofs.Common.{◌≡◌, ℕ, ◌+◌, ◌-◌, ◌*◌, ◌/◌, ◌%◌, ◌<◌, ◌≤◌, ◌∙◌, Bool, nat_eq, true, false, not, ◌&&◌, ◌||◌, cond, List, [], ◌∷◌, ◌++◌, Option, Some, None, refl, ap, sym, subst, arith, inl, inr, ◌⊎◌, lit<, bit_and, bit_or}
 use Rattle.std.proofs.lemmas.Bool.{agree_below, agree_below_at, eqb-true, cond-true, cond-false, cases_lt}
 use Rattle.std.proofs.lemmas.List.Elements.{All-head, All-tail}
@@ -45,7 +45,7 @@ unfolding differ_all
 differ_below kind digit bit p q =
     agree_below_at (differ_at kind digit) (λ _. true) 7 bit (agree_below_at (differ_all kind) (λ _. true) 8 digit (table kind) p) q
 
--- the three bits that the bits of a class mask give are those that it was made of
+-- the class mask of three bits gives these three bits
 same_digit : Kind → ℕ → Bool
 unfolding has_bit class_mask
 same_digit kind digit = nat_eq (digit_of (has_bit (class_mask kind digit))) digit
@@ -94,7 +94,7 @@ no_everyone_bit : (bit : ℕ) → bit < 7 → has_bit 0x120080 bit ≡ false
 unfolding has_bit
 no_everyone_bit bit h = agree_below_at (has_bit 0x120080) (λ _. false) 7 bit refl h
 
--- ---- what a list begins with
+-- ---- the beginning of a list
 
 cond-or : (b r : Bool) → cond b true r ≡ b || r
 cond-or true r = refl
@@ -120,7 +120,7 @@ or_false b = grind arith
 pub or_true : (b : Bool) → b || true ≡ true
 or_true b = grind arith
 
--- what is kept of an entry is itself, or one of its two changed forms
+-- an entry that is kept is as it was, or in one of its two changed forms
 pub one_kept : (P : Entry → Type 0) (whole special inherited allow : Bool) (e flagged narrowed k : Entry)
     → cond whole (Some e) (cond special (cond inherited (Some flagged) None) (cond allow (Some narrowed) (Some e))) ≡ Some k
     → (whole ≡ true → P e) → (special ≡ true → P flagged) → (whole ≡ false → special ≡ false → allow ≡ true → P narrowed)
@@ -168,7 +168,7 @@ module _ (names : Who → Bool) (bit : ℕ) where
       plain_allow mask who (plain Deny others who ∷ es) h ∙ ap (λ b. has_bit mask bit || b) (plain_deny others who es h)
       ∙ decided (has_bit mask bit) (has_bit others bit) (allows names es bit) k
 
-  -- ---- what is kept
+  -- ---- the entries that are kept
 
   -- an entry that is no named ALLOW or DENY of these whos
   abbrev pub IsQuiet : Entry → Type 0
@@ -251,7 +251,7 @@ module _ (names : Who → Bool) (bit : ℕ) where
         ∙ plain_other Deny (class_mask kind (7 - group_digit mode)) Group everyone k
         ∙ plain_allow (bit_or (class_mask kind (others_digit mode)) 0x120080) Everyone [] l ∙ or_false _ ∙ everyone_more
 
--- a who of its own is in no class
+-- a who that isn't a special identifier is in no class
 no_class : (class who : Who) → is_special who ≡ false → is_class class who ≡ false
 no_class class Owner h = cc
 no_class class Group h = cc

@@ -11,7 +11,7 @@ use Rattle.acl_shape.specs.declared.request.Raw.{Raw}
 use Rattle.acl_shape.specs.declared.request.AdmitFault.{AdmitFault}
 use Rattle.acl_shape.specs.declared.request.AdmitFault.TheVariants.{NoSpc}
 
--- of a list that isn't too long it is the first fault of an entry
+-- the first fault of a list that isn't too long is the first fault of an entry
 pub first_fault-short : (raws : List Raw) → length raws ≤ 59 → first_fault raws ≡ slice_get (filter_map fault_of raws) 0
 first_fault-short raws h = cond-false (nat_lt 59 (length raws)) (Some NoSpc) (slice_get (filter_map fault_of raws) 0) (le-ltb 59 (length raws) h)
 

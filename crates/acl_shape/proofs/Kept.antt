@@ -1,4 +1,4 @@
--- What stays the same when a mode is set again.
+-- The list of an object stays as it is when a mode is set again.
 use Rattle.std.proofs.Common.{◌≡◌, ℕ, ◌-◌, ◌∙◌, true, not, ◌||◌, List, [], ◌∷◌, ◌++◌, Option, Some, None, bit_and, bit_or, refl, ap, w32, append-nil}
 use Rattle.std.specs.Int.{bit_not}
 use Rattle.std.specs.List.{filter_map, cons_option}
@@ -56,7 +56,7 @@ module _ (lacking owner_mask owner_rest group_mask group_rest everyone_mask : �
   abbrev closing : List Entry
   closing = plain Allow group_mask Group ∷ plain Deny group_rest Group ∷ plain Allow everyone_mask Everyone ∷ []
 
-  -- of a list made from a mode just the kept part is kept
+  -- of a list made from a mode exactly the kept part is kept
   kept_part : filter_map (kept lacking) (plain Allow owner_mask Owner ∷ plain Deny owner_rest Owner ∷ (filter_map (kept lacking) entries ++ closing))
       ≡ filter_map (kept lacking) entries
   kept_part =

@@ -2,3 +2,4 @@ pub mod Classes
 pub mod Kept
 pub mod Bounded
 pub mod Faults
+pub mod Parts

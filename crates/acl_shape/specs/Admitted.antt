@@ -1,6 +1,6 @@
--- What becomes of a list that a client asks for (RFC 8881, sections 6.2.1 and 6.4.1.2).
+-- The list that is set where a client asks for one, or for a part of one (RFC 8881, sections 6.2.1 to 6.2.3 and 6.4.1.2).
 use Rattle.std.specs.Prelude.{◌==◌, nat_lt, not, ◌||◌, is_none, if◌then◌else◌, List, length, Option, Some, None, slice_get}
-use Rattle.std.specs.List.{filter_map}
+use Rattle.std.specs.List.{filter_map, list_all}
 use Rattle.acl_list.specs.Kinds.{kind_of}
 use Rattle.acl_list.specs.Mask.{has_bit}
 use Rattle.acl_list.specs.Places.{inherit_only}
@@ -12,11 +12,13 @@ use Rattle.acl_list.specs.declared.mask.TheConstants as mask
 use Rattle.acl_list.specs.declared.flag.TheConstants as flag
 use Rattle.acl_shape.specs.Mode.{without}
 use Rattle.acl_shape.specs.Inherited.{is_directory, settled}
+use Rattle.acl_shape.specs.Parts.{is_of}
+use Rattle.acl_shape.specs.declared.part.Part.{Part}
 use Rattle.acl_shape.specs.declared.request.Raw.{Raw}
 use Rattle.acl_shape.specs.declared.request.AdmitFault.{AdmitFault}
 use Rattle.acl_shape.specs.declared.request.AdmitFault.TheVariants.{NoSpc, AttrNotSupp, Inval, BadOwner}
 
--- what is wrong with an entry, if anything: its type (section 6.2.1.1), its flags and its mask (6.2.1.4, 6.2.1.3), its who (6.2.1.5)
+-- the fault of an entry, if any: its type (section 6.2.1.1), its flags and its mask (6.2.1.4, 6.2.1.3), its who (6.2.1.5)
 abbrev pub fault_of : Raw → Option AdmitFault
 fault_of raw =
     if is_none (kind_of raw.kind) then Some AttrNotSupp
@@ -24,11 +26,11 @@ fault_of raw =
     else if is_none raw.who then Some BadOwner
     else None
 
--- what is wrong with the whole: more entries than a new mode could keep, else the fault of the first entry that has one
+-- the fault of a list, if any: more entries than a new mode could keep, else the fault of the first entry that has one
 abbrev pub first_fault : List Raw → Option AdmitFault
 first_fault raws = if nat_lt 59 (length raws) then Some NoSpc else slice_get (filter_map fault_of raws) 0
 
--- what an entry becomes on an object of this kind: what is there to be inherited is of use on a directory alone
+-- the entry that is set on an object of this kind: only a directory has entries to be inherited
 abbrev pub settled_on : Kind → Entry → Option Entry
 settled_on kind e = if is_directory kind then Some e else if has_bit e.flags inherit_only then None else Some (settled e)
 
@@ -44,3 +46,14 @@ entry_of kind raw = entry_with raw kind (kind_of raw.kind) raw.who
 -- the list that is set: entry by entry, in order
 abbrev pub admitted : Kind → List Raw → List Entry
 admitted kind raws = filter_map (entry_of kind) raws
+
+-- ---- a part
+
+-- the first of two faults
+abbrev pub first_of : Option AdmitFault → Option AdmitFault → Option AdmitFault
+first_of None later = later
+first_of (Some fault) later = Some fault
+
+-- the fault of a part, if any: its fault as a list, else that an entry which is set is of the other part
+abbrev pub part_fault : Part → Kind → List Raw → Option AdmitFault
+part_fault part kind raws = first_of (first_fault raws) (if list_all (is_of part) (admitted kind raws) then None else Some Inval)

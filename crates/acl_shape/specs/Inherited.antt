@@ -1,4 +1,4 @@
--- What a new object gets from its directory's list (RFC 8881, sections 6.2.1.4.1 and 6.4.3.1).
+-- The entries that a new object inherits from its directory's list (RFC 8881, sections 6.2.1.4.1 and 6.4.3.1).
 use Rattle.std.specs.Prelude.{Bool, true, false, if◌then◌else◌, List, Option, Some, None, bit_and}
 use Rattle.std.specs.Int.{bit_not, w32}
 use Rattle.std.specs.List.{filter_map}
@@ -23,19 +23,19 @@ settled e = record e { flags = bit_and e.flags 0xf0 }
 abbrev pub passed_on : Entry → Entry
 passed_on e = record e { flags = bit_and e.flags (bit_not w32 flag.INHERIT_ONLY) }
 
--- What a new directory gets of an entry. One that is for directories holds for it, and is passed on unless NO_PROPAGATE stops
--- it. One that is for files alone doesn't hold for it; it is there to be passed on, so NO_PROPAGATE leaves nothing of it.
+-- The entry that a new directory inherits. With DIRECTORY_INHERIT it applies to the new directory, and is passed on unless
+-- NO_PROPAGATE is set. With FILE_INHERIT alone it doesn't apply; it is only passed on, so NO_PROPAGATE leaves nothing of it.
 abbrev pub directory_child : Entry → Option Entry
 directory_child e =
     if has_bit e.flags directory_inherit then (if has_bit e.flags no_propagate then Some (settled e) else Some (passed_on e))
     else if has_bit e.flags file_inherit then (if has_bit e.flags no_propagate then None else Some (set_aside e))
     else None
 
--- what a new file or link gets of an entry: one that is for files, for the object alone
+-- the entry that a new file or link inherits: an entry for files, for the object alone
 abbrev pub file_child : Entry → Option Entry
 file_child e = if has_bit e.flags file_inherit then Some (settled e) else None
 
--- what a new object of this kind gets of an entry
+-- the entry that a new object of this kind inherits
 abbrev pub child : Kind → Entry → Option Entry
 child kind e = if is_directory kind then directory_child e else file_child e
 

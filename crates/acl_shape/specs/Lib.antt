@@ -3,3 +3,4 @@ pub mod Bounds
 pub mod Inherited
 pub mod Admitted
 pub mod Permissions
+pub mod Parts

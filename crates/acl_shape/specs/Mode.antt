@@ -25,15 +25,15 @@ abbrev pub digit_of : (ℕ → Bool) → ℕ
 digit_of allowed =
     4 * (if allowed read_data then 1 else 0) + 2 * (if allowed write_data && allowed append_data then 1 else 0) + (if allowed execute then 1 else 0)
 
--- The mode of a list: OWNER@, GROUP@ and EVERYONE@ in turn. Each is asked over its own entries and those of EVERYONE@ alone:
--- a bit is allowed where the first of them that has it is an ALLOW.
+-- The mode of a list: the bits of OWNER@, GROUP@ and EVERYONE@, each by its own entries and those of EVERYONE@ alone: a bit is
+-- allowed where the first of them that has it is an ALLOW.
 abbrev pub mode_of : List Entry → ℕ
 mode_of entries =
     64 * digit_of (allows (is_class Owner) entries) + 8 * digit_of (allows (is_class Group) entries) + digit_of (allows (is_class Everyone) entries)
 
 -- ---- the bits of a mask that the bits of a mode stand for (section 6.3.2, read from the mode to the list)
 
--- what writing takes: on a directory also the removal of children
+-- the bits for writing: on a directory also DELETE_CHILD
 abbrev pub write_mask : Kind → ℕ
 write_mask File = mask.WRITE_DATA + mask.APPEND_DATA
 write_mask Directory = mask.WRITE_DATA + mask.APPEND_DATA + mask.DELETE_CHILD
@@ -59,20 +59,20 @@ abbrev pub class_digit : ℕ → ℕ → Identity → ℕ → ℕ
 class_digit owner group caller mode =
     if caller.uid == owner then owner_digit mode else if is_member caller group then group_digit mode else others_digit mode
 
--- ---- what a new mode keeps of a list (section 6.4.1.1)
+-- ---- the entries that a new mode keeps (section 6.4.1.1)
 
 -- the bits of the first mask that the second lacks
 abbrev pub without : ℕ → ℕ → ℕ
 without mask other = bit_and mask (bit_not w32 other)
 
--- the entry as one that is only there to be inherited
+-- the entry with INHERIT_ONLY set
 abbrev pub set_aside : Entry → Entry
 set_aside e = record e { flags = bit_or e.flags flag.INHERIT_ONLY }
 
--- What a new mode keeps of an entry, where the group's three bits lack these bits of a mask. AUDIT, ALARM and INHERIT_ONLY
--- entries have no say in what the object allows, and stay. Other ALLOW and DENY entries of OWNER@, GROUP@ and EVERYONE@ give
--- way to the mode; those that new objects get stay for that alone. A user or a group of its own keeps what is denied, and of
--- what is allowed no more than the group's three bits allow.
+-- The entry that a new mode keeps, where the group's three bits lack these bits of a mask. AUDIT, ALARM and INHERIT_ONLY
+-- entries allow or deny nothing on the object, and stay. Other ALLOW and DENY entries of OWNER@, GROUP@ and EVERYONE@ are
+-- dropped, or stay as INHERIT_ONLY if they are inherited. The DENY entries of a user or a group of its own stay, and its ALLOW
+-- entries lose the bits that the group's three bits don't allow.
 abbrev pub kept : ℕ → Entry → Option Entry
 kept lacking e =
     if not (allows_or_denies e.kind) || has_bit e.flags inherit_only then Some e
@@ -90,16 +90,16 @@ is_named e = allows_or_denies e.kind && not (has_bit e.flags inherit_only) && no
 abbrev pub plain : EntryKind → ℕ → Who → Entry
 plain kind mask who = record { kind = kind; flags = 0; mask = mask; who = who }
 
--- what an owner may do whatever the mode
+-- the bits that the owner is always allowed, whatever the mode
 abbrev pub owner_always : ℕ
 owner_always = mask.READ_ATTRIBUTES + mask.WRITE_ATTRIBUTES + mask.READ_ACL + mask.WRITE_ACL + mask.WRITE_OWNER + mask.SYNCHRONIZE
 
--- what everyone may do whatever the mode
+-- the bits that everyone is always allowed, whatever the mode
 abbrev pub everyone_always : ℕ
 everyone_always = mask.READ_ATTRIBUTES + mask.READ_ACL + mask.SYNCHRONIZE
 
--- The owner's two entries, what is kept in its order, the group's two, and everyone's. An ALLOW of the class bits and a DENY of
--- the other class bits decide each class bit for their class, so that what comes later doesn't.
+-- The owner's two entries, the entries kept in their order, the group's two, and everyone's. An ALLOW of the class bits and a
+-- DENY of the other class bits decide each class bit for their class, so that the entries behind them don't.
 abbrev pub set_mode : List Entry → Kind → ℕ → List Entry
 set_mode entries kind mode =
     plain Allow (bit_or (class_mask kind (owner_digit mode)) owner_always) Owner

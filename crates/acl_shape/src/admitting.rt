@@ -1,17 +1,20 @@
-//! A list as a client asks for it.
-ghost use Rattle.std.specs.Prelude.{◌≡◌, Some, None, Err, IfOk, MatchResult};
-ghost use Rattle.acl_shape.specs.Admitted.{admitted, entry_of, fault_of, first_fault};
+//! A list that a client asks for, or a part of one.
+ghost use Rattle.std.specs.Prelude.{◌≡◌, ◌≤◌, [], length, Some, None, Err, IfOk, MatchResult};
+ghost use Rattle.std.specs.List.{cons_option, list_all};
+ghost use Rattle.acl_shape.specs.Admitted.{admitted, entry_of, fault_of, first_fault, part_fault};
 ghost use Rattle.acl_shape.specs.Bounds.{IsBounded};
+ghost use Rattle.acl_shape.specs.Parts.{is_of};
 ghost use Rattle.acl_shape.specs.declared.request.AdmitFault.{AdmitFault};
 ghost use Rattle.acl_shape.specs.declared.request.AdmitFault.TheVariants.{Memory};
 
 use crate::bounds::MAX_KEPT;
 use crate::inheriting::settled;
+use crate::part::Part;
 use crate::request::{AdmitFault, Raw};
 use acl_list::{AclList, Entry, EntryKind, Kind, flag, mask};
 use std::alloc::{AllocError, Allocator};
 
-/// What is wrong with an entry, if anything.
+/// The fault of an entry, if any.
 fn fault(raw: &Raw) -> Option<AdmitFault>
     ensures { result ≡ fault_of raw.now }
 {
@@ -26,7 +29,7 @@ fn fault(raw: &Raw) -> Option<AdmitFault>
     }
 }
 
-/// What is wrong with the whole, if anything: its first fault.
+/// The first fault of a list, if any.
 fn refusal(raws: &[Raw]) -> Option<AdmitFault>
     ensures { result ≡ first_fault raws.now }
 {
@@ -41,7 +44,7 @@ fn refusal(raws: &[Raw]) -> Option<AdmitFault>
     None
 }
 
-/// What an entry becomes on an object of this kind.
+/// The entry that is set on an object of this kind.
 fn entry(raw: &Raw, kind: Kind) -> Option<Entry>
     ensures { result ≡ entry_of kind raw.now }
 {
@@ -60,13 +63,13 @@ fn entry(raw: &Raw, kind: Kind) -> Option<Entry>
     }
 }
 
-/// The list of an object of this kind that a client asks for, over `alloc` (RFC 8881, sections 6.2.1 and 6.4.1.2).
+/// The list that is set on an object of this kind, over `alloc`: a client's, checked (RFC 8881, sections 6.2.1 and 6.4.1.2).
 ///
 /// A list is refused for the first of these that it has: more than [`MAX_KEPT`] entries (`NoSpc`); then entry by entry,
 /// in their order, a type above 3 (`AttrNotSupp`), a flag above 0xff or an undefined bit of the mask (`Inval`), a who that
 /// isn't known (`BadOwner`). Inheritance flags are taken on every kind of object: on a file or a link, INHERIT_ONLY entries
 /// are left out and FILE_INHERIT, DIRECTORY_INHERIT and NO_PROPAGATE are cleared. IDENTIFIER_GROUP is kept, also on OWNER@,
-/// GROUP@ and EVERYONE@, where it says nothing. `Memory` comes only to a list that has no fault.
+/// GROUP@ and EVERYONE@, where it says nothing. `Memory` is given only for a list that has no fault.
 pub fn admit<A: Allocator>(alloc: A, raws: &[Raw], kind: Kind) -> Result<AclList<A>, AdmitFault>
     ensures refused { (fault : AdmitFault) → first_fault raws.now ≡ Some fault → result ≡ Err fault }
     ensures taken { first_fault raws.now ≡ None → MatchResult result (λ new. new ≡ admitted kind raws.now) (λ fault. fault ≡ Memory) }
@@ -75,6 +78,15 @@ pub fn admit<A: Allocator>(alloc: A, raws: &[Raw], kind: Kind) -> Result<AclList
     if let Some(fault) = refusal(raws) {
         return Err(fault);
     }
+    faultless(alloc, raws, kind)
+}
+
+/// The list of entries that have no fault.
+fn faultless<A: Allocator>(alloc: A, raws: &[Raw], kind: Kind) -> Result<AclList<A>, AdmitFault>
+    requires { length raws.now ≤ 59 }
+    ensures taken { MatchResult result (λ new. new ≡ admitted kind raws.now) (λ fault. fault ≡ Memory) }
+    ensures bounded { IfOk result IsBounded }
+{
     admitted_of(alloc, raws, kind).map_err(|_| AdmitFault::Memory)
 }
 
@@ -88,4 +100,44 @@ fn admitted_of<A: Allocator>(alloc: A, raws: &[Raw], kind: Kind) -> Result<AclLi
         }
     }
     Ok(new)
+}
+
+/// Whether the entry that is set on an object of this kind is of the part, or none is set.
+fn becomes_of(raw: &Raw, kind: Kind, part: Part) -> bool
+    ensures { result ≡ list_all (is_of part) (cons_option (entry_of kind raw.now) []) }
+{
+    match entry(raw, kind) {
+        Some(entry) => part.has(&entry),
+        None => true,
+    }
+}
+
+/// Whether each entry of the list that is set on an object of this kind is of the part.
+fn become_of(raws: &[Raw], kind: Kind, part: Part) -> bool
+    ensures { result ≡ list_all (is_of part) (admitted kind raws.now) }
+{
+    raws.iter().all(|raw| becomes_of(raw, kind, part))
+}
+
+/// The part that is set on an object of this kind, over `alloc`: a client's, checked (RFC 8881, sections 6.2.2 and 6.2.3).
+///
+/// It is refused and taken as [`admit`] does it, and then for an entry of the other part among those that are taken
+/// (`Inval`): the type of an entry that is left out doesn't count. `Memory` is given only for a part that has no fault.
+pub fn admit_part<A: Allocator>(
+    alloc: A,
+    raws: &[Raw],
+    kind: Kind,
+    part: Part,
+) -> Result<AclList<A>, AdmitFault>
+    ensures refused { (fault : AdmitFault) → part_fault part kind raws.now ≡ Some fault → result ≡ Err fault }
+    ensures taken { part_fault part kind raws.now ≡ None → MatchResult result (λ new. new ≡ admitted kind raws.now) (λ fault. fault ≡ Memory) }
+    ensures bounded { IfOk result IsBounded }
+{
+    if let Some(fault) = refusal(raws) {
+        return Err(fault);
+    }
+    if !become_of(raws, kind, part) {
+        return Err(AdmitFault::Inval);
+    }
+    faultless(alloc, raws, kind)
 }

@@ -13,7 +13,7 @@ pub const MAX_ENTRIES: usize = 64;
 pub const MAX_KEPT: usize = 59;
 
 /// Whether the list of an object may have these entries: at most [`MAX_ENTRIES`], of which a new mode keeps at most
-/// [`MAX_KEPT`]. What is made here of such a list is such a list. It takes no memory.
+/// [`MAX_KEPT`]. The lists made here from such a list are within these bounds too. It takes no memory.
 pub fn is_bounded<A: Allocator>(list: &AclList<A>) -> bool
     ensures { IsTrue result ↔ IsBounded list.now }
 {
@@ -28,7 +28,7 @@ fn kept_count(entries: &[Entry]) -> usize
 }
 
 /// Whether a new mode keeps the entry, perhaps changed.
-fn is_kept(entry: &Entry) -> bool
+pub(crate) fn is_kept(entry: &Entry) -> bool
     ensures { result ≡ specs.keeps entry.now }
 {
     matches!(entry.kind, EntryKind::Audit | EntryKind::Alarm)

@@ -1,4 +1,4 @@
-//! What a new object inherits.
+//! The entries that a new object inherits.
 ghost use Rattle.std.specs.Prelude.{◌≡◌, IfOk};
 ghost use Rattle.acl_shape.specs.Bounds.{IsBounded};
 ghost use Rattle.acl_shape.specs.Inherited as specs;
@@ -6,7 +6,7 @@ ghost use Rattle.acl_shape.specs.Inherited as specs;
 use acl_list::{AclList, Entry, Kind, flag};
 use std::alloc::{AllocError, Allocator};
 
-/// The flags that don't speak of inheritance: SUCCESSFUL, FAILED, IDENTIFIER_GROUP and INHERITED.
+/// The flags besides those of inheritance: SUCCESSFUL, FAILED, IDENTIFIER_GROUP and INHERITED.
 const OTHER_FLAGS: u32 = flag::SUCCESSFUL | flag::FAILED | flag::IDENTIFIER_GROUP | flag::INHERITED;
 
 /// The entry for the object alone.
@@ -19,7 +19,7 @@ pub(crate) fn settled(entry: &Entry) -> Entry
     }
 }
 
-/// What a new object of this kind gets of an entry of its directory.
+/// The entry that a new object of this kind inherits from an entry of its directory.
 fn child(entry: &Entry, kind: Kind) -> Option<Entry>
     ensures { result ≡ specs.child kind entry.now }
 {
@@ -40,7 +40,7 @@ fn child(entry: &Entry, kind: Kind) -> Option<Entry>
     }
 }
 
-/// What a new object of this kind inherits from the list of its directory: a list over `alloc` (RFC 8881, sections
+/// The list that a new object of this kind inherits from the list of its directory, over `alloc` (RFC 8881, sections
 /// 6.2.1.4.1 and 6.4.3.1).
 ///
 /// Each entry in turn gives the new object an entry or none. By its flags FILE_INHERIT (1), DIRECTORY_INHERIT (2) and

@@ -1,5 +1,5 @@
-//! What follows from the definitions alone.
-ghost use Rattle.std.specs.Prelude.{◌≡◌, ◌≤◌, ℕ, true, false, Option, List, All, length, is_some, IfSome, bit_and};
+//! Laws that follow from the definitions alone.
+ghost use Rattle.std.specs.Prelude.{◌≡◌, ◌≤◌, ℕ, true, false, Option, None, List, All, length, is_some, unwrap_or, IfSome, bit_and};
 ghost use Rattle.acl_list.specs.Deciding.{allows, is_true_for};
 ghost use Rattle.rpc_record.specs.Identity.{Identity};
 ghost use Rattle.acl_list.specs.Mask.{has_bit};
@@ -9,7 +9,9 @@ ghost use Rattle.acl_shape.specs.Admitted.{admitted};
 ghost use Rattle.acl_shape.specs.Bounds.{IsBounded, keeps};
 ghost use Rattle.acl_shape.specs.Inherited.{inherit};
 ghost use Rattle.acl_shape.specs.Mode.{mode_of, set_mode, kept, class_mask, class_digit, is_named};
+ghost use Rattle.acl_shape.specs.Parts.{combined, part_of, parts_fit, with_parts};
 ghost use Rattle.acl_shape.specs.Permissions.{created_list, changed_list};
+ghost use Rattle.acl_shape.specs.declared.part.Part.TheVariants.{Dacl, Sacl};
 ghost use Rattle.acl_shape.specs.declared.request.Raw.{Raw};
 
 /// A list made for a mode stands for the lowest nine bits of that mode.
@@ -31,8 +33,8 @@ pub fn mode_gives_class_bits()
         ≡ has_bit (class_mask kind (class_digit owner group caller mode)) bit }
 {}
 
-/// Lists within the bounds stay within them, whatever is made of them, and what is admitted is within them. What the bounds
-/// count is what a new mode keeps.
+/// Lists within the bounds stay within them when they are changed, and a list that is admitted is within them. The bounds
+/// count the entries that a new mode keeps.
 pub fn bounds_are_kept()
     ensures mode { (entries : List Entry) (kind : Kind) (mode : ℕ) → IsBounded entries → IsBounded (set_mode entries kind mode) }
     ensures inherited { (entries : List Entry) (kind : Kind) → IsBounded entries → IsBounded (inherit entries kind) }
@@ -41,5 +43,13 @@ pub fn bounds_are_kept()
         IsBounded parent → IfSome list IsBounded → IsBounded (created_list parent kind mode list) }
     ensures changed { (old : List Entry) (kind : Kind) (mode : Option ℕ) (list : Option (List Entry)) →
         IsBounded old → IfSome list IsBounded → IsBounded (changed_list old kind mode list) }
+    ensures sorted { (entries : List Entry) → IsBounded entries → IsBounded (combined entries None None) }
+    ensures parts { (entries : List Entry) (dacl sacl : Option (List Entry)) → IsBounded entries → parts_fit entries dacl sacl ≡ true → IsBounded (with_parts entries dacl sacl) }
     ensures counted { (lacking : ℕ) (e : Entry) → is_some (kept lacking e) ≡ keeps e }
+{}
+
+/// The list of two parts has the entries of each part that is given, and of the other part those that the list had.
+pub fn parts_are_read_back()
+    ensures dacl { (entries : List Entry) (dacl sacl : Option (List Entry)) → part_of Dacl (combined entries dacl sacl) ≡ part_of Dacl (unwrap_or dacl entries) }
+    ensures sacl { (entries : List Entry) (dacl sacl : Option (List Entry)) → part_of Sacl (combined entries dacl sacl) ≡ part_of Sacl (unwrap_or sacl entries) }
 {}

@@ -8,7 +8,7 @@ ghost use Rattle.acl_shape.specs.Mode as specs;
 use acl_list::{AclList, Entry, EntryKind, Kind, Who, class_grant, flag, mask};
 use std::alloc::{AllocError, Allocator};
 
-/// What an owner may do whatever the mode.
+/// The bits that the owner is always allowed, whatever the mode.
 const OWNER_ALWAYS: u32 = mask::READ_ATTRIBUTES
     | mask::WRITE_ATTRIBUTES
     | mask::READ_ACL
@@ -16,7 +16,7 @@ const OWNER_ALWAYS: u32 = mask::READ_ATTRIBUTES
     | mask::WRITE_OWNER
     | mask::SYNCHRONIZE;
 
-/// What everyone may do whatever the mode.
+/// The bits that everyone is always allowed, whatever the mode.
 const EVERYONE_ALWAYS: u32 = mask::READ_ATTRIBUTES | mask::READ_ACL | mask::SYNCHRONIZE;
 
 /// The three bits of a mode that the bits of a mask stand for.
@@ -33,8 +33,8 @@ fn digit(granted: u32) -> u32
 
 /// The mode that a list stands for: its lowest nine bits (RFC 8881, section 6.3.2).
 ///
-/// OWNER@, GROUP@ and EVERYONE@ are asked in turn, each over its own entries and those of EVERYONE@ alone: read is set
-/// where READ_DATA is allowed, write where WRITE_DATA and APPEND_DATA both are, execute where EXECUTE is. It takes no
+/// The bits of OWNER@, GROUP@ and EVERYONE@, each by its own entries and those of EVERYONE@ alone: read is set where
+/// READ_DATA is allowed, write where WRITE_DATA and APPEND_DATA both are, execute where EXECUTE is. It takes no
 /// memory.
 pub fn mode_of<A: Allocator>(list: &AclList<A>) -> u32
     ensures value { result ≡ specs.mode_of list.now }
@@ -57,7 +57,7 @@ fn class_mask(kind: Kind, digit: u32) -> u32
     read + write + execute
 }
 
-/// What writing takes: on a directory also the removal of children.
+/// The bits for writing: on a directory also DELETE_CHILD.
 fn write_mask(kind: Kind) -> u32
     ensures { result ≡ specs.write_mask kind }
 {
@@ -67,7 +67,7 @@ fn write_mask(kind: Kind) -> u32
     }
 }
 
-/// What a new mode keeps of an entry, where the group's three bits lack these bits of a mask.
+/// The entry that a new mode keeps, where the group's three bits lack these bits of a mask.
 fn kept(entry: &Entry, lacking: u32) -> Option<Entry>
     ensures { result ≡ specs.kept lacking entry.now }
 {
@@ -102,9 +102,9 @@ fn plain(kind: EntryKind, mask: u32, who: Who) -> Entry
 
 /// The list that a new mode makes of the list of an object: a list over `alloc` (RFC 8881, section 6.4.1.1).
 ///
-/// Only the lowest nine bits of `mode` have a say. Two entries for OWNER@ come first; then what is kept, in its order;
+/// Only the lowest nine bits of `mode` count. Two entries for OWNER@ come first; then the entries kept, in their order;
 /// then two entries for GROUP@ and one for EVERYONE@. The class bits are READ_DATA to read, WRITE_DATA and APPEND_DATA
-/// (on a directory DELETE_CHILD too) to write, EXECUTE to execute. What is kept of an entry, by its flags FILE_INHERIT
+/// (on a directory DELETE_CHILD too) to write, EXECUTE to execute. An entry is kept by its flags FILE_INHERIT
 /// (1), DIRECTORY_INHERIT (2) and INHERIT_ONLY (8):
 ///
 /// | Type | Who | 8 set | 8 not set, 1 or 2 set | 1, 2 and 8 not set |
@@ -114,8 +114,8 @@ fn plain(kind: EntryKind, mask: u32, who: Who) -> Entry
 /// | ALLOW | a user or a group of its own | as it is | without the class bits that the group's three bits lack | likewise, also where no bit is left |
 /// | DENY | a user or a group of its own | as it is | as it is | as it is |
 ///
-/// Bits of a mask that the standard doesn't define stay. Of a list within the bounds of [`crate::is_bounded`] it makes
-/// one within them. `Err`: there is no memory for the list.
+/// Bits of a mask that the standard doesn't define stay. From a list within the bounds of [`crate::is_bounded`] it makes
+/// a list within them. `Err`: there is no memory for the list.
 pub fn set_mode<A: Allocator, B: Allocator>(
     alloc: A,
     list: &AclList<B>,

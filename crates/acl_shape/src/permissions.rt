@@ -1,4 +1,4 @@
-//! The list of an object with the high bits of its mode: as it is made, and as they are set.
+//! The list of an object with the high bits of its mode: as it is created, and as they are set.
 ghost use Rattle.std.specs.Prelude.{◌≡◌, IfOk, IfSome, IsOk, IsSome};
 ghost use Rattle.acl_shape.specs.Bounds.{IsBounded};
 ghost use Rattle.acl_shape.specs.Permissions.{changed_high, changed_list, created_high, created_list, default_list, high_bits};
@@ -12,25 +12,25 @@ use std::alloc::{AllocError, Allocator, Global};
 /// The bits of a mode for which no entry stands: MODE4_SUID, MODE4_SGID and MODE4_SVTX (RFC 8881, section 6.2.4).
 const HIGH_BITS: u32 = 0o7000;
 
-/// What a client gives of a mode and a list.
+/// The mode and the list that a client gives.
 #[derive(Debug, Drop)]
 pub struct Given<A: Allocator = Global> {
-    /// A mode. Only its lowest twelve bits have a say.
+    /// A mode. Only its lowest twelve bits count.
     pub mode: Option<u32>,
     /// A list as [`crate::admit`] takes it, for an object of the same kind.
     pub list: Option<AclList<A>>,
 }
 
-/// What an object has of them.
+/// The list of an object and the high bits of its mode.
 #[derive(Debug, Drop)]
 pub struct Permissions<A: Allocator = Global> {
-    /// Its list, which the lowest nine bits of its mode are read from.
+    /// The list, which gives the lowest nine bits of the mode.
     pub list: AclList<A>,
-    /// The bits 0o7000 of its mode.
+    /// The bits 0o7000 of the mode.
     pub high: u32,
 }
 
-/// The mode of what is made with no mode, no list and nothing inherited.
+/// The mode of an object created with no mode, no list and nothing inherited.
 fn default_mode(kind: Kind) -> u32
     ensures { result ≡ specs.default_mode kind }
 {
@@ -72,13 +72,13 @@ fn list_of_new<A: Allocator + Copy, B: Allocator>(
     }
 }
 
-/// What a new object of this kind has in a directory of this list (RFC 8881, section 6.4.3).
+/// The list and the high bits of a new object of this kind in a directory of this list (RFC 8881, section 6.4.3).
 ///
-/// | Given | Its list |
+/// | Given | The list |
 /// |---|---|
-/// | a mode | what it inherits, with that mode set |
+/// | a mode | the inherited list, with that mode set |
 /// | a list, or both | the list |
-/// | neither | what it inherits; where that is empty, the list for the mode 0o600, on a directory 0o700 |
+/// | neither | the inherited list; where that is empty, the list for the mode 0o600, on a directory 0o700 |
 ///
 /// The high bits are those of the mode, and 0 where none is given. `Err`: there is no memory for the list; where a list is
 /// given, none is needed.
@@ -115,10 +115,10 @@ fn list_after<A: Allocator, B: Allocator>(
     }
 }
 
-/// What an object of this kind has after a mode, a list or both were set, where it had this list and these high bits
-/// (RFC 8881, section 6.4.1).
+/// The list and the high bits of an object of this kind after a mode, a list or both were set, where it had this list and
+/// these high bits (RFC 8881, section 6.4.1).
 ///
-/// | Given | Its list | Its high bits |
+/// | Given | The list | The high bits |
 /// |---|---|---|
 /// | a mode | its list with that mode set | the mode's |
 /// | a list | the list given | as they were |

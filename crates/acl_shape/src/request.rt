@@ -1,4 +1,4 @@
-//! What a client asks for, and why it is refused.
+//! A client's list, and the errors that refuse it.
 
 use acl_list::Who;
 use thiserror::Error;
@@ -12,7 +12,7 @@ pub struct Raw {
     pub flags: u32,
     /// acemask4: the bits of [`acl_list::mask::DEFINED`] are known.
     pub mask: u32,
-    /// Whom the entry is about. `None`: nobody has the name that was sent.
+    /// The who of the entry. `None`: nobody has the name that was sent.
     pub who: Option<Who>,
 }
 

@@ -40,7 +40,7 @@ static ON_A_FILE: [Entry; 3] = [
     allow!(0x40, 0, GroupOf(7)),
 ];
 
-/// Sees the list that is taken on an object of this kind, and how many entries a list of one that is to be inherited has there.
+/// Checks the list that is set on an object of this kind, and how many entries a list of one INHERIT_ONLY entry has there.
 fn see_taken(
     rt: &impl Abort,
     alloc: Global,
@@ -55,7 +55,7 @@ fn see_taken(
     Ok(())
 }
 
-/// A directory gets the list as it was sent, a file or a link without its parts that are there to be inherited.
+/// A directory gets the list as it was sent, a file or a link without INHERIT_ONLY entries and inheritance flags.
 #[test]
 fn lists_that_are_taken(rt: HostRuntime) -> Result<(), Fail> {
     see_taken(&rt, rt.alloc(), Kind::Directory, &ON_A_DIRECTORY, 1)?;
@@ -106,7 +106,7 @@ static REFUSED: [(&str, &[Raw], AdmitFault); 12] = [
     ),
 ];
 
-/// The first fault is told: of the count, then of the first entry that has one, there of its type, its flags and mask, its who.
+/// The first fault is returned: of the count, then of the first entry that has one, there of its type, its flags and mask, its who.
 #[test]
 fn lists_that_are_refused(rt: HostRuntime) {
     for (name, raws, fault) in &REFUSED {

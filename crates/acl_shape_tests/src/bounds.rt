@@ -7,7 +7,7 @@ use std::alloc::Global;
 use std::process::Abort;
 use std::test::Fail;
 
-/// Sees that two modes on a list leave it with 64 entries.
+/// Checks that two modes on a list leave it with 64 entries.
 fn see_longest(rt: &impl Abort, alloc: Global, list: &AclList) -> Result<(), Fail> {
     let new = set_mode(alloc, list, Kind::File, 0o640)?;
     see_length(rt, &new);

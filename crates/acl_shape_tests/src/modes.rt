@@ -20,13 +20,13 @@ static LISTS: [(Kind, u32, &[Entry]); 8] = [
     (Directory, 0, &five!(0x1e0180, 0x67, 0, 0x67, 0x120080)),
 ];
 
-/// Sees a list, and its mode.
+/// Checks a list, and its mode.
 fn see_list(rt: &impl Abort, list: &AclList, want: &[Entry], mode: u32) {
     assert_eq!(rt; list.as_slice(), want, "{mode:o}");
     assert_eq!(rt; mode_of(list), mode, "{mode:o}");
 }
 
-/// Sees the list for a mode, where there was none before. The high bits of a mode have no say.
+/// Checks the list for a mode, where there was none before. The high bits of a mode don't count.
 fn see_made(
     rt: &impl Abort,
     alloc: Global,
@@ -65,7 +65,7 @@ static AFTER: [Entry; 8] = [
     allow!(0, 0x120080, Everyone),
 ];
 
-/// A mode on the list of a directory, and the same mode again.
+/// A mode that is set on the list of a directory, and set again.
 #[test]
 fn a_mode_on_the_list_of_a_directory(rt: HostRuntime) -> Result<(), Fail> {
     let list = AclList::from_slice(rt.alloc(), &BEFORE)?;
@@ -113,7 +113,7 @@ static KEPT: [(Entry, Option<Entry>); 14] = [
     (deny!(0x03, 0x27, User(5)), Some(deny!(0x03, 0x27, User(5)))),
 ];
 
-/// Sees what stands between the ends of a list, of which there are five entries beside the one that is kept.
+/// Checks the entries between the ends of a list, of which there are five beside the entry that is kept.
 fn see_kept(
     rt: &impl Abort,
     new: &[Entry],

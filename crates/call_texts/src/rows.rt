@@ -1,10 +1,10 @@
 //! Calls of COMPOUND and their replies as records, for a table's rows.
 
-use crate::words::{close, put, put_all, put_answer, put_call};
+use crate::words::{close_record, put, put_all, put_answer, put_call};
 use std::alloc::Global;
 use std::test::Fail;
 
-/// Who calls: the uid, the gid, and a group more.
+/// The caller: the uid, the gid, and one further group.
 pub type Caller = (u32, u32, u32);
 
 pub const ROOT: Caller = (0, 0, 0);
@@ -18,15 +18,6 @@ pub const CAROL: Caller = (1003, 7, 100);
 
 /// A caller, the operations of a COMPOUND, and its status and results.
 pub type Row = (Caller, &'static str, &'static str);
-
-/// Sets the length of the record that stands behind this place, and says that it is one fragment.
-fn close_record(out: &mut Vec<u8>, start: usize) -> Result<(), Fail> {
-    close(out, start)?;
-    if let Some(byte) = out.get_mut(start) {
-        *byte |= 0x80;
-    }
-    Ok(())
-}
 
 /// Puts the header of a call of COMPOUND by this caller, with AUTH_SYS (RFC 5531, section 9 and appendix A).
 fn put_header(out: &mut Vec<u8>, xid: u32, (uid, gid, group): Caller) -> Result<(), Fail> {

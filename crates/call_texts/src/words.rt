@@ -11,9 +11,12 @@
 //! | `^n` | a number of 8 bytes |
 //! | `+a+b` | the bitmap of these attributes, whose numbers are decimal |
 //! | `TYPE:FLAGS:MASK:WHO` | an entry of a list, of type A, D, U or L |
+//! | `n*TYPE:FLAGS:MASK:WHO` | so many of that entry |
 //! | `*n` | so many entries that allow user 5 to read |
 //! | `#n` | attributes: a list of such entries |
 //! | `( words )` | the bytes of words with their length |
+//! | `[ words ]` | the bytes of words as a record of one fragment |
+//! | `%n` | so many bytes of zero |
 //! | `anon`, `bypass`, `closed` | the special stateids, and that of an open that has ended |
 //! | `$s.n` | SEQUENCE of session s, whose slot 0 has the call of this number |
 //! | `=s.n` | the result of it, where the session has 8 slots |
@@ -171,6 +174,13 @@ fn put_letters(out: &mut Vec<u8>, count: u32) -> Result<(), Fail> {
     Ok(())
 }
 
+fn put_zeros(out: &mut Vec<u8>, count: u32) -> Result<(), Fail> {
+    for _ in 0..count {
+        out.push(0)?;
+    }
+    Ok(())
+}
+
 fn put_entries(out: &mut Vec<u8>, count: u32) -> Result<(), Fail> {
     for _ in 0..count {
         put_all(out, &[0, 0, 1, 1, 0x3500_0000])?;
@@ -202,6 +212,16 @@ fn put_entry(out: &mut Vec<u8>, letter: &str, rest: &str) -> Result<(), Fail> {
     put_text(out, who.as_bytes())
 }
 
+/// Puts so many of the entry that is spelled so.
+fn put_repeated(out: &mut Vec<u8>, count: &str, entry: &str) -> Result<(), Fail> {
+    let count = hex(count)?;
+    let (letter, rest) = entry.split_once(':').unwrap_or((entry, ""));
+    for _ in 0..count {
+        put_entry(out, letter, rest)?;
+    }
+    Ok(())
+}
+
 fn put_long(out: &mut Vec<u8>, digits: &str) -> Result<(), Fail> {
     let number = u64::from_str_radix(digits, 16)?;
     out.extend_from_slice(&number.to_be_bytes())?;
@@ -229,7 +249,7 @@ fn put_bits(out: &mut Vec<u8>, numbers: &str) -> Result<(), Fail> {
     }
 }
 
-/// Sets the length that stands before what follows it.
+/// Sets the length of the bytes that follow it.
 pub(crate) fn close(out: &mut Vec<u8>, start: usize) -> Result<(), Fail> {
     let len = out.len().saturating_sub(start).saturating_sub(4);
     let bytes = u32::try_from(len)?.to_be_bytes();
@@ -237,6 +257,15 @@ pub(crate) fn close(out: &mut Vec<u8>, start: usize) -> Result<(), Fail> {
         if let Some(place) = out.get_mut(start.saturating_add(index)) {
             *place = *byte;
         }
+    }
+    Ok(())
+}
+
+/// Sets the length of the record behind this place, and marks it as one fragment (RFC 5531, section 11).
+pub(crate) fn close_record(out: &mut Vec<u8>, start: usize) -> Result<(), Fail> {
+    close(out, start)?;
+    if let Some(byte) = out.get_mut(start) {
+        *byte |= 0x80;
     }
     Ok(())
 }
@@ -268,6 +297,8 @@ fn put_signed(out: &mut Vec<u8>, word: &str) -> Result<bool, Fail> {
         put_letters(out, hex(count)?)?;
     } else if let Some(count) = word.strip_prefix('*') {
         put_entries(out, hex(count)?)?;
+    } else if let Some(count) = word.strip_prefix('%') {
+        put_zeros(out, hex(count)?)?;
     } else if let Some(count) = word.strip_prefix('#') {
         put_list(out, hex(count)?)?;
     } else if let Some(numbers) = word.strip_prefix('+') {
@@ -304,6 +335,9 @@ fn put_word(out: &mut Vec<u8>, word: &str) -> Result<(), Fail> {
     if put_signed(out, word)? {
         return Ok(());
     }
+    if let Some((count, entry)) = word.split_once('*') {
+        return put_repeated(out, count, entry);
+    }
     if let Some((letter, rest)) = word.split_once(':') {
         return put_entry(out, letter, rest);
     }
@@ -324,17 +358,40 @@ fn count_of(words: &str) -> u32 {
     count
 }
 
+/// Where the words in brackets begin that aren't closed.
+#[derive(Clone, Copy)]
+struct Begun {
+    bytes: usize,
+    record: usize,
+}
+
+/// Begins or ends words in brackets. `false`: it is another word.
+fn put_bracket(out: &mut Vec<u8>, begun: &mut Begun, word: &str) -> Result<bool, Fail> {
+    match word {
+        "(" => {
+            begun.bytes = out.len();
+            put(out, 0)?;
+        }
+        ")" => close(out, begun.bytes)?,
+        "[" => {
+            begun.record = out.len();
+            put(out, 0)?;
+        }
+        "]" => close_record(out, begun.record)?,
+        _ => return Ok(false),
+    }
+    Ok(true)
+}
+
 /// Puts the bytes of words.
 pub fn spell(out: &mut Vec<u8>, words: &str) -> Result<(), Fail> {
-    let mut start = 0usize;
+    let mut begun = Begun {
+        bytes: 0,
+        record: 0,
+    };
     for word in words.split_whitespace() {
-        match word {
-            "(" => {
-                start = out.len();
-                put(out, 0)?;
-            }
-            ")" => close(out, start)?,
-            _ => put_word(out, word)?,
+        if !put_bracket(out, &mut begun, word)? {
+            put_word(out, word)?;
         }
     }
     Ok(())

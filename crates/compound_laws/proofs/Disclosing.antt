@@ -1,4 +1,4 @@
--- No operation tells a caller anything but what the caller may see.
+-- No operation tells a caller more than the caller may see.
 use Rattle.std.proofs.Common.{ℕ, refl}
 use Rattle.nfs_types.specs.declared.status.Status.{Status}
 use Rattle.nfs_types.specs.declared.status.Status.TheVariants as statuses
@@ -17,7 +17,7 @@ use Rattle.compound_laws.proofs.Told.{close_discloses_nothing, commit_discloses_
 use Rattle.compound_laws.proofs.ListingSeen.{readdir_discloses_nothing}
 use Rattle.compound_laws.proofs.OpenSeen.{open_discloses_nothing}
 
--- one that is refused whatever the realm is
+-- an operation that is refused in every realm
 refused_seen : (c : Context) (h : Handles) (op : Operation) (number : ℕ) (status : Status) (is : IsFault status) → IsSeen (entered (entry_fault c op) (entry_may c op) (refusing c h number status is))
 refused_seen c h op number status is w = (refl, λ _. (refl, λ _. refl))
 

@@ -1,4 +1,4 @@
--- The attributes in the entries that READDIR gives, and when an entry refuses it.
+-- The attributes in the entries that READDIR returns, and when an entry refuses it.
 use Rattle.std.proofs.Common.{◌≡◌, ◌⊎◌, ℕ, Bool, true, false, ◌&&◌, ◌||◌, cond, zero, suc, inl, inr, List, refl, sym, ap, ◌∙◌, subst}
 use Rattle.std.specs.Prelude.{[], ◌∷◌, ◌++◌, Option, Some, None, Result, Ok, Err, IsSome, map, filter, take, nat_lt, ◌==◌}
 use Rattle.std.specs.List.{AllByRecursion, list_any}
@@ -26,7 +26,7 @@ use Rattle.nfs_ops.proofs.Listings.{refused_listing, listing_is}
 use Rattle.node_tree.specs.World.{World, Name, kind_of, names_in}
 use Rattle.node_tree.specs.Sound.{IsIn, IsSound}
 use Rattle.node_tree.proofs.Names.{from_filter}
-use Rattle.access_rows.specs.Rows.{bits, has_any, governed, entry_demands, first_demands}
+use Rattle.access_rows.specs.Rows.{bits, has_any, governed, list_giving, entry_demands, first_demands}
 use Rattle.access_rows.specs.declared.demand.Demand.{Demand}
 use Rattle.access_rows.specs.declared.demand.Demand.TheVariants.{Bits}
 use Rattle.access_guard.specs.Lists.{Lists}
@@ -59,21 +59,24 @@ or_right : (a b : Bool) → b ≡ true → a || b ≡ true
 or_right true b is = refl
 or_right false b is = is
 
--- one of them that is in a set tells that any is
+-- if a number of the list passes, some number of it passes
 any_of : (p : ℕ → Bool) (ns : List ℕ) → AllByRecursion (λ n. p n ≡ true → list_any p ns ≡ true) ns
 any_of p [] = tt
 any_of p (n ∷ ns) = (λ is. rw is refl, each (λ m. p m ≡ true → list_any p ns ≡ true) (λ m. p m ≡ true → p n || list_any p ns ≡ true) ns (λ m f is. or_right (p n) (list_any p ns) (f is)) (any_of p ns))
 
+abbrev IsSupported : ℕ → Type 0
+IsSupported a = has_number supported_words a ≡ true
+
 -- each of these is supported
-are_supported : AllByRecursion (λ a. has_number supported_words a ≡ true) governed
+are_supported : AllByRecursion IsSupported governed
 unfolding has_number
 are_supported = (refl, (refl, (refl, (refl, (refl, (refl, (refl, (refl, tt))))))))
 
-acl_is_supported : has_number supported_words 12 ≡ true
+lists_are_supported : AllByRecursion IsSupported list_giving
 unfolding has_number
-acl_is_supported = refl
+lists_are_supported = (refl, (refl, (refl, tt)))
 
--- what is permitted of them
+-- the governed attributes among the permitted ones
 governed_words : (a l : Bool) → AllByRecursion (λ n. has_number (granted_words a l) n ≡ a) governed
 unfolding has_number
 governed_words true true = (refl, (refl, (refl, (refl, (refl, (refl, (refl, (refl, tt))))))))
@@ -81,12 +84,13 @@ governed_words true false = (refl, (refl, (refl, (refl, (refl, (refl, (refl, (re
 governed_words false true = (refl, (refl, (refl, (refl, (refl, (refl, (refl, (refl, tt))))))))
 governed_words false false = (refl, (refl, (refl, (refl, (refl, (refl, (refl, (refl, tt))))))))
 
-acl_words : (a l : Bool) → has_number (granted_words a l) 12 ≡ l
+-- acl, dacl and sacl among the permitted ones
+list_words : (a l : Bool) → AllByRecursion (λ n. has_number (granted_words a l) n ≡ l) list_giving
 unfolding has_number
-acl_words true true = refl
-acl_words true false = refl
-acl_words false true = refl
-acl_words false false = refl
+list_words true true = (refl, (refl, (refl, tt)))
+list_words true false = (refl, (refl, (refl, tt)))
+list_words false true = (refl, (refl, (refl, tt)))
+list_words false false = (refl, (refl, (refl, tt)))
 
 given_all : (set : List ℕ) (a : ℕ) → has_number supported_words a ≡ true → has_number (given_set set) a ≡ has_number set a
 given_all set a is = shared set supported_words a ∙ ap (λ b. has_number set a && b) is ∙ and_true (has_number set a)
@@ -95,10 +99,7 @@ each_two : (P Q R : ℕ → Type 0) (ns : List ℕ) → ((n : ℕ) → P n → Q
 each_two P Q R [] f p q = tt
 each_two P Q R (n ∷ ns) f p q = (f n p.0 q.0, each_two P Q R ns f p.1 q.1)
 
-abbrev IsSupported : ℕ → Type 0
-IsSupported a = has_number supported_words a ≡ true
-
--- where it is granted whenever it is asked, both are one
+-- where the bit is granted whenever it is demanded, the two agree
 so : (asked granted : Bool) → (asked ≡ true → granted ≡ true) → asked ≡ asked && granted
 so true granted h = sym (h refl)
 so false granted h = refl
@@ -112,25 +113,36 @@ module _ (c : Context) (asked : List ℕ) (s : Sight) (n : Name) where
   abbrev L : Bool
   L = allows s.lists c.caller n.child READ_ACL
 
+  -- the attributes that a bit governs, among the permitted ones
+  each_permitted : (ns : List ℕ) (b : Bool) → AllByRecursion IsSupported ns → AllByRecursion (λ a. has_number (granted_words A L) a ≡ b) ns
+      → AllByRecursion (λ a. has_number (given_set (permitted s.lists c.caller n.child asked)) a ≡ has_number asked a && b) ns
+  each_permitted ns b supported words =
+      each_two IsSupported (λ a. has_number (granted_words A L) a ≡ b) (λ a. has_number (given_set (permitted s.lists c.caller n.child asked)) a ≡ has_number asked a && b) ns
+      (λ a supported is. given_all (permitted s.lists c.caller n.child asked) a supported ∙ shared asked (granted_words A L) a ∙ ap (λ b. has_number asked a && b) is) supported words
+
+  -- and among all that are requested, where the bit is granted if any of them is requested
+  each_asked : (ns : List ℕ) (b : Bool) → AllByRecursion IsSupported ns → (has_any asked ns ≡ true → b ≡ true) → AllByRecursion (λ a. has_number (given_set asked) a ≡ has_number asked a && b) ns
+  each_asked ns b supported granted =
+      each_two IsSupported (λ a. has_number asked a ≡ true → list_any (λ m. has_number asked m) ns ≡ true) (λ a. has_number (given_set asked) a ≡ has_number asked a && b) ns
+      (λ a supported is. given_all asked a supported ∙ so (has_number asked a) b (λ h. granted (is h))) supported (any_of (λ m. has_number asked m) ns)
+
   of_permitted : IsExact s.lists c.caller asked n (entry_of c s n statuses.Access (permitted s.lists c.caller n.child asked))
   of_permitted = record {
     cookie = refl;
     name = refl;
-    attributes = each_two IsSupported (λ a. has_number (granted_words A L) a ≡ A) (λ a. has_number (given_set (permitted s.lists c.caller n.child asked)) a ≡ has_number asked a && A) governed
-        (λ a supported is. given_all (permitted s.lists c.caller n.child asked) a supported ∙ shared asked (granted_words A L) a ∙ ap (λ b. has_number asked a && b) is) are_supported (governed_words A L);
-    acl = given_all (permitted s.lists c.caller n.child asked) 12 acl_is_supported ∙ shared asked (granted_words A L) 12 ∙ ap (λ b. has_number asked 12 && b) (acl_words A L);
+    attributes = each_permitted governed A are_supported (governed_words A L);
+    acls = each_permitted list_giving L lists_are_supported (list_words A L);
   }
 
-  of_asked : (has_any asked governed ≡ true → A ≡ true) → (has_number asked 12 ≡ true → L ≡ true) → IsExact s.lists c.caller asked n (entry_of c s n statuses.Ok asked)
+  of_asked : (has_any asked governed ≡ true → A ≡ true) → (has_any asked list_giving ≡ true → L ≡ true) → IsExact s.lists c.caller asked n (entry_of c s n statuses.Ok asked)
   of_asked attributes list = record {
     cookie = refl;
     name = refl;
-    attributes = each_two IsSupported (λ a. has_number asked a ≡ true → list_any (λ m. has_number asked m) governed ≡ true) (λ a. has_number (given_set asked) a ≡ has_number asked a && A) governed
-        (λ a supported is. given_all asked a supported ∙ so (has_number asked a) A (λ h. attributes (is h))) are_supported (any_of (λ m. has_number asked m) governed);
-    acl = given_all asked 12 acl_is_supported ∙ so (has_number asked 12) L list;
+    attributes = each_asked governed A are_supported attributes;
+    acls = each_asked list_giving L lists_are_supported list;
   }
 
-  -- nothing of what is asked of an object is refused
+  -- no demand on an object is refused
   none_refused : (kind : Kind) (g h : Bool)
       → first_refused s.lists c.caller (bits (Some (record { number = n.child; kind = kind })) (cond g READ_ATTRIBUTES 0) ∷ bits (Some (record { number = n.child; kind = kind })) (cond h READ_ACL 0) ∷ []) ≡ None
       → (g ≡ true → A ≡ true) × (h ≡ true → L ≡ true)
@@ -155,7 +167,7 @@ module _ (c : Context) (asked : List ℕ) (s : Sight) (n : Name) where
   of_granted : (k : Option Kind) → s.kinds n.child ≡ k → IsSome k → first_refused s.lists c.caller (entry_demands asked (object_of s (Some n.child))) ≡ None → IsExact s.lists c.caller asked n (entry_of c s n statuses.Ok asked)
   of_granted None is live none = cc
   of_granted (Some kind) is live none =
-      let f = none_refused kind (has_any asked governed) (has_number asked 12)
+      let f = none_refused kind (has_any asked governed) (has_any asked list_giving)
       (subst (λ k. first_refused s.lists c.caller (entry_demands asked (option_map (λ kind. record { number = n.child; kind = kind }) k)) ≡ None) is none) in
       of_asked f.0 f.1
 
@@ -199,7 +211,7 @@ listed_exact c v directory s live =
     let limit = readdir_limit (listed_at_most v) c.room in
     listing_exact c (listed_attributes v) s limit (names_above s directory (listed_behind v)) (first_refusal (judged_within limit (judged_above c (listed_attributes v) directory (listed_behind v) s))) live
 
--- ---- names lead to what is there
+-- ---- names lead to objects that are there
 
 all_in : (P : Name → Type 0) (names : List Name) → ((n : Name) → IsIn n names → P n) → AllByRecursion P names
 all_in P [] f = tt
@@ -225,7 +237,7 @@ gives_exactly c h v r o sound is = record {
 
 -- ---- an entry that is refused
 
--- the names of which the first are given and the next is refused
+-- the names of which the first are returned and the next is refused
 record Cut (f : Name → Judged Demand) (names : List Name) (given : List (Value entry)) (d : Demand) : Type 0 where
   before : List Name
   name : Name
@@ -271,7 +283,7 @@ unasked lists caller asked number (Some e) d is = of (has_number asked 11) refl 
     of true never is = cc
     of false never is = (never, refl)
 
--- the row of entries refuses where one is refused
+-- the row of entries refuses where an entry is refused
 refused_row : (lists : Lists) (caller : Identity) (t : Result Listing (ListFault Demand)) → all_granted lists caller (refused_in t ∷ []) ≡ false → (d : Demand) × (t ≡ Err (Refused d))
 refused_row lists caller (Ok given) is = cc
 refused_row lists caller (Err (Refused d)) is = (d, refl)
@@ -290,7 +302,7 @@ module _ (c : Context) (h : Handles) (v : Value readdir_args) (s : Sight) where
   abbrev judged : Name → Judged Demand
   judged = judged_entry c (listed_attributes v) s
 
-  -- what refuses a listing
+  -- the demand that refuses a listing
   what_is : (d : Demand) → listed c v (here h) s ≡ Err (Refused d) → IsListing limit (judged_above c (listed_attributes v) (here h) (listed_behind v) s) (Err (Refused d))
   unfolding listed
   what_is d is = subst (IsListing limit (judged_above c (listed_attributes v) (here h) (listed_behind v) s)) is (listing_is limit (judged_above c (listed_attributes v) (here h) (listed_behind v) s))
@@ -340,7 +352,7 @@ module _ (c : Context) (h : Handles) (v : Value readdir_args) (s : Sight) where
   refuses demands (inr (a, inr (b, inr (d, inr (e, inl is))))) = absurd (holds_apart _ _ _ demands is.0)
   refuses demands (inr (a, inr (b, inr (d, inr (e, inr (f, more)))))) = rows_refuse demands (a, (b, (d, (e, (f, tt))))) more
 
-  -- ---- and back
+  -- ---- the other direction
 
   listed_refused : (m : MeetsRefused c h v s) (d : Demand) → first_refused s.lists c.caller (entry_demands (listed_attributes v) (object_of s (Some m.name.child))) ≡ Some d → listed c v (here h) s ≡ Err (Refused d)
   unfolding listed

@@ -1,4 +1,4 @@
--- Operations on filehandles and on one object tell a caller nothing but what the caller may see.
+-- Operations on filehandles and on one object tell a caller no more than the caller may see.
 use Rattle.std.proofs.Common.{ℕ, List, refl, ap}
 use Rattle.nfs_ops.specs.Operations.{Known}
 use Rattle.nfs_ops.specs.declared.op_kind.OpKind.TheVariants as kinds
@@ -28,7 +28,7 @@ savefh_seen c h w = (refl, λ _. (refl, λ _. (refl, λ _. refl)))
 restorefh_seen : (c : Context) (h : Handles) → IsSeen (meaning c h (Known kinds.RestoreFh tt))
 restorefh_seen c h w = (refl, λ _. (refl, λ _. (refl, λ _. refl)))
 
--- the directory that a directory lies in is seen by all
+-- the parent of a directory is seen by all
 lookupp_seen : (c : Context) (h : Handles) → IsSeen (meaning c h (Known kinds.LookupP tt))
 lookupp_seen c h w = (refl, λ _. (refl, λ _. (refl, λ _. (refl, λ _. (refl, λ _. (refl, λ _. (refl, λ _. refl)))))))
 

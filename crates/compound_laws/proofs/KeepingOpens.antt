@@ -1,4 +1,4 @@
--- Each operation keeps what holds of the open files.
+-- Each operation keeps the law of open files.
 use Rattle.std.proofs.Common.{◌≡◌, ℕ, ◌<◌, ◌≤◌, Bool, true, false, ◌&&◌, List, refl, ap, subst, length, nat_lt, arith}
 use Rattle.std.specs.Prelude.{[], ◌∷◌, ◌++◌, ◌==◌, Option, Some, None, IsSome, Ok, not, unwrap_or, if◌then◌else◌}
 use Rattle.std.specs.List.{AllByRecursion}
@@ -8,7 +8,7 @@ use Rattle.std.proofs.lemmas.List.{length-append, length-map}
 use Rattle.xdr_wire.specs.Xdr.{Value}
 use Rattle.acl_list.specs.declared.entry.Kind.{Kind}
 use Rattle.acl_list.specs.declared.entry.Kind.TheVariants.{File, Directory, Link}
-use Rattle.acl_shape.specs.Permissions.{changed_list, changed_high}
+use Rattle.acl_shape.specs.Permissions.{changed_high}
 use Rattle.nfs_types.specs.Sent.{Wanted}
 use Rattle.nfs_types.specs.declared.status.Status.{Status}
 use Rattle.nfs_ops.specs.Forms.{open_args}
@@ -28,6 +28,7 @@ use Rattle.compound_run.specs.Questions.{failure, told}
 use Rattle.compound_run.specs.Meaning.{at, here, there, number_in}
 use Rattle.compound_run.specs.Close.{ended}
 use Rattle.compound_run.specs.Create.{created, list_at}
+use Rattle.compound_run.specs.Lists.{set_list}
 use Rattle.compound_run.specs.Setattr.{sets_list, sets_owner, sized, listed, owned, set_on, setting}
 use Rattle.compound_run.specs.Open.{access_of, found_by, found, found_fault, wanted, truncates, joined, reopened, with_reopened, with_open, new_open, file_of, file_in, opened_on, name_in, has_open_space, has_file_space, has_space_for}
 use Rattle.compound_run.specs.Operations.{meaning}
@@ -64,9 +65,9 @@ sized_same w file (Some size) at = truncated_same w file size at
 listed_same : (w : World) (number : ℕ) (o : Object) (wanted : Wanted) (at : At) → Same w (listed number o wanted at w)
 listed_same w number o wanted at = of (sets_list wanted)
   where
-    of : (b : Bool) → Same w (if b then with_list w number (changed_list o.list o.kind wanted.mode wanted.list) (changed_high o.high wanted.mode) at else w)
+    of : (b : Bool) → Same w (if b then with_list w number (set_list wanted o.kind o.list) (changed_high o.high wanted.mode) at else w)
     of true = record {
-      kinds = λ k. option_map-changed (λ o. o.kind) number (λ x. retold at (record x { list = changed_list o.list o.kind wanted.mode wanted.list; high = changed_high o.high wanted.mode; stamp = w.next_stamp })) w.objects (λ o. refl) k;
+      kinds = λ k. option_map-changed (λ o. o.kind) number (λ x. retold at (record x { list = set_list wanted o.kind o.list; high = changed_high o.high wanted.mode; stamp = w.next_stamp })) w.objects (λ o. refl) k;
       names = refl;
       next = refl;
     }
@@ -127,7 +128,7 @@ within n more space = of (nat_lt n 4096) refl space
 few_more : (opens : List Opened) (o : Opened) → length opens < 4096 → length (opens ++ o ∷ []) ≤ 4096
 few_more opens o less = let long = length-append opens (o ∷ []) in omega (arith, long, less)
 
--- a file that is there is opened
+-- an existing file is opened
 hold_found : (c : Context) (v : Value open_args) (directory file : ℕ) (r : Realm) (o : Option Opened) → kind_of r.world file ≡ Some File → has_open_space o (whole r) ≡ true → OpensHold r → OpensHold (with_open c v file o r)
 hold_found c v directory file r (Some o) is space hold = record {
   live = all_reopened r.world (access_of v) o.number r.opens hold.live;
@@ -140,7 +141,7 @@ hold_found c v directory file r None is space hold = record {
   kept = hold.kept;
 }
 
--- a file that is made is opened
+-- a new file is opened
 hold_made : (c : Context) (v : Value open_args) (directory : ℕ) (r : Realm) → has_open_space None (whole r) ≡ true → OpensHold r → OpensHold (opened_on c v directory None r)
 hold_made c v directory r space hold =
     let w = r.world in
@@ -152,7 +153,7 @@ hold_made c v directory r space hold =
       kept = kept_new w directory name made (at c w) hold.kept;
     }
 
--- what is truncated is still there
+-- a truncated file is still there
 file_same : (c : Context) (v : Value open_args) (directory file : ℕ) (w : World) → Same w (file_in c v directory (Some file) w)
 file_same c v directory file w = of (truncates c v)
   where
@@ -160,7 +161,7 @@ file_same c v directory file w = of (truncates c v)
     of true = truncated_same w file 0 (at c w)
     of false = same_again w
 
--- what is found is a file
+-- the object that is opened is a file
 is_kind : (o : Option Kind) → IsSome o → unwrap_or o File ≡ File → o ≡ Some File
 is_kind None there is = cc
 is_kind (Some kind) there is = ap Some is

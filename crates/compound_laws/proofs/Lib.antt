@@ -7,6 +7,7 @@ pub mod NamesSeen
 pub mod OpenSeen
 pub mod EntriesExactly
 pub mod LivingOpens
+pub mod LoadedOpens
 pub mod KeepingOpens
 pub mod RunningOpens
 pub mod Alike

@@ -1,4 +1,4 @@
--- READDIR tells a caller nothing but what the caller may see.
+-- READDIR tells a caller no more than the caller may see.
 use Rattle.std.proofs.Common.{◌≡◌, ℕ, Bool, true, false, ◌&&◌, ◌||◌, cond, List, refl, sym, ap, ◌∙◌}
 use Rattle.std.specs.Prelude.{[], ◌∷◌, Option, Some, None, Result, Ok, Err, is_some, map, filter, nat_lt, if◌then◌else◌, unwrap_or}
 use Rattle.std.specs.Option.{option_map}
@@ -22,7 +22,7 @@ use Rattle.nfs_ops.specs.Parts.{listed_behind, listed_at_most, listed_attributes
 use Rattle.nfs_ops.specs.declared.op_kind.OpKind.TheVariants as kinds
 use Rattle.node_tree.specs.World.{Name, Object, object, kind_of, names_in}
 use Rattle.node_tree.specs.Judged.{judged_of}
-use Rattle.access_rows.specs.Rows.{bits, has_any, governed, entry_demands}
+use Rattle.access_rows.specs.Rows.{bits, has_any, governed, list_giving, entry_demands}
 use Rattle.access_rows.specs.declared.demand.Demand.{Demand}
 use Rattle.access_rows.specs.declared.demand.Demand.TheVariants.{Bits}
 use Rattle.compound_run.specs.Realm.{Realm}
@@ -50,7 +50,7 @@ lists_names : (w : Realm) (caller : Identity) (handle : Option ℕ) → is_some 
 lists_names w caller None set live h = cc
 lists_names w caller (Some number) set live h = gives_mask w caller number LIST_DIRECTORY (kind_of w.world number) refl live refl h
 
--- ---- attributes that aren't permitted aren't told
+-- ---- attributes that aren't permitted aren't returned
 
 without : (asked words : List ℕ) (n : ℕ) → has_number words n ≡ false → has_number (trimmed (common asked words)) n ≡ false
 without asked words n never = shared asked words n ∙ ap (λ b. has_number asked n && b) never ∙ of (has_number asked n)
@@ -67,7 +67,7 @@ each_without : (asked words ns : List ℕ) → AllByRecursion (λ n. has_number 
 each_without asked words [] all = tt
 each_without asked words (n ∷ ns) all = (without asked words n all.0, each_without asked words ns all.1)
 
--- where READ_ATTRIBUTES isn't granted none of those that it governs is given
+-- where READ_ATTRIBUTES isn't granted no attribute that it governs is returned
 none_given : (l : Bool) → AllByRecursion (λ n. has_number (granted_words false l) n ≡ false) governed
 unfolding has_number
 none_given true = (refl, (refl, (refl, (refl, (refl, (refl, (refl, (refl, tt))))))))
@@ -76,7 +76,7 @@ none_given false = (refl, (refl, (refl, (refl, (refl, (refl, (refl, (refl, tt)))
 none_governed : (l : Bool) (asked : List ℕ) → has_any (trimmed (common asked (granted_words false l))) governed ≡ false
 none_governed l asked = any_none (λ n. has_number (trimmed (common asked (granted_words false l))) n) governed (each_without asked (granted_words false l) governed (none_given l))
 
--- what is permitted may be seen
+-- permitted attributes may be seen
 permitted_seen : (w : Realm) (caller : Identity) (number : ℕ) (asked : List ℕ) → MaySee w caller number (permitted (judged_of w.world) caller number asked)
 permitted_seen w caller number asked h = of (gives w.world caller number READ_ATTRIBUTES) refl
   where
@@ -92,7 +92,7 @@ permitted_seen w caller number asked h = of (gives w.world caller number READ_AT
 
 -- ---- an entry
 
--- an object that isn't there has nothing to be seen
+-- an object that isn't there has no attributes
 values_of_none : (c : Context) (w : Realm) (number : ℕ) (error : Status) (set : List ℕ) → object w.world number ≡ None → values_at c.book (whole w) number error set ≡ values_at c.book (view w c.caller) number error set
 values_of_none c w number error set none = of (gives w.world c.caller number READ_ATTRIBUTES) refl
   where
@@ -100,18 +100,18 @@ values_of_none c w number error set none = of (gives w.world c.caller number REA
     of true is = rw is refl
     of false is = rw is (rw none refl)
 
--- where nothing that is asked is refused, what is governed may be seen
+-- where no demand is refused, the governed attributes may be seen
 all_seen : (w : Realm) (caller : Identity) (number : ℕ) (asked : List ℕ) (k : Option Kind) → object_of (whole w) (Some number) ≡ option_map (λ kind. record { number = number; kind = kind }) k → is_some k ≡ true
     → first_refused (judged_of w.world) caller (entry_demands asked (object_of (whole w) (Some number))) ≡ None → MaySee w caller number asked
 all_seen w caller number asked None is there none governs = cc
 all_seen w caller number asked (Some kind) is there none governs =
-    let demands : first_refused (judged_of w.world) caller (bits (Some (record { number = number; kind = kind })) READ_ATTRIBUTES ∷ bits (Some (record { number = number; kind = kind })) (if has_number asked 12 then READ_ACL else 0) ∷ []) ≡ None =
-    sym (ap (λ b. first_refused (judged_of w.world) caller (bits (Some (record { number = number; kind = kind })) (if b then READ_ATTRIBUTES else 0) ∷ bits (Some (record { number = number; kind = kind })) (if has_number asked 12 then READ_ACL else 0) ∷ [])) governs)
+    let demands : first_refused (judged_of w.world) caller (bits (Some (record { number = number; kind = kind })) READ_ATTRIBUTES ∷ bits (Some (record { number = number; kind = kind })) (if has_any asked list_giving then READ_ACL else 0) ∷ []) ≡ None =
+    sym (ap (λ b. first_refused (judged_of w.world) caller (bits (Some (record { number = number; kind = kind })) (if b then READ_ATTRIBUTES else 0) ∷ bits (Some (record { number = number; kind = kind })) (if has_any asked list_giving then READ_ACL else 0) ∷ [])) governs)
     ∙ sym (ap (λ o. first_refused (judged_of w.world) caller (entry_demands asked o)) is) ∙ none in
     of (gives w.world caller number READ_ATTRIBUTES) refl demands
   where
     of : (b : Bool) → gives w.world caller number READ_ATTRIBUTES ≡ b
-        → cond b (first_refused (judged_of w.world) caller (bits (Some (record { number = number; kind = kind })) (if has_number asked 12 then READ_ACL else 0) ∷ [])) (Some (Bits number READ_ATTRIBUTES)) ≡ None
+        → cond b (first_refused (judged_of w.world) caller (bits (Some (record { number = number; kind = kind })) (if has_any asked list_giving then READ_ACL else 0) ∷ [])) (Some (Bits number READ_ATTRIBUTES)) ≡ None
         → gives w.world caller number READ_ATTRIBUTES ≡ true
     of true is h = is
     of false is h = cc

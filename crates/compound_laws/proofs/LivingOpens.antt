@@ -22,7 +22,7 @@ use Rattle.compound_run.specs.Realm.{Realm, Opened, unopened, opens_left, with_l
 use Rattle.compound_run.specs.Sessions.{with_registry}
 use Rattle.compound_laws.specs.LiveOpens.{IsKept, OpensHold}
 
--- ---- what holds of each of a list
+-- ---- facts of each element of a list
 
 pub each : {X : Type 0} (P Q : X → Type 0) (xs : List X) → ((x : X) → P x → Q x) → AllByRecursion P xs → AllByRecursion Q xs
 each P Q [] f all = tt
@@ -93,7 +93,7 @@ live_same w new opens kinds live = each (LiveIn w) (LiveIn new) opens (λ o is. 
 pub hold_same : (r : Realm) (new : World) → Same r.world new → OpensHold r → OpensHold (record r { world = new })
 hold_same r new same hold = record { live = live_same r.world new r.opens same.kinds hold.live; few = hold.few; kept = kept_same r.world new same hold.kept }
 
--- clients and sessions are no part of it
+-- the law of open files doesn't depend on clients and sessions
 pub hold_registry : (r : Realm) (registry : Registry) → OpensHold r → OpensHold (with_registry registry r)
 hold_registry r registry hold = record { live = hold.live; few = hold.few; kept = hold.kept }
 
@@ -132,7 +132,7 @@ module _ (w : World) (directory : ℕ) (name : List ℕ) (o : Object) (at : At) 
   kind_elsewhere : (k : ℕ) → k ≢ w.next_number → kind_of new k ≡ kind_of w k
   kind_elsewhere k apart = kinds_new k ∙ ap (λ b. option_map (λ (o : Object). o.kind) (cond b (Some o) (object w k))) (is_at-apart k w.next_number apart)
 
-  -- what was there is as it was
+  -- the objects that were there are as they were
   pub kind_stays : (k : ℕ) → IsSome (kind_of w k) → kind_of new k ≡ kind_of w k
   kind_stays k there = kind_elsewhere k (λ same. let below : k < w.next_number = kept.numbered k there in omega (arith, below, same))
 
@@ -156,7 +156,7 @@ hold_new r directory name o at hold = record {
 
 -- ---- an object that has lost a name
 
--- what is left of the opens of a world that stays
+-- the opens that are left in a world that stays
 few_left : (w : World) (lost : Option ℕ) (opens : List Opened) → length (opens_left w lost opens) ≤ length opens
 few_left w None opens = omega arith
 few_left w (Some number) opens = of (is_some (kind_of w number))
@@ -180,7 +180,7 @@ hold_lost_none r lost hold = record { live = left lost; few = let less = few_lef
 elsewhere : (a b : ℕ) → not (a == b) ≡ true → b ≢ a
 elsewhere a b test same = let is : (a == b) ≡ true = (Decides-eqb a b).1 (sym same) in cc
 
--- no name leads to it
+-- no name leads to the object
 abbrev LeadsElsewhere : ℕ → Name → Type 0
 LeadsElsewhere child n = child ≢ n.child
 
@@ -196,7 +196,7 @@ each_two : {X : Type 0} (P Q R : X → Type 0) (xs : List X) → ((x : X) → P 
 each_two P Q R [] f p q = tt
 each_two P Q R (x ∷ xs) f p q = (f x p.0 q.0, each_two P Q R xs f p.1 q.1)
 
--- the kinds of a world in which the object has gone, where no name of these leads to it
+-- the kinds of a world in which the object has gone, where none of these names leads to it
 pub record Loses (w new : World) (lost : ℕ) (names : List Name) : Type 0 where
   pub kinds : (k : ℕ) → kind_of new k ≡ after (has_name names lost) (kind_of w) lost k
   pub next : new.next_number ≡ w.next_number
@@ -212,7 +212,7 @@ module _ (w new : World) (lost : ℕ) (names : List Name) (loses : Loses w new l
       of true = after_stays (kind_of w) lost k
       of false = after_elsewhere (kind_of w) lost k apart
 
-  -- where it is still there, all is
+  -- where the object is still there, all objects are
   all_there : IsSome (kind_of new lost) → (k : ℕ) → kind_of new k ≡ kind_of w k
   all_there there k = by_number lost k (λ same. was k (subst (λ x. IsSome (kind_of new x)) same there)) (λ apart. other k apart)
 
@@ -223,7 +223,7 @@ module _ (w new : World) (lost : ℕ) (names : List Name) (loses : Loses w new l
       of true there = live_same w new opens (all_there there) live
       of false gone = each_left (LiveIn w) (LiveIn new) (λ (o : Opened). not (o.object == lost)) opens (λ o apart is. other o.object (elsewhere o.object lost apart) ∙ is) live
 
-  -- names that led to what is there still do
+  -- names that led to an object that is there still do
   led_left : AllByRecursion (LedIn w) names → AllByRecursion (LedIn new) names
   led_left led = of (has_name names lost) refl
     where

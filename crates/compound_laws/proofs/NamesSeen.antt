@@ -1,4 +1,4 @@
--- Operations that look up names tell a caller nothing but what the caller may see.
+-- Operations that look up names tell a caller no more than the caller may see.
 use Rattle.std.proofs.Common.{◌≡◌, ℕ, ◌<◌, ◌^◌, Bool, true, false, ◌&&◌, cond, List, refl, ap, sym, subst, length, arith}
 use Rattle.std.specs.Prelude.{[], ◌∷◌, ◌==◌, Option, Some, None, is_some, not, bit_and, bit_or, if◌then◌else◌}
 use Rattle.std.specs.Option.{option_map}
@@ -25,7 +25,9 @@ use Rattle.compound_run.specs.Context.{Context, Handles}
 use Rattle.compound_run.specs.Sight.{whole, view, gives}
 use Rattle.compound_run.specs.Questions.{all_granted}
 use Rattle.compound_run.specs.Rows.{first_facts, second_facts}
-use Rattle.compound_run.specs.Create.{draft_of, type_fault}
+use Rattle.compound_run.specs.Create.{draft_of, draft, wanted, type_fault}
+use Rattle.compound_run.specs.Lists.{new_fits}
+use Rattle.compound_run.specs.Values.{list_at}
 use Rattle.compound_run.specs.Rename.{goes_below, can_replace}
 use Rattle.compound_run.specs.Meaning.{here, there, number_in, changed, unchanged}
 use Rattle.compound_run.specs.Operations.{meaning}
@@ -38,7 +40,7 @@ use Rattle.compound_laws.proofs.Showing.{Grants, gives_mask, gives_part}
 pub names_told : (w : Realm) (caller : Identity) (number : ℕ) → gives w.world caller number EXECUTE ≡ true → (whole w).names number ≡ (view w caller).names number
 names_told w caller number h = rw h refl
 
--- a row that asks EXECUTE beside other bits
+-- a row that demands EXECUTE beside other bits
 pub executes : (w : Realm) (caller : Identity) (handle : Option ℕ) (mask : ℕ) → mask < 2 ^ 32 → mask == 0 ≡ false → bit_and EXECUTE mask ≡ EXECUTE → is_some handle ≡ true → is_some (kind_of w.world (number_in handle)) ≡ true
     → Grants w caller handle mask → gives w.world caller (number_in handle) EXECUTE ≡ true
 executes w caller None mask fits some within set live h = cc
@@ -86,7 +88,7 @@ link_discloses_nothing c h name = discloses_nothing (meaning c h (Known kinds.Li
 
 -- ---- CREATE
 
--- EXECUTE is asked for each type that is made
+-- EXECUTE is demanded for each type that is created
 create_executes : (w : Realm) (caller : Identity) (handle : Option ℕ) (type : Created) → type_fault (draft_of type) ≡ None → is_some handle ≡ true → is_some (kind_of w.world (number_in handle)) ≡ true
     → Grants w caller handle (creating_mask type) → gives w.world caller (number_in handle) EXECUTE ≡ true
 create_executes w caller handle parts.Directory is set live h = executes w caller handle (bit_or EXECUTE ADD_SUBDIRECTORY) (omega arith) refl refl set live h
@@ -126,7 +128,7 @@ create_seen c h v w = (
                           λ _. (
                             refl,
                             λ _. (
-                              ap (λ all. has_left w.world.next_tick && may_add (length all) (length w.world.objects) w.world.next_number w.world.next_stamp w.world.next_cookie) names,
+                              ap (λ all. has_left w.world.next_tick && (new_fits (wanted c v) (draft v).kind (list_at (whole w) (here h)) && may_add (length all) (length w.world.objects) w.world.next_number w.world.next_stamp w.world.next_cookie)) names,
                               λ _. refl,
                             ),
                           ),
@@ -147,7 +149,7 @@ create_discloses_nothing c h v = discloses_nothing (meaning c h (Known kinds.Cre
 
 -- ---- RENAME
 
--- one directory is asked once
+-- if both directories are the same, it is checked once
 second_gives : (lists : Lists) (caller : Identity) (s d : ℕ) (same : Bool) → s == d ≡ same → is_granted (decision lists caller (Bits s EXECUTE)) ≡ true
     → all_granted lists caller (cond same None (Some (Bits d EXECUTE)) ∷ []) ≡ true → is_granted (decision lists caller (Bits d EXECUTE)) ≡ true
 second_gives lists caller s d true is given h = subst (λ n. is_granted (decision lists caller (Bits n EXECUTE)) ≡ true) ((Decides-eqb s d).0 is) given
@@ -157,7 +159,7 @@ second : (a b : Bool) → a && b ≡ true → b ≡ true
 second true b h = h
 second false b h = cc
 
--- what the first row asks, by the kinds of both directories
+-- the demands of the first row, by the kinds of both directories
 abbrev asks_first : Realm → Identity → ℕ → ℕ → Option Kind → Option Kind → Type 0
 asks_first w caller s d from to =
     all_granted (judged_of w.world) caller (rename_first (record {

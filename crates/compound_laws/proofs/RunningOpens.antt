@@ -1,4 +1,4 @@
--- Runs and calls keep what holds of the open files.
+-- Runs and calls keep the law of open files.
 use Rattle.std.proofs.Common.{◌≡◌, ℕ, zero, suc, Bool, true, false, List, sym, subst}
 use Rattle.std.specs.Prelude.{[], ◌∷◌, Option, Some, None, Result, Ok, Err, MatchResult, length}
 use Rattle.nfs_types.specs.declared.status.Status.{Status}
@@ -19,7 +19,7 @@ step_keeps : (c : Context) (op : Operation) (old : Point) (result : Result Outco
 step_keeps c op old (Ok o) new hold steps = subst OpensHold (sym steps.realm) (operations_keep c old.handles op old.realm o hold (sym (meant (may_delay c op) o _ steps.outcome)))
 step_keeps c op old (Err status) new hold steps = subst OpensHold (sym steps.realm_stays) hold
 
--- what follows an operation, by how that ended
+-- the run behind an operation, by its result
 rest_keeps : (r : Result Outcome Status) (mid new : Point) (results : List Given) (Rest : Type 0) → OpensHold mid.realm → (Rest → OpensHold new.realm)
     → MatchResult r (λ outcome. Rest) (λ status. (results ≡ []) × (new ≡ mid)) → OpensHold new.realm
 rest_keeps (Ok o) mid new results Rest held goes rest = goes rest

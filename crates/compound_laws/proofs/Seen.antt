@@ -1,4 +1,4 @@
--- The view of a caller decides what the caller is told.
+-- The view of a caller decides the answer to the caller.
 use Rattle.std.proofs.Common.{◌≡◌, ℕ, Bool, true, false, ◌&&◌, cond, List, refl, sym, ap, ◌∙◌, subst}
 use Rattle.std.specs.Prelude.{[], ◌∷◌, ◌++◌, Option, Some, None, Ok, is_some, not}
 use Rattle.std.specs.Option.{option_map}
@@ -24,7 +24,7 @@ use Rattle.compound_laws.specs.Disclosure.{shown, DisclosesNothing}
 
 -- ---- questions that are the same in a view
 
--- As far as they are asked, the questions are the same in the whole as in the view; and so is what comes at the end.
+-- As far as they are put, the questions are the same in the whole as in the view; and so is the end.
 abbrev pub Agree : Realm → Identity → List Question → Type 0 → Type 0
 Agree w caller [] end = end
 Agree w caller (Holds test status is ∷ questions) end = (test (whole w) ≡ test (view w caller)) × (test (whole w) ≡ true → Agree w caller questions end)
@@ -82,7 +82,7 @@ traced_alike w caller op end (Suffices test ∷ questions) agree =
       | false ↦ λ h. traced_alike w caller op end questions (h refl)
     ] agree.2)
 
--- what is asked and given is the same in the view
+-- the questions and the result are the same in the view
 abbrev pub IsSeen : Meaning → Type 0
 IsSeen m = (w : Realm) → Agree w m.caller m.questions (m.answer (whole w) ≡ m.answer (view w m.caller))
 

@@ -1,4 +1,4 @@
--- Calls of sessions keep what holds of the open files.
+-- Calls of sessions keep the law of open files.
 use Rattle.std.proofs.Common.{◌≡◌, ℕ, List, sym, subst, arith}
 use Rattle.std.specs.Prelude.{◌==◌, not, Option, Some, None, Result, Ok, Err, OnOk, OnErr, ◌-◌}
 use Rattle.xdr_wire.specs.Reading.{read_at}

@@ -1,4 +1,4 @@
--- The view of an object's bytes and attributes decides what a caller is told of them.
+-- The view of an object's bytes and attributes decides the answer about them.
 use Rattle.std.proofs.Common.{◌≡◌, ℕ, ◌<◌, ◌^◌, Bool, true, false, ◌||◌, cond, List, refl, sym, ap, ◌∙◌, subst, arith}
 use Rattle.std.specs.Prelude.{[], ◌∷◌, ◌++◌, ◌==◌, Option, Some, None, is_some, unwrap_or, bit_and, bit_or, if◌then◌else◌}
 use Rattle.std.specs.List.{flat_map}
@@ -17,13 +17,13 @@ use Rattle.nfs_types.specs.Attributes.{all}
 use Rattle.nfs_types.specs.Given.{part, given_values}
 use Rattle.nfs_types.specs.Sets.{has_number}
 use Rattle.nfs_types.specs.declared.attribute.Attribute.{Attribute}
-use Rattle.nfs_types.specs.declared.attribute.Attribute.TheVariants.{SupportedAttrs, ObjectType, FhExpireType, Change, Size, LinkSupport, SymlinkSupport, NamedAttr, Fsid, UniqueHandles, LeaseTime, RdattrError, Acl, AclSupport, FileHandle, FileId, MaxFileSize, MaxName, MaxRead, MaxWrite, Mode, NumLinks, Owner, OwnerGroup, TimeMetadata, TimeModify, MountedOnFileId, SuppattrExclcreat}
+use Rattle.nfs_types.specs.declared.attribute.Attribute.TheVariants.{SupportedAttrs, ObjectType, FhExpireType, Change, Size, LinkSupport, SymlinkSupport, NamedAttr, Fsid, UniqueHandles, LeaseTime, RdattrError, Acl, AclSupport, FileHandle, FileId, MaxFileSize, MaxName, MaxRead, MaxWrite, Mode, NumLinks, Owner, OwnerGroup, TimeMetadata, TimeModify, MountedOnFileId, Dacl, Sacl, SuppattrExclcreat}
 use Rattle.nfs_types.specs.declared.status.Status.{Status}
 use Rattle.node_tree.specs.Judged.{Judged, judged_of}
 use Rattle.node_tree.specs.World.{kind_of}
 use Rattle.access_rows.specs.declared.demand.Demand.{Demand}
 use Rattle.access_rows.specs.declared.demand.Demand.TheVariants.{Bits}
-use Rattle.access_rows.specs.Rows.{bits, has_any, governed, reading_mask}
+use Rattle.access_rows.specs.Rows.{bits, has_any, governed, list_giving, reading_mask}
 use Rattle.access_guard.specs.Lists.{Lists, names}
 use Rattle.access_guard.specs.Decisions.{decision, is_granted, answer}
 use Rattle.compound_run.specs.Realm.{Realm}
@@ -49,7 +49,7 @@ gives_mask w caller number mask (Some kind) is there some h =
     one_granted (judged_of w.world) caller (Bits number mask) (mask == 0) some
     (subst (λ k. all_granted (judged_of w.world) caller (bits (option_map (λ kind. record { number = number; kind = kind }) k) mask ∷ None ∷ []) ≡ true) is h)
 
--- ---- a part of what is granted is granted
+-- ---- a part of the granted bits is granted
 
 granted_is : (number mask : ℕ) (v : Verdict) → is_granted (answer number mask v) ≡ true → v ≡ verdicts.Granted
 granted_is number mask verdicts.Granted h = refl
@@ -87,11 +87,11 @@ reads w caller (Some number) set live h = gives_mask w caller number READ_DATA (
 
 -- ---- attributes
 
--- where READ_ATTRIBUTES is granted, or none of those that it governs is asked
+-- where READ_ATTRIBUTES is granted, or no attribute that it governs is requested
 abbrev pub MaySee : Realm → Identity → ℕ → List ℕ → Type 0
 MaySee w caller number asked = has_any asked governed ≡ true → gives w.world caller number READ_ATTRIBUTES ≡ true
 
--- what is asked of the list where these are asked, row by row
+-- the demands on the list for these attributes, row by row
 abbrev mask_of : Bool → Bool → ℕ
 mask_of some list = bit_or (if some then READ_ATTRIBUTES else 0) (if list then READ_ACL else 0)
 
@@ -106,9 +106,9 @@ pub may_see : (w : Realm) (caller : Identity) (handle : Option ℕ) (asked : Lis
     → Grants w caller handle (reading_mask asked) → MaySee w caller (unwrap_or handle 0) asked
 may_see w caller None asked set live h = cc
 may_see w caller (Some number) asked set live h =
-    governed_given w caller number (has_any asked governed) (has_number asked 12) (kind_of w.world number) refl live h
+    governed_given w caller number (has_any asked governed) (has_any asked list_giving) (kind_of w.world number) refl live h
 
--- those that are governed
+-- the governed attributes
 abbrev is_governed : List ℕ → Attribute → Bool
 is_governed asked Change = has_number asked 3
 is_governed asked Mode = has_number asked 33
@@ -156,6 +156,8 @@ ungoverned asked none NumLinks = refl
 ungoverned asked none Owner = refl
 ungoverned asked none OwnerGroup = refl
 ungoverned asked none MountedOnFileId = refl
+ungoverned asked none Dacl = refl
+ungoverned asked none Sacl = refl
 ungoverned asked none SuppattrExclcreat = refl
 
 module _ (book : Content) (w : Realm) (caller : Identity) (number : ℕ) (error : Status) (asked : List ℕ) where
@@ -190,6 +192,8 @@ module _ (book : Content) (w : Realm) (caller : Identity) (number : ℕ) (error 
   part_seen Owner none = refl
   part_seen OwnerGroup none = refl
   part_seen MountedOnFileId none = refl
+  part_seen Dacl none = refl
+  part_seen Sacl none = refl
   part_seen SuppattrExclcreat none = refl
 
   parts_seen : ((a : Attribute) → is_governed asked a ≡ false) → (some : List Attribute)

@@ -1,4 +1,4 @@
--- Operations on one object tell a caller nothing but what the caller may see.
+-- Operations on one object tell a caller no more than the caller may see.
 use Rattle.std.proofs.Common.{◌≡◌, ℕ, true, false, List, refl, ap}
 use Rattle.std.specs.Prelude.{◌+◌, nat_le, not, nat_eq, length, take, drop, Option, Some, None}
 use Rattle.std.specs.Cmp.Lexicographic.{pointwise}
@@ -20,7 +20,7 @@ use Rattle.compound_run.specs.Meaning.{here}
 use Rattle.compound_run.specs.Getattr.{told}
 use Rattle.compound_run.specs.Read.{most_of}
 use Rattle.compound_run.specs.Operations.{meaning}
-use Rattle.compound_run.specs.Setattr.{has_counts, size_fault, wanted_on}
+use Rattle.compound_run.specs.Setattr.{has_counts, has_space_to_set, size_fault, wanted_on}
 use Rattle.compound_run.specs.Verify.{is_same}
 use Rattle.compound_laws.specs.Disclosure.{DisclosesNothing}
 use Rattle.compound_laws.proofs.Seen.{IsSeen, discloses_nothing}
@@ -148,9 +148,10 @@ size_seen : (w : Realm) (c : Context) (number : ℕ) (id : Value stateid) (size 
 size_seen w c number id None = refl
 size_seen w c number id (Some size) = refl
 
-counts_seen : (w : Realm) (caller : Identity) (wanted : Wanted) → has_counts wanted (whole w) ≡ has_counts wanted (view w caller)
+-- the counters, and the list that stands beside a part or a mode, are seen by all
+space_seen : (w : Realm) (caller : Identity) (wanted : Wanted) (number : ℕ) → has_space_to_set wanted number (whole w) ≡ has_space_to_set wanted number (view w caller)
 unfolding has_counts
-counts_seen w caller wanted = refl
+space_seen w caller wanted number = refl
 
 setattr_seen : (c : Context) (h : Handles) (v : Value setattr_args) → IsSeen (meaning c h (Known kinds.SetAttr v))
 setattr_seen c h v w = (
@@ -163,7 +164,7 @@ setattr_seen c h v w = (
         refl,
         λ _. (
           size_seen w c (here h) (set_stateid v) (wanted_on c v (here h) (whole w)).size,
-          λ _. (refl, λ _. (refl, λ _. (counts_seen w c.caller (wanted_on c v (here h) (whole w)), λ _. refl))),
+          λ _. (refl, λ _. (refl, λ _. (space_seen w c.caller (wanted_on c v (here h) (whole w)) (here h), λ _. refl))),
         ),
       ),
     ),

@@ -1,16 +1,19 @@
--- A caller is told by what the caller may see, and by nothing else.
+-- The answer to a caller depends on the caller's view alone.
 use Rattle.std.specs.Prelude.{◌≡◌, List, Result, ℕ}
 use Rattle.xdr_wire.specs.Xdr.{Value}
 use Rattle.rpc_record.specs.Identity.{Identity}
 use Rattle.nfs_types.specs.declared.status.Status.{Status}
 use Rattle.nfs_ops.specs.Forms.{sequence_args}
 use Rattle.nfs_ops.specs.Operations.{Operation}
+use Rattle.nfs_ops.specs.Parts.{sequence_session, sequence_slot}
 use Rattle.nfs_ops.specs.Results.{Outcome}
+use Rattle.session_slots.specs.Registry.{results_at}
 use Rattle.access_guard.specs.declared.line.Line.{Line}
 use Rattle.compound_run.specs.Realm.{Realm}
 use Rattle.compound_run.specs.Sight.{Sight, whole, view}
 use Rattle.compound_run.specs.Questions.{failure, trace, told}
 use Rattle.compound_run.specs.Meaning.{Meaning}
+use Rattle.compound_run.specs.Sessions.{session_of}
 use Rattle.compound_run.specs.State.{Call}
 use Rattle.compound_run.specs.InSession.{ActsAlone, begin_in, begun_in}
 
@@ -18,21 +21,23 @@ use Rattle.compound_run.specs.InSession.{ActsAlone, begin_in, begun_in}
 abbrev pub shown : Meaning → Sight → Result Outcome Status × List Line
 shown m s = (told (failure m.caller s m.questions) (m.answer s), trace m.caller m.number s m.questions)
 
--- where two realms look alike to its caller, the caller is told the same, with the same lines
+-- where two realms look alike to the caller, the answers are equal, with equal lines
 abbrev pub DisclosesNothing : Meaning → Type 0
 DisclosesNothing m = (q r : Realm) → view q m.caller ≡ view r m.caller → shown m (whole q) ≡ shown m (whole r)
 
--- ---- clients and sessions, of which realms that look alike have the same
+-- ---- clients and sessions, which are equal in realms that look alike to anyone
 
--- what an operation that is the only one of its COMPOUND gives in a realm, it gives in any that looks like it to the caller, with the same
--- clients, sessions and opens afterwards
+-- an operation that is the only one of its COMPOUND has an equal result in each realm that looks alike to anyone (to the caller as sent, or
+-- to the member of the book), with equal clients, sessions and opens afterwards
 abbrev pub DisclosesNothingAlone : Identity → Operation → Type 0
 DisclosesNothingAlone caller op =
-    (q r new : Realm) (outcome : Result Outcome Status) → view q caller ≡ view r caller → ActsAlone caller op q outcome new
+    (viewer : Identity) (q r new : Realm) (outcome : Result Outcome Status) → view q viewer ≡ view r viewer → ActsAlone caller op q outcome new
     → ActsAlone caller op r outcome (record r { registry = new.registry; opens = new.opens })
 
--- SEQUENCE answers the same, and begins the same
+-- SEQUENCE has equal answers and equal kept results, and begins the call alike
 abbrev pub BeginsAlike : Call → ℕ → Value sequence_args → Type 0
 BeginsAlike call count v =
-    (q r : Realm) → view q call.caller ≡ view r call.caller
-    → (begin_in q.registry call count v ≡ begin_in r.registry call count v) × (begun_in q.registry call count v ≡ begun_in r.registry call count v)
+    (viewer : Identity) (q r : Realm) → view q viewer ≡ view r viewer
+    → (begin_in q.registry call count v ≡ begin_in r.registry call count v)
+    × (begun_in q.registry call count v ≡ begun_in r.registry call count v)
+    × (results_at q.registry (session_of (sequence_session v)) (sequence_slot v) ≡ results_at r.registry (session_of (sequence_session v)) (sequence_slot v))

@@ -1,4 +1,4 @@
--- The attributes in the entries that READDIR gives, and when an entry refuses it (RFC 8881, sections 5.8, 6.2.1 and 18.23).
+-- The attributes in the entries that READDIR returns, and when an entry refuses it (RFC 8881, sections 5.8, 6.2.1 and 18.23).
 use Rattle.std.specs.Prelude.{◌≡◌, ◌≤◌, ◌⊎◌, ℕ, false, true, ◌&&◌, List, [], ◌∷◌, ◌++◌, map, IsSome, Some, Ok}
 use Rattle.std.specs.List.{AllByRecursion}
 use Rattle.xdr_wire.specs.Xdr.{Value}
@@ -13,7 +13,7 @@ use Rattle.nfs_ops.specs.Parts.{entry_cookie, entry_name, entry_attributes, set_
 use Rattle.nfs_ops.specs.Results.{Outcome}
 use Rattle.nfs_ops.specs.declared.op_kind.OpKind.TheVariants as kinds
 use Rattle.node_tree.specs.World.{Name}
-use Rattle.access_rows.specs.Rows.{governed, first_demands, entry_demands}
+use Rattle.access_rows.specs.Rows.{governed, list_giving, first_demands, entry_demands}
 use Rattle.access_guard.specs.Lists.{Lists}
 use Rattle.compound_run.specs.Context.{Context, Handles}
 use Rattle.compound_run.specs.Sight.{Sight}
@@ -24,19 +24,19 @@ use Rattle.compound_run.specs.Readdir.{allows, first_refused, judged_entry, name
 use Rattle.compound_run.specs.Operations.{entry_fault, entry_may}
 use Rattle.compound_run.specs.Exact.{ArePassed}
 
--- ---- an entry that is given
+-- ---- an entry that is returned
 
--- which attributes stand in an entry
+-- the set of the attributes of an entry
 abbrev pub attributes_in : Value entry → List ℕ
 attributes_in e = set_of (entry_attributes e)
 
--- The entry is this name's. An attribute that READ_ATTRIBUTES governs stands in it exactly where it is asked and the list of the name's
--- object grants READ_ATTRIBUTES, acl (12) exactly where it is asked and the list grants READ_ACL.
+-- The entry is of this name. An attribute that READ_ATTRIBUTES governs is in it exactly where it is requested and the list of the
+-- name's object grants READ_ATTRIBUTES; acl, dacl and sacl are each in it exactly where requested and the list grants READ_ACL.
 pub record IsExact (lists : Lists) (caller : Identity) (asked : List ℕ) (n : Name) (e : Value entry) : Type 0 where
   pub cookie : entry_cookie e ≡ n.cookie
   pub name : entry_name e ≡ n.name
   pub attributes : AllByRecursion (λ a. has_number (attributes_in e) a ≡ has_number asked a && allows lists caller n.child READ_ATTRIBUTES) governed
-  pub acl : has_number (attributes_in e) 12 ≡ has_number asked 12 && allows lists caller n.child READ_ACL
+  pub acls : AllByRecursion (λ a. has_number (attributes_in e) a ≡ has_number asked a && allows lists caller n.child READ_ACL) list_giving
 
 -- the entries are those of the first of these names, in their order
 abbrev pub AreExact : Lists → Identity → List ℕ → List Name → List (Value entry) → Type 0
@@ -44,7 +44,7 @@ AreExact lists caller asked names [] = Unit {0}
 AreExact lists caller asked [] (e ∷ entries) = ⊥
 AreExact lists caller asked (n ∷ names) (e ∷ entries) = IsExact lists caller asked n e × AreExact lists caller asked names entries
 
--- what READDIR gives has exact entries, of the names above the cookie
+-- the result of READDIR has exact entries, of the names above the cookie
 pub record GivesExactly (c : Context) (h : Handles) (v : Value readdir_args) (s : Sight) (o : Outcome) : Type 0 where
   pub given : Listing
   pub is : o ≡ readdir_outcome given
@@ -52,19 +52,19 @@ pub record GivesExactly (c : Context) (h : Handles) (v : Value readdir_args) (s 
 
 -- ---- a READDIR that is refused
 
--- what is asked before LIST_DIRECTORY
+-- the questions before LIST_DIRECTORY
 abbrev pub before_row : Context → Handles → Value readdir_args → List Question
 before_row c h v =
     is_valid (entry_fault c (Known kinds.ReadDir v)) (entry_may c (Known kinds.ReadDir v))
     ∷ with_handle h.current (is_directory (here h) ∷ is_cookie (listed_behind v) ∷ [])
 
--- LIST_DIRECTORY is asked, and isn't granted
+-- LIST_DIRECTORY is demanded, and isn't granted
 pub record IsUnlisted (c : Context) (h : Handles) (v : Value readdir_args) (s : Sight) : Type 0 where
   pub passed : ArePassed c.caller s (before_row c h v)
   pub refused : all_granted s.lists c.caller (first_demands (Known kinds.ReadDir v) (first_facts s h)) ≡ false
 
--- A refused entry is met, without rdattr_error (11) asked: the list of its object refuses an attribute that is asked. The entries before
--- it, if there are any, are given and within the limit.
+-- A refused entry is met, without rdattr_error (11) requested: the list of its object refuses an attribute that is requested. The
+-- entries before it, if there are any, are returned and within the limit.
 pub record MeetsRefused (c : Context) (h : Handles) (v : Value readdir_args) (s : Sight) : Type 0 where
   pub passed : ArePassed c.caller s (before_row c h v)
   pub granted : all_granted s.lists c.caller (first_demands (Known kinds.ReadDir v) (first_facts s h)) ≡ true

@@ -1,3 +1,4 @@
 pub mod Disclosure
 pub mod EntriesExact
 pub mod LiveOpens
+pub mod Reloads

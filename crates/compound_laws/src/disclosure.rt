@@ -1,5 +1,5 @@
-//! Two realms that look alike to a caller give that caller equal answers and equal lines in the audit trail: an operation tells nothing that the
-//! lists hide from it.
+//! Two realms that look alike to a caller give that caller equal answers and equal lines in the audit trail: an operation tells
+//! nothing that the lists hide from the caller.
 ghost use Rattle.std.specs.Prelude.{ℕ};
 ghost use Rattle.rpc_record.specs.Identity.{Identity};
 ghost use Rattle.xdr_wire.specs.Xdr.{Value};
@@ -16,7 +16,7 @@ pub fn operations_disclose_nothing()
 {}
 
 /// Nor do EXCHANGE_ID, CREATE_SESSION, DESTROY_SESSION and DESTROY_CLIENTID as the only operation of a COMPOUND (`alone`; RFC 8881, sections 18.35 to
-/// 18.37 and 18.50), nor SEQUENCE (`sequence`; section 18.46).
+/// 18.37 and 18.50), nor SEQUENCE and the results that a slot keeps (`sequence`; section 18.46), in realms that look alike to anyone.
 pub fn sessions_disclose_nothing()
     ensures alone { (caller : Identity) (op : Operation) → DisclosesNothingAlone caller op }
     ensures sequence { (call : Call) (count : ℕ) (v : Value sequence_args) → BeginsAlike call count v }

@@ -21,13 +21,13 @@ ghost use Rattle.compound_run.specs.Runs.{Point, Steps, outcome, traced};
 ghost use Rattle.compound_run.specs.Exact.{ArePassed, ArePassedOrSuffice, IsRefusedByRow, EndsInRefusal};
 ghost use Rattle.compound_laws.specs.EntriesExact.{GivesExactly, IsUnlisted, MeetsRefused};
 
-/// An outcome that stands behind a row of demands comes only where the lists grant each of them; else the outcome is ACCESS.
+/// An outcome behind a row of demands comes only where the lists grant each of them; else the outcome is ACCESS.
 pub fn rows_decide()
     ensures { (caller : Identity) (s : Sight) (before behind : List Question) (demands : Sight → List (Option Demand)) → ArePassed caller s before →
         failure caller s (before ++ Row demands ∷ behind) ≡ (if all_granted s.lists caller (demands s) then failure caller s behind else Some statuses.Access) }
 {}
 
-/// An operation is OK exactly where each of its questions is passed, up to one that suffices.
+/// An operation is OK exactly where each of its questions is passed, up to a question that suffices.
 pub fn ok_is_exact()
     ensures { (caller : Identity) (s : Sight) (questions : List Question) → (failure caller s questions ≡ None) ↔ ArePassedOrSuffice caller s questions }
 {}
@@ -35,26 +35,27 @@ pub fn ok_is_exact()
 /// An operation answers ACCESS exactly where a row of demands is its first question that fails (`exact`). Its last line is then the
 /// DENY line of the first demand of that row that isn't granted: it names the first denying entry, else the lowest bit that none allows
 /// (`told`).
-/// That nothing changes, a step says of every outcome that isn't OK.
+/// By a step's definition nothing changes where the outcome isn't OK.
 pub fn access_is_exact()
     ensures exact { (m : Meaning) (r : Realm) → (outcome m r ≡ Err statuses.Access) ↔ IsRefusedByRow m.caller (whole r) m.questions }
     ensures told { (m : Meaning) (r : Realm) → outcome m r ≡ Err statuses.Access →
         (row : IsRefusedByRow m.caller (whole r) m.questions) × EndsInRefusal m.caller m.number (judged_of r.world) (row.demands (whole r)) (traced m r) }
 {}
 
-/// An operation that takes no memory never answers DELAY: all but CREATE, LINK, NVERIFY, OPEN, RENAME, SETATTR, VERIFY and WRITE. Nor does one that lacks its place or room.
+/// An operation that takes no memory never answers DELAY: all but CREATE, LINK, NVERIFY, OPEN, RENAME, SETATTR, VERIFY and
+/// WRITE; nor does an operation without place or room.
 pub fn others_never_delay()
     ensures { (c : Context) (op : Operation) (old new : Point) (result : Result Outcome Status) → may_delay c op ≡ false → Steps c op old result new → result ≢ Err statuses.Delay }
 {}
 
-/// In each entry that READDIR gives an attribute that a bit governs stands exactly where it is asked, and the list of the entry's object
-/// grants that bit.
+/// In each entry that READDIR returns an attribute that a bit governs is there exactly where it is requested, and the list of the
+/// entry's object grants that bit.
 pub fn readdir_gives_exactly()
     ensures { (c : Context) (h : Handles) (v : Value readdir_args) (r : Realm) (o : Outcome) → IsSound r.world → outcome (meaning c h (Known kinds.ReadDir v)) r ≡ Ok o → GivesExactly c h v (whole r) o }
 {}
 
-/// READDIR answers ACCESS exactly where LIST_DIRECTORY isn't granted once it is asked, or where a refused entry is met without
-/// rdattr_error asked.
+/// READDIR answers ACCESS exactly where LIST_DIRECTORY is demanded and isn't granted, or where a refused entry is met without
+/// rdattr_error requested.
 pub fn readdir_is_refused_exactly()
     ensures { (c : Context) (h : Handles) (v : Value readdir_args) (r : Realm) →
         (outcome (meaning c h (Known kinds.ReadDir v)) r ≡ Err statuses.Access) ↔ (IsUnlisted c h v (whole r) ⊎ MeetsRefused c h v (whole r)) }

@@ -1,4 +1,4 @@
-//! Laws of a COMPOUND over a tree that access control lists guard: what follows from its definitions alone.
+//! Laws of a COMPOUND over a tree that access control lists guard, which follow from its definitions alone.
 //!
 //! Each is the contract of a function that does nothing, so that a program or a reader can cite it by name.
 #![tactic(auto)]

@@ -1,5 +1,6 @@
 //! The open files in every state that a server comes to (RFC 8881, section 9.1).
 ghost use Rattle.std.specs.Prelude.{◌≡◌, ℕ, List, Option, Ok};
+ghost use Rattle.who_book.specs.Content.{Content};
 ghost use Rattle.nfs_ops.specs.Operations.{Operation};
 ghost use Rattle.nfs_ops.specs.Results.{Outcome};
 ghost use Rattle.node_tree.specs.World.{World};
@@ -11,21 +12,23 @@ ghost use Rattle.compound_run.specs.Runs.{outcome};
 ghost use Rattle.compound_run.specs.State.{State, Call, Answers};
 ghost use Rattle.compound_run.specs.InSession.{Reply, AnswersInSession};
 ghost use Rattle.compound_laws.specs.LiveOpens.{OpensHold};
+ghost use Rattle.compound_laws.specs.Reloads.{loaded};
 
-/// A server that has run nothing has no opens: what holds of open files holds of it.
+/// A server that has run nothing has no opens: the law of open files holds.
 pub fn opens_hold_at_first()
     ensures { (w : World) → IsSound w → OpensHold (unopened w) }
 {}
 
-/// Each operation that is OK keeps it: each open is of a file that is there, and there are at most 4,096 of them. One that isn't OK leaves
-/// the realm.
+/// Each operation that is OK keeps the law: each open is of a file that is there, and there are at most 4,096 of them. An
+/// operation that isn't OK leaves the realm.
 pub fn operations_keep_opens()
     ensures { (c : Context) (h : Handles) (op : Operation) (r : Realm) (o : Outcome) → OpensHold r → outcome (meaning c h op) r ≡ Ok o → OpensHold ((meaning c h op).effect r) }
 {}
 
-/// So each call keeps it, where no session is in use (`bare`) and where sessions are (`in_session`), however its operations end: it holds
-/// of every state that a server comes to.
+/// So each call keeps the law, where no session is in use (`bare`) and where sessions are (`in_session`), however its operations
+/// end, and so does a book that is loaded (`book`): the law holds in every state that a server comes to.
 pub fn calls_keep_opens()
     ensures bare { (old : State) (call : Call) (results : Option (List ℕ)) (new : State) → OpensHold old.realm → Answers old call results new → OpensHold new.realm }
     ensures in_session { (old : State) (call : Call) (reply : Reply) (new : State) → OpensHold old.realm → AnswersInSession old call reply new → OpensHold new.realm }
+    ensures book { (book : Content) (old : State) → OpensHold old.realm → OpensHold (loaded book old).realm }
 {}

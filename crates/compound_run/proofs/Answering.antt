@@ -1,10 +1,9 @@
--- What a run makes of a server.
+-- A server after a run.
 use Rattle.std.proofs.Common.{◌≡◌, ℕ, ◌-◌, List, refl, sym, ap, subst, arith, append-nil, length}
 use Rattle.std.specs.Prelude.{[], ◌++◌, Option, Some, None}
 use Rattle.xdr_wire.specs.Buffer.{Buffer}
 use Rattle.xdr_wire.specs.Xdr.{Value}
 use Rattle.xdr_wire.specs.Reading.{read_at}
-use Rattle.who_book.specs.Content.{Content}
 use Rattle.nfs_types.specs.declared.status.Status.{Status}
 use Rattle.compound_run.specs.declared.compound.Ended.{Ended}
 use Rattle.compound_run.specs.declared.export.Export.{Export}
@@ -13,7 +12,7 @@ use Rattle.compound_run.specs.Context.{Context, no_handles}
 use Rattle.compound_run.specs.Runs.{Point, Runs, results_bytes}
 use Rattle.compound_run.specs.Compound.{args_form, args_in, head, opening_fault}
 use Rattle.compound_run.specs.State.{State, Call, Answers, AnswersBy, fate, fate_of, fate_unless, bare_context, start, left}
-use Rattle.compound_run.specs.Views.{point_at, realm_of, state_of}
+use Rattle.compound_run.specs.Views.{point_at, realm_of, settings_of, state_of}
 use Rattle.compound_run.specs.Written.{RunGives, Opens, OpensTo, OpensBehind}
 
 -- ---- operations behind a head
@@ -40,21 +39,21 @@ all_run tag c operations old new before after end first r =
       r.within,
     )
 
--- they are run
+-- operations are run
 pub run_behind : {A : Type 0} (fault : Option Status) (tag : List ℕ) (c : Context) (room : ℕ) (operations : List ℕ) (old new : Export A) (before after : Buffer) (end : Ended) → fault ≡ None → c.position ≡ 0
     → c.room ≡ room → RunGives c operations old before end new after → OpensBehind fault tag (record c { room = room }) operations old before end new after
 run_behind fault tag c room operations old new before after end none first is r =
     subst (λ x. OpensBehind fault tag (record c { room = x }) operations old before end new after) is
     (subst (λ f. OpensBehind f tag c operations old before end new after) (sym none) (all_run tag c operations old new before after end first r))
 
--- ---- what is kept
+-- ---- the state that is kept
 
--- where a COMPOUND begins
-begins : {A : Type 0} (e : Export A) (book : Content) → e.tree.log.held ≡ [] → start (state_of e book) ≡ point_at e no_handles
-begins e book settled = λ i. record {
+-- the beginning of a COMPOUND
+begins : {A : Type 0} (e : Export A) → e.tree.log.held ≡ [] → start (state_of e) ≡ point_at e no_handles
+begins e settled = λ i. record {
   realm = realm_of e;
   log = record { held = sym settled i; trail = e.tree.log.trail; total = e.tree.log.total };
-  capacity = e.tree.capacity;
+  settings = settings_of e;
   handles = no_handles;
 }
 
@@ -63,22 +62,22 @@ opened : (s : State) (call : Call) (fault : Option Status) (tag : List ℕ) (cou
 opened s call None tag count operations bytes end runs = (end, runs.0, runs.1, runs.2, refl)
 opened s call (Some status) tag count operations bytes end stays = (ap Some stays.0, ap (left s) stays.1)
 
-answered : {A : Type 0} (call : Call) (v : Value args_form) (operations bytes : List ℕ) (old new : Export A) (book : Content) → old.tree.log.held ≡ []
+answered : {A : Type 0} (call : Call) (v : Value args_form) (operations bytes : List ℕ) (old new : Export A) → old.tree.log.held ≡ []
     → args_in (read_at args_form call.arguments) ≡ Some (v, operations)
-    → OpensTo (opening_fault MAX_OPERATIONS v.1.0 v.1.1) v.0 (bare_context (state_of old book) call v.0 v.1.1) operations old bytes new
-    → Answers (state_of old book) call (Some bytes) (state_of new book)
+    → OpensTo (opening_fault MAX_OPERATIONS v.1.0 v.1.1) v.0 (bare_context (state_of old) call v.0 v.1.1) operations old bytes new
+    → Answers (state_of old) call (Some bytes) (state_of new)
 unfolding fate
-answered call v operations bytes old new book settled read opens =
-    let s = state_of old book in
+answered call v operations bytes old new settled read opens =
+    let s = state_of old in
     let end = point_at new opens.0 in
     let fault = opening_fault MAX_OPERATIONS v.1.0 v.1.1 in
     subst (λ a. AnswersBy (fate_of s call a) s (Some bytes) (left s end)) (sym read)
     (opened s call fault v.0 v.1.1 operations bytes end
-    (subst (λ p. Opens fault v.0 (bare_context s call v.0 v.1.1) operations p bytes end) (sym (begins old book settled)) opens.1))
+    (subst (λ p. Opens fault v.0 (bare_context s call v.0 v.1.1) operations p bytes end) (sym (begins old settled)) opens.1))
 
-pub answers : {A : Type 0} (s : State) (call : Call) (v : Value args_form) (operations bytes : List ℕ) (old new : Export A) (book : Content) → s ≡ state_of old book → old.tree.log.held ≡ []
+pub answers : {A : Type 0} (s : State) (call : Call) (v : Value args_form) (operations bytes : List ℕ) (old new : Export A) → s ≡ state_of old → old.tree.log.held ≡ []
     → args_in (read_at args_form call.arguments) ≡ Some (v, operations)
-    → OpensTo (opening_fault MAX_OPERATIONS v.1.0 v.1.1) v.0 (bare_context (state_of old book) call v.0 v.1.1) operations old bytes new
-    → Answers s call (Some bytes) (state_of new book)
-answers s call v operations bytes old new book is settled read opens =
-    subst (λ x. Answers x call (Some bytes) (state_of new book)) (sym is) (answered call v operations bytes old new book settled read opens)
+    → OpensTo (opening_fault MAX_OPERATIONS v.1.0 v.1.1) v.0 (bare_context (state_of old) call v.0 v.1.1) operations old bytes new
+    → Answers s call (Some bytes) (state_of new)
+answers s call v operations bytes old new is settled read opens =
+    subst (λ x. Answers x call (Some bytes) (state_of new)) (sym is) (answered call v operations bytes old new settled read opens)

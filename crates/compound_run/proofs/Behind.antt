@@ -1,4 +1,4 @@
--- What is answered behind questions that pass.
+-- The answer behind questions that pass.
 use Rattle.std.proofs.Common.{◌≡◌, ℕ, true, false, refl, append-nil, List, ap, sym, ◌∙◌, subst}
 use Rattle.std.specs.Prelude.{◌++◌, ◌∷◌, Option, Result, Err}
 use Rattle.std.proofs.lemmas.List.{append_assoc}
@@ -6,16 +6,18 @@ use Rattle.xdr_wire.specs.Buffer.{Buffer}
 use Rattle.nfs_types.specs.declared.status.Status.{Status}
 use Rattle.access_guard.specs.declared.line.Line.{Line}
 use Rattle.access_guard.specs.Log.{held}
+use Rattle.compound_run.specs.declared.context.Context as code
 use Rattle.compound_run.specs.declared.export.Export.{Export}
 use Rattle.compound_run.specs.declared.filehandles.FileHandles.{FileHandles}
 use Rattle.nfs_types.specs.declared.status.Status.TheVariants as statuses
 use Rattle.node_tree.specs.Judged.{judged_of}
 use Rattle.access_rows.specs.declared.demand.Demand.{Demand}
+use Rattle.compound_run.specs.Context.{Context}
 use Rattle.compound_run.specs.Sight.{Sight, whole}
 use Rattle.compound_run.specs.Questions.{Question, Row, failure, trace, told, all_granted, demand_lines}
 use Rattle.compound_run.specs.Meaning.{Meaning}
 use Rattle.compound_run.specs.Runs.{waits}
-use Rattle.compound_run.specs.Views.{GivesSo, holding, realm_of}
+use Rattle.compound_run.specs.Views.{GivesSo, context_at, holding, realm_of}
 
 -- The questions before the rest pass, and their lines are held.
 pub behind : {A : Type 0} (room : ℕ) (m : Meaning) (rest : List Question) (e : Export A) (handles : FileHandles) (before : Buffer) (lines : List Line) (mid : Export A) (r : Result (Unit {0}) Status) (new : Export A) (handles' : FileHandles) (after : Buffer)
@@ -33,7 +35,7 @@ behind {A} room m rest e handles before lines mid r new handles' after failures 
     handles = at.answered.handles;
     realm_stays = at.answered.realm_stays;
     handles_stay = at.answered.handles_stay;
-    capacity = at.answered.capacity;
+    settings = at.answered.settings;
   };
   written = at.written;
   within = at.within;
@@ -43,7 +45,17 @@ behind {A} room m rest e handles before lines mid r new handles' after failures 
     at : GivesSo true room (record m { questions = rest }) waits (holding lines e) handles before r new handles' after
     at = subst (λ (x : Export A). GivesSo true room (record m { questions = rest }) waits x handles before r new handles' after) is gives
 
--- A row is the next question, and refuses: its lines are held.
+-- The questions before the rest pass, and the rest is asked where their lines are held: the book is the one before.
+pub behind_at : {A : Type 0} (room : ℕ) (c : code.Context) (m : Context → Meaning) (rest : Context → List Question) (e : Export A) (handles : FileHandles) (before : Buffer) (lines : List Line) (mid : Export A) (r : Result (Unit {0}) Status) (new : Export A) (handles' : FileHandles) (after : Buffer)
+    → failure (m (context_at e c)).caller (whole (realm_of e)) (m (context_at e c)).questions ≡ failure (m (context_at e c)).caller (whole (realm_of e)) (rest (context_at e c))
+    → trace (m (context_at e c)).caller (m (context_at e c)).number (whole (realm_of e)) (m (context_at e c)).questions ≡ lines ++ trace (m (context_at e c)).caller (m (context_at e c)).number (whole (realm_of e)) (rest (context_at e c))
+    → mid ≡ holding lines e
+    → GivesSo true room (record (m (context_at mid c)) { questions = rest (context_at mid c) }) waits mid handles before r new handles' after → GivesSo true room (m (context_at e c)) waits e handles before r new handles' after
+behind_at {A} room c m rest e handles before lines mid r new handles' after failures traces is gives =
+    behind room (m (context_at e c)) (rest (context_at e c)) e handles before lines mid r new handles' after failures traces is
+    (subst (λ (x : Context). GivesSo true room (record (m x) { questions = rest x }) waits mid handles before r new handles' after) (ap (λ (x : Export A). context_at x c) is) gives)
+
+-- A row is the next question, and refuses: the lines of its demands are held.
 pub row_refuses : {A : Type 0} (room : ℕ) (m : Meaning) (demands : Sight → List (Option Demand)) (others : List Question) (e : Export A) (handles : FileHandles) (before : Buffer) (new : Export A)
     → all_granted (judged_of e.tree.world) m.caller (demands (whole (realm_of e))) ≡ false
     → new ≡ holding (demand_lines (judged_of e.tree.world) m.caller m.number (demands (whole (realm_of e)))) e
@@ -59,14 +71,14 @@ row_refuses {A} room m demands others e handles before new refused is =
         handles = tt;
         realm_stays = refl;
         handles_stay = refl;
-        capacity = refl;
+        settings = refl;
       };
       written = tt;
       within = tt;
       unwritten = refl;
     })
 
--- ---- the same of one that takes no memory
+-- ---- operations that take no memory
 
 pub row_refuses_always : {A : Type 0} (room : ℕ) (m : Meaning) (demands : Sight → List (Option Demand)) (others : List Question) (e : Export A) (handles : FileHandles) (before : Buffer) (new : Export A) → m.questions ≡ Row demands ∷ others
     → all_granted (judged_of e.tree.world) m.caller (demands (whole (realm_of e))) ≡ false
@@ -84,7 +96,7 @@ row_refuses_always {A} room m demands others e handles before new asks refused i
         handles = tt;
         realm_stays = refl;
         handles_stay = refl;
-        capacity = refl;
+        settings = refl;
       };
       written = tt;
       within = tt;

@@ -7,12 +7,12 @@ use Rattle.node_tree.specs.declared.at.At.{At}
 use Rattle.node_tree.specs.World.{World}
 use Rattle.node_tree.specs.Changes.{with_write}
 
--- no bytes change nothing
+-- writing no bytes changes nothing
 pub none_written : (w : World) (file offset : ℕ) (more : List ℕ) (at : At) → length more ≡ 0 → with_write w file offset more at ≡ w
 none_written w file offset [] at none = refl
 none_written w file offset (byte ∷ more) at none = cc
 
--- The end of a file is reached where no more is left than is asked for.
+-- The end of a file is reached where no more bytes are left than are requested.
 pub end_is : (bytes : List ℕ) (offset most : ℕ) → nat_le (length bytes - offset) most ≡ nat_le (length bytes) (offset + length (take most (drop offset bytes)))
 end_is bytes offset most = of (nat_le (length bytes - offset) most) refl
   where

@@ -1,4 +1,4 @@
--- The values that are given, compared with those that were sent.
+-- The values that GETATTR returns, compared with those that were sent.
 use Rattle.std.proofs.Common.{◌≡◌, ◌≢◌, ℕ, ◌+◌, ◌<◌, ◌≤◌, Bool, true, false, List, refl, sym, ap, ◌∙◌, subst, length, append-nil, arith}
 use Rattle.std.specs.Prelude.{[], ◌∷◌, ◌++◌, ◌==◌, nat_eq, if◌then◌else◌, Result, Ok, Err, Some, OnOk, is_err}
 use Rattle.std.specs.Cmp.Lexicographic.{pointwise, same_text}
@@ -16,7 +16,7 @@ use Rattle.nfs_types.specs.Views.{attributes_value}
 use Rattle.nfs_types.specs.declared.attributes.Attributes.{Attributes}
 use Rattle.nfs_ops.specs.Forms.{getattr_size}
 
--- ---- how many words the set of what is given has
+-- ---- the number of words of the set of returned attributes
 
 front_short : (w : ℕ) (ws : List ℕ) (n : ℕ) → length ws ≤ n → length (front_word w ws) ≤ 1 + n
 front_short w [] n short = of (w == 0)
@@ -41,7 +41,7 @@ set_short asked =
     let second = common_short asked supported_words in
     omega (arith, first, second)
 
--- ---- what doesn't fit is another
+-- ---- values that don't fit differ
 
 other_length : (values sent : List ℕ) → length values ≢ length sent → false ≡ pointwise nat_eq values sent
 other_length values sent apart = of (pointwise nat_eq values sent) refl
@@ -62,9 +62,9 @@ too_long r before after asked values sent is room size puts =
     let few = set_short asked in
     other_length values sent (λ same. omega (arith, full, room, size, few, same))
 
--- ---- what is written is read back
+-- ---- the values that are written are read back
 
--- what was written, where it fitted
+-- the values that were written, where they fitted
 pub on_ok : {E : Type 0} (r : Result (Unit {0}) E) (A : Type 0) → is_err r ≡ false → OnOk r A → A
 on_ok (Ok done) A is h = h
 on_ok (Err e) A is h = cc

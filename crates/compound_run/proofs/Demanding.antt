@@ -1,4 +1,4 @@
--- Demands are asked in turn.
+-- Demands are checked in turn.
 use Rattle.std.proofs.Common.{◌≡◌, ℕ, ◌+◌, ◌*◌, ◌≤◌, List, ◌∷◌, [], ap, sym, subst, ◌∙◌, arith, drop, length, true, Bool, Some}
 use Rattle.std.specs.Prelude.{◌++◌, ◌&&◌, if◌then◌else◌, Option}
 use Rattle.std.proofs.lemmas.List.{append_assoc}
@@ -29,7 +29,7 @@ pub record Asking {A : Type 0} (lists : Lists) (caller : Identity) (op : ℕ) (d
 pub held_together : (first second : List Line) (t : Guarded) → record t { log = held second (record t { log = held first t.log }).log } ≡ record t { log = held (first ++ second) t.log }
 held_together first second t = ap (λ h. record t { log = record t.log { held = h } }) (append_assoc t.log.held first second)
 
--- the lines of a demand are those of its lists, and one more
+-- the lines of a demand are those of its lists, and the DENY line
 few_lines : (d : Demand) → most_lines d ≤ MAX_ENTRIES * lists_of d + 1
 few_lines (Bits object mask) = omega arith
 few_lines (Removal parent target) = omega arith

@@ -1,4 +1,4 @@
--- What comes of an operation when it ends.
+-- The end of an operation.
 use Rattle.std.proofs.Common.{◌≡◌, ◌≢◌, ℕ, Bool, true, false, not, refl, sym, ap, ◌∙◌, subst}
 use Rattle.std.specs.Prelude.{Option, Some, None, Result, Ok, Err}
 use Rattle.nfs_types.specs.declared.status.Status.{Status}
@@ -36,7 +36,7 @@ delay_is : (status : Status) → is_delay_status status ≡ true → status ≡ 
 delay_is statuses.Delay is = refl
 delay_is _ is = cc
 
--- what isn't DELAY
+-- a result that isn't DELAY
 undelayed : (r : Result Outcome Status) → r ≢ Err statuses.Delay → is_delay r ≡ false
 undelayed (Ok o) told = refl
 undelayed (Err status) told = of (is_delay_status status) refl
@@ -53,7 +53,7 @@ lines_kept : (may : Bool) (m : Meaning) (old : Point) (r : Result Outcome Status
 lines_kept true m old r new a = λ told. kept r new.log (held (traced m old.realm) old.log) told (a.log told)
 lines_kept false m old r new a = kept r new.log (held (traced m old.realm) old.log) (λ e. meant_never m old.realm (sym a.outcome ∙ e)) a.log
 
--- its lines go to the trail, unless it says that memory was refused
+-- an operation's lines go to the trail, unless it answers that memory was refused
 pub ends : (may : Bool) (m : Meaning) (old : Point) (r : Result Outcome Status) (new : Point) → Answered may m waits old r new
     → Answered may m (settled true) old r (record new { log = settled (not (is_delay r)) new.log })
 ends may m old r new a = record {
@@ -65,10 +65,10 @@ ends may m old r new a = record {
   handles = a.handles;
   realm_stays = a.realm_stays;
   handles_stay = a.handles_stay;
-  capacity = a.capacity;
+  settings = a.settings;
 }
 
--- one that may not never says so
+-- an operation that may not answer DELAY never does
 told_so : (may : Bool) (m : Meaning) (log : Log → Log) (old : Point) (r : Result Outcome Status) (new : Point) → may ≡ false → Answered may m log old r new → r ≢ Err statuses.Delay
 told_so true m log old r new is a = cc
 told_so false m log old r new is a = λ e. meant_never m old.realm (sym a.outcome ∙ e)
@@ -76,7 +76,7 @@ told_so false m log old r new is a = λ e. meant_never m old.realm (sym a.outcom
 pub never_delayed : (c : Context) (op : Operation) (old new : Point) (r : Result Outcome Status) → may_delay c op ≡ false → Steps c op old r new → r ≢ Err statuses.Delay
 never_delayed c op old new r is steps = told_so (may_delay c op) (meaning c old.handles op) (settled true) old r new is steps
 
--- ---- what the code gives
+-- ---- the result of the code
 
 told_delay : (m : Meaning) (r : Realm) (x : Result (Unit {0}) Status) → is_delay (told_as m r x) ≡ is_delay x
 told_delay m r (Ok done) = refl

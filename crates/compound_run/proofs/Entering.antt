@@ -12,8 +12,8 @@ use Rattle.compound_run.specs.declared.filehandles.FileHandles.{FileHandles}
 use Rattle.compound_run.specs.Limits.{MIN_ROOM, REFUSAL_ROOM}
 use Rattle.compound_run.specs.Faults.{IsFault, MayFault, first_fault}
 use Rattle.compound_run.specs.Meaning.{Meaning, too_big_for}
-use Rattle.compound_run.specs.Operations.{entered, entry_fault, place_fault, room_fault, is_run}
-use Rattle.compound_run.specs.Views.{GivesSo, HasRoom, IfRun, context_of, point_at, realm_of, told_as}
+use Rattle.compound_run.specs.Operations.{entered, entry_fault_in, place_fault_in, room_fault_in, is_run}
+use Rattle.compound_run.specs.Views.{GivesSo, HasRoom, IfRun, point_at, realm_of, told_as}
 use Rattle.compound_run.specs.Runs.{Point, Answered, waits}
 
 entered_freely : (takes : Bool) (may : MayFault None) (m : Meaning) (old : Point) (r : Result Outcome Status) (new : Point)
@@ -27,10 +27,10 @@ entered_freely takes may m old r new a = record {
   handles = a.handles;
   realm_stays = a.realm_stays;
   handles_stay = a.handles_stay;
-  capacity = a.capacity;
+  settings = a.settings;
 }
 
--- nothing is wrong with them
+-- no fault of the place or the room
 enters : (takes : Bool) (fault : Option Status) (may : MayFault fault) (m : Meaning) (old : Point) (r : Result Outcome Status) (new : Point) → fault ≡ None
     → Answered takes m waits old r new → Answered (takes && is_none fault) (entered fault may m) waits old r new
 enters true None may m old r new is a = entered_freely true may m old r new a
@@ -47,20 +47,20 @@ stopped status is m old = record {
   handles = tt;
   realm_stays = refl;
   handles_stay = refl;
-  capacity = refl;
+  settings = refl;
 }
 
 some_same : (a b : Status) → Some a ≡ Some b → a ≡ b
 some_same a b e = cc
 
--- something is
+-- a fault of the place or the room
 stops : (takes : Bool) (fault : Option Status) (may : MayFault fault) (m : Meaning) (old : Point) (status : Status) → fault ≡ Some status
     → Answered (takes && is_none fault) (entered fault may m) waits old (Err status) old
 stops takes None may m old status is = cc
 stops true (Some other) may m old status is = subst (λ s. Answered false (entered (Some other) may m) waits old (Err s) old) (some_same other status is) (stopped other may m old)
 stops false (Some other) may m old status is = subst (λ s. Answered false (entered (Some other) may m) waits old (Err s) old) (some_same other status is) (stopped other may m old)
 
--- ---- what the code gives
+-- ---- the result of the code
 
 pub enters_so : {A : Type 0} (takes : Bool) (fault : Option Status) (may : MayFault fault) (room : ℕ) (m : Meaning) (e : Export A) (h : FileHandles) (before : Buffer) (r : Result (Unit {0}) Status) (e' : Export A) (h' : FileHandles) (after : Buffer) → fault ≡ None
     → GivesSo takes room m waits e h before r e' h' after → GivesSo (takes && is_none fault) room (entered fault may m) waits e h before r e' h' after
@@ -75,9 +75,9 @@ pub stops_so : {A : Type 0} (takes : Bool) (fault : Option Status) (may : MayFau
     → GivesSo (takes && is_none fault) room (entered fault may m) waits e h before (Err status) e h before
 stops_so takes fault may room m e h before status is = record { answered = stops takes fault may m (point_at e h) status is; written = tt; within = tt; unwritten = refl }
 
--- one that is run has room for its result
-pub roomy : (c : code.Context) (op : Operation) (out : Buffer) → entry_fault (context_of c) op ≡ None → c.room + REFUSAL_ROOM ≤ out.room → IfRun (is_run op) (HasRoom c out)
-roomy c op out none room = of (is_run op) (nat_lt c.room MIN_ROOM) refl (second (place_fault (context_of c) op) (room_fault (context_of c) op) none)
+-- an operation that is run has room for its result
+pub roomy : (c : code.Context) (op : Operation) (out : Buffer) → entry_fault_in c.calling c.room op ≡ None → c.room + REFUSAL_ROOM ≤ out.room → IfRun (is_run op) (HasRoom c out)
+roomy c op out none room = of (is_run op) (nat_lt c.room MIN_ROOM) refl (second (place_fault_in c.calling op) (room_fault_in c.calling c.room op) none)
   where
     second : (first more : Option Status) → first_fault first more ≡ None → more ≡ None
     second None more h = h

@@ -1,4 +1,4 @@
--- Rows, what is OK, and what is refused for access.
+-- Rows, operations that are OK, and operations that are refused for access.
 use Rattle.std.proofs.Common.{◌≡◌, ◌≢◌, ◌⊎◌, ℕ, Bool, true, false, ◌&&◌, cond, List, refl, sym, ap, ◌∙◌, subst, append-nil}
 use Rattle.std.proofs.Common.{inl, inr}
 use Rattle.std.specs.Prelude.{[], ◌∷◌, ◌++◌, Option, Some, None, if◌then◌else◌}
@@ -28,7 +28,7 @@ rows_decide caller s (Valid fault may ∷ before) behind demands passed = rw pas
 rows_decide caller s (Row others ∷ before) behind demands passed = rw passed.0 (rows_decide caller s before behind demands passed.1)
 rows_decide caller s (Suffices test ∷ before) behind demands passed = rw passed.0 (rows_decide caller s before behind demands passed.1)
 
--- ---- what is OK
+-- ---- operations that are OK
 
 some_apart : (status : Status) → Some status ≢ None
 some_apart status h = cc
@@ -38,7 +38,7 @@ both : (b : Bool) (more : Option Status) (status : Status) → cond b more (Some
 both true more status h = (refl, h)
 both false more status h = absurd (some_apart status h)
 
--- no fault, nor more
+-- neither a fault, nor another
 neither : (fault more : Option Status) → first_fault fault more ≡ None → (fault ≡ None) × (more ≡ None)
 neither None more h = (refl, h)
 neither (Some status) more h = absurd (some_apart status h)
@@ -69,7 +69,7 @@ is_ok caller s (Row demands ∷ questions) h = none_of (all_granted s.lists call
 is_ok caller s (Suffices test ∷ questions) (inl is) = rw is refl
 is_ok caller s (Suffices test ∷ questions) (inr more) = rw more.0 (is_ok caller s questions more.1)
 
--- ---- what is refused for access
+-- ---- operations that are refused for access
 
 -- no fault is ACCESS
 no_access : (status : Status) → IsFault status → status ≢ statuses.Access
@@ -78,12 +78,12 @@ no_access status is e = subst IsFault e is
 some_same : (status other : Status) → Some status ≡ Some other → status ≡ other
 some_same status other h = cc
 
--- a fault, or what comes behind it
+-- a fault, or the fault behind it
 fault_or : (fault more : Option Status) → MayFault fault → first_fault fault more ≡ Some statuses.Access → (fault ≡ None) × (more ≡ Some statuses.Access)
 fault_or None more may h = (refl, h)
 fault_or (Some status) more may h = absurd (no_access status may (some_same status statuses.Access h))
 
--- which of two comes
+-- one of two faults
 either : (b : Bool) (more : Option Status) (status : Status) → IsFault status → cond b more (Some status) ≡ Some statuses.Access → (b ≡ true) × (more ≡ Some statuses.Access)
 either true more status is h = (refl, h)
 either false more status is h = absurd (no_access status is (some_same status statuses.Access h))
@@ -189,7 +189,7 @@ demands_end caller op lists (Some d ∷ demands) h = of (decision lists caller d
       told = refl;
     })
 
--- a row refuses, and its lines end so
+-- a row refuses, and the lines end in its refusal
 pub record EndsSo (caller : Identity) (op : ℕ) (s : Sight) (questions : List Question) (lines : List Line) : Type 0 where
   pub row : IsRefusedByRow caller s questions
   pub ends : EndsInRefusal caller op s.lists (row.demands s) lines

@@ -1,4 +1,4 @@
--- What is run behind a SEQUENCE.
+-- The operations that are run behind a SEQUENCE.
 use Rattle.std.proofs.Common.{◌≡◌, ℕ, ◌+◌, ◌-◌, ◌<◌, ◌≤◌, List, refl, sym, ap, ◌∙◌, subst, length, append_assoc, arith}
 use Rattle.std.specs.Prelude.{[], ◌∷◌, ◌++◌, drop, Some, Ok, IfSome}
 use Rattle.std.specs.Int.{w32, to_be_bytes}
@@ -29,7 +29,7 @@ use Rattle.compound_run.specs.Views.{point_at}
 use Rattle.compound_run.specs.Written.{RunGives}
 use Rattle.compound_run.proofs.Staying.{runs_stay}
 
--- behind one that is OK the others tell the status
+-- behind a result that is OK the other results tell the status
 last_behind : (given : Given) (results : List Given) → status_of given ≡ statuses.Ok → last_status (given ∷ results) ≡ last_status results
 last_behind given [] ok = ok
 last_behind given (next ∷ results) ok = refl
@@ -57,7 +57,7 @@ sequenced {A} most c room tag number o operations old new before mid after end s
     told : head end.status tag end.ran ++ (result_bytes given ++ results_bytes r.results) ≡ together tag (given ∷ r.results)
     told = λ i. head (status i) tag (ran i) ++ (result_bytes given ++ results_bytes r.results)
 
--- ---- with their head
+-- ---- the results with their head
 
 abbrev zeros : List ℕ
 zeros = to_be_bytes w32 0
@@ -111,7 +111,7 @@ sequenced_within {A} limit most c room other tag given operations old export sta
         let front : length (head end.status tag end.ran) ≡ 4 + (length (tag_bytes tag) + 4) = length-append (word end.status) (tag_bytes tag ++ to_be_bytes w32 end.ran) ∙ ap (λ n. 4 + n) (length-append (tag_bytes tag) (to_be_bytes w32 end.ran)) in
         omega (arith, one, two, three, four, all, front, s.3, within)
 
--- ---- and kept
+-- ---- the results that are kept
 
 -- the session is there as long as the operations run, with its slot
 stands_there : (r s : Registry) (session slot : ℕ) (new : NewCall) (stands : StandsIn r session slot (begins.New new)) → s.sessions ≡ r.sessions → session_at s session ≡ Some stands.0
@@ -130,7 +130,7 @@ pub sessions_stay : {A : Type 0} (limit : ℕ) (c : Context) (tag : List ℕ) (g
     → WritesWithin limit (λ bytes. SequencedTo c tag given operations old bytes new) before after → new.clients.sessions ≡ old.clients.sessions
 sessions_stay limit c tag given operations old new before after w = runs_stay c (c.count - c.position) operations (point_at old no_handles) w.1.1.0 (point_at new w.1.0) w.1.1.1
 
--- what was appended
+-- the bytes that were appended
 pub appended : (before after : Buffer) (item : List ℕ) → Appends before after item → drop (length before.bytes) after.bytes ≡ item
 appended before after item p = ap (drop (length before.bytes)) p.behind ∙ drop_at before.bytes item (length before.bytes) refl
 
@@ -151,10 +151,10 @@ kept_so {A} limit other c d tag v given done operations old mid new before after
     runs : SequencedTo d tag done operations old w.0 mid
     runs = subst (λ x. SequencedTo x tag done operations old w.0 mid) is (subst (λ x. SequencedTo c tag x operations old w.0 mid) told w.1)
 
--- what was appended is no longer than it may be
+-- the bytes that were appended are within the limit
 pub few_appended : {X : List ℕ → Type 0} (limit start : ℕ) (before after : Buffer) (w : WritesWithin limit X before after) → start ≡ length before.bytes → length (drop start after.bytes) ≤ limit
 few_appended limit start before after w from = subst (λ bytes. length bytes ≤ limit) (sym (ap (λ n. drop n after.bytes) from ∙ appended before after w.0 w.2)) w.3
 
--- and stands behind what was there
+-- the bytes are appended behind the buffer's
 pub from_within : {X : List ℕ → Type 0} (limit start : ℕ) (before after : Buffer) (w : WritesWithin limit X before after) → start ≡ length before.bytes → start ≤ length after.bytes
 from_within limit start before after w from = let long = ap length w.2.behind ∙ length-append before.bytes w.0 in omega (arith, long, from)

@@ -28,7 +28,7 @@ use Rattle.nfs_ops.specs.declared.listing.ListFault.TheVariants.{Refused, TooSma
 use Rattle.node_tree.specs.Judged as world
 use Rattle.node_tree.specs.World.{World, Name, name_after}
 use Rattle.node_tree.specs.Sound.{Rises, IsIn, IsSound}
-use Rattle.access_rows.specs.Rows.{bits, has_any, governed, entry_demands, Demands}
+use Rattle.access_rows.specs.Rows.{bits, has_any, governed, list_giving, entry_demands, Demands}
 use Rattle.access_rows.specs.declared.demand.Demand.{Demand}
 use Rattle.access_rows.specs.declared.demand.Demand.TheVariants.{Bits}
 use Rattle.access_rows.specs.declared.facts.Object.{Object}
@@ -38,22 +38,22 @@ use Rattle.compound_run.specs.Context.{Context}
 use Rattle.compound_run.specs.Sight.{Sight}
 use Rattle.compound_run.specs.Rows.{object_of}
 use Rattle.compound_run.specs.Readdir.{allows, first_refused, permitted, granted_words, judgment, judgment_of, entry_of, entry_by, judged_entry, names_above, judged_above, listed, listing_of, refused_in, fits_some}
+use Rattle.compound_run.specs.declared.context.Context as code
 use Rattle.compound_run.specs.declared.export.Export.{Export}
 use Rattle.compound_run.specs.declared.filehandles.FileHandles.{FileHandles}
 use Rattle.nfs_ops.specs.ListingSteps as steps
 use Rattle.nfs_ops.specs.Rows.{row}
 use Rattle.nfs_ops.specs.declared.op_kind.OpKind.TheVariants as kinds
-use Rattle.compound_run.specs.Asking as asking
 use Rattle.compound_run.specs.Asking.{sight_of}
-use Rattle.compound_run.specs.Questions.{all_granted}
+use Rattle.compound_run.specs.Questions.{all_granted, demand_lines}
 use Rattle.compound_run.specs.Runs.{spelled, waits}
-use Rattle.compound_run.specs.Views.{GivesSo}
+use Rattle.compound_run.specs.Views.{GivesSo, context_at, holding}
 use Rattle.compound_run.specs.Listed.{IsNext, PutsEntry, refused_of, written_entry}
 use Rattle.compound_run.specs.Says.{Says}
 use Rattle.compound_run.proofs.Behind.{row_refuses_always}
 use Rattle.compound_run.proofs.Saying.{same_values}
 
--- ---- the next one is the first of those above the cookie
+-- ---- the next entry is the first of those above the cookie
 
 abbrev in_directory : ℕ → Name → Bool
 in_directory directory n = n.directory == directory
@@ -67,7 +67,7 @@ is_next directory cookie n = in_directory directory n && is_above cookie n
 abbrev above : ℕ → ℕ → List Name → List Name
 above directory cookie all = filter (is_above cookie) (filter (in_directory directory) all)
 
--- those that rise from above it are all above it
+-- names that rise from above the cookie are all above it
 all_above : (directory cookie low high : ℕ) (all : List Name) → cookie < low → Rises (λ n. n.cookie) low all high → above directory cookie all ≡ filter (in_directory directory) all
 all_above directory cookie low high [] less rises = refl
 all_above directory cookie low high (n ∷ all) less rises =
@@ -136,7 +136,7 @@ next_above directory cookie low high (m ∷ all) n rises found =
         rw test (rw low (more at))
     of false b test more at = more at
 
--- ---- what its list grants
+-- ---- the bits that the entry's list grants
 
 tells : (number mask : ℕ) (v : Verdict) (b : Bool) → (v ≡ verdicts.Granted → b ≡ true) → (b ≡ true → v ≡ verdicts.Granted) → b ≡ is_granted (answer number mask v)
 tells number mask verdicts.Granted b granted true_is = granted refl
@@ -188,7 +188,7 @@ module _ (lists : Lists) (caller : Identity) (child : Object) where
   list = allows lists caller child.number READ_ACL
 
   pub refused_is : (asked : List ℕ) → refused_of attributes list (entry_demands asked (Some child)) ≡ first_refused lists caller (entry_demands asked (Some child))
-  refused_is asked = of (has_any asked governed) (has_number asked 12)
+  refused_is asked = of (has_any asked governed) (has_any asked list_giving)
     where
       of : (g h : Bool) → refused_of attributes list (bits (Some child) (if g then READ_ATTRIBUTES else 0) ∷ bits (Some child) (if h then READ_ACL else 0) ∷ [])
           ≡ first_refused lists caller (bits (Some child) (if g then READ_ATTRIBUTES else 0) ∷ bits (Some child) (if h then READ_ACL else 0) ∷ [])
@@ -197,7 +197,7 @@ module _ (lists : Lists) (caller : Identity) (child : Object) where
       of false true = other attributes list (Bits child.number READ_ACL)
       of false false = neither attributes list
 
--- ---- what is given of an entry, as the code finds it
+-- ---- the attributes of an entry, as the code finds them
 
 module _ (lists : Lists) (caller : Identity) (child : Object) (asked : List ℕ) (a l : Bool) (demands : Demands) (r : Option Demand) where
   first_found : a ≡ (bit_and READ_ATTRIBUTES (granted_at lists caller child.number) == READ_ATTRIBUTES) → l ≡ (bit_and READ_ACL (granted_at lists caller child.number) == READ_ACL)
@@ -229,7 +229,7 @@ module _ (lists : Lists) (caller : Identity) (child : Object) (asked : List ℕ)
       let so : Ok (statuses.Access, permitted lists caller child.number asked) ≡ judgment lists caller asked child.number (Some d) = rw error refl in
       ap (λ x. Ok (statuses.Access, x)) words ∙ so ∙ refused_so lists caller child asked a l demands r d some (first_found lists caller child asked a l demands r attributes list asks is)
 
--- ---- what refuses an entry isn't granted
+-- ---- a demand that refuses an entry isn't granted
 
 first_is_refused : (lists : Lists) (caller : Identity) (demands : Demands) (d : Demand) → first_refused lists caller demands ≡ Some d → is_granted (decision lists caller d) ≡ false
 first_is_refused lists caller [] d h = cc
@@ -284,9 +284,9 @@ what_refuses c v directory s d h =
     let all = judged_above c (listed_attributes v) directory (listed_behind v) s in
     among c (listed_attributes v) s d (1 + fitting limit all) (names_above s directory (listed_behind v)) (listing_refuses limit all (first_refusal (judged_within limit all)) d h)
 
--- ---- what the code writes
+-- ---- the bytes that the code writes
 
--- what is said of its object is what its attributes are
+-- the facts of the entry's object are those of its attributes
 pub next_put : (c : Context) (s : Sight) (m n : Name) (number : ℕ) (error : Status) (set : List ℕ) (f : ObjectFacts) (old new : Buffer) (result : Result (Unit {0}) Full) → m ≡ n → number ≡ m.child
     → Says s number error f → PutsEntry (written_entry c.book f m set) old new result → PutsEntry (entry_of c s n error set) old new result
 next_put c s m n number error set f old new result same child says puts =
@@ -300,7 +300,7 @@ numbered s n o is = of (s.kinds n) is
     of None is = cc
     of (Some kind) is = let same : record { number = n; kind = kind } ≡ o = cc in sym (ap (λ (x : Object). x.number) same)
 
--- the next one is the first of those that are left, as it is judged
+-- the next entry is the first of those that are left, as it is judged
 pub next_judged : (c : Context) (asked : List ℕ) (s : Sight) (directory cookie : ℕ) (found : Option Name) (next : ℕ) (child : Object) (j : Result (Status × List ℕ) Demand) (is : IsNext s directory cookie found next child)
     → j ≡ judgment_of s.lists c.caller asked child.number (Some child) → judged_above c asked directory cookie s ≡ entry_by c s is.name j ∷ judged_above c asked directory next s
 next_judged c asked s directory cookie found next child j is judged =
@@ -309,9 +309,10 @@ next_judged c asked s directory cookie found next child j is judged =
     judged ∙ (λ i. judgment_of s.lists c.caller asked (number i) (sym is.object i)) in
     ap (map (judged_entry c asked s)) is.above ∙ ap (λ x. entry_by c s is.name x ∷ judged_above c asked directory next s) (sym so)
 
--- judging leaves what is given of an entry
-pub moved_entry : {A : Type 0} (c : Context) (old new : Export A) (n : Name) (error : Status) (set : List ℕ) (P : Value entry → Type 0) → new ≡ old → P (entry_of c (sight_of new) n error set) → P (entry_of c (sight_of old) n error set)
-moved_entry c old new n error set P same p = subst P (ap (λ e. entry_of c (sight_of e) n error set) same) p
+-- judging doesn't change the attributes of an entry
+pub moved_entry : {A : Type 0} (c : code.Context) (old new : Export A) (n : Name) (error : Status) (set : List ℕ) (P : Value entry → Type 0) → new ≡ old
+    → P (entry_of (context_at new c) (sight_of new) n error set) → P (entry_of (context_at old c) (sight_of old) n error set)
+moved_entry c old new n error set P same p = subst P (ap (λ e. entry_of (context_at e c) (sight_of e) n error set) same) p
 
 -- ---- the result
 
@@ -331,7 +332,7 @@ module _ {A : Type 0} (room : ℕ) (c : Context) (h : FileHandles) (v : Value re
       handles = refl;
       realm_stays = tt;
       handles_stay = tt;
-      capacity = refl;
+      settings = refl;
     };
     written = rw lists.is lists.written;
     within = lists.within;
@@ -349,7 +350,7 @@ module _ {A : Type 0} (room : ℕ) (c : Context) (h : FileHandles) (v : Value re
       handles = tt;
       realm_stays = refl;
       handles_stay = refl;
-      capacity = refl;
+      settings = refl;
     };
     written = tt;
     within = tt;
@@ -364,10 +365,10 @@ module _ {A : Type 0} (room : ℕ) (c : Context) (h : FileHandles) (v : Value re
       subst (λ (x : Export A). GivesSo false room (listing_of v directory c h) waits e h before (Err statuses.TooSmall) x h after) (sym same)
       (subst (λ (b : Buffer). GivesSo false room (listing_of v directory c h) waits e h before (Err statuses.TooSmall) e h b) (sym stays) (small_so small))
 
-  pub list_refused : (d : Demand) (new : Export A) → told ≡ Err (Refused d) → after ≡ before → new ≡ asking.asked e c.caller (row kinds.ReadDir).number (Some d ∷ []) → GivesSo false room (listing_of v directory c h) waits e h before (Err statuses.Access) new h after
+  pub list_refused : (d : Demand) (new : Export A) → told ≡ Err (Refused d) → after ≡ before → new ≡ holding (demand_lines (world.judged_of e.tree.world) c.caller (row kinds.ReadDir).number (Some d ∷ [])) e → GivesSo false room (listing_of v directory c h) waits e h before (Err statuses.Access) new h after
   list_refused d new refused stays is =
       let not : is_granted (decision (sight_of e).lists c.caller d) ≡ false = what_refuses c v directory (sight_of e) d refused in
       subst (λ (b : Buffer). GivesSo false room (listing_of v directory c h) waits e h before (Err statuses.Access) new h b) (sym stays)
       (row_refuses_always room (listing_of v directory c h) (λ s. refused_in (listed c v directory s) ∷ []) (fits_some c v directory ∷ []) e h before new refl
       (ap (λ t. all_granted (sight_of e).lists c.caller (refused_in t ∷ [])) refused ∙ ap (λ b. b && true) not)
-      (is ∙ ap (λ t. asking.asked e c.caller (row kinds.ReadDir).number (refused_in t ∷ [])) (sym refused)))
+      (is ∙ ap (λ t. holding (demand_lines (world.judged_of e.tree.world) c.caller (row kinds.ReadDir).number (refused_in t ∷ [])) e) (sym refused)))

@@ -10,7 +10,7 @@ use Rattle.compound_run.specs.Open.{risen, reopened, with_reopened}
 use Rattle.compound_run.specs.Opening.{placed, reopened_by}
 use Rattle.compound_run.specs.Views.{open_view, opens_view}
 
--- the first that is found is the first that is seen
+-- the first open that is found is the first in the view
 pub found_in_view : {A : Type 0} (p : Opened → Bool) (opens : List (Open A)) → option_map open_view (find (λ o. p (open_view o)) opens) ≡ find p (opens_view opens)
 found_in_view p [] = refl
 found_in_view p (o ∷ opens) = of (p (open_view o)) (found_in_view p opens)
@@ -20,7 +20,7 @@ found_in_view p (o ∷ opens) = of (p (open_view o)) (found_in_view p opens)
     of true rest = refl
     of false rest = rest
 
--- those that are kept are those that are seen to be
+-- the opens that are kept are those that are kept in the view
 pub kept_in_view : {A : Type 0} (p : Opened → Bool) (opens : List (Open A)) → opens_view (filter (λ o. p (open_view o)) opens) ≡ filter p (opens_view opens)
 kept_in_view p [] = refl
 kept_in_view p (o ∷ opens) = of (p (open_view o)) (kept_in_view p opens)
@@ -48,7 +48,7 @@ pub again_placed : {A : Type 0} (c : Context) (access file number seqid : ℕ) (
 again_placed {A} c access file number seqid place r opens new is same news =
     ap (λ os. record r { opens = os }) (ap opens_view news ∙ reopened_in_view number access opens ∙ ap (with_reopened number access) (sym same)) ∙ ap (λ p. placed c access file p r) (sym is)
 
--- one more of a list is replaced
+-- one more element of a list is replaced
 pub set_next : {X : Type 0} (f : X → X) (all : List X) (i : ℕ) (x : X) → i < length all
     → slice_set (map f (take i all) ++ drop i all) i (f (get_or (map f (take i all) ++ drop i all) i x)) ≡ map f (take (suc i) all) ++ drop (suc i) all
 set_next f [] i x h = absurd (omega (arith, h))

@@ -1,4 +1,4 @@
--- How an OPEN is answered behind its rows.
+-- The answer to an OPEN behind its rows.
 use Rattle.std.proofs.Common.{◌≡◌, ◌≢◌, ◌≤◌, ◌+◌, ◌∙◌, ℕ, Bool, true, false, ◌&&◌, cond, inl, List, refl, sym, ap, subst, append-nil, length}
 use Rattle.std.specs.Prelude.{[], ◌∷◌, ◌++◌, Option, Some, None, Result, Ok, Err, IsOkUnless, unwrap_or}
 use Rattle.xdr_wire.specs.Xdr.{Value}
@@ -29,13 +29,14 @@ use Rattle.compound_run.specs.declared.opens.Place.TheVariants as places
 use Rattle.compound_run.specs.Realm.{Realm, Opened}
 use Rattle.compound_run.specs.Meaning.{at}
 use Rattle.compound_run.specs.Create.{created, list_at}
+use Rattle.compound_run.specs.Lists.{IsFit}
 use Rattle.compound_run.specs.Stateids.{client_of}
 use Rattle.compound_run.specs.Open.{access_of, file_in, file_of, name_in, wanted, risen, with_reopened, with_open, stateid_of, found, opening, is_permitted, is_within, has_space_for, last_questions, result_on, opened_on, change_of}
 use Rattle.compound_run.specs.Opening.{IsBefore, IsPlace, MakesFile, placed, placed_stateid}
 use Rattle.compound_run.specs.Runs.{spelled, waits}
-use Rattle.compound_run.specs.Views.{GivesSo, realm_of}
+use Rattle.compound_run.specs.Views.{GivesSo, realm_of, settings_of}
 
--- ---- what the last questions come to
+-- ---- the outcome of the last questions
 
 no_lines : (permitted within space : Bool) → cond permitted (cond within (cond space [] []) []) [] ≡ (let none : List Line = [] in none)
 no_lines true true true = refl
@@ -54,14 +55,14 @@ module _ (v : Value open_args) (c : Context) (h : FileHandles) (s : Sight) where
         λ i. cond ((ap (is_permitted c v) is ∙ p) i)
         (cond ((ap (is_within c v) is ∙ w) i) (cond ((ap (λ x. has_space_for c v (here h) x s) is ∙ q) i) None (Some statuses.NoSpc)) (Some statuses.FBig)) (Some statuses.Perm)
 
--- ---- how it is answered
+-- ---- the answers to an OPEN
 
 module _ {A : Type 0} (room : ℕ) (v : Value open_args) (c : Context) (h : FileHandles) (e new : Export A) (before : Buffer) where
-  -- it is refused, or delayed, and nothing has changed
-  pub refused : (status : Status) → realm_of new ≡ realm_of e → new.tree.log ≡ e.tree.log → new.tree.capacity ≡ e.tree.capacity
+  -- OPEN is refused, or delayed, and nothing has changed
+  pub refused : (status : Status) → realm_of new ≡ realm_of e → new.tree.log ≡ e.tree.log → settings_of new ≡ settings_of e
       → (status ≢ statuses.Delay → failure c.caller (sight_of e) (last_questions v c h) ≡ Some status)
       → GivesSo true room (opening v c h) waits e h before (Err status) new h before
-  refused status realm log capacity fails = record {
+  refused status realm log settings fails = record {
     answered = record {
       outcome = λ other. ap (λ f. told f ((opening v c h).answer (sight_of e))) (sym (fails (λ same. other (ap (λ x. Err x) same))));
       log = λ other. log ∙ ap (λ l. record e.tree.log { held = l }) (sym (append-nil e.tree.log.held)) ∙ ap (λ l. record e.tree.log { held = e.tree.log.held ++ l }) (sym (quiet v c h (sight_of e)));
@@ -71,7 +72,7 @@ module _ {A : Type 0} (room : ℕ) (v : Value open_args) (c : Context) (h : File
       handles = tt;
       realm_stays = realm;
       handles_stay = refl;
-      capacity = capacity;
+      settings = settings;
     };
     written = tt;
     within = tt;
@@ -80,10 +81,10 @@ module _ {A : Type 0} (room : ℕ) (v : Value open_args) (c : Context) (h : File
 
   -- the file is open
   pub given : (t : Option ℕ) (after : Buffer) → found v h (sight_of e) ≡ t → is_permitted c v t ≡ true → is_within c v t ≡ true → has_space_for c v (here h) t (sight_of e) ≡ true
-      → realm_of new ≡ opened_on c v (here h) t (realm_of e) → new.tree.log ≡ e.tree.log → new.tree.capacity ≡ e.tree.capacity
+      → realm_of new ≡ opened_on c v (here h) t (realm_of e) → new.tree.log ≡ e.tree.log → settings_of new ≡ settings_of e
       → Appends before after (spelled (Done kinds.Open (result_on c v (here h) t (sight_of e)))) → length after.bytes ≤ length before.bytes + room
       → GivesSo true room (opening v c h) waits e h before (Ok tt) new (record h { current = Some (unwrap_or t e.tree.world.next_number) }) after
-  given t after is permitted within space realm log capacity written short = record {
+  given t after is permitted within space realm log settings written short = record {
     answered = record {
       outcome = λ other. ap (λ f. told f ((opening v c h).answer (sight_of e))) (sym (fails_by v c h (sight_of e) t is true true true permitted within space));
       log = λ other. log ∙ ap (λ l. record e.tree.log { held = l }) (sym (append-nil e.tree.log.held)) ∙ ap (λ l. record e.tree.log { held = e.tree.log.held ++ l }) (sym (quiet v c h (sight_of e)));
@@ -93,7 +94,7 @@ module _ {A : Type 0} (room : ℕ) (v : Value open_args) (c : Context) (h : File
       handles = ap (λ x. record h { current = Some (unwrap_or x e.tree.world.next_number) }) (sym is);
       realm_stays = tt;
       handles_stay = tt;
-      capacity = capacity;
+      settings = settings;
     };
     written = subst (λ (x : Option ℕ). Appends before after (spelled (Done kinds.Open (result_on c v (here h) x (sight_of e))))) (sym is) written;
     within = short;
@@ -120,7 +121,7 @@ module _ {A : Type 0} (c : Context) (v : Value open_args) (file : ℕ) where
       → new ≡ record (with_open c v file j r) { world = w }
   realm_placed j place r mid new w is put mids = put ∙ ap (placed c (access_of v) file place) mids ∙ placed_so j place r w is
 
--- ---- what refuses
+-- ---- refusals
 
 same_error : {T : Type 0} (a b : Status) (r : Result T Status) → r ≡ Err a → r ≡ Err b → a ≡ b
 same_error a b r p q = let same = sym p ∙ q in cc
@@ -128,7 +129,7 @@ same_error a b r p q = let same = sym p ∙ q in cc
 delayed : {T : Type 0} (a b : Status) (r : Result T Status) → r ≡ Err a → IsOkUnless r b → a ≡ b
 delayed {T} a b r is unless = subst (λ (x : Result T Status). IsOkUnless x b) is unless
 
--- what is wanting is space, or else memory
+-- the refusal is for want of space, or else of memory
 pub wanting : {T : Type 0} (space : Bool) (status : Status) (r : Result T Status) → r ≡ Err status → (space ≡ false → r ≡ Err statuses.NoSpc) → (space ≡ true → IsOkUnless r statuses.Delay)
     → status ≢ statuses.Delay → cond space None (Some statuses.NoSpc) ≡ Some status
 wanting true status r is full may other = absurd (other (delayed status statuses.Delay r is (may refl)))
@@ -141,7 +142,7 @@ there_is false x r is full = absurd (apart (sym is ∙ full refl))
     apart : Ok x ≡ Err statuses.NoSpc → ⊥
     apart h = cc
 
--- ---- a file that is made
+-- ---- a file that is created
 
 pub file_made : {A : Type 0} (c : Context) (v : Value open_args) (new : NewObject A) (want : Wanted) (w : World) (d : ℕ) (name : List ℕ) (a : At) → claim_of v ≡ ByName name → wanted c v ≡ want → a ≡ at c w
     → MakesFile c.caller (list_at w d) want new → with_new w d name (made new w.next_stamp a) a ≡ file_in c v d None w
@@ -149,7 +150,7 @@ file_made c v new want w d name a claims is_wanted when m =
     (λ i. with_new w d (name_in (sym claims i)) (new_object (m.kind i) (m.bytes i) (m.owner i) (m.group i) (m.list i) (m.high i) w.next_stamp (when i)) (when i))
     ∙ (λ i. with_new w d (name_in (claim_of v)) (created c (file_of (sym is_wanted i)) (sym is_wanted i) (list_at w d) w.next_stamp (at c w)) (at c w))
 
--- ---- what is told
+-- ---- the result
 
 pub change_kept : (claim : Claim) (h : FileHandles) (s : Sight) (before file : ℕ) → IsBefore claim s h before → (let told : Value change_info = (inl tt, (before, before)) in told) ≡ change_of claim (here h) (Some file) s
 change_kept (ByName name) h s before file is = λ i. (inl tt, (sym is i, sym is i))
@@ -159,9 +160,24 @@ pub left_is : (b : Bool) (x y : At) → cond b (Some x) None ≡ Some y → b �
 left_is true x y h = refl
 left_is false x y h = cc
 
-pub space_new : (left can more : Bool) → left ≡ true → more ≡ true → (left && can) && more ≡ can
-space_new left true more l m = rw l m
-space_new left false more l m = rw l refl
+pub space_new : (left fits can more : Bool) → left ≡ true → fits ≡ true → more ≡ true → (left && (fits && can)) && more ≡ can
+space_new left fits true more l f m = rw l (rw f m)
+space_new left fits false more l f m = rw l (rw f refl)
+
+pub no_space_new : (left fits can more : Bool) → left ≡ true → fits ≡ false → (left && (fits && can)) && more ≡ false
+no_space_new left fits can more l f = rw l (rw f refl)
+
+-- there is no space for an open, whatever else there is space for
+pub no_open_more : (b more : Bool) (status : Status) → cond more None (Some statuses.NoSpc) ≡ Some status → cond (b && more) None (Some statuses.NoSpc) ≡ Some status
+no_open_more true more status h = h
+no_open_more false true status h = cc
+no_open_more false false status h = h
+
+-- the list of the new file would not be within the bounds
+pub unfit : {T : Type 0} (fits : Bool) (status : Status) (r : Result T Status) → r ≡ Err status → IsFit fits r → status ≢ statuses.Delay → (statuses.NoSpc ≡ status) × (fits ≡ false)
+unfit {T} fits status r is fit other =
+    let of : (status ≡ statuses.NoSpc) × (fits ≡ false) = subst (λ (x : Result T Status). IsFit fits x) is fit other in
+    (sym of.0, of.1)
 
 pub some_is : (b : Bool) (x y : At) → cond b (Some x) None ≡ Some y → y ≡ x
 some_is true x y h = let same : x ≡ y = cc in sym same

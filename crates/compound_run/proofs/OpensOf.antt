@@ -6,7 +6,7 @@ use Rattle.compound_run.specs.declared.opens.Open.{Open}
 use Rattle.compound_run.specs.Realm.{Opened}
 use Rattle.compound_run.specs.Views.{open_view, opens_view}
 
--- there is one where one is seen
+-- there is an open file where there is one in the view
 pub any_in_view : {A : Type 0} (p : Opened → Bool) (opens : List (Open A)) → list_any (λ o. p (open_view o)) opens ≡ list_any p (opens_view opens)
 any_in_view p [] = refl
 any_in_view p (o ∷ opens) = ap (λ b. p (open_view o) || b) (any_in_view p opens)

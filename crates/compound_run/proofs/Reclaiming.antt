@@ -31,7 +31,7 @@ isnt_first room c h e out status is = record {
     handles = tt;
     realm_stays = refl;
     handles_stay = refl;
-    capacity = refl;
+    settings = refl;
   };
   written = tt;
   within = tt;
@@ -41,7 +41,7 @@ isnt_first room c h e out status is = record {
     nothing : e.tree.log ≡ held [] e.tree.log
     nothing = ap (λ x. record e.tree.log { held = x }) (sym (append-nil e.tree.log.held))
 
--- the client has said it before
+-- the client has sent it before
 pub isnt_reclaimed : {A : Type 0} (room : ℕ) (one_fs : Bool) (c : Context) (h : FileHandles) (e : Export A) (out : Buffer) (status : Status) (answer : Result (Unit {0}) Status) → answer ≡ Err status
     → (client : ℕ) → client ≡ client_of c → (registry : Registry) → one_fs ≡ false
     → MatchOption (reclaim_refusal e.clients client) (IsOk {T = Unit {0}} {E = Status} (Err status)) (λ s. ◌≡◌ {A = Result (Unit {0}) Status} (Err status) (Err s))

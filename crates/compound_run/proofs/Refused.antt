@@ -1,4 +1,4 @@
--- What a tree refuses is what is asked before it is changed.
+-- A tree refuses a change for the reasons that are checked before it.
 use Rattle.std.proofs.Common.{◌≡◌, ℕ, ◌<◌, Bool, true, false, refl, subst, List}
 use Rattle.std.specs.Prelude.{Option, Some, None, Result, Err, MatchOption, IsOkUnless, not, if◌then◌else◌}
 use Rattle.std.proofs.lemmas.Bool.{lt-ltb}
@@ -37,7 +37,7 @@ pub link_is : (w : World) (directory : ℕ) (name : List ℕ) (number : ℕ) (ma
     → may_name (names_at (seen w) directory) w.next_cookie ≡ may → link_refusal w directory name number ≡ (if may then None else Some NoSpc)
 link_is w directory name number may free few is = rw free (rw (lt-ltb (link_count w.names number) MAX_LINKS few) (rw is refl))
 
--- why a child may not have another name
+-- why a child may not get another name
 abbrev pub move_fault : World → ℕ → ℕ → ℕ → Option ℕ → Option TreeFault
 move_fault w from to moved target =
     if goes_below (seen w) moved to then Some Inval

@@ -4,7 +4,6 @@ use Rattle.std.specs.Prelude.{[], ◌==◌, if◌then◌else◌, Option, Some, N
 use Rattle.xdr_wire.specs.Buffer.{Buffer}
 use Rattle.xdr_wire.specs.Xdr.{Value}
 use Rattle.xdr_wire.specs.Reading.{read_at}
-use Rattle.who_book.specs.Content.{Content}
 use Rattle.nfs_types.specs.declared.status.Status.{Status}
 use Rattle.nfs_types.specs.declared.status.Status.TheVariants as statuses
 use Rattle.nfs_ops.specs.Forms.{sequence_args, create_session_args}
@@ -28,7 +27,7 @@ use Rattle.compound_run.specs.Limits.{MAX_RESULTS, MINOR_VERSION}
 use Rattle.compound_run.specs.Context.{no_handles}
 use Rattle.compound_run.specs.Compound.{args_form, args_in}
 use Rattle.compound_run.specs.State.{State, Call, start}
-use Rattle.compound_run.specs.Views.{point_at, realm_of, state_of}
+use Rattle.compound_run.specs.Views.{point_at, realm_of, settings_of, state_of}
 use Rattle.compound_run.specs.Beginning.{Beginning, Ends, Follows, beginning}
 use Rattle.compound_run.specs.CreateSession.{kept_for, created_before, create_of, session_made}
 use Rattle.compound_run.specs.Sequence.{sequence_done}
@@ -38,39 +37,39 @@ use Rattle.compound_run.specs.SessionViews.{AnswersAs, IsOfClients, SequencedKep
 
 -- ---- a new call of a slot
 
-begins_so : {A : Type 0} (e : Export A) (registry : Registry) (book : Content) → e.tree.log.held ≡ []
-    → point_at (record e { clients = registry }) no_handles ≡ start (in_registry registry (state_of e book))
-begins_so e registry book settled = λ i. record {
+begins_so : {A : Type 0} (e : Export A) (registry : Registry) → e.tree.log.held ≡ []
+    → point_at (record e { clients = registry }) no_handles ≡ start (in_registry registry (state_of e))
+begins_so e registry settled = λ i. record {
   realm = with_registry registry (realm_of e);
   log = record { held = settled i; trail = e.tree.log.trail; total = e.tree.log.total };
-  capacity = e.tree.capacity;
+  settings = settings_of e;
   handles = no_handles;
 }
 
 on_slot : {A : Type 0} (call : Coming) (v : Value sequence_args) (operations : List ℕ) (new : NewCall) (e begun f : Export A) (bytes : List ℕ) → e.tree.log.held ≡ []
     → begun ≡ record e { clients = begun_in e.clients (call_of call) call.compound.count v } → length bytes ≤ new.reply_size - 24
-    → SequencedKept (coming_behind call v new) call.compound.tag.now v (sequence_done v new.highest_slot) operations begun bytes f
-    → RunsOnSlot (state_of e call.book.now) (call_of call) call.compound.tag.now call.compound.count v operations new bytes (state_of f call.book.now)
+    → SequencedKept (coming_behind e.tree.book call v new) call.compound.tag.now v (sequence_done v new.highest_slot) operations begun bytes f
+    → RunsOnSlot (state_of e) (call_of call) call.compound.tag.now call.compound.count v operations new bytes (state_of f)
 on_slot call v operations new e begun f bytes settled is few kept =
-    let context = coming_behind call v new in
+    let context = coming_behind e.tree.book call v new in
     let tag = call.compound.tag.now in
     let done = sequence_done v new.highest_slot in
     let registry = begun_in e.clients (call_of call) call.compound.count v in
     let end = point_at kept.0 kept.1.0 in
-    let from : point_at begun no_handles ≡ start (in_registry registry (state_of e call.book.now)) = ap (λ x. point_at x no_handles) is ∙ begins_so e registry call.book.now settled in (
+    let from : point_at begun no_handles ≡ start (in_registry registry (state_of e)) = ap (λ x. point_at x no_handles) is ∙ begins_so e registry settled in (
       end,
       subst (λ p. RunsTo context tag done operations p bytes end) from kept.1.1,
-      ap (λ x. state_of x call.book.now) kept.2,
+      ap state_of kept.2,
       few,
     )
 
 pub answers_new : {A : Type 0} (call : Coming) (v : Value sequence_args) (operations : List ℕ) (new : NewCall) (b : Begin) (e begun f : Export A) (before after : Buffer) → e.tree.log.held ≡ []
     → begins.New new ≡ b → begun ≡ record e { clients = begun_in e.clients (call_of call) call.compound.count v } → new.reply_size ≤ 65536
-    → WritesWithin (new.reply_size - 24) (λ bytes. SequencedKept (coming_behind call v new) call.compound.tag.now v (sequence_done v new.highest_slot) operations begun bytes f) before after
-    → WritesWithin MAX_RESULTS (λ bytes. AnswersAs (fate_by call.compound.tag.now v e.clients b) (RunsBy b (call_of call) call.compound.tag.now call.compound.count v operations (state_of e call.book.now)) (state_of e call.book.now) bytes (state_of f call.book.now)) before after
+    → WritesWithin (new.reply_size - 24) (λ bytes. SequencedKept (coming_behind e.tree.book call v new) call.compound.tag.now v (sequence_done v new.highest_slot) operations begun bytes f) before after
+    → WritesWithin MAX_RESULTS (λ bytes. AnswersAs (fate_by call.compound.tag.now v e.clients b) (RunsBy b (call_of call) call.compound.tag.now call.compound.count v operations (state_of e)) (state_of e) bytes (state_of f)) before after
 answers_new {A} call v operations new b e begun f before after settled told is most w =
-    let s = state_of e call.book.now in
-    let t = state_of f call.book.now in
+    let s = state_of e in
+    let t = state_of f in
     let tag = call.compound.tag.now in (
       w.0,
       subst (λ x. AnswersAs (fate_by tag v e.clients x) (RunsBy x (call_of call) tag call.compound.count v operations s) s w.0 t) told (on_slot call v operations new e begun f w.0 settled is w.3 w.1),
@@ -78,7 +77,7 @@ answers_new {A} call v operations new b e begun f before after settled told is m
       omega (arith, w.3, most),
     )
 
--- ---- what is known before anything is run
+-- ---- the fates that are known before any operation is run
 
 pub answers_known : (f : Fate Reply) (run : List ℕ → State → Type 0) (old new : State) (bytes : List ℕ) (before after : Buffer) → f ≡ Repeats (Some bytes) → new ≡ old → Writes MAX_RESULTS bytes before after
     → WritesWithin MAX_RESULTS (λ results. AnswersAs f run old results new) before after
@@ -90,14 +89,14 @@ answers_refused f run old new bytes before after is same w = (bytes, subst (λ x
 
 -- ---- an operation that is the only one
 
--- where clients and opens alone are others, the realm alone is another
-of_clients : {A : Type 0} (e f : Export A) (book : Content) → IsOfClients e f → state_of f book ≡ record (state_of e book) { realm = realm_of f }
-of_clients e f book others = ap (λ x. state_of x book) others ∙ ap (λ r. record (state_of e book) { realm = r }) (sym (ap realm_of others))
+-- where clients and opens alone change, only these parts of the realm change
+of_clients : {A : Type 0} (e f : Export A) → IsOfClients e f → state_of f ≡ record (state_of e) { realm = realm_of f }
+of_clients e f others = ap state_of others ∙ ap (λ r. record (state_of e) { realm = r }) (sym (ap realm_of others))
 
 some_same : (a b : Result Created Status) → Some a ≡ Some b → a ≡ b
 some_same a b e = cc
 
--- the last CREATE_SESSION of a client again
+-- the last CREATE_SESSION of a client is repeated
 again_by : (o : Option (Result Created Status)) (kept : Result Created Status) (c : Client) (r : Registry) (a : Create) (made : Made) (new : Registry) → o ≡ Some kept
     → CreatesBy (judged_unless o c r a) r a made new → (made ≡ record { result = kept; gone = None }) × (new ≡ r)
 again_by None kept c r a made new is creates = cc
@@ -108,34 +107,34 @@ again_for : (o : Option Client) (kept : Result Created Status) (r : Registry) (a
 again_for None kept r a made new is creates = cc
 again_for (Some c) kept r a made new is creates = again_by (repeated c.created a.sequence) kept c r a made new is creates
 
-created_alone : {A : Type 0} (o : Option (Result Created Status)) (call : Call) (v : Value create_session_args) (tag : List ℕ) (e f : Export A) (book : Content) (bytes : List ℕ) → created_before v (realm_of e) ≡ o → IsOfClients e f
+created_alone : {A : Type 0} (o : Option (Result Created Status)) (call : Call) (v : Value create_session_args) (tag : List ℕ) (e f : Export A) (bytes : List ℕ) → created_before v (realm_of e) ≡ o → IsOfClients e f
     → ActsTo call.caller (Known kinds.CreateSession v) tag (realm_of e) bytes (realm_of f)
-    → AnswersAs (again tag o) (RunsAlone call tag (Known kinds.CreateSession v) (state_of e book)) (state_of e book) bytes (state_of f book)
-created_alone None call v tag e f book bytes is others acts = (acts, of_clients e f book others)
-created_alone (Some kept) call v tag e f book bytes is others acts =
+    → AnswersAs (again tag o) (RunsAlone call tag (Known kinds.CreateSession v) (state_of e)) (state_of e) bytes (state_of f)
+created_alone None call v tag e f bytes is others acts = (acts, of_clients e f others)
+created_alone (Some kept) call v tag e f bytes is others acts =
     let a = acts.1 in
     let same = again_for (client_at e.clients v.0) kept e.clients (create_of call.caller v) a.made f.clients is a.creates in
     let told = a.told ∙ ap (λ (m : Made). told_by session_made m.result) same.0 in
     let realm = a.others ∙ λ i. record (realm_of e) { registry = same.1 i; opens = opens_without (same.0 i).gone (realm_of e).opens } in (
       ap Some (acts.2 ∙ ap (given_alone tag (row kinds.CreateSession).number) told),
-      of_clients e f book others ∙ ap (λ r. record (state_of e book) { realm = r }) realm,
+      of_clients e f others ∙ ap (λ r. record (state_of e) { realm = r }) realm,
     )
 
-alone_as : {A : Type 0} (lone : Lone) (call : Call) (tag : List ℕ) (e f : Export A) (book : Content) (bytes : List ℕ) → IsOfClients e f → ActsTo call.caller (lone_view lone) tag (realm_of e) bytes (realm_of f)
-    → AnswersAs (fate_alone tag (lone_view lone) (realm_of e)) (RunsAlone call tag (lone_view lone) (state_of e book)) (state_of e book) bytes (state_of f book)
-alone_as (lones.ExchangeId a) call tag e f book bytes others acts = (acts, of_clients e f book others)
-alone_as (lones.CreateSession a) call tag e f book bytes others acts = created_alone _ call _ tag e f book bytes refl others acts
-alone_as (lones.DestroySession a) call tag e f book bytes others acts = (acts, of_clients e f book others)
-alone_as (lones.DestroyClientId a) call tag e f book bytes others acts = (acts, of_clients e f book others)
+alone_as : {A : Type 0} (lone : Lone) (call : Call) (tag : List ℕ) (e f : Export A) (bytes : List ℕ) → IsOfClients e f → ActsTo call.caller (lone_view lone) tag (realm_of e) bytes (realm_of f)
+    → AnswersAs (fate_alone tag (lone_view lone) (realm_of e)) (RunsAlone call tag (lone_view lone) (state_of e)) (state_of e) bytes (state_of f)
+alone_as (lones.ExchangeId a) call tag e f bytes others acts = (acts, of_clients e f others)
+alone_as (lones.CreateSession a) call tag e f bytes others acts = created_alone _ call _ tag e f bytes refl others acts
+alone_as (lones.DestroySession a) call tag e f bytes others acts = (acts, of_clients e f others)
+alone_as (lones.DestroyClientId a) call tag e f bytes others acts = (acts, of_clients e f others)
 
-pub answers_alone : {A : Type 0} (lone : Lone) (call : Call) (tag : List ℕ) (e f : Export A) (book : Content) (before after : Buffer) → IsOfClients e f
+pub answers_alone : {A : Type 0} (lone : Lone) (call : Call) (tag : List ℕ) (e f : Export A) (before after : Buffer) → IsOfClients e f
     → WritesWithin MAX_RESULTS (λ bytes. ActsTo call.caller (lone_view lone) tag (realm_of e) bytes (realm_of f)) before after
-    → WritesWithin MAX_RESULTS (λ bytes. AnswersAs (fate_alone tag (lone_view lone) (realm_of e)) (RunsAlone call tag (lone_view lone) (state_of e book)) (state_of e book) bytes (state_of f book)) before after
-answers_alone lone call tag e f book before after others w = (w.0, alone_as lone call tag e f book w.0 others w.1, w.2, w.3)
+    → WritesWithin MAX_RESULTS (λ bytes. AnswersAs (fate_alone tag (lone_view lone) (realm_of e)) (RunsAlone call tag (lone_view lone) (state_of e)) (state_of e) bytes (state_of f)) before after
+answers_alone lone call tag e f before after others w = (w.0, alone_as lone call tag e f w.0 others w.1, w.2, w.3)
 
 -- ---- a call
 
--- how it begins is how it was read
+-- the call begins as it was read
 pub begun_as : (b c : Beginning) (call : Call) (tag : List ℕ) (count : ℕ) (old new : State) (before after : Buffer) → b ≡ c
     → WritesWithin MAX_RESULTS (λ bytes. AnswersAs (fate_begun old call tag count b) (RunsBegun call tag count b old) old bytes new) before after
     → WritesWithin MAX_RESULTS (λ bytes. AnswersAs (fate_begun old call tag count c) (RunsBegun call tag count c old) old bytes new) before after

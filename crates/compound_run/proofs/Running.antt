@@ -28,7 +28,7 @@ pub record Begun (A : Type 0) : Type 0 where
   pub export : Export A
   pub out : Buffer
 
--- where it has come to
+-- the place that the run has reached
 pub record Stand (A : Type 0) : Type 0 where
   pub export : Export A
   pub handles : FileHandles
@@ -49,7 +49,7 @@ RunsOn b s rest new = Runs (here_at b s) (b.context.count - s.position) s.rest (
 abbrev pub RunsAll : {A : Type 0} → Begun A → List Given → Point → Type 0
 RunsAll b results new = Runs b.context (b.context.count - b.context.position) b.operations (point_at b.export no_handles) results new
 
--- what comes of the operations that are left goes on from the results so far, all of which are OK
+-- the run of the operations that are left goes on from the results so far, all of which are OK
 pub record Running {A : Type 0} (b : Begun A) (s : Stand A) : Type 0 where
   pub results : List Given
   pub goes : (rest : List Given) (new : Point) → RunsOn b s rest new → RunsAll b (results ++ rest) new
@@ -98,7 +98,7 @@ starts b = record {
     all : length b.out.bytes + b.context.room - length b.out.bytes ≡ b.context.room
     all = omega arith
 
--- the next operation, and what follows it
+-- the next operation, and those behind it
 goes_behind : {A : Type 0} (b : Begun A) (s : Stand A) (r : Running b s) → s.position < b.context.count
     → (given : Given) (mid : Point) → given.number ≡ number_of (next_at s.rest).0 → Steps (here_at b s) (next_at s.rest).0 (point_at s.export s.handles) given.outcome mid
     → (rest : List Given) (new : Point)
@@ -127,7 +127,7 @@ more_ok b s r below number (Ok o) e h out is steps appends fits tells =
     }
 more_ok b s r below number (Err status) e h out is steps appends fits tells = absurd tells
 
--- what a step gives, at the next operation of the bytes
+-- the result of a step, at the next operation of the bytes
 abbrev pub StepOf : {A : Type 0} → Begun A → Stand A → ℕ → Operation → Result (Unit {0}) Status → Export A → FileHandles → Buffer → Type 0
 StepOf b s room op answer e h out = StepGives (at b.context s.position room) op (point_at s.export s.handles) s.out answer (point_at e h) out
 

@@ -1,24 +1,28 @@
--- What is said of an object is what its attributes are.
+-- The facts of an object are those of its attributes.
 use Rattle.std.proofs.Common.{◌≡◌, ℕ, ◌≤◌, List, false, cond, refl, sym, ap, ◌∙◌, length}
 use Rattle.std.specs.Prelude.{[], ◌∷◌, ◌++◌, map, take, unwrap_or, bit_or, Option, Some}
 use Rattle.std.specs.Option.{option_map, option_map_or}
 use Rattle.std.proofs.lemmas.List.{take_all}
 use Rattle.std.specs.List.{flat_map}
-use Rattle.xdr_wire.specs.Xdr.{spelling}
+use Rattle.xdr_wire.specs.Xdr.{Value, spelling}
+use Rattle.acl_list.specs.declared.entry.Entry.{Entry}
 use Rattle.acl_list.specs.declared.entry.Kind.TheVariants.{File}
 use Rattle.acl_shape.specs.Inherited.{is_directory}
 use Rattle.acl_shape.specs.Mode.{mode_of}
+use Rattle.acl_shape.specs.Parts.{part_of}
+use Rattle.acl_shape.specs.declared.part.Part.{Part}
+use Rattle.acl_shape.specs.declared.part.Part.TheVariants as parts
 use Rattle.who_book.specs.Content.{Content}
 use Rattle.who_book.specs.Spelling.{principal_text}
 use Rattle.who_book.specs.declared.kind.NameKind.TheVariants as name
-use Rattle.nfs_types.specs.Attributes.{all, number_of, form_of}
+use Rattle.nfs_types.specs.Attributes.{acl41, all, number_of, form_of}
 use Rattle.nfs_types.specs.Given.{type_number, ace_of, value_of, part, given_values}
 use Rattle.nfs_types.specs.Handles.{object_handle}
 use Rattle.nfs_types.specs.MomentView.{moment_value}
 use Rattle.nfs_types.specs.Sets.{has_number}
 use Rattle.nfs_types.specs.Status as status
 use Rattle.nfs_types.specs.declared.attribute.Attribute.{Attribute}
-use Rattle.nfs_types.specs.declared.attribute.Attribute.TheVariants.{SupportedAttrs, ObjectType, FhExpireType, Change, Size, LinkSupport, SymlinkSupport, NamedAttr, Fsid, UniqueHandles, LeaseTime, RdattrError, Acl, AclSupport, FileHandle, FileId, MaxFileSize, MaxName, MaxRead, MaxWrite, Mode, NumLinks, Owner, OwnerGroup, TimeMetadata, TimeModify, MountedOnFileId, SuppattrExclcreat}
+use Rattle.nfs_types.specs.declared.attribute.Attribute.TheVariants.{SupportedAttrs, ObjectType, FhExpireType, Change, Size, LinkSupport, SymlinkSupport, NamedAttr, Fsid, UniqueHandles, LeaseTime, RdattrError, Acl, AclSupport, FileHandle, FileId, MaxFileSize, MaxName, MaxRead, MaxWrite, Mode, NumLinks, Owner, OwnerGroup, TimeMetadata, TimeModify, MountedOnFileId, Dacl, Sacl, SuppattrExclcreat}
 use Rattle.nfs_types.specs.declared.facts.ObjectFacts.{ObjectFacts}
 use Rattle.nfs_types.specs.declared.status.Status.{Status}
 use Rattle.node_tree.specs.World.{Object, object}
@@ -27,6 +31,9 @@ use Rattle.compound_run.specs.Realm.{Realm}
 use Rattle.compound_run.specs.Sight.{Sight, whole, details_of}
 use Rattle.compound_run.specs.Values.{facts_at, links_at, unseen}
 use Rattle.compound_run.specs.Says.{Says}
+
+same_list : (book : Content) (entries others : List Entry) (p : Part) → entries ≡ others → (0, map (ace_of book) (part_of p entries)) ≡ (let told : Value acl41 = (0, map (ace_of book) (part_of p others)) in told)
+same_list book entries others p same = λ i. (0, map (ace_of book) (part_of p (same i)))
 
 same_value : (book : Content) (s : Sight) (n : ℕ) (e : Status) (f : ObjectFacts) → Says s n e f → (a : Attribute) → value_of book f a ≡ value_of book (facts_at s n e) a
 same_value book s n e f says SupportedAttrs = refl
@@ -56,6 +63,8 @@ same_value book s n e f says OwnerGroup = ap (principal_text name.Group book) sa
 same_value book s n e f says TimeMetadata = ap moment_value says.metadata
 same_value book s n e f says TimeModify = ap moment_value says.modify
 same_value book s n e f says MountedOnFileId = says.number
+same_value book s n e f says Dacl = same_list book f.entries.now (facts_at s n e).entries.now parts.Dacl says.entries
+same_value book s n e f says Sacl = same_list book f.entries.now (facts_at s n e).entries.now parts.Sacl says.entries
 same_value book s n e f says SuppattrExclcreat = refl
 
 same_part : (book : Content) (s : Sight) (n : ℕ) (e : Status) (f : ObjectFacts) (asked : List ℕ) → Says s n e f → (a : Attribute) → part book f asked a ≡ part book (facts_at s n e) asked a
@@ -70,7 +79,7 @@ pub same_values : (book : Content) (s : Sight) (n : ℕ) (e : Status) (f : Objec
 unfolding given_values
 same_values book s n e f asked says = same_parts book s n e f asked says all
 
--- what the code tells of an object that is there
+-- the facts that the code gives of an object that is there
 pub says_of : (r : Realm) (n : ℕ) (e : Status) (o : Object) (f : ObjectFacts) → object r.world n ≡ Some o → length o.list ≤ 64
     → f.kind ≡ o.kind → f.number ≡ n → f.change ≡ o.change → f.size ≡ cond (is_directory o.kind) 0 (length o.bytes) → f.error ≡ e → f.entries.now ≡ o.list
     → f.mode ≡ bit_or o.high (mode_of o.list) → f.links ≡ links_at (whole r) n → f.owner ≡ o.owner → f.group ≡ o.group → f.metadata ≡ o.time_metadata → f.modify ≡ o.time_modify

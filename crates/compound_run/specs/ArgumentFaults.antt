@@ -1,6 +1,6 @@
--- What is wrong with a name, a filehandle or attributes is a fault: neither ACCESS nor DELAY, nor OK.
+-- The fault of a name, a filehandle or attributes is neither ACCESS nor DELAY, nor OK.
 use Rattle.std.specs.Prelude.{ℕ, ◌==◌, ◌&&◌, Bool, true, false, cond, not, is_none, nat_lt, List, [], ◌∷◌, length, map, take, Option, Some, None, Result, Ok, Err, slice_get, ◌||◌}
-use Rattle.std.specs.List.{list_any, filter_map, cons_option}
+use Rattle.std.specs.List.{list_any, list_all, filter_map, cons_option}
 use Rattle.std.specs.Str.{is_utf8}
 use Rattle.xdr_wire.specs.Xdr.{Value}
 use Rattle.xdr_wire.specs.Reading.{are_zero}
@@ -12,6 +12,9 @@ use Rattle.acl_list.specs.declared.mask.TheConstants as mask
 use Rattle.acl_shape.specs.Admitted.{admitted}
 use Rattle.acl_shape.specs.Admitted as lists
 use Rattle.acl_shape.specs.Mode.{without}
+use Rattle.acl_shape.specs.Parts.{is_of}
+use Rattle.acl_shape.specs.declared.part.Part.{Part}
+use Rattle.acl_shape.specs.declared.part.Part.TheVariants as parts
 use Rattle.acl_shape.specs.declared.request.AdmitFault.{AdmitFault}
 use Rattle.acl_shape.specs.declared.request.AdmitFault.TheVariants as faults
 use Rattle.acl_shape.specs.declared.request.Raw.{Raw}
@@ -22,8 +25,8 @@ use Rattle.who_book.specs.declared.kind.NameKind.TheVariants as names
 use Rattle.nfs_types.specs.declared.status.Status.{Status}
 use Rattle.nfs_types.specs.Name.{name_fault, separates, is_dots}
 use Rattle.nfs_types.specs.Handles.{object_of}
-use Rattle.nfs_types.specs.Attributes.{ace, is_within, supported_words, settable_words}
-use Rattle.nfs_types.specs.Sent.{Sent, ◌>>◌, raw_of, unless, taken_list, taken_mode, taken_name, taken_plain, taken, known, spelled, whole, sent_at, wanted_of}
+use Rattle.nfs_types.specs.Attributes.{ace, acl41, is_within, supported_words, settable_words}
+use Rattle.nfs_types.specs.Sent.{Sent, ◌>>◌, raw_of, unless, taken_list, taken_mode, taken_name, taken_plain, taken_part, taken_parts, taken_each, taken, is_set_twice, known, spelled, whole, sent_at, wanted_of}
 use Rattle.compound_run.specs.Faults.{MayFault, IsValueOrFault}
 
 -- ---- names
@@ -111,10 +114,33 @@ plain_may book mode owner group =
     bind (taken_mode mode) _ (mode_may mode) (λ m. bind (taken_name book names.User owner) _ (principal_may book names.User owner)
     (λ o. bind (taken_name book names.Group group) _ (principal_may book names.Group group) (λ g. tt)))
 
-taken_may : (book : Content) (kind : Kind) (s : Sent) → IsValueOrFault (taken book kind s)
-taken_may book kind s =
+first_may : (first second : Option AdmitFault) → MayAdmit first → MayAdmit second → MayAdmit (lists.first_of first second)
+first_may None second f s = s
+first_may (Some fault) second f s = f
+
+part_of_list_may : (part : Part) (kind : Kind) (raws : List Raw) → MayAdmit (lists.part_fault part kind raws)
+part_of_list_may part kind raws =
+    first_may (lists.first_fault raws) _ (list_may raws) (admits (list_all (is_of part) (admitted kind raws)) _ _ tt tt)
+
+part_may : (part : Part) (book : Content) (kind : Kind) (sent : Option (Value acl41)) → IsValueOrFault (taken_part part book kind sent)
+part_may part book kind None = tt
+part_may part book kind (Some sent) =
+    choose (not (sent.0 == 0)) _ _ tt
+    (admit_may (lists.part_fault part kind (map (raw_of book) sent.1)) (admitted kind (map (raw_of book) sent.1)) (part_of_list_may part kind (map (raw_of book) sent.1)))
+
+parts_may : (book : Content) (kind : Kind) (dacl sacl : Option (Value acl41)) → IsValueOrFault (taken_parts book kind dacl sacl)
+parts_may book kind dacl sacl =
+    bind (taken_part parts.Dacl book kind dacl) _ (part_may parts.Dacl book kind dacl)
+    (λ d. bind (taken_part parts.Sacl book kind sacl) _ (part_may parts.Sacl book kind sacl) (λ s. tt))
+
+each_may : (book : Content) (kind : Kind) (s : Sent) → IsValueOrFault (taken_each book kind s)
+each_may book kind s =
     bind (taken_list book kind s.entries) _ (acl_may book kind s.entries)
-    (λ list. bind (taken_plain book s.mode s.owner s.group) _ (plain_may book s.mode s.owner s.group) (λ plain. tt))
+    (λ list. bind (taken_plain book s.mode s.owner s.group) _ (plain_may book s.mode s.owner s.group)
+    (λ plain. bind (taken_parts book kind s.dacl s.sacl) _ (parts_may book kind s.dacl s.sacl) (λ both. tt)))
+
+taken_may : (book : Content) (kind : Kind) (s : Sent) → IsValueOrFault (taken book kind s)
+taken_may book kind s = choose (is_set_twice s) _ _ tt (each_may book kind s)
 
 spelled_may : (book : Content) (kind : Kind) (s : Option Sent) → IsValueOrFault (spelled book kind s)
 spelled_may book kind None = tt

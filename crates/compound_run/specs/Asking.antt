@@ -1,6 +1,7 @@
--- What the lists that are served are asked, and what they answer.
+-- The demands on the lists that are served, and their answers.
 use Rattle.std.specs.Prelude.{ℕ, Bool, Option}
 use Rattle.rpc_record.specs.Identity.{Identity}
+use Rattle.who_book.specs.Members.{member}
 use Rattle.nfs_ops.specs.declared.op.Op.{Op}
 use Rattle.nfs_ops.specs.OpViews.{op_view}
 use Rattle.nfs_ops.specs.Operations.{number_of}
@@ -13,33 +14,33 @@ use Rattle.compound_run.specs.Questions.{all_granted, demand_lines}
 use Rattle.compound_run.specs.Rows.{first_facts, sized_facts, second_facts, opening_facts}
 use Rattle.compound_run.specs.Views.{holding, realm_of}
 
--- all of what is served
+-- the whole realm that is served
 abbrev pub sight_of : {A : Type 0} → Export A → Sight
 sight_of e = whole (realm_of e)
 
--- whether the lists grant these demands
+-- whether the lists grant these demands to the caller by the book
 abbrev pub grants_all : {A : Type 0} → Export A → Identity → Demands → Bool
-grants_all e caller demands = all_granted (judged_of e.tree.world) caller demands
+grants_all e caller demands = all_granted (judged_of e.tree.world) (member e.tree.book caller) demands
 
--- their lines are held
+-- the lines of the demands are held
 abbrev pub asked : {A : Type 0} → Export A → Identity → ℕ → Demands → Export A
-asked e caller op demands = holding (demand_lines (judged_of e.tree.world) caller op demands) e
+asked e caller op demands = holding (demand_lines (judged_of e.tree.world) (member e.tree.book caller) op demands) e
 
 abbrev pub op_number : Op → ℕ
 op_number op = number_of (op_view op)
 
--- what an operation asks first
+-- the first demands of an operation
 abbrev pub first_of : {A : Type 0} → Export A → Op → FileHandles → Demands
 first_of e op h = first_demands (op_view op) (first_facts (sight_of e) h)
 
--- the same of one that asks by a size
+-- the first demands of an operation that depend on a size
 abbrev pub sized_of : {A : Type 0} → Export A → Op → FileHandles → Option ℕ → Demands
 sized_of e op h new_size = first_demands (op_view op) (sized_facts (sight_of e) h new_size)
 
--- what it asks once its names are looked up
+-- the demands of an operation once its names are looked up
 abbrev pub second_of : {A : Type 0} → Export A → Op → FileHandles → Option ℕ → Option ℕ → Demands
 second_of e op h child replaced = second_demands (op_view op) (second_facts (sight_of e) h child replaced)
 
--- the same of OPEN
+-- the demands of OPEN once its name is looked up
 abbrev pub opening_of : {A : Type 0} → Export A → Op → FileHandles → Option ℕ → Option ℕ → Demands
 opening_of e op h child new_size = second_demands (op_view op) (opening_facts (sight_of e) h child new_size)

@@ -1,4 +1,4 @@
--- How a COMPOUND begins where sessions are in use: by its first operation (RFC 8881, sections 2.10.6.2 to 2.10.6.4 and 16.2).
+-- The beginning of a COMPOUND where sessions are in use: its first operation (RFC 8881, sections 2.10.6.2 to 2.10.6.4 and 16.2).
 use Rattle.std.specs.Prelude.{ℕ, ◌==◌, nat_lt, if◌then◌else◌, List}
 use Rattle.xdr_wire.specs.Xdr.{Value}
 use Rattle.nfs_types.specs.declared.status.Status.{Status}
@@ -14,7 +14,7 @@ pub data Beginning : Type 0 where
   Ends : Status → Beginning
   -- the first operation, of this number, is refused
   Refuses : ℕ → Status → Beginning
-  -- it is the only one
+  -- the operation is the only one
   Acts : Operation → Beginning
   -- SEQUENCE, and the bytes of the operations behind it
   Follows : Value sequence_args → List ℕ → Beginning
@@ -23,7 +23,7 @@ pub data Beginning : Type 0 where
 abbrev pub only : ℕ → Operation → Beginning
 only count op = if nat_lt 1 count then Refuses (number_of op) statuses.NotOnlyOp else Acts op
 
--- by the first of so many operations, with the bytes behind it
+-- the beginning by the first of so many operations, with the bytes behind it
 abbrev pub beginning_with : ℕ → Operation → List ℕ → Beginning
 beginning_with count (Known kinds.Sequence v) rest = Follows v rest
 beginning_with count (Known kinds.ExchangeId v) rest = only count (Known kinds.ExchangeId v)

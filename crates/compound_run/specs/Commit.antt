@@ -1,4 +1,4 @@
--- COMMIT (RFC 8881, section 18.3): what was written is there already, so nothing is left to do.
+-- COMMIT (RFC 8881, section 18.3): the data that were written are there already, so nothing is left to do.
 use Rattle.std.specs.Prelude.{[], ◌∷◌}
 use Rattle.std.proofs.Common.{inl}
 use Rattle.xdr_wire.specs.Xdr.{Value}

@@ -1,4 +1,4 @@
--- A COMPOUND: what stands before its operations, and its results (RFC 8881, section 16.2).
+-- A COMPOUND: the fields before its operations, and its results (RFC 8881, section 16.2).
 use Rattle.std.specs.Prelude.{ℕ, ◌+◌, ◌-◌, ◌==◌, nat_lt, if◌then◌else◌, List, [], ◌∷◌, ◌++◌, length, Option, Some, None, Ok, Err}
 use Rattle.xdr_wire.specs.Xdr.{Xdr, Value, uint, opaque, fields, spelling, padded}
 use Rattle.xdr_wire.specs.Reading.{Read}

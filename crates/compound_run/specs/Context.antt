@@ -1,4 +1,4 @@
--- What an operation of a COMPOUND is run with (RFC 8881, sections 2.10 and 16.2).
+-- The context of an operation of a COMPOUND (RFC 8881, sections 2.10 and 16.2).
 use Rattle.std.specs.Prelude.{ℕ, ◌+◌, ◌-◌, Option, None}
 use Rattle.rpc_record.specs.Identity.{Identity}
 use Rattle.who_book.specs.Content.{Content}
@@ -7,20 +7,20 @@ use Rattle.compound_run.specs.declared.context.Calling.{Calling}
 use Rattle.compound_run.specs.declared.filehandles.FileHandles.{FileHandles}
 
 pub record Context : Type 0 where
-  -- who sends it, and when
+  -- the caller by the book, for whom the lists decide, and the time of the call
   pub caller : Identity
   pub now : Moment
   -- the book of names
   pub book : Content
-  -- the client of the session, and whether its reply is to be kept; none where there is no session
+  -- the client of the session, and whether its reply is to be cached; none where there is no session
   pub calling : Option Calling
-  -- how many operations stand before it, and how many the COMPOUND has
+  -- how many operations are before it, and how many the COMPOUND has
   pub position : ℕ
   pub count : ℕ
-  -- how many bytes its result may take
+  -- the most bytes of its result
   pub room : ℕ
 
--- behind an operation whose result takes so many bytes
+-- the context behind an operation whose result takes so many bytes
 abbrev pub behind : Context → ℕ → Context
 behind c taken = record c { position = c.position + 1; room = c.room - taken }
 

@@ -1,4 +1,4 @@
--- CREATE (RFC 8881, section 18.4): a directory or a link is made in the current directory, and becomes current.
+-- CREATE (RFC 8881, section 18.4): a directory or a link is created in the current directory, and becomes current.
 use Rattle.std.specs.Prelude.{ℕ, nat_lt, ◌==◌, ◌&&◌, Bool, true, false, if◌then◌else◌, List, [], ◌∷◌, length, is_some, unwrap_or, Option, Some, None, Result, Ok, Err}
 use Rattle.std.specs.Option.{option_map_or}
 use Rattle.xdr_wire.specs.Xdr.{Value}
@@ -6,7 +6,7 @@ use Rattle.rpc_record.specs.Identity.{Identity, is_member}
 use Rattle.acl_list.specs.declared.entry.Entry.{Entry}
 use Rattle.acl_list.specs.declared.entry.Kind.{Kind}
 use Rattle.acl_list.specs.declared.entry.Kind.TheVariants as kinds
-use Rattle.acl_shape.specs.Permissions.{created_list, created_high}
+use Rattle.acl_shape.specs.Permissions.{created_high}
 use Rattle.nfs_types.specs.declared.status.Status.{Status}
 use Rattle.nfs_types.specs.declared.status.Status.TheVariants as statuses
 use Rattle.nfs_types.specs.Sent.{Wanted, wanted_of}
@@ -19,19 +19,22 @@ use Rattle.nfs_ops.specs.Rows.{row}
 use Rattle.nfs_ops.specs.Results.{Done}
 use Rattle.node_tree.specs.declared.at.At.{At}
 use Rattle.node_tree.specs.Limits.{MAX_TEXT}
-use Rattle.node_tree.specs.World.{World, Object, object}
+use Rattle.node_tree.specs.World.{World, Object}
 use Rattle.node_tree.specs.Changes.{new_object, with_new}
+use Rattle.node_tree.specs.Judged.{judged_of}
 use Rattle.node_tree.specs.Refusals.{may_add}
 use Rattle.compound_run.specs.declared.filehandles.FileHandles.{FileHandles}
 use Rattle.compound_run.specs.Context.{Context}
 use Rattle.compound_run.specs.Sight.{Sight}
 use Rattle.compound_run.specs.Faults.{MayFault, fault_in, fault_in_may}
 use Rattle.compound_run.specs.ArgumentFaults.{wanted_may}
+use Rattle.compound_run.specs.Lists.{new_list, new_fits}
+use Rattle.compound_run.specs.Values as values
 use Rattle.compound_run.specs.Questions.{Holds, is_valid}
 use Rattle.compound_run.specs.Rows.{first_row}
 use Rattle.compound_run.specs.Meaning.{Meaning, at, in_world, changed, with_handle, here, names_at, is_link, is_directory, is_name, has_no_child, has_space}
 
--- what is made: a directory, or a link with its text; other types aren't
+-- the object that is created: a directory, or a link with its text; other types aren't
 pub record Draft : Type 0 where
   pub kind : Kind
   pub text : List ℕ
@@ -41,7 +44,7 @@ draft_of parts.Directory = Some (record { kind = kinds.Directory; text = [] })
 draft_of (parts.Link text) = Some (record { kind = kinds.Link; text = text })
 draft_of _ = None
 
--- only these types are made
+-- only these types are created
 abbrev pub type_fault : Option Draft → Option Status
 type_fault (Some draft) = None
 type_fault None = Some statuses.BadType
@@ -69,7 +72,7 @@ text_may draft = of (is_link draft.kind) (length draft.text == 0) (nat_lt MAX_TE
     of true false false = tt
     of false b c = tt
 
--- what the attributes set, or what is wrong with them
+-- the values that the attributes set, or their fault
 abbrev pub sent : Context → Value create_args → Result Wanted Status
 sent c v = wanted_of c.book (draft v).kind (set_of (created_attributes v)) (values_of (created_attributes v))
 
@@ -78,7 +81,7 @@ sent_may c v = fault_in_may (sent c v) (wanted_may c.book (draft v).kind (set_of
 
 -- no attribute
 abbrev pub nothing : Wanted
-nothing = record { size = None; list = None; mode = None; owner = None; group = None }
+nothing = record { size = None; list = None; mode = None; owner = None; group = None; dacl = None; sacl = None }
 
 abbrev pub wanted_in : Result Wanted Status → Wanted
 wanted_in (Ok wanted) = wanted
@@ -87,7 +90,7 @@ wanted_in (Err status) = nothing
 abbrev pub wanted : Context → Value create_args → Wanted
 wanted c v = wanted_in (sent c v)
 
--- only a file is given a size
+-- only a file has a size to set
 abbrev pub size_fault : Wanted → Option Status
 size_fault wanted = if is_some wanted.size then Some statuses.Inval else None
 
@@ -98,25 +101,29 @@ size_may wanted = of (is_some wanted.size)
     of true = tt
     of false = tt
 
--- the owner can only be the caller, and the group one of the caller's
+-- the owner can only be the caller, and the group only a group of the caller
 abbrev pub is_own : Identity → Wanted → Bool
 is_own caller wanted =
     option_map_or (λ owner. owner == caller.uid) wanted.owner true && option_map_or (is_member caller) wanted.group true
 
--- there is room for a name and an object more, and a number, a stamp and a cookie are left for it
+-- there is room for one more name and object, and a number, a stamp and a cookie are left for it
 abbrev pub can_add : Sight → ℕ → Bool
 can_add s directory = may_add (names_at s directory) s.object_count s.next_number s.next_stamp s.next_cookie
 
--- what is made, in a directory of this list
+-- there is room for the new object, and its list is within the bounds
+abbrev pub can_make : Wanted → Kind → Sight → ℕ → Bool
+can_make wanted kind s directory = new_fits wanted kind (values.list_at s directory) && can_add s directory
+
+-- the new object, in a directory of this list
 abbrev pub created : Context → Draft → Wanted → List Entry → ℕ → At → Object
 created c draft wanted parent stamp at =
-    new_object draft.kind draft.text c.caller.uid (unwrap_or wanted.group c.caller.gid) (created_list parent draft.kind wanted.mode wanted.list) (created_high wanted.mode) stamp at
+    new_object draft.kind draft.text c.caller.uid (unwrap_or wanted.group c.caller.gid) (new_list wanted draft.kind parent) (created_high wanted.mode) stamp at
 
--- the list of an object
+-- the list of the new object
 abbrev pub list_at : World → ℕ → List Entry
-list_at w number = option_map_or (λ o. o.list) (object w number) []
+list_at w number = option_map_or (λ j. j.list) (judged_of w number) []
 
--- the world with it
+-- the world with the new object
 abbrev pub with_created : Context → FileHandles → Value create_args → World → World
 with_created c h v w = with_new w (here h) (created_name v) (created c (draft v) (wanted c v) (list_at w (here h)) w.next_stamp (at c w)) (at c w)
 
@@ -134,13 +141,13 @@ create v c h = record {
       ∷ first_row h (Known ops.Create v)
       ∷ has_no_child (here h) (created_name v)
       ∷ Holds (λ s. is_own c.caller (wanted c v)) statuses.Perm tt
-      ∷ has_space (λ s. can_add s (here h))
+      ∷ has_space (λ s. can_make (wanted c v) (draft v).kind s (here h))
       ∷ []);
   answer = λ s. Done ops.Create (changed s (here h), set_of (created_attributes v));
   effect = in_world (with_created c h v);
   goes = λ s. record h { current = Some s.next_number };
 }
 
--- the same behind all questions but the last, in a directory
+-- CREATE in a directory with its last question alone
 abbrev pub making : Value create_args → ℕ → Context → FileHandles → Meaning
-making v directory c h = record (create v c h) { questions = has_space (λ s. can_add s directory) ∷ [] }
+making v directory c h = record (create v c h) { questions = has_space (λ s. can_make (wanted c v) (draft v).kind s directory) ∷ [] }

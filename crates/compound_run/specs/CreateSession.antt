@@ -16,7 +16,7 @@ use Rattle.session_slots.specs.Creating.{Creates, repeated}
 use Rattle.compound_run.specs.Realm.{Realm}
 use Rattle.compound_run.specs.Sessions.{session_id, opens_without, told_by}
 
--- what a channel is asked to carry, RDMA apart
+-- the attributes of a channel that is requested, RDMA apart
 abbrev pub channel_of : Value channel → Channel
 channel_of c = record {
   padding = c.0;
@@ -47,11 +47,11 @@ abbrev pub kept_for : ℕ → Option Client → Option (Result Created Status)
 kept_for sequence None = None
 kept_for sequence (Some c) = repeated c.created sequence
 
--- what is kept of the last CREATE_SESSION of the client, where this one has its number
+-- the kept result of the client's last CREATE_SESSION, where this one has its sequence ID
 abbrev pub created_before : Value create_session_args → Realm → Option (Result Created Status)
 created_before v r = kept_for (session_sequence v) (client_at r.registry (session_client v))
 
--- The opens of a client whose record goes end with it.
+-- The opens of a client whose record goes are closed.
 pub record CreatesSession (caller : Identity) (v : Value create_session_args) (old : Realm) (outcome : Result Outcome Status) (new : Realm) : Type 0 where
   pub made : Made
   pub creates : Creates old.registry (create_of caller v) made new.registry

@@ -1,4 +1,4 @@
--- DESTROY_CLIENTID (RFC 8881, section 18.50): the record of a client goes, which has neither opens nor sessions.
+-- DESTROY_CLIENTID (RFC 8881, section 18.50): the record of a client without opens and sessions goes.
 use Rattle.std.specs.Prelude.{◌≡◌, Option, Result, OnOk, OnErr}
 use Rattle.xdr_wire.specs.Xdr.{Value}
 use Rattle.nfs_types.specs.declared.status.Status.{Status}

@@ -1,4 +1,4 @@
--- What lists have to do with outcomes (RFC 8881, sections 6.2.1 and 18).
+-- Lists and the outcomes of operations (RFC 8881, sections 6.2.1 and 18).
 use Rattle.std.specs.Prelude.{◌≡◌, ◌⊎◌, ℕ, true, false, List, [], ◌∷◌, ◌++◌, Option, Some, None, IsSome}
 use Rattle.rpc_record.specs.Identity.{Identity}
 use Rattle.access_rows.specs.declared.demand.Demand.{Demand}
@@ -11,7 +11,7 @@ use Rattle.access_guard.specs.Decisions.{decision}
 use Rattle.compound_run.specs.Sight.{Sight}
 use Rattle.compound_run.specs.Questions.{Question, Holds, Valid, Row, Suffices, all_granted}
 
--- the question is passed, and the next one is asked
+-- the question is passed, and the next one is put
 abbrev pub Passes : Identity → Sight → Question → Type 0
 Passes caller s (Holds test status is) = test s ≡ true
 Passes caller s (Valid fault may) = fault s ≡ None
@@ -24,22 +24,22 @@ Fails caller s (Valid fault may) = IsSome (fault s)
 Fails caller s (Row demands) = all_granted s.lists caller (demands s) ≡ false
 Fails caller s (Suffices test) = ⊥
 
--- each of these is passed
+-- each of these questions is passed
 abbrev pub ArePassed : Identity → Sight → List Question → Type 0
 ArePassed caller s [] = Unit {0}
 ArePassed caller s (q ∷ questions) = Passes caller s q × ArePassed caller s questions
 
--- it is the first of these that fails: those before it are passed
+-- the first of these questions that fails: those before it are passed
 abbrev pub FailsFirst : Identity → Sight → List Question → Question → Type 0
 FailsFirst caller s [] f = ⊥
 FailsFirst caller s (q ∷ questions) f = ((q ≡ f) × Fails caller s q) ⊎ (Passes caller s q × FailsFirst caller s questions f)
 
--- a row of demands is the first that fails
+-- the first question that fails is a row of demands
 pub record IsRefusedByRow (caller : Identity) (s : Sight) (questions : List Question) : Type 0 where
   pub demands : Sight → List (Option Demand)
   pub first : FailsFirst caller s questions (Row demands)
 
--- each question is passed, up to one that suffices
+-- each question is passed, up to a question that suffices
 abbrev pub ArePassedOrSuffice : Identity → Sight → List Question → Type 0
 ArePassedOrSuffice caller s [] = Unit {0}
 ArePassedOrSuffice caller s (Holds test status is ∷ questions) = (test s ≡ true) × ArePassedOrSuffice caller s questions
@@ -47,14 +47,14 @@ ArePassedOrSuffice caller s (Valid fault may ∷ questions) = (fault s ≡ None)
 ArePassedOrSuffice caller s (Row demands ∷ questions) = (all_granted s.lists caller (demands s) ≡ true) × ArePassedOrSuffice caller s questions
 ArePassedOrSuffice caller s (Suffices test ∷ questions) = (test s ≡ true) ⊎ ((test s ≡ false) × ArePassedOrSuffice caller s questions)
 
--- it is a demand of a row, and those before it are granted
+-- a demand of a row, of which those before are granted
 abbrev pub IsReached : Lists → Identity → Demand → List (Option Demand) → Type 0
 IsReached lists caller demand [] = ⊥
 IsReached lists caller demand (None ∷ demands) = IsReached lists caller demand demands
 IsReached lists caller demand (Some d ∷ demands) = (demand ≡ d) ⊎ ((decision lists caller d ≡ decisions.Granted) × IsReached lists caller demand demands)
 
--- The last of the lines is the DENY line of the first demand of the row that the lists refuse: it tells the object, what was asked of it,
--- and the first entry that denies it, else the lowest bit that none allows.
+-- The last line is the DENY line of the first demand of the row that the lists refuse: it has the object, the bits demanded of it,
+-- and the first entry that denies it, else the lowest bit that no entry allows.
 pub record EndsInRefusal (caller : Identity) (op : ℕ) (lists : Lists) (demands : List (Option Demand)) (lines : List Line) : Type 0 where
   pub demand : Demand
   pub reached : IsReached lists caller demand demands

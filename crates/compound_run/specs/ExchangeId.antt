@@ -29,7 +29,7 @@ exchanging caller v r = record {
   has_opens = owner_has_opens (client_owner v) r;
 }
 
--- the name of this server, and where its names are known
+-- the server owner's major ID, and the server scope
 abbrev pub SERVER : List ℕ
 SERVER = codes "nfs41-lists"
 

@@ -1,5 +1,5 @@
--- The statuses that a question of an operation may fail by: not OK; not ACCESS, by which rows fail alone; and not DELAY, which says that
--- memory was refused.
+-- The statuses by which a question of an operation may fail: not OK; not ACCESS, by which rows fail alone; and not DELAY, which means
+-- that memory was refused.
 use Rattle.std.specs.Prelude.{Option, Some, None, Result, Ok, Err}
 use Rattle.nfs_types.specs.declared.status.Status.{Status}
 use Rattle.nfs_types.specs.declared.status.Status.TheVariants as statuses
@@ -10,7 +10,7 @@ IsFault statuses.Access = ⊥
 IsFault statuses.Delay = ⊥
 IsFault _ = Unit {0}
 
--- there is no fault, or it is one
+-- there is no fault, or it is one of these
 abbrev pub MayFault : Option Status → Type 0
 MayFault None = Unit {0}
 MayFault (Some status) = IsFault status
@@ -20,7 +20,7 @@ abbrev pub IsValueOrFault : {A : Type 0} → Result A Status → Type 0
 IsValueOrFault (Ok value) = Unit {0}
 IsValueOrFault (Err status) = IsFault status
 
--- the first of two
+-- the first of two faults
 abbrev pub first_fault : Option Status → Option Status → Option Status
 first_fault None second = second
 first_fault (Some status) second = Some status
@@ -29,7 +29,7 @@ pub first_may : (first second : Option Status) → MayFault first → MayFault s
 first_may None second may may' = may'
 first_may (Some status) second may may' = may
 
--- what is wrong with a value, if it isn't one
+-- the fault of a result, if it is no value
 abbrev pub fault_in : {A : Type 0} → Result A Status → Option Status
 fault_in (Ok value) = None
 fault_in (Err status) = Some status

@@ -3,6 +3,7 @@ use Rattle.std.specs.Prelude.{◌≡◌, ◌≤◌, ℕ, ◌-◌, List, [], ◌�
 use Rattle.xdr_wire.specs.Reading.{read_at}
 use Rattle.xdr_wire.specs.Xdr.{Value}
 use Rattle.rpc_record.specs.Identity.{Identity}
+use Rattle.who_book.specs.Members.{member}
 use Rattle.nfs_types.specs.declared.status.Status.{Status}
 use Rattle.nfs_ops.specs.Forms.{sequence_args}
 use Rattle.nfs_ops.specs.Operations.{Operation, Known, number_of}
@@ -32,7 +33,7 @@ use Rattle.compound_run.specs.DestroySession.{DestroysSession}
 use Rattle.compound_run.specs.DestroyClientid.{DestroysClient}
 use Rattle.compound_run.specs.Sequence.{asked_by, calling_by, room_behind, sequence_done, keeping}
 
--- none: the arguments are garbage
+-- the bytes of a reply; none: the arguments are garbage
 abbrev pub Reply : Type 0
 Reply = Option (List ℕ)
 
@@ -43,7 +44,7 @@ given_alone tag number outcome = together tag (record { number = number; outcome
 abbrev pub refused_alone : List ℕ → ℕ → Status → List ℕ
 refused_alone tag number status = given_alone tag number (Err status)
 
--- ---- operations that are the only one of their COMPOUND
+-- ---- operations that have to be the only one of their COMPOUND
 
 abbrev pub ActsAlone : Identity → Operation → Realm → Result Outcome Status → Realm → Type 0
 ActsAlone caller (Known kinds.ExchangeId v) old outcome new = ExchangesId caller v old outcome new
@@ -52,22 +53,22 @@ ActsAlone caller (Known kinds.DestroySession v) old outcome new = DestroysSessio
 ActsAlone caller (Known kinds.DestroyClientId v) old outcome new = DestroysClient v old outcome new
 ActsAlone caller _ old outcome new = ⊥
 
--- such an operation has its result under the tag of its call
+-- an operation alone in its COMPOUND has its result under the tag of its call
 abbrev pub ActsTo : Identity → Operation → List ℕ → Realm → List ℕ → Realm → Type 0
 ActsTo caller op tag old bytes new = (outcome : Result Outcome Status) × ActsAlone caller op old outcome new × (bytes ≡ given_alone tag (number_of op) outcome)
 
 -- ---- operations behind a SEQUENCE
 
--- They are run in turn from this context of the first of them, and their results stand behind that of SEQUENCE.
+-- The operations are run in turn from this context of the first, and their results are put behind that of SEQUENCE.
 abbrev pub RunsTo : Context → List ℕ → Given → List ℕ → Point → List ℕ → Point → Type 0
 RunsTo c tag given operations old bytes new =
     (results : List Given) × runs.Runs c (c.count - c.position) operations old results new × (bytes ≡ together tag (given ∷ results))
 
--- the clients and their sessions are others
+-- the realm with other clients and sessions
 abbrev pub in_registry : Registry → State → State
 in_registry registry s = record s { realm = with_registry registry s.realm }
 
--- what this SEQUENCE asks, with so many operations
+-- the arguments of this SEQUENCE, with so many operations
 abbrev pub asked_in : Call → ℕ → Value sequence_args → Asked
 asked_in call count v = asked_by v count call.record_len call.caller call.arguments
 
@@ -77,20 +78,20 @@ begin_in r call count v = sequence_begin r (session_of (sequence_session v)) (as
 abbrev pub begun_in : Registry → Call → ℕ → Value sequence_args → Registry
 begun_in r call count v = sequence_begun r (session_of (sequence_session v)) (asked_in call count v)
 
--- the context of the first operation behind it
+-- the context of the first operation behind SEQUENCE
 abbrev pub context_behind : State → Call → List ℕ → ℕ → Value sequence_args → NewCall → Context
 context_behind s call tag count v new = record {
-  caller = call.caller;
+  caller = member s.settings.book call.caller;
   now = call.now;
-  book = s.book;
+  book = s.settings.book;
   calling = Some (calling_by v new);
   position = 1;
   count = count;
   room = room_behind tag v new;
 }
 
--- The operations are run in the realm in which the call has begun, and at the end its slot keeps all results. They are no more than a reply of
--- the granted size may have.
+-- The operations are run in the realm after the beginning of the call, and at the end its slot keeps all results. They are no more than
+-- a reply of the granted size may have.
 abbrev pub RunsOnSlot : State → Call → List ℕ → ℕ → Value sequence_args → List ℕ → NewCall → List ℕ → State → Type 0
 RunsOnSlot old call tag count v operations granted bytes new =
     (end : Point)
@@ -98,9 +99,9 @@ RunsOnSlot old call tag count v operations granted bytes new =
     × (new ≡ in_registry (keeping v bytes end.realm.registry) (left old end))
     × (length bytes ≤ granted.reply_size - REPLY_HEADER)
 
--- ---- the fate of a call, which is known before anything of it is run
+-- ---- the fate of a call, which is known before any operation is run
 
--- a CREATE_SESSION with the number of the last one gets what is kept of that
+-- a CREATE_SESSION with the sequence ID of the last one gets the kept result
 abbrev pub again : List ℕ → Option (Result Created Status) → Fate Reply
 again tag None = Runs
 again tag (Some kept) = Repeats (Some (given_alone tag (row kinds.CreateSession).number (told_by session_made kept)))
@@ -109,13 +110,13 @@ abbrev pub fate_alone : List ℕ → Operation → Realm → Fate Reply
 fate_alone tag (Known kinds.CreateSession v) r = again tag (created_before v r)
 fate_alone tag _ r = Runs
 
--- a call that is the last one of its slot again gets the results that are kept
+-- a call that repeats the last call of its slot gets the results that are kept
 abbrev pub fate_by : List ℕ → Value sequence_args → Registry → Begin → Fate Reply
 fate_by tag v r (begins.New new) = Runs
 fate_by tag v r begins.Repeat = Repeats (Some (results_at r (session_of (sequence_session v)) (sequence_slot v)))
 fate_by tag v r (begins.Refused status) = Fails (Some (refused_alone tag (row kinds.Sequence).number status))
 
--- a COMPOUND of no operation is answered without a result, as one that is refused before its first
+-- a COMPOUND of no operation is answered without a result, as a COMPOUND that is refused before its first operation
 abbrev pub fate_begun : State → Call → List ℕ → ℕ → Beginning → Fate Reply
 fate_begun s call tag count (Ends status) = Fails (Some (head status tag 0))
 fate_begun s call tag count (Refuses number status) = Fails (Some (refused_alone tag number status))

@@ -1,9 +1,11 @@
 pub mod Limits
 pub mod Realm
 pub mod Context
+pub mod Settings
 pub mod Sight
 pub mod Faults
 pub mod ArgumentFaults
+pub mod Lists
 pub mod Questions
 pub mod Meaning
 pub mod Rows

@@ -1,11 +1,11 @@
--- The limits of a COMPOUND (RFC 8881, sections 2.10.6 and 16.2), in bytes where nothing else is said.
+-- The limits of a COMPOUND (RFC 8881, sections 2.10.6 and 16.2), in bytes where no other unit is given.
 use Rattle.std.specs.Prelude.{ℕ, ◌-◌}
 
--- of a tag
+-- the most bytes of a tag
 abbrev pub MAX_TAG : ℕ
 MAX_TAG = 1024
 
--- the one minor version that is spoken
+-- the one minor version that is supported
 abbrev pub MINOR_VERSION : ℕ
 MINOR_VERSION = 1
 
@@ -13,27 +13,27 @@ MINOR_VERSION = 1
 abbrev pub MAX_OPERATIONS : ℕ
 MAX_OPERATIONS = 16
 
--- of a reply where there is no session, its record's mark not counted
+-- the most bytes of a reply where there is no session, its record's mark not counted
 abbrev pub MAX_REPLY : ℕ
 MAX_REPLY = 65536
 
--- of the header of a reply to a COMPOUND
+-- the bytes of the header of a reply to a COMPOUND
 abbrev pub REPLY_HEADER : ℕ
 REPLY_HEADER = 24
 
--- of the results in such a reply
+-- the most bytes of the results in a reply
 abbrev pub MAX_RESULTS : ℕ
 MAX_RESULTS = MAX_REPLY - REPLY_HEADER
 
--- the least room that an operation runs in: no result of one that changes something is longer
+-- the least room that an operation runs in: no result of an operation that changes the tree is longer
 abbrev pub MIN_ROOM : ℕ
 MIN_ROOM = 256
 
--- kept back in each reply for the result of an operation that is refused
+-- the room of each reply for the result of an operation that is refused
 abbrev pub REFUSAL_ROOM : ℕ
 REFUSAL_ROOM = 16
 
--- of a file's bytes that a READ gives
+-- the most bytes that a READ returns
 abbrev pub MAX_READ : ℕ
 MAX_READ = 32768
 

@@ -1,4 +1,4 @@
--- LINK (RFC 8881, section 18.9): the saved object gets a name more, in the current directory.
+-- LINK (RFC 8881, section 18.9): the saved object gets one more name, in the current directory.
 use Rattle.std.specs.Prelude.{ℕ, List, [], ◌∷◌}
 use Rattle.nfs_types.specs.declared.status.Status.TheVariants as statuses
 use Rattle.nfs_ops.specs.Operations.{Known}
@@ -13,7 +13,7 @@ use Rattle.compound_run.specs.Questions.{Question, Holds}
 use Rattle.compound_run.specs.Rows.{first_row}
 use Rattle.compound_run.specs.Meaning.{Meaning, at, in_world, changed, with_handle, here, there, is_directory, is_no_directory, is_name, has_no_child, names_at, has_space}
 
--- what is asked last: there is space for the name
+-- the last question: there is space for the name
 abbrev pub is_nameable : ℕ → Question
 is_nameable directory = has_space (λ s. may_name (names_at s directory) s.next_cookie)
 
@@ -35,6 +35,6 @@ link name c h = record {
   goes = λ s. h;
 }
 
--- the same behind all questions but the last, in a directory
+-- LINK in a directory with its last question alone
 abbrev pub naming : List ℕ → ℕ → Context → FileHandles → Meaning
 naming name directory c h = record (link name c h) { questions = is_nameable directory ∷ [] }

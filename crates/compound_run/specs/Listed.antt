@@ -1,4 +1,4 @@
--- What the code gives of the entries of a directory.
+-- The entries of a directory, as the code writes them.
 use Rattle.std.specs.Prelude.{◌≡◌, ℕ, ◌&&◌, Bool, not, is_some, if◌then◌else◌, List, [], ◌∷◌, Option, Some, None, Result, Ok, Err, OnOk}
 use Rattle.xdr_wire.specs.Xdr.{Value}
 use Rattle.xdr_wire.specs.Buffer.{Buffer, Puts}
@@ -25,7 +25,7 @@ refused_of attributes list [] = None
 refused_of attributes list (first ∷ []) = None
 refused_of attributes list (first ∷ second ∷ others) = if not attributes && is_some first then first else if list then None else second
 
--- what is given of an entry's object, as the code holds it
+-- the attributes of an entry's object, as the code holds them
 abbrev pub given_view : Result (Status × Bitmap) Demand → Result (Status × List ℕ) Demand
 given_view (Ok (error, set)) = Ok (error, bitmap_value set)
 given_view (Err d) = Err d
@@ -38,7 +38,7 @@ pub record IsNext (s : Sight) (directory cookie : ℕ) (found : Option Name) (ne
   pub object : object_of s (Some name.child) ≡ Some child
   pub above : names_above s directory cookie ≡ name ∷ names_above s directory next
 
--- an entry that is written with what is said of its object
+-- an entry that is written with the facts of its object
 abbrev pub written_entry : Content → ObjectFacts → Name → List ℕ → Value entry
 written_entry book facts n asked = (n.cookie, (n.name, (given_set asked, given_values book facts asked)))
 

@@ -1,4 +1,4 @@
--- LOOKUPP (RFC 8881, section 18.14): the directory that the current one lies in becomes current. The root lies in none.
+-- LOOKUPP (RFC 8881, section 18.14): the parent of the current directory becomes current. The root has no parent.
 use Rattle.std.specs.Prelude.{[], ◌∷◌, is_some}
 use Rattle.nfs_types.specs.declared.status.Status.TheVariants as statuses
 use Rattle.nfs_ops.specs.Operations.{Known}

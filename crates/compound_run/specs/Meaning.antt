@@ -1,5 +1,5 @@
--- What an operation means at its place in a COMPOUND: what it asks in order, what it gives, and what then becomes of the realm and of
--- the filehandles; and the questions that several operations ask (RFC 8881, sections 2.10, 16.2 and 18).
+-- The meaning of an operation at its place in a COMPOUND: its questions in order, its result, and its effect on the realm and on the
+-- filehandles; and the questions of several operations (RFC 8881, sections 2.10, 16.2 and 18).
 use Rattle.std.specs.Prelude.{ℕ, ◌&&◌, Bool, true, false, not, nat_le, if◌then◌else◌, List, [], ◌∷◌, length, is_some, unwrap_or, Option, Some, None}
 use Rattle.std.proofs.Common.{inl}
 use Rattle.std.specs.Option.{option_map_or}
@@ -25,16 +25,16 @@ use Rattle.compound_run.specs.ArgumentFaults.{name_may}
 use Rattle.compound_run.specs.Questions.{Question, Holds, is_valid}
 
 pub record Meaning : Type 0 where
-  -- its number, which stands in its lines
+  -- the number of the operation, for its lines
   pub number : ℕ
-  -- whose lists it asks
+  -- the caller, for whom the lists decide
   pub caller : Identity
   pub questions : List Question
-  -- what it gives where it is OK
+  -- the result where the operation is OK
   pub answer : Sight → Outcome
-  -- what then becomes of the realm
+  -- the realm after it
   pub effect : Realm → Realm
-  -- and of the filehandles
+  -- the filehandles after it
   pub goes : Sight → FileHandles
 
 -- ---- effects
@@ -55,17 +55,17 @@ at c w = record { tick = w.next_tick; moment = c.now }
 abbrev pub changed : Sight → ℕ → Value change_info
 changed s directory = (inl tt, (s.changes directory, s.next_tick))
 
--- the same of one that takes none
+-- the change of a directory that an operation without a tick leaves
 abbrev pub unchanged : Sight → ℕ → Value change_info
 unchanged s directory = (inl tt, (s.changes directory, s.changes directory))
 
 -- ---- filehandles
 
--- the number that a filehandle names
+-- the number of the object of a filehandle
 abbrev pub number_in : Option ℕ → ℕ
 number_in handle = unwrap_or handle 0
 
--- that of the current and of the saved filehandle
+-- the number of the object of the current filehandle, and of the saved one
 abbrev pub here : FileHandles → ℕ
 here h = number_in h.current
 
@@ -79,7 +79,7 @@ is_set handle = Holds (λ s. is_some handle) statuses.NoFileHandle tt
 abbrev pub is_live : Option ℕ → Question
 is_live handle = Holds (λ s. is_some (s.kinds (number_in handle))) statuses.Stale tt
 
--- behind the questions of a filehandle
+-- these questions behind those of a filehandle
 abbrev pub with_handle : Option ℕ → List Question → List Question
 with_handle handle questions = is_set handle ∷ is_live handle ∷ questions
 
@@ -115,7 +115,7 @@ has_no_child directory name = Holds (λ s. not (is_some (child s directory name)
 
 -- ---- space
 
--- how many names stand in a directory
+-- how many names a directory has
 abbrev pub names_at : Sight → ℕ → ℕ
 names_at s directory = length (s.names directory)
 
@@ -128,7 +128,7 @@ has_tick = Holds (λ s. has_left s.next_tick) statuses.NoSpc tt
 
 -- ---- room
 
--- a result for which there is no room is too big for the reply, or for one that is to be kept
+-- a result for which there is no room is too big for the reply, or for a reply that is to be cached
 abbrev pub too_big_for : Option Calling → Status
 too_big_for None = statuses.RepTooBig
 too_big_for (Some calling) = if calling.keeps_reply then statuses.RepTooBigToCache else statuses.RepTooBig

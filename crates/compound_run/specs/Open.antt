@@ -1,5 +1,5 @@
--- OPEN (RFC 8881, section 18.16): a file is opened, by its name in the current directory or by the current filehandle; one that isn't
--- there may be made, one that is there truncated. The file becomes current.
+-- OPEN (RFC 8881, section 18.16): a file is opened, by its name in the current directory or by the current filehandle; an absent file
+-- may be created, an existing file truncated. The file becomes current.
 use Rattle.std.specs.Prelude.{ℕ, ◌+◌, ◌==◌, ◌%◌, Bool, true, false, ◌&&◌, ◌||◌, nat_lt, nat_eq, if◌then◌else◌, List, [], ◌∷◌, ◌++◌, length, map, find, unwrap_or, bit_or, Option, Some, None, Result, Ok}
 use Rattle.std.proofs.Common.{inl}
 use Rattle.std.specs.Option.{option_map}
@@ -7,6 +7,7 @@ use Rattle.std.specs.Cmp.Lexicographic.{pointwise}
 use Rattle.xdr_wire.specs.Xdr.{Value}
 use Rattle.acl_list.specs.declared.entry.Kind.{Kind}
 use Rattle.acl_list.specs.declared.entry.Kind.TheVariants.{File, Directory, Link}
+use Rattle.who_book.specs.Content.{Content}
 use Rattle.nfs_types.specs.Forms.{attributes, stateid}
 use Rattle.nfs_types.specs.Name.{name_fault}
 use Rattle.nfs_types.specs.StateIds.{open_stateid}
@@ -32,12 +33,12 @@ use Rattle.compound_run.specs.Faults.{MayFault, IsValueOrFault, fault_in, fault_
 use Rattle.compound_run.specs.ArgumentFaults.{name_may, wanted_may}
 use Rattle.compound_run.specs.Questions.{Question, Holds, Valid, is_valid}
 use Rattle.compound_run.specs.Stateids.{client_of}
-use Rattle.compound_run.specs.Create.{Draft, nothing, wanted_in, is_own, can_add, created, list_at}
+use Rattle.compound_run.specs.Create.{Draft, nothing, wanted_in, is_own, can_make, created, list_at}
 use Rattle.compound_run.specs.Setattr.{size_fits}
 use Rattle.compound_run.specs.Rows.{first_row, opening_row}
 use Rattle.compound_run.specs.Meaning.{Meaning, at, changed, unchanged, with_handle, here}
 
--- ---- what it is opened for, and by whom
+-- ---- the access, and the open-owner
 
 -- to read, to write, or both; higher bits are hints
 abbrev pub access_of : Value open_args → ℕ
@@ -50,7 +51,7 @@ access_fault access = if (access == 1) || (access == 2) || (access == 3) then No
 abbrev pub deny_fault : ℕ → Option Status
 deny_fault deny = if deny == 0 then None else if nat_lt 3 deny then Some statuses.Inval else Some statuses.NotSupp
 
--- a name is to be one; a file that has a filehandle is there already
+-- a name has to be valid; a file that has a filehandle exists already
 abbrev pub claim_fault : Claim → How → Option Status
 claim_fault (ByName name) how = name_fault name
 claim_fault ByHandle how = if is_creating how then Some statuses.Inval else None
@@ -58,27 +59,30 @@ claim_fault ByHandle how = if is_creating how then Some statuses.Inval else None
 abbrev pub arguments_fault : Value open_args → Option Status
 arguments_fault v = first_fault (access_fault (access_of v)) (first_fault (deny_fault (open_deny v)) (claim_fault (claim_of v) (how_of v)))
 
--- ---- the attributes of a file that may be made
+-- ---- the attributes of a file that may be created
 
--- what they set on a file, or what is wrong with them
-abbrev pub sent_with : Context → Value attributes → Result Wanted Status
-sent_with c set = wanted_of c.book File (set_of set) (values_of set)
+-- the values that the attributes set on a file, or their fault
+abbrev pub sent_with : Content → Value attributes → Result Wanted Status
+sent_with book set = wanted_of book File (set_of set) (values_of set)
+
+abbrev pub sent_by : Content → How → Result Wanted Status
+sent_by book NoCreate = Ok nothing
+sent_by book (Unchecked set) = sent_with book set
+sent_by book (Guarded set) = sent_with book set
 
 abbrev pub sent : Context → How → Result Wanted Status
-sent c NoCreate = Ok nothing
-sent c (Unchecked set) = sent_with c set
-sent c (Guarded set) = sent_with c set
+sent c how = sent_by c.book how
 
 abbrev pub wanted : Context → Value open_args → Wanted
 wanted c v = wanted_in (sent c (how_of v))
 
--- which of them were sent
+-- the set of the attributes that were sent
 abbrev pub sent_set : How → List ℕ
 sent_set NoCreate = []
 sent_set (Unchecked set) = set_of set
 sent_set (Guarded set) = set_of set
 
--- whether a file that is there is truncated
+-- whether an existing file is truncated
 abbrev pub truncates : Context → Value open_args → Bool
 truncates c v = is_truncating (how_of v) (wanted c v).size
 
@@ -93,12 +97,12 @@ current_fault ByHandle File = None
 current_fault ByHandle Directory = Some statuses.IsDir
 current_fault ByHandle Link = Some statuses.Symlink
 
--- the name under which it may be made
+-- the name under which the file may be created
 abbrev pub name_in : Claim → List ℕ
 name_in (ByName name) = name
 name_in ByHandle = []
 
--- what is there, if anything is
+-- the object of that name, if there is one
 abbrev pub found_by : Claim → FileHandles → Sight → Option ℕ
 found_by (ByName name) h s = child s (here h) name
 found_by ByHandle h s = h.current
@@ -106,7 +110,7 @@ found_by ByHandle h s = h.current
 abbrev pub found : Value open_args → FileHandles → Sight → Option ℕ
 found v h s = found_by (claim_of v) h s
 
--- One that isn't there is made where it may be. One that is there may not have to be made, and is to be a file.
+-- An absent file is created by UNCHECKED4 and GUARDED4. An existing object must be a file, and is refused by GUARDED4.
 abbrev pub found_fault : How → Option Kind → Option Status
 found_fault NoCreate None = Some statuses.NoEnt
 found_fault (Unchecked set) None = None
@@ -119,7 +123,7 @@ found_fault (Unchecked set) (Some File) = None
 found_fault (Unchecked set) (Some Directory) = Some statuses.IsDir
 found_fault (Unchecked set) (Some Link) = Some statuses.Symlink
 
--- a file as it is made: of the size that is set, each byte of it zero
+-- a new file: of the size that is set, each byte of it zero
 abbrev pub file_of : Wanted → Draft
 file_of wanted = record { kind = File; text = resized [] (unwrap_or wanted.size 0) }
 
@@ -129,7 +133,7 @@ file_of wanted = record { kind = File; text = resized [] (unwrap_or wanted.size 
 abbrev pub is_opened_by : ℕ → List ℕ → ℕ → Opened → Bool
 is_opened_by client owner file o = (o.client == client) && pointwise nat_eq o.owner owner && (o.object == file)
 
--- the owner's open of what is there, if there is one: then it is opened again
+-- the owner's open of the object, if there is one: then it is opened again
 abbrev pub joined : Context → Value open_args → Option ℕ → List Opened → Option Opened
 joined c v None opens = None
 joined c v (Some file) opens = find (is_opened_by (client_of c) (open_owner v) file) opens
@@ -138,14 +142,14 @@ joined c v (Some file) opens = find (is_opened_by (client_of c) (open_owner v) f
 abbrev pub risen : ℕ → ℕ
 risen seqid = if seqid == 0xffff_ffff then 1 else seqid + 1
 
--- opened again, also for this
+-- the open once it is opened again, also for this access
 abbrev pub reopened : ℕ → Opened → Opened
 reopened access o = record o { access = bit_or o.access access; seqid = risen o.seqid }
 
 abbrev pub with_reopened : ℕ → ℕ → List Opened → List Opened
 with_reopened number access opens = map (λ o. if o.number == number then reopened access o else o) opens
 
--- a new one, by the next number
+-- a new open, by the next number
 abbrev pub new_open : Context → Value open_args → ℕ → ℕ → Opened
 new_open c v number file =
     record { number = number; client = client_of c; owner = open_owner v; object = file; access = access_of v; seqid = 1 }
@@ -215,7 +219,7 @@ found_may (Unchecked set) (Some Link) = tt
 
 -- ---- the questions behind the second row
 
--- a file that is made is the caller's, and within the limit
+-- a new file is the caller's, and within the limit
 abbrev pub is_permitted : Context → Value open_args → Option ℕ → Bool
 is_permitted c v None = is_own c.caller (wanted c v)
 is_permitted c v (Some file) = true
@@ -224,12 +228,12 @@ abbrev pub is_within : Context → Value open_args → Option ℕ → Bool
 is_within c v None = size_fits (wanted c v).size
 is_within c v (Some file) = true
 
--- there is space for a file that is made; a truncation takes a tick
+-- there is space for a new file; a truncation takes a tick
 abbrev pub has_file_space : Context → Value open_args → ℕ → Option ℕ → Sight → Bool
-has_file_space c v directory None s = has_left s.next_tick && can_add s directory
+has_file_space c v directory None s = has_left s.next_tick && can_make (wanted c v) File s directory
 has_file_space c v directory (Some file) s = if truncates c v then has_left s.next_tick else true
 
--- there is space for an open more
+-- there is space for one more open
 abbrev pub has_open_space : Option Opened → Sight → Bool
 has_open_space (Some o) s = true
 has_open_space None s = nat_lt (length s.opens) MAX_OPENS && has_left s.next_open
@@ -244,15 +248,15 @@ last_questions v c h =
     ∷ Holds (λ s. has_space_for c v (here h) (found v h s) s) statuses.NoSpc tt
     ∷ []
 
--- ---- what it gives, and what becomes of the realm
+-- ---- the result, and the realm after it
 
--- the change of the directory, which stays where no file is made; by filehandle there is none
+-- the change of the directory, which stays where no file is created; by filehandle there is none
 abbrev pub change_of : Claim → ℕ → Option ℕ → Sight → Value change_info
 change_of (ByName name) directory None s = changed s directory
 change_of (ByName name) directory (Some file) s = unchanged s directory
 change_of ByHandle directory file s = (inl tt, (0, 0))
 
--- which attributes are set: all that were sent on a file that is made, size (4) alone on one that is truncated
+-- the attributes that are set: all that were sent on a new file, size (4) alone on a truncated one
 abbrev pub set_by : Context → Value open_args → Option ℕ → List ℕ
 set_by c v None = sent_set (how_of v)
 set_by c v (Some file) = if truncates c v then 16 ∷ [] else []
@@ -261,7 +265,7 @@ abbrev pub result_on : Context → Value open_args → ℕ → Option ℕ → Si
 result_on c v directory file s =
     (stateid_of (joined c v file s.opens) s.next_open, (change_of (claim_of v) directory file s, (inl tt, (set_by c v file, inl tt))))
 
--- the world with the file as it is opened
+-- the world with the opened file
 abbrev pub file_in : Context → Value open_args → ℕ → Option ℕ → World → World
 file_in c v directory None w =
     with_new w directory (name_in (claim_of v)) (created c (file_of (wanted c v)) (wanted c v) (list_at w directory) w.next_stamp (at c w)) (at c w)
@@ -288,6 +292,6 @@ open_file v c h = record {
   goes = λ s. record h { current = Some (unwrap_or (found v h s) s.next_number) };
 }
 
--- the same behind its rows
+-- OPEN with its last questions alone
 abbrev pub opening : Value open_args → Context → FileHandles → Meaning
 opening v c h = record (open_file v c h) { questions = last_questions v c h }

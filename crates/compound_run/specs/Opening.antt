@@ -1,11 +1,11 @@
--- How the code opens a file.
+-- The opening of a file by the code.
 use Rattle.std.specs.Prelude.{◌≡◌, ◌≤◌, ◌<◌, ◌+◌, ◌^◌, ℕ, ◌==◌, if◌then◌else◌, bit_or, List, [], ◌∷◌, ◌++◌, length, unwrap_or, Option, Some, None}
 use Rattle.xdr_wire.specs.Xdr.{Value}
 use Rattle.rpc_record.specs.Identity.{Identity}
 use Rattle.acl_list.specs.declared.entry.Entry.{Entry}
 use Rattle.acl_list.specs.declared.entry.Kind.TheVariants.{File}
 use Rattle.acl_shape.specs.Bounds.{IsBounded}
-use Rattle.acl_shape.specs.Permissions.{created_list, created_high}
+use Rattle.acl_shape.specs.Permissions.{created_high}
 use Rattle.nfs_types.specs.Sent.{Wanted}
 use Rattle.nfs_ops.specs.Parts.{Claim, ByName, ByHandle}
 use Rattle.node_tree.specs.declared.node.NewObject.{NewObject}
@@ -13,6 +13,7 @@ use Rattle.node_tree.specs.Changes.{resized}
 use Rattle.node_tree.specs.Sound.{most_bytes}
 use Rattle.compound_run.specs.declared.filehandles.FileHandles.{FileHandles}
 use Rattle.compound_run.specs.Sight.{Sight}
+use Rattle.compound_run.specs.Lists.{new_list}
 use Rattle.compound_run.specs.Meaning.{here}
 use Rattle.nfs_types.specs.Forms.{stateid}
 use Rattle.nfs_types.specs.StateIds.{open_stateid}
@@ -24,18 +25,18 @@ use Rattle.compound_run.specs.Context.{Context}
 use Rattle.compound_run.specs.Stateids.{client_of}
 use Rattle.compound_run.specs.Open.{risen, with_reopened}
 
--- an open that is opened again, if it is that of the number
+-- an open that is opened again, if it has this number
 abbrev pub reopened_by : {A : Type 0} → ℕ → ℕ → Open A → Open A
 reopened_by number access o = if o.number == number then record o { access = bit_or o.access access; seqid = risen o.seqid } else o
 
--- where an open of these owner's bytes is to stand, which joins this one, or none
+-- the place of an open of these owner's bytes, which joins this open, or none
 abbrev pub IsPlace : {A : Type 0} → List ℕ → Option Opened → Place A → Type 0
 IsPlace owner (Some o) (places.Again number seqid) = (number ≡ o.number) × (seqid ≡ o.seqid)
 IsPlace owner (Some o) (places.New bytes) = ⊥
 IsPlace owner None (places.Again number seqid) = ⊥
 IsPlace owner None (places.New bytes) = bytes.items ≡ owner
 
--- there is room for it, among so many opens in so much room, by such a number
+-- there is room for the open, among so many opens in so much room, with this next number
 abbrev pub HasPlace : {A : Type 0} → (next len capacity : ℕ) → Place A → Type 0
 HasPlace next len capacity (places.Again number seqid) = Unit {0}
 HasPlace next len capacity (places.New bytes) = (next < 2 ^ 63) × (len + 1 ≤ capacity)
@@ -54,13 +55,13 @@ placed_stateid (places.New bytes) next = open_stateid 1 next
 
 -- ---- the file
 
--- a file as it is made
+-- a new file
 pub record MakesFile {A : Type 0} (caller : Identity) (parent : List Entry) (wanted : Wanted) (new : NewObject A) : Type 0 where
   pub kind : new.kind ≡ File
   pub bytes : new.bytes.items ≡ resized [] (unwrap_or wanted.size 0)
   pub owner : new.owner ≡ caller.uid
   pub group : new.group ≡ unwrap_or wanted.group caller.gid
-  pub list : new.list ≡ created_list parent File wanted.mode wanted.list
+  pub list : new.list ≡ new_list wanted File parent
   pub high : new.high ≡ created_high wanted.mode
   pub bounded : IsBounded new.list
   pub short : length new.bytes.items ≤ most_bytes File
@@ -70,7 +71,7 @@ abbrev pub IsBefore : Claim → Sight → FileHandles → ℕ → Type 0
 IsBefore (ByName name) s h before = s.changes (here h) ≡ before
 IsBefore ByHandle s h before = 0 ≡ before
 
--- what is asked by name alone
+-- a condition for an OPEN by name alone
 abbrev pub IfByName : Claim → Type 0 → Type 0
 IfByName (ByName name) P = P
 IfByName ByHandle P = Unit {0}

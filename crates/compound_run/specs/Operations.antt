@@ -1,7 +1,7 @@
--- What each operation means at its place (RFC 8881, section 18): a line for each that is built, in the order of the standard. Those that
--- aren't built answer NOTSUPP once they are read, and so do the operations of sessions where there is none. Of these RECLAIM_COMPLETE alone
+-- The meaning of each operation at its place (RFC 8881, section 18): a line for each that is supported, in the order of the standard.
+-- Others answer NOTSUPP once they are read, and so do the operations of sessions where there is none. Of these RECLAIM_COMPLETE alone
 -- runs behind a SEQUENCE.
-use Rattle.std.specs.Prelude.{Bool, true, false, ◌&&◌, nat_lt, is_none, if◌then◌else◌, ◌∷◌, Option, Some, None}
+use Rattle.std.specs.Prelude.{ℕ, Bool, true, false, ◌&&◌, nat_lt, is_none, if◌then◌else◌, ◌∷◌, Option, Some, None}
 use Rattle.nfs_types.specs.declared.status.Status.{Status}
 use Rattle.nfs_types.specs.declared.status.Status.TheVariants as statuses
 use Rattle.nfs_ops.specs.Operations.{Operation, Known, Unsupported, Illegal, Bad, illegal}
@@ -51,7 +51,7 @@ is_of_sessions (Known kinds.DestroyClientId v) = true
 is_of_sessions (Known kinds.ReclaimComplete v) = true
 is_of_sessions _ = false
 
--- those that are to be the only one of their COMPOUND
+-- the operations that have to be the only one of their COMPOUND
 abbrev pub is_lone : Operation → Bool
 is_lone (Known kinds.ExchangeId v) = true
 is_lone (Known kinds.CreateSession v) = true
@@ -63,15 +63,18 @@ abbrev pub is_sequence : Operation → Bool
 is_sequence (Known kinds.Sequence v) = true
 is_sequence _ = false
 
--- where one of sessions is refused
+-- the fault of an operation of sessions
 abbrev pub refused_place : Option Calling → (lone sequence : Bool) → Option Status
 refused_place None lone sequence = Some statuses.NotSupp
 refused_place (Some calling) lone sequence = if lone then Some statuses.NotOnlyOp else if sequence then Some statuses.SequencePos else None
 
--- Where there is no session its operations aren't supported. Behind a SEQUENCE there is no place for a further one, nor for one that is to
--- be the only one of its COMPOUND.
+-- Where there is no session its operations aren't supported. Behind a SEQUENCE there is no place for a further one, nor for an
+-- operation that has to be the only one of its COMPOUND.
+abbrev pub place_fault_in : Option Calling → Operation → Option Status
+place_fault_in calling op = if is_of_sessions op then refused_place calling (is_lone op) (is_sequence op) else None
+
 abbrev pub place_fault : Context → Operation → Option Status
-place_fault c op = if is_of_sessions op then refused_place c.calling (is_lone op) (is_sequence op) else None
+place_fault c op = place_fault_in c.calling op
 
 pub place_may : (c : Context) (op : Operation) → MayFault (place_fault c op)
 place_may c op = of (is_of_sessions op) c.calling (is_lone op) (is_sequence op)
@@ -85,7 +88,7 @@ place_may c op = of (is_of_sessions op) c.calling (is_lone op) (is_sequence op)
 
 -- ---- room
 
--- whether it is built: it needs room for its result
+-- whether the operation is supported: it needs room for its result
 abbrev pub is_run : Operation → Bool
 is_run (Known kinds.Access v) = true
 is_run (Known kinds.Close v) = true
@@ -113,9 +116,12 @@ is_run (Known kinds.Write v) = true
 is_run (Known kinds.ReclaimComplete v) = true
 is_run _ = false
 
--- What isn't an operation, or isn't built, is refused whatever the room.
+-- An unsupported operation, or an entry that is no operation, is refused whatever the room.
+abbrev pub room_fault_in : Option Calling → ℕ → Operation → Option Status
+room_fault_in calling room op = if is_run op && nat_lt room MIN_ROOM then Some (too_big_for calling) else None
+
 abbrev pub room_fault : Context → Operation → Option Status
-room_fault c op = if is_run op && nat_lt c.room MIN_ROOM then Some (too_big_for c.calling) else None
+room_fault c op = room_fault_in c.calling c.room op
 
 pub room_may : (c : Context) (op : Operation) → MayFault (room_fault c op)
 room_may c op = of (is_run op && nat_lt c.room MIN_ROOM)
@@ -124,16 +130,19 @@ room_may c op = of (is_run op && nat_lt c.room MIN_ROOM)
     of true = too_big_may c.calling
     of false = tt
 
--- what is asked before anything of the operation itself: its place, then its room
+-- the faults before the operation's own questions: of its place, then of its room
+abbrev pub entry_fault_in : Option Calling → ℕ → Operation → Option Status
+entry_fault_in calling room op = first_fault (place_fault_in calling op) (room_fault_in calling room op)
+
 abbrev pub entry_fault : Context → Operation → Option Status
-entry_fault c op = first_fault (place_fault c op) (room_fault c op)
+entry_fault c op = entry_fault_in c.calling c.room op
 
 pub entry_may : (c : Context) (op : Operation) → MayFault (entry_fault c op)
 entry_may c op = first_may (place_fault c op) (room_fault c op) (place_may c op) (room_may c op)
 
 -- ---- the operations
 
--- what is asked behind place and room
+-- the meaning behind place and room
 abbrev pub body : Context → FileHandles → Operation → Meaning
 body c h (Known kinds.Access v) = access v c h
 body c h (Known kinds.Close v) = close v c h
@@ -164,7 +173,7 @@ body c h (Unsupported n) = refusing c h n statuses.NotSupp tt
 body c h Illegal = refusing c h illegal statuses.OpIllegal tt
 body c h (Bad n) = refusing c h n statuses.BadXdr tt
 
--- behind a fault, if there is one
+-- a meaning behind a fault, if there is one
 abbrev pub entered : (fault : Option Status) → MayFault fault → Meaning → Meaning
 entered fault may m = record m { questions = is_valid fault may ∷ m.questions }
 
@@ -173,7 +182,7 @@ meaning c h op = entered (entry_fault c op) (entry_may c op) (body c h op)
 
 -- ---- memory
 
--- Of those that are built CREATE, LINK, NVERIFY, OPEN, RENAME, SETATTR, VERIFY and WRITE take memory, which may be refused.
+-- Of the supported operations CREATE, LINK, NVERIFY, OPEN, RENAME, SETATTR, VERIFY and WRITE take memory, which may be refused.
 abbrev pub takes_memory : Operation → Bool
 takes_memory (Known k v) = (row k).delays && is_run (Known k v)
 takes_memory _ = false
@@ -181,6 +190,6 @@ takes_memory _ = false
 abbrev pub takes_memory_in : Context → Operation → Bool
 takes_memory_in c op = takes_memory op
 
--- Once it has its place and its room such an operation may answer DELAY, and no other ever does.
+-- Once it has its place and its room an operation that takes memory may answer DELAY, and no other ever does.
 abbrev pub may_delay : Context → Operation → Bool
 may_delay c op = takes_memory op && is_none (entry_fault c op)

@@ -1,25 +1,26 @@
--- What becomes of the list, the owner and the group of an object whose attributes are set, as the code holds it.
-use Rattle.std.specs.Prelude.{◌≡◌, ℕ, ◌||◌, if◌then◌else◌, List, is_some, unwrap_or, IfSome, Option}
+-- The list, the owner and the group of an object whose attributes are set, as the code holds them.
+use Rattle.std.specs.Prelude.{◌≡◌, ℕ, ◌||◌, if◌then◌else◌, is_some, unwrap_or, IfSome, Option}
 use Rattle.std.specs.Option.{option_map_or}
-use Rattle.acl_list.specs.declared.entry.Entry.{Entry}
 use Rattle.acl_shape.specs.declared.permissions.Permissions.{Permissions}
 use Rattle.acl_shape.specs.Bounds.{IsBounded}
-use Rattle.acl_shape.specs.Permissions as specs
+use Rattle.acl_shape.specs.Permissions.{changed_high}
+use Rattle.nfs_types.specs.Sent.{Wanted}
 use Rattle.node_tree.specs.declared.at.At.{At}
 use Rattle.node_tree.specs.World.{World, object}
 use Rattle.node_tree.specs.Changes.{with_list, with_owner}
+use Rattle.compound_run.specs.Lists.{set_list}
 
--- the list and the high bits that an object gets by this mode and this list
-pub record Permits {A : Type 0} (w : World) (number : ℕ) (mode : Option ℕ) (list : Option (List Entry)) (p : Permissions A) : Type 0 where
-  pub lists : IfSome (object w number) (λ o. p.list ≡ specs.changed_list o.list o.kind mode list)
-  pub highs : IfSome (object w number) (λ o. p.high ≡ specs.changed_high o.high mode)
+-- the list and the high bits that an object gets by these values
+pub record Permits {A : Type 0} (w : World) (number : ℕ) (wanted : Wanted) (p : Permissions A) : Type 0 where
+  pub lists : IfSome (object w number) (λ o. p.list ≡ set_list wanted o.kind o.list)
+  pub highs : IfSome (object w number) (λ o. p.high ≡ changed_high o.high wanted.mode)
   pub bounded : IsBounded p.list
 
--- with them, if there are any
+-- the world with them, if there are any
 abbrev pub permitted : {A : Type 0} → ℕ → Option (Permissions A) → At → World → World
 permitted number made at w = option_map_or (λ p. with_list w number p.list p.high at) made w
 
--- with this owner and this group, each where there is one, else the one before
+-- the world with this owner and this group, each where there is one, else the one before
 abbrev pub entitled : ℕ → Option ℕ → Option ℕ → ℕ × ℕ → At → World → World
 entitled number owner group before at w =
     if is_some owner || is_some group then with_owner w number (unwrap_or owner before.0) (unwrap_or group before.1) at else w

@@ -12,7 +12,7 @@ use Rattle.compound_run.specs.ArgumentFaults.{object_may}
 use Rattle.compound_run.specs.Questions.{is_valid}
 use Rattle.compound_run.specs.Meaning.{Meaning, stays, is_live}
 
--- the object that is named, if one is
+-- the object of a handle, if there is one
 abbrev pub object_in : Result ℕ Status → Option ℕ
 object_in (Ok number) = Some number
 object_in (Err status) = None

@@ -1,4 +1,4 @@
--- An operation asks questions in their order. Its outcome is the status of the first that fails, else OK; the decisions of its rows
+-- An operation puts its questions in order. Its outcome is the status of the first that fails, else OK; the decisions of its rows
 -- write lines into the trail, up to and with the first that is refused (RFC 8881, sections 6.2.1 and 18).
 use Rattle.std.specs.Prelude.{ℕ, Bool, true, ◌&&◌, if◌then◌else◌, List, [], ◌∷◌, ◌++◌, Option, Some, None, Result, Ok, Err}
 use Rattle.rpc_record.specs.Identity.{Identity}
@@ -13,13 +13,13 @@ use Rattle.compound_run.specs.Faults.{IsFault, MayFault, first_fault}
 use Rattle.compound_run.specs.Sight.{Sight}
 
 pub data Question : Type 0 where
-  -- it holds, or the outcome is this status
+  -- the test holds, or the outcome is this status
   Holds : (Sight → Bool) → (status : Status) → IsFault status → Question
-  -- the arguments and what is seen of them are without a fault, or the outcome is the fault
+  -- the arguments and the sight of them are without a fault, or the outcome is the fault
   Valid : (fault : Sight → Option Status) → ((s : Sight) → MayFault (fault s)) → Question
   -- the lists grant these demands, each where there is one, or the outcome is ACCESS
   Row : (Sight → List (Option Demand)) → Question
-  -- where it holds nothing more is asked, and the outcome is OK
+  -- where the test holds no further question is put, and the outcome is OK
   Suffices : (Sight → Bool) → Question
 
 -- a fault of the arguments alone, of the place or of the room
@@ -60,7 +60,7 @@ trace caller op s (Row demands ∷ questions) =
     demand_lines s.lists caller op (demands s) ++ (if all_granted s.lists caller (demands s) then trace caller op s questions else [])
 trace caller op s (Suffices test ∷ questions) = if test s then [] else trace caller op s questions
 
--- what is told: the result, or the status of a refusal
+-- the answer: the result, or the status of a refusal
 abbrev pub told : {R : Type 0} → Option Status → R → Result R Status
 told None result = Ok result
 told (Some status) result = Err status

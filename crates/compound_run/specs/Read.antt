@@ -16,19 +16,19 @@ use Rattle.compound_run.specs.Stateids.{has_stateid}
 use Rattle.compound_run.specs.Rows.{first_row}
 use Rattle.compound_run.specs.Meaning.{Meaning, stays, with_handle, here, is_no_directory, is_no_link}
 
--- the most bytes of data that a result has in so much room: its number, its status, the mark of the end and the length take 16
+-- the most bytes of data of a result in so much room: its number, its status, the mark of the end and the length take 16
 abbrev pub data_room : ℕ → ℕ
 data_room room = (room - 16) / 4 * 4
 
--- how many bytes are given at most, of so many that are asked, in so much room
+-- the most bytes that are returned, of so many requested, in so much room
 abbrev pub most_of : ℕ → ℕ → ℕ
 most_of count room = min (data_room room) (min count MAX_READ)
 
--- the bytes that there are of them
+-- the bytes of the file among them
 abbrev pub part : Context → Value read_args → ℕ → Sight → List ℕ
 part c v file s = take (most_of (read_count v) c.room) (drop (read_offset v) (s.bytes file))
 
--- the end is reached where offset and bytes given reach the size
+-- the end is reached where offset and bytes returned reach the size
 abbrev pub gives : Context → Value read_args → ℕ → Sight → Value read_result
 gives c v file s = read_gives (nat_le (s.sizes file) (read_offset v + length (part c v file s))) (part c v file s)
 

@@ -44,21 +44,21 @@ first_refused lists caller [] = None
 first_refused lists caller (None ∷ demands) = first_refused lists caller demands
 first_refused lists caller (Some d ∷ demands) = if is_granted (decision lists caller d) then first_refused lists caller demands else Some d
 
--- The supported attributes that are given of an object: all where READ_ATTRIBUTES and READ_ACL are granted, else without those that
--- READ_ATTRIBUTES governs (3, 4, 33, 35, 36, 37, 52 and 53), or without acl (12), or without both.
+-- The supported attributes that are returned of an object: all where READ_ATTRIBUTES and READ_ACL are granted, else without those that
+-- READ_ATTRIBUTES governs (3, 4, 33, 35, 36, 37, 52 and 53), or without acl, dacl and sacl (12, 58 and 59), or without all of these.
 abbrev pub granted_words : (attributes list : Bool) → List ℕ
-granted_words true true = 0xe818_3fff ∷ 0x00b0_003a ∷ 0x0000_0800 ∷ []
+granted_words true true = 0xe818_3fff ∷ 0x0cb0_003a ∷ 0x0000_0800 ∷ []
 granted_words true false = 0xe818_2fff ∷ 0x00b0_003a ∷ 0x0000_0800 ∷ []
-granted_words false true = 0xe818_3fe7 ∷ 0x0080_0000 ∷ 0x0000_0800 ∷ []
+granted_words false true = 0xe818_3fe7 ∷ 0x0c80_0000 ∷ 0x0000_0800 ∷ []
 granted_words false false = 0xe818_2fe7 ∷ 0x0080_0000 ∷ 0x0000_0800 ∷ []
 
--- those of the attributes asked that the object's list permits
+-- the attributes requested that the object's list permits
 abbrev pub permitted : Lists → Identity → ℕ → List ℕ → List ℕ
 permitted lists caller number asked =
     trimmed (common asked (granted_words (allows lists caller number READ_ATTRIBUTES) (allows lists caller number READ_ACL)))
 
--- What is given of an entry's object, where this demand is the first that its list refuses: rdattr_error (11) and which attributes. Where
--- rdattr_error isn't asked nothing is, and the demand refuses the entry.
+-- The rdattr_error (11) and the attributes of an entry's object, where this demand is the first that its list refuses. Where
+-- rdattr_error isn't requested, the demand refuses the entry.
 abbrev pub judgment : Lists → Identity → List ℕ → ℕ → Option Demand → Result (Status × List ℕ) Demand
 judgment lists caller asked number None = Ok (statuses.Ok, asked)
 judgment lists caller asked number (Some d) =
@@ -67,7 +67,7 @@ judgment lists caller asked number (Some d) =
 abbrev pub judgment_of : Lists → Identity → List ℕ → ℕ → Option Object → Result (Status × List ℕ) Demand
 judgment_of lists caller asked number entry = judgment lists caller asked number (first_refused lists caller (entry_demands asked entry))
 
--- with these attributes of its object; rdattr_error is this status
+-- the entry with these attributes of its object; rdattr_error is this status
 abbrev pub entry_of : Context → Sight → Name → Status → List ℕ → Value entry
 entry_of c s n error set = (n.cookie, (n.name, attributes_at c.book s n.child error set))
 
@@ -87,7 +87,7 @@ names_above s directory cookie = filter (λ n. nat_lt cookie n.cookie) (s.names 
 abbrev pub judged_above : Context → List ℕ → ℕ → ℕ → Sight → List (Judged Demand)
 judged_above c asked directory cookie s = map (judged_entry c asked s) (names_above s directory cookie)
 
--- Those that are given: the longest beginning that fits, unless an entry that is judged is refused, or nothing fits.
+-- The entries that are returned: the longest beginning that fits, unless a judged entry is refused, or nothing fits.
 unfoldable pub listed : Context → Value readdir_args → ℕ → Sight → Result Listing (ListFault Demand)
 listed c v directory s =
     listing (readdir_limit (listed_at_most v) c.room) (judged_above c (listed_attributes v) directory (listed_behind v) s)
@@ -108,11 +108,11 @@ given_in (Err fault) = record { entries = []; eof = false }
 
 -- ---- the operation
 
--- the cookies 1 and 2 are no name's
+-- no name has the cookies 1 and 2
 abbrev pub is_cookie : ℕ → Question
 is_cookie cookie = Holds (λ s. not ((cookie == 1) || (cookie == 2))) statuses.BadCookie tt
 
--- no entry is refused: the demand that refuses one is the only one of the entries that writes lines
+-- no entry is refused: of the demands of the entries only that of a refused entry writes lines
 abbrev pub refuses_none : Context → Value readdir_args → ℕ → Question
 refuses_none c v directory = Row (λ s. refused_in (listed c v directory s) ∷ [])
 
@@ -135,7 +135,7 @@ readdir v c h = record {
   goes = λ s. h;
 }
 
--- the same behind all questions but the last two, in a directory
+-- READDIR in a directory with its last two questions alone
 abbrev pub listing_of : Value readdir_args → ℕ → Context → FileHandles → Meaning
 listing_of v directory c h = record {
   number = (row kinds.ReadDir).number;

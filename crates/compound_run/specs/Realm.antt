@@ -1,4 +1,4 @@
--- What the operations of a COMPOUND look at and change.
+-- The state on which the operations of a COMPOUND act.
 use Rattle.std.specs.Prelude.{ℕ, ◌==◌, not, if◌then◌else◌, List, [], filter, is_some, Option, Some, None}
 use Rattle.node_tree.specs.World.{World, kind_of}
 use Rattle.session_slots.specs.Registry.{Registry, nobody}
@@ -31,8 +31,8 @@ unopened w = record { world = w; opens = []; next_open = 1; registry = nobody }
 
 -- ---- opens end with their object
 
--- An object that has lost its last name is gone, and its opens with it: those that are left in such a world, where this object has lost a
--- name.
+-- An object that has lost its last name is gone, and its opens are closed: the opens that are left in a world where this object has lost
+-- a name.
 abbrev pub opens_left : World → Option ℕ → List Opened → List Opened
 opens_left w None opens = opens
 opens_left w (Some number) opens = if is_some (kind_of w number) then opens else filter (λ o. not (o.object == number)) opens

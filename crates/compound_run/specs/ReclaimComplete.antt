@@ -1,5 +1,5 @@
--- RECLAIM_COMPLETE (RFC 8881, section 18.51): the client of the session reclaims no more. For one file system, which is that of the
--- current filehandle, it says nothing.
+-- RECLAIM_COMPLETE (RFC 8881, section 18.51): the client of the session reclaims no more. For one file system, that of the
+-- current filehandle, nothing changes.
 use Rattle.std.specs.Prelude.{Bool, true, false, if◌then◌else◌, List, [], ◌∷◌, Option, Some, None}
 use Rattle.xdr_wire.specs.Xdr.{Value}
 use Rattle.nfs_types.specs.declared.status.Status.TheVariants as statuses
@@ -26,7 +26,7 @@ complete_may (Some c) = of c.reclaimed
     of true = tt
     of false = tt
 
--- the client hasn't said it yet
+-- the client hasn't sent it yet
 abbrev pub is_first : Context → Question
 is_first c = Valid (λ s. reclaim_refusal s.registry (client_of c)) (λ s. complete_may (client_at s.registry (client_of c)))
 

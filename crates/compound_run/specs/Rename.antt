@@ -1,5 +1,5 @@
--- RENAME (RFC 8881, section 18.26): a child of the saved directory gets a new name in the current one, and what has that name loses it;
--- what has lost its last name goes, with its opens.
+-- RENAME (RFC 8881, section 18.26): a child of the saved directory gets a new name in the current one, and a target of that name loses
+-- it. An object that has lost its last name goes, and its opens are closed.
 use Rattle.std.specs.Prelude.{ℕ, Bool, not, if◌then◌else◌, List, [], ◌∷◌, Option}
 use Rattle.xdr_wire.specs.Xdr.{Value}
 use Rattle.nfs_types.specs.declared.status.Status.TheVariants as statuses
@@ -20,7 +20,7 @@ use Rattle.compound_run.specs.Questions.{Question, Holds, Suffices}
 use Rattle.compound_run.specs.Rows.{first_row, second_row}
 use Rattle.compound_run.specs.Meaning.{Meaning, at, changed, unchanged, with_handle, here, there, number_in, names_at, is_directory, is_name, has_child, has_space}
 
--- the child that gets another name, and what has that name
+-- the child that gets another name, and the target of that name
 abbrev pub moved : FileHandles → Value rename_args → Sight → Option ℕ
 moved h v s = child s (there h) (old_name v)
 
@@ -35,7 +35,7 @@ is_same h v s = is_one (moved h v s) (replaced h v s)
 abbrev pub goes_below : Sight → ℕ → ℕ → Bool
 goes_below s child directory = is_below s.kinds s.parents s.next_number child directory
 
--- the child can take the name of what has it
+-- the child can replace the target
 abbrev pub can_replace : Sight → ℕ → Option ℕ → Bool
 can_replace s child target = may_replace s.kinds s.has_entries child target
 
@@ -47,7 +47,7 @@ can_move s from to target = may_move (names_at s to) s.next_cookie from to targe
 abbrev pub changes : FileHandles → Value rename_args → Sight → Value change_info × Value change_info
 changes h v s = if is_same h v s then (unchanged s (there h), unchanged s (here h)) else (changed s (there h), changed s (here h))
 
--- what is asked last
+-- the last question
 abbrev pub is_movable : ℕ → ℕ → List ℕ → Question
 is_movable from to new = has_space (λ s. can_move s from to (child s to new))
 
@@ -73,6 +73,6 @@ rename v c h = record {
   goes = λ s. h;
 }
 
--- the same behind all questions but the last, between two directories
+-- RENAME between two directories with its last question alone
 abbrev pub moving : Value rename_args → ℕ → ℕ → Context → FileHandles → Meaning
 moving v from to c h = record (rename v c h) { questions = is_movable from to (new_name v) ∷ [] }

@@ -1,5 +1,5 @@
--- What the table of demands is told of the realm where an operation stands, and so what the operation asks of lists (RFC 8881,
--- sections 6.2.1.3 and 18).
+-- The facts of the realm for the table of demands, and so the demands of an operation at its place (RFC 8881, sections 6.2.1.3
+-- and 18).
 use Rattle.std.specs.Prelude.{ℕ, ◌*◌, Option, Some, None}
 use Rattle.std.specs.Option.{option_map}
 use Rattle.acl_shape.specs.declared.bounds.TheConstants.{MAX_ENTRIES}
@@ -17,15 +17,15 @@ abbrev pub object_of : Sight → Option ℕ → Option Object
 object_of s None = None
 object_of s (Some number) = option_map (λ kind. record { number = number; kind = kind }) (s.kinds number)
 
--- what is known before a name is looked up
+-- the facts that are known before a name is looked up
 abbrev pub first_facts : Sight → FileHandles → First
 first_facts s h = record { current = object_of s h.current; saved = object_of s h.saved; size = None; new_size = None }
 
--- the same where a size is asked about: that of the current object, and the one to be set
+-- the facts with two sizes: that of the current object, and the size to be set
 abbrev pub sized_facts : Sight → FileHandles → Option ℕ → First
 sized_facts s h new_size = record (first_facts s h) { size = option_map s.sizes h.current; new_size = new_size }
 
--- What is known once the names are looked up: the child that is named, and what has the new name of a RENAME.
+-- The facts that are known once the names are looked up: the child of the name, and the target of the new name of a RENAME.
 abbrev pub second_facts : Sight → FileHandles → Option ℕ → Option ℕ → Second
 second_facts s h child replaced = record {
   current = object_of s h.current;
@@ -35,11 +35,11 @@ second_facts s h child replaced = record {
   new_size = None;
 }
 
--- of OPEN: the file that is there, if one is, and the size that is to be set
+-- the facts of OPEN: the existing file, if there is one, and the size that is to be set
 abbrev pub opening_facts : Sight → FileHandles → Option ℕ → Option ℕ → Second
 opening_facts s h file new_size = record (second_facts s h file None) { new_size = new_size }
 
--- what an operation asks first, and what it asks once its names are looked up
+-- the first demands of an operation, and its demands once its names are looked up
 abbrev pub first_row : FileHandles → Operation → Question
 first_row h op = Row (λ s. first_demands op (first_facts s h))
 

@@ -11,6 +11,7 @@ use Rattle.access_guard.specs.Log.{Log, held, settled}
 use Rattle.compound_run.specs.declared.filehandles.FileHandles.{FileHandles}
 use Rattle.compound_run.specs.Realm.{Realm}
 use Rattle.compound_run.specs.Context.{Context, behind}
+use Rattle.compound_run.specs.Settings.{Settings}
 use Rattle.compound_run.specs.Sight.{whole}
 use Rattle.compound_run.specs.Questions.{failure, trace, told}
 use Rattle.compound_run.specs.Meaning.{Meaning}
@@ -18,29 +19,28 @@ use Rattle.compound_run.specs.Operations.{meaning, may_delay}
 
 -- ---- one operation
 
--- where a COMPOUND stands
+-- the place that a COMPOUND has reached
 pub record Point : Type 0 where
   pub realm : Realm
   pub log : Log
-  -- how many summaries the guard may remember
-  pub capacity : ℕ
+  pub settings : Settings
   pub handles : FileHandles
 
 abbrev pub outcome : Meaning → Realm → Result Outcome Status
 outcome m r = told (failure m.caller (whole r) m.questions) (m.answer (whole r))
 
--- the lines that it writes
+-- the lines that an operation writes
 abbrev pub traced : Meaning → Realm → List Line
 traced m r = trace m.caller m.number (whole r) m.questions
 
--- unless it is DELAY, where that may be
+-- the condition holds, unless the result is DELAY, where that may be
 abbrev pub Unless : Bool → Result Outcome Status → Type 0 → Type 0
 Unless true result A = result ≢ Err statuses.Delay → A
 Unless false result A = A
 
--- An operation is answered: its outcome is the status of the first question that fails, else what it gives; its lines are held, and
--- then what comes of what is held; and where it is OK it has its effect, else none. One that may says DELAY in the place of any
--- outcome, where memory was refused: then it has no line in the trail.
+-- An operation is answered: its outcome is the status of the first question that fails, else its result; its lines are held, and
+-- then pass through `ends`; and where it is OK it has its effect, else none. An operation that may be delayed answers DELAY in the place
+-- of any outcome, where memory was refused: then it has no line in the trail.
 pub record Answered (may : Bool) (m : Meaning) (ends : Log → Log) (old : Point) (result : Result Outcome Status) (new : Point) : Type 0 where
   pub outcome : Unless may result (result ≡ outcome m old.realm)
   pub log : Unless may result (new.log ≡ ends (held (traced m old.realm) old.log))
@@ -50,13 +50,13 @@ pub record Answered (may : Bool) (m : Meaning) (ends : Log → Log) (old : Point
   pub handles : OnOk result (new.handles ≡ m.goes (whole old.realm))
   pub realm_stays : OnErr result (new.realm ≡ old.realm)
   pub handles_stay : OnErr result (new.handles ≡ old.handles)
-  pub capacity : new.capacity ≡ old.capacity
+  pub settings : new.settings ≡ old.settings
 
 -- the lines wait for the operation's end
 abbrev pub waits : Log → Log
 waits log = log
 
--- an operation from where the COMPOUND stands, with its end: its lines go to the trail
+-- an operation from the place of the COMPOUND, with its end: its lines go to the trail
 abbrev pub Steps : Context → Operation → Point → Result Outcome Status → Point → Type 0
 Steps c op old result new = Answered (may_delay c op) (meaning c old.handles op) (settled true) old result new
 
@@ -74,7 +74,7 @@ result_from number (Err status) = refused number (refusal status)
 abbrev pub result_of : Given → Outcome
 result_of given = result_from given.number given.outcome
 
--- what is written of a result
+-- the bytes of a result
 unfoldable pub spelled : Outcome → List ℕ
 spelled o = item_spelling (outcome_item o)
 
@@ -91,8 +91,8 @@ status_in (Err status) = status
 abbrev pub status_of : Given → Status
 status_of given = status_in given.outcome
 
--- The results of so many operations, which stand in the bytes, from this context of the first. Each is that of the next operation, at
--- the place that the ones before it have left; what follows the first that isn't OK isn't read.
+-- The results of so many operations in these bytes, from this context of the first. Each is that of the next operation, at
+-- the place that the operations before it have reached; those behind the first that isn't OK aren't read.
 abbrev pub Runs : Context → ℕ → List ℕ → Point → List Given → Point → Type 0
 Runs c zero bytes old [] new = new ≡ old
 Runs c zero bytes old (given ∷ results) new = ⊥

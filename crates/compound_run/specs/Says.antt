@@ -1,4 +1,4 @@
--- What the code says of an object, as its attributes are, and what it writes of it.
+-- The facts of an object by its attributes, and the bytes that the code writes of them.
 use Rattle.std.specs.Prelude.{◌≡◌, ◌≤◌, ℕ, ◌+◌, true, false, nat_le, List, length, Result, Ok, Err}
 use Rattle.xdr_wire.specs.Buffer.{Buffer, Appends}
 use Rattle.nfs_types.specs.declared.facts.ObjectFacts.{ObjectFacts}
@@ -27,11 +27,11 @@ pub record Says (s : Sight) (n : ℕ) (e : Status) (f : ObjectFacts) : Type 0 wh
   pub metadata : f.metadata ≡ (facts_at s n e).metadata
   pub modify : f.modify ≡ (facts_at s n e).modify
 
--- the values of what is given
+-- the values of the returned attributes
 abbrev pub values_given : GivenAttributes → List ℕ
 values_given g = given_values g.book.now g.facts.now (bitmap_value g.asked)
 
--- the result of a GETATTR that gives it
+-- the result of a GETATTR that returns them
 abbrev pub given_outcome : GivenAttributes → Outcome
 given_outcome g = Done kinds.GetAttr (given_set (bitmap_value g.asked), values_given g)
 

@@ -1,4 +1,4 @@
--- SEQUENCE (RFC 8881, section 18.46): a call of a session begins.
+-- SEQUENCE (RFC 8881, section 18.46): a request of a session begins.
 use Rattle.std.specs.Prelude.{ℕ, ◌-◌, List, length, Ok}
 use Rattle.std.proofs.Common.{inl}
 use Rattle.xdr_wire.specs.Xdr.{Value}
@@ -17,7 +17,7 @@ use Rattle.compound_run.specs.Runs.{Given, result_bytes}
 use Rattle.compound_run.specs.Compound.{first_room}
 use Rattle.compound_run.specs.Sessions.{session_of}
 
--- what is asked of a slot: by so many operations, in a record of so many bytes
+-- the request on a slot: of so many operations, in a record of so many bytes
 abbrev pub asked_by : Value sequence_args → ℕ → ℕ → Identity → List ℕ → Asked
 asked_by v count record_len caller arguments = record {
   slot = sequence_slot v;
@@ -27,18 +27,18 @@ asked_by v count record_len caller arguments = record {
   call = record { number = sequence_number v; caller = caller; arguments = arguments };
 }
 
--- The highest slot that may be used is that which is to be used. No flag is ever set.
+-- The highest slot and the target highest slot are the same. No flag is ever set.
 abbrev pub sequence_given : Value sequence_args → ℕ → Value sequence_result
 sequence_given v highest = (sequence_session v, (sequence_number v, (sequence_slot v, (highest, (highest, inl tt)))))
 
 abbrev pub sequence_done : Value sequence_args → ℕ → Given
 sequence_done v highest = record { number = (row kinds.Sequence).number; outcome = Ok (Done kinds.Sequence (sequence_given v highest)) }
 
--- what SEQUENCE settles for the operations behind it
+-- the session for the operations behind SEQUENCE
 abbrev pub calling_by : Value sequence_args → NewCall → Calling
 calling_by v new = record { client = new.client; keeps_reply = keeps_reply v }
 
--- their room, in a reply of the granted size
+-- the room of these operations, in a reply of the granted size
 abbrev pub room_behind : List ℕ → Value sequence_args → NewCall → ℕ
 room_behind tag v new = first_room new.reply_size tag - length (result_bytes (sequence_done v new.highest_slot))
 

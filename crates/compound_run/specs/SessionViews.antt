@@ -1,8 +1,10 @@
--- What the code does of sessions, as the definitions see it.
+-- The sessions of the code, as the definitions see them.
 use Rattle.std.specs.Prelude.{◌≡◌, ◌≤◌, ℕ, ◌+◌, ◌++◌, List, length, Some, Result, Ok, OnOk, OnErr}
 use Rattle.xdr_wire.specs.Buffer.{Buffer, Appends}
 use Rattle.xdr_wire.specs.Xdr.{Value}
 use Rattle.rpc_record.specs.Identity.{Identity}
+use Rattle.who_book.specs.Content.{Content}
+use Rattle.who_book.specs.Members.{member}
 use Rattle.nfs_types.specs.declared.status.Status.{Status}
 use Rattle.nfs_ops.specs.Forms.{sequence_args}
 use Rattle.nfs_ops.specs.Operations.{Operation, Known, number_of}
@@ -32,7 +34,7 @@ use Rattle.compound_run.specs.State.{State, Call}
 use Rattle.compound_run.specs.Sequence.{calling_by, room_behind, keeping}
 use Rattle.compound_run.specs.InSession.{Reply, ActsAlone, RunsTo, RunsBy, RunsBegun, begin_in, fate_by, fate_begun}
 
--- ---- how a COMPOUND begins
+-- ---- the beginning of a COMPOUND
 
 abbrev pub lone_view : Lone → Operation
 lone_view (lones.ExchangeId a) = Known kinds.ExchangeId (exchange_id_args_value a)
@@ -69,11 +71,11 @@ pub record ActedSo (caller : Identity) (op : Operation) (old : Realm) (before : 
   pub told : status ≡ status_in outcome
   pub within : length after.bytes ≤ length before.bytes + MIN_ROOM
 
--- These bytes stand behind what was there, and are no more than the limit.
+-- These bytes are put behind the buffer's, and are within the limit.
 abbrev pub Writes : ℕ → List ℕ → Buffer → Buffer → Type 0
 Writes limit bytes before after = Appends before after bytes × (length bytes ≤ limit)
 
--- What is given stands behind what was there, and is no more than the limit.
+-- The answer is put behind the buffer's bytes, and is within the limit.
 abbrev pub WritesWithin : ℕ → (List ℕ → Type 0) → Buffer → Buffer → Type 0
 WritesWithin limit answers before after = (bytes : List ℕ) × answers bytes × Appends before after bytes × (length bytes ≤ limit)
 
@@ -82,22 +84,22 @@ WritesWithin limit answers before after = (bytes : List ℕ) × answers bytes ×
 abbrev pub SequencedTo : {A : Type 0} → Context → List ℕ → Given → List ℕ → Export A → List ℕ → Export A → Type 0
 SequencedTo c tag given operations old bytes new = (handles : FileHandles) × RunsTo c tag given operations (point_at old no_handles) bytes (point_at new handles)
 
--- The results stand behind what was there, in front of which a head would make them what is given.
+-- The results are put behind the buffer's bytes; with a head in front they would be the answer.
 abbrev pub SequencedBehind : {A : Type 0} → ℕ → Context → List ℕ → Given → List ℕ → Export A → Buffer → Ended → Export A → Buffer → Type 0
 SequencedBehind most c tag given operations old before end new after =
     (results : List ℕ) × SequencedTo c tag given operations old (head end.status tag end.ran ++ results) new
     × Appends before after results × (length after.bytes ≤ most)
 
--- what SEQUENCE gives
+-- the result of SEQUENCE
 abbrev pub sequence_told : SequenceResult → Given
 sequence_told r = record { number = (row kinds.Sequence).number; outcome = Ok (Done kinds.Sequence (sequence_result_value r)) }
 
 -- the context of the first operation behind a SEQUENCE
-abbrev pub coming_behind : Coming → Value sequence_args → NewCall → Context
-coming_behind c v new = record {
-  caller = c.caller.now;
+abbrev pub coming_behind : Content → Coming → Value sequence_args → NewCall → Context
+coming_behind book c v new = record {
+  caller = member book c.caller.now;
   now = c.now;
-  book = c.book.now;
+  book = book;
   calling = Some (calling_by v new);
   position = 1;
   count = c.compound.count;
@@ -114,7 +116,7 @@ SequencedKept {A} c tag v given operations old bytes new =
 abbrev pub call_of : Coming → Call
 call_of c = called c.args c.caller.now c.now
 
--- how its COMPOUND begins
+-- the beginning of the call's COMPOUND
 abbrev pub begun_at : Coming → Beginning
 begun_at c = beginning c.compound.minor_version c.compound.count c.compound.operations.now
 

@@ -8,7 +8,7 @@ use Rattle.nfs_ops.specs.Results.{Outcome}
 use Rattle.session_slots.specs.Registry.{Registry}
 use Rattle.compound_run.specs.Realm.{Realm, Opened}
 
--- The session of an id: eight zero bytes and its number. Any other id is that of session 0, which there never is.
+-- The session of an id: eight zero bytes and its number. Any other id is that of session 0, which never exists.
 abbrev pub session_of : List ℕ → ℕ
 session_of id = if are_zero (take 8 id) then from_be_bytes w64 (drop 8 id) else 0
 
@@ -16,7 +16,7 @@ session_of id = if are_zero (take 8 id) then from_be_bytes w64 (drop 8 id) else 
 abbrev pub session_id : ℕ → List ℕ
 session_id number = replicate 8 0 ++ to_be_bytes w64 number
 
--- the clients and their sessions are others
+-- the realm with other clients and sessions
 abbrev pub with_registry : Registry → Realm → Realm
 with_registry registry r = record r { registry = registry }
 
@@ -29,7 +29,7 @@ abbrev pub opens_without : Option ℕ → List Opened → List Opened
 opens_without None opens = opens
 opens_without (Some client) opens = filter (λ o. not (o.client == client)) opens
 
--- what is told of an answer: what it gives, or its status
+-- the outcome of an answer: its result, or its status
 abbrev pub told_by : {A : Type 0} → (A → Outcome) → Result A Status → Result Outcome Status
 told_by gives (Ok value) = Ok (gives value)
 told_by gives (Err status) = Err status

@@ -1,5 +1,5 @@
--- How an operation sees the realm: part by part, and each part that lists govern where it may be seen. What an operation asks, gives
--- and writes into the trail is a function of a sight, so it is said once for the whole realm and for what a caller may see of it.
+-- An operation's sight of the realm: part by part, and the parts that lists govern as far as they may be seen. The questions, result
+-- and lines of an operation are functions of a sight, so they are defined once for the whole realm and for a caller's view.
 use Rattle.std.specs.Prelude.{ℕ, Bool, true, ◌||◌, if◌then◌else◌, List, [], length, unwrap_or, Option, None}
 use Rattle.std.specs.Option.{option_map, option_map_or}
 use Rattle.rpc_record.specs.Identity.{Identity}
@@ -16,7 +16,7 @@ use Rattle.access_guard.specs.Decisions.{decision, is_granted}
 use Rattle.session_slots.specs.Registry.{Registry}
 use Rattle.compound_run.specs.Realm.{Realm, Opened}
 
--- what READ_ATTRIBUTES governs of an object that isn't a directory, and of a directory all but the change
+-- the parts that READ_ATTRIBUTES governs of an object that isn't a directory, and of a directory all but the change
 pub record Details : Type 0 where
   pub high : ℕ
   pub change : ℕ
@@ -24,8 +24,8 @@ pub record Details : Type 0 where
   pub time_metadata : Moment
 
 pub record Sight : Type 0 where
-  -- these are seen by all: kinds; how many bytes a file or a link's text has; what objects are judged by; how many names an object
-  -- has; whether a directory has names; the directory that a directory lies in; the change of a directory; how many objects there
+  -- these are seen by all: kinds; how many bytes a file or a link's text has; the list, owner and group of an object; how many names an
+  -- object has; whether a directory has names; the parent of a directory; the change of a directory; how many objects there
   -- are; the counters;
   pub kinds : ℕ → Option Kind
   pub sizes : ℕ → ℕ
@@ -79,15 +79,15 @@ sight gives r = let w = r.world in record {
   details = λ number. if gives number READ_ATTRIBUTES then option_map details_of (object w number) else None;
 }
 
--- all of it
+-- the whole realm
 abbrev pub whole : Realm → Sight
 whole r = sight (λ number mask. true) r
 
--- whether the list of an object gives the caller these bits
+-- whether the list of an object grants the caller these bits
 abbrev pub gives : World → Identity → ℕ → ℕ → Bool
 gives w caller number mask = is_granted (decision (judged_of w) caller (Bits number mask))
 
--- what a caller may see of it
+-- the sight of a caller
 abbrev pub view : Realm → Identity → Sight
 view r caller = sight (gives r.world caller) r
 

@@ -1,10 +1,11 @@
--- What a server keeps from one COMPOUND to the next, and what a COMPOUND makes of it.
+-- The state that a server keeps from one COMPOUND to the next, and its change by a COMPOUND.
 use Rattle.std.specs.Prelude.{◌≡◌, ◌≤◌, ℕ, List, [], length, Option, Some, None}
 use Rattle.xdr_wire.specs.Buffer.{Buffer, Appends}
 use Rattle.xdr_wire.specs.Reading.{read_at}
 use Rattle.xdr_wire.specs.Xdr.{Value}
 use Rattle.rpc_record.specs.Identity.{Identity}
 use Rattle.who_book.specs.Content.{Content}
+use Rattle.who_book.specs.Members.{member}
 use Rattle.nfs_types.specs.declared.moment.Moment.{Moment}
 use Rattle.nfs_types.specs.declared.status.Status.{Status}
 use Rattle.node_tree.specs.World.{World}
@@ -14,6 +15,7 @@ use Rattle.compound_run.specs.declared.server.RunEnd.TheVariants.{Replied, Garba
 use Rattle.compound_run.specs.Limits.{MAX_OPERATIONS, MAX_REPLY, MAX_RESULTS}
 use Rattle.compound_run.specs.Realm.{Realm, unopened}
 use Rattle.compound_run.specs.Context.{Context, no_handles}
+use Rattle.compound_run.specs.Settings.{Settings, first_settings, reloaded_settings}
 use Rattle.compound_run.specs.Runs.{Point, Given, Runs}
 use Rattle.compound_run.specs.Compound.{args_form, args_in, head, first_room, together, opening_fault}
 
@@ -23,22 +25,23 @@ pub record State : Type 0 where
   -- the last lines, in order, and how many there were in all
   pub trail : List Line
   pub total : ℕ
-  -- how many summaries of lists are remembered at most: no answer tells it, and nothing changes it
-  pub capacity : ℕ
-  -- the book of names, which never changes
-  pub book : Content
+  pub settings : Settings
 
 -- a server that has run nothing yet
 abbrev pub fresh : World → Content → ℕ → State
-fresh w book capacity = record { realm = unopened w; trail = []; total = 0; capacity = capacity; book = book }
+fresh w book capacity = record { realm = unopened w; trail = []; total = 0; settings = first_settings capacity book }
 
--- where a COMPOUND begins: no line is held, and there is no filehandle
+-- the beginning of a COMPOUND: no line is held, and there is no filehandle
 abbrev pub start : State → Point
-start s = record { realm = s.realm; log = record { held = []; trail = s.trail; total = s.total }; capacity = s.capacity; handles = no_handles }
+start s = record { realm = s.realm; log = record { held = []; trail = s.trail; total = s.total }; settings = s.settings; handles = no_handles }
 
--- what is kept of where it ends
+-- the state that is kept at its end
 abbrev pub left : State → Point → State
-left s p = record s { realm = p.realm; trail = p.log.trail; total = p.log.total; capacity = p.capacity }
+left s p = record s { realm = p.realm; trail = p.log.trail; total = p.log.total; settings = p.settings }
+
+-- The book is another from now on. The world, the open files, the clients with their sessions, and the trail stay.
+abbrev pub with_book : Content → State → State
+with_book book s = record s { settings = reloaded_settings book s.settings }
 
 -- ---- a call
 
@@ -46,28 +49,29 @@ pub record Call : Type 0 where
   pub arguments : List ℕ
   -- how many bytes its record has
   pub record_len : ℕ
+  -- the caller, as sent
   pub caller : Identity
   pub now : Moment
 
 -- the context of its first operation, where there is no session
 abbrev pub bare_context : State → Call → List ℕ → ℕ → Context
 bare_context s call tag count = record {
-  caller = call.caller;
+  caller = member s.settings.book call.caller;
   now = call.now;
-  book = s.book;
+  book = s.settings.book;
   calling = None;
   position = 0;
   count = count;
   room = first_room MAX_REPLY tag;
 }
 
--- what is known of a call before any operation is run
+-- the fate of a call, known before any operation is run
 pub data Fate : Type 0 where
-  -- it is refused, with these results (none: its arguments are garbage)
+  -- the call is refused, with these results (none: its arguments are garbage)
   Refused : Option (List ℕ) → Fate
-  -- it was answered before, and has the same results again
+  -- the call was answered before, and gets the results again
   Repeated : List ℕ → Fate
-  -- its operations are run, under its tag, from this context of the first
+  -- the call's operations are run, under its tag, from this context of the first
   Run : List ℕ → Context → List ℕ → Fate
 
 abbrev pub fate_unless : Option Status → State → Call → List ℕ → ℕ → List ℕ → Fate
@@ -97,7 +101,7 @@ AnswersBy (Run tag c operations) old results new = RunsSo tag c operations old r
 abbrev pub Answers : State → Call → Option (List ℕ) → State → Type 0
 Answers old call results new = AnswersBy (fate old call) old results new
 
--- The results stand behind what was there, and are no more than a reply may have; or there are none.
+-- The results are put behind the buffer's bytes, and are within the limit of a reply; or there are none.
 abbrev pub RunsBare : (Option (List ℕ) → State → Type 0) → RunEnd → Buffer → Buffer → State → Type 0
 RunsBare answers Replied before after new = (results : List ℕ) × answers (Some results) new × Appends before after results × (length results ≤ MAX_RESULTS)
 RunsBare answers Garbage before after new = answers None new × (after ≡ before)

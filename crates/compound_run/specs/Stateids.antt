@@ -1,5 +1,5 @@
--- What a stateid gives an operation on the current object: the special ones serve every file (RFC 8881, section 8.2.3), and one of an
--- open serves the client and the object of that open alone.
+-- The stateid of an operation on the current object: a special stateid serves every file (RFC 8881, section 8.2.3), and the stateid of
+-- an open serves the client and the object of that open alone.
 use Rattle.std.specs.Prelude.{ℕ, Bool, true, false, ◌==◌, ◌&&◌, not, nat_lt, if◌then◌else◌, List, find, filter, Option, Some, None}
 use Rattle.std.specs.Option.{option_map_or}
 use Rattle.xdr_wire.specs.Xdr.{Value}
@@ -8,6 +8,7 @@ use Rattle.nfs_types.specs.StateIds.{is_special, open_of}
 use Rattle.nfs_types.specs.declared.status.Status.{Status}
 use Rattle.nfs_types.specs.declared.status.Status.TheVariants as statuses
 use Rattle.access_rows.specs.Rows.{is_to_read, is_to_write}
+use Rattle.compound_run.specs.declared.context.Calling.{Calling}
 use Rattle.compound_run.specs.declared.stateids.Purpose.{Purpose}
 use Rattle.compound_run.specs.declared.stateids.Purpose.TheVariants.{ToRead, ToWrite, ToClose}
 use Rattle.compound_run.specs.Realm.{Opened}
@@ -17,10 +18,13 @@ use Rattle.compound_run.specs.Faults.{MayFault, first_fault, first_may}
 use Rattle.compound_run.specs.Questions.{Question, Valid}
 
 -- the client whose opens an operation uses; where there is no session all are of client 0
-abbrev pub client_of : Context → ℕ
-client_of c = option_map_or (λ calling. calling.client) c.calling 0
+abbrev pub client_in : Option Calling → ℕ
+client_in calling = option_map_or (λ calling. calling.client) calling 0
 
--- ---- the open that a stateid names
+abbrev pub client_of : Context → ℕ
+client_of c = client_in c.calling
+
+-- ---- the open of a stateid
 
 -- the open of this number, client and object
 abbrev pub is_open : ℕ → ℕ → ℕ → Opened → Bool
@@ -33,9 +37,9 @@ named opens client object (Some number) = find (is_open number client object) op
 abbrev pub open_at : Context → ℕ → Value stateid → Sight → Option Opened
 open_at c object id s = named s.opens (client_of c) object (open_of id)
 
--- ---- what is wrong with it
+-- ---- the fault of a stateid
 
--- Seqid 0 means the newest. A lower one than that is old, a higher one was never given.
+-- Seqid 0 means the newest. A lower seqid is old, a higher one was never returned.
 abbrev pub seqid_fault : ℕ → Opened → Option Status
 seqid_fault seqid o =
     if seqid == 0 then None
@@ -43,11 +47,11 @@ seqid_fault seqid o =
     else if nat_lt o.seqid seqid then Some statuses.BadStateId
     else None
 
--- the file was opened for this
+-- the file was opened for this access
 abbrev pub mode_fault : (ℕ → Bool) → Opened → Option Status
 mode_fault serves o = if serves o.access then None else Some statuses.OpenMode
 
--- what is wrong with the stateid of an open: there is no such open, the seqid isn't its present one, or it isn't opened for this
+-- the fault of an open's stateid: there is no such open, the seqid isn't its present one, or it isn't opened for this access
 abbrev pub open_fault : (ℕ → Bool) → ℕ → Option Opened → Option Status
 open_fault serves seqid None = Some statuses.BadStateId
 open_fault serves seqid (Some o) = first_fault (seqid_fault seqid o) (mode_fault serves o)
@@ -55,13 +59,13 @@ open_fault serves seqid (Some o) = first_fault (seqid_fault seqid o) (mode_fault
 abbrev pub opened_fault : (ℕ → Bool) → Context → ℕ → Value stateid → Sight → Option Status
 opened_fault serves c object id s = open_fault serves id.0 (open_at c object id s)
 
--- what an operation wants of a stateid
+-- whether an open of this access serves the operation's purpose
 abbrev pub serves_for : Purpose → ℕ → Bool
 serves_for ToRead access = is_to_read access
 serves_for ToWrite access = is_to_write access
 serves_for ToClose access = true
 
--- nothing is wrong with a special one, but that it is no open's
+-- a special stateid has no fault, except for closing: it is no open's
 abbrev pub special_fault : Purpose → Option Status
 special_fault ToRead = None
 special_fault ToWrite = None

@@ -1,4 +1,4 @@
--- What is told of an outcome.
+-- The answer of the code to an outcome.
 use Rattle.std.specs.Prelude.{◌≡◌, Bool, true, false, Result, Ok, Err}
 use Rattle.nfs_types.specs.declared.status.Status.{Status}
 use Rattle.nfs_types.specs.declared.status.Status.TheVariants as statuses
@@ -12,7 +12,7 @@ abbrev pub is_delay : {A : Type 0} → Result A Status → Bool
 is_delay (Ok value) = false
 is_delay (Err status) = is_delay_status status
 
--- what is told: that it is OK, or its status
+-- the answer to an outcome: that it is OK, or its status
 abbrev pub IsToldBy : Result (Unit {0}) Status → Result Outcome Status → Type 0
 IsToldBy (Ok done) (Ok outcome) = Unit {0}
 IsToldBy (Ok done) (Err status) = ⊥

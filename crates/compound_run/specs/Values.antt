@@ -1,5 +1,5 @@
--- What each attribute says of an object, by what is seen of it (RFC 8881, sections 5.6 to 5.8 and 6.2). What is the same of every
--- object, and how a value is spelled, says the table of attributes itself.
+-- The value of each attribute of an object, by the sight of it (RFC 8881, sections 5.6 to 5.8 and 6.2). The values that all objects
+-- share, and their spelling, are in the table of attributes.
 use Rattle.std.specs.Prelude.{ℕ, ◌≤◌, if◌then◌else◌, List, [], length, take, unwrap_or, bit_or}
 use Rattle.std.specs.Option.{option_map_or}
 use Rattle.std.proofs.Common.{arith}
@@ -27,7 +27,7 @@ size_at s number = if is_directory_in s.kinds number then 0 else s.sizes number
 abbrev pub links_at : Sight → ℕ → ℕ
 links_at s number = if is_directory_in s.kinds number then 1 else s.links number
 
--- acl, owner and owner_group: what it is judged by
+-- acl, owner and owner_group
 abbrev pub list_at : Sight → ℕ → List Entry
 list_at s number = option_map_or (λ j. j.list) (s.lists number) []
 
@@ -37,7 +37,7 @@ owner_at s number = option_map_or (λ j. j.owner) (s.lists number) 0
 abbrev pub group_at : Sight → ℕ → ℕ
 group_at s number = option_map_or (λ j. j.group) (s.lists number) 0
 
--- what isn't seen of it, said as if it were new
+-- the details of an object that aren't seen, given as those of a new object
 abbrev pub unseen : Details
 unseen = record { high = 0; change = 0; time_modify = epoch; time_metadata = epoch }
 
@@ -45,7 +45,7 @@ unseen = record { high = 0; change = 0; time_modify = epoch; time_metadata = epo
 abbrev pub details_at : Sight → ℕ → Details
 details_at s number = unwrap_or (s.details number) unseen
 
--- mode: its high bits, and what its list stands for
+-- mode: its high bits, and the mode that its list stands for
 abbrev pub mode_at : Sight → ℕ → ℕ
 mode_at s number = bit_or (details_at s number).high (mode_of (list_at s number))
 
@@ -58,7 +58,7 @@ lent list = record { ref_ptr = (0, 0); now = take 64 list }
 pub lent_few : (list : List Entry) → length (take 64 list) ≤ 64
 lent_few list = let short = length-take 64 list in omega (arith, short)
 
--- what is said of an object; rdattr_error is this status
+-- the facts of an object; rdattr_error is this status
 abbrev pub facts_at : Sight → ℕ → Status → ObjectFacts
 facts_at s number error = record {
   kind = kind_at s number;
@@ -76,10 +76,10 @@ facts_at s number error = record {
   few = lent_few (list_at s number);
 }
 
--- the values of those that are asked and supported, by rising number
+-- the values of the attributes requested and supported, by rising number
 abbrev pub values_at : Content → Sight → ℕ → Status → List ℕ → List ℕ
 values_at book s number error asked = given_values book (facts_at s number error) asked
 
--- what is given where these attributes are asked: which are supported, and their values
+-- the attributes that are returned where these are requested: the supported ones, and their values
 abbrev pub attributes_at : Content → Sight → ℕ → Status → List ℕ → Value attributes
 attributes_at book s number error asked = (given_set asked, values_at book s number error asked)

@@ -1,9 +1,10 @@
--- What the code holds, as the definitions see it.
+-- The values of the code, as the definitions see them.
 use Rattle.std.specs.Prelude.{◌≡◌, ◌≢◌, ◌≤◌, ℕ, ◌+◌, Bool, true, false, List, length, map, Option, Some, Result, Ok, Err, OnOk, OnErr}
 use Rattle.xdr_wire.specs.Buffer.{Buffer, Appends}
 use Rattle.xdr_wire.specs.Xdr.{Value}
 use Rattle.rpc_record.specs.Identity.{Identity}
 use Rattle.who_book.specs.Content.{Content}
+use Rattle.who_book.specs.Members.{member}
 use Rattle.nfs_types.specs.declared.attrs.Attrs.{Attrs}
 use Rattle.nfs_types.specs.declared.moment.Moment.{Moment}
 use Rattle.nfs_types.specs.declared.status.Status.{Status}
@@ -28,12 +29,14 @@ use Rattle.access_guard.specs.Log.{Log, held}
 use Rattle.compound_run.specs.Limits.{MIN_ROOM, REFUSAL_ROOM}
 use Rattle.compound_run.specs.Realm.{Realm, Opened}
 use Rattle.compound_run.specs.Context.{Context}
+use Rattle.compound_run.specs.Settings.{Settings}
 use Rattle.compound_run.specs.Sight.{whole}
 use Rattle.compound_run.specs.Meaning.{Meaning}
 use Rattle.compound_run.specs.Runs.{Point, Answered, spelled, waits}
 use Rattle.compound_run.specs.Create.{Draft}
 use Rattle.compound_run.specs.Compound.{args_form}
 use Rattle.compound_run.specs.State.{State, Call}
+use Rattle.access_guard.specs.Guarded.{Guarded}
 
 -- an open file
 abbrev pub open_view : {A : Type 0} → Open A → Opened
@@ -42,16 +45,23 @@ open_view o = record { number = o.number; client = o.client; owner = o.owner.ite
 abbrev pub opens_view : {A : Type 0} → List (Open A) → List Opened
 opens_view opens = map open_view opens
 
--- what is served
+-- the realm that is served
 abbrev pub realm_of : {A : Type 0} → Export A → Realm
 realm_of e = record { world = e.tree.world; opens = opens_view e.opens.items; next_open = e.next_open; registry = e.clients }
 
-abbrev pub point_at : {A : Type 0} → Export A → FileHandles → Point
-point_at e h = record { realm = realm_of e; log = e.tree.log; capacity = e.tree.capacity; handles = h }
+-- the settings of a server
+abbrev pub settings_in : Guarded → Settings
+settings_in t = record { capacity = t.capacity; book = t.book; epoch = t.epoch }
 
--- what is kept of a server
-abbrev pub state_of : {A : Type 0} → Export A → Content → State
-state_of e book = record { realm = realm_of e; trail = e.tree.log.trail; total = e.tree.log.total; capacity = e.tree.capacity; book = book }
+abbrev pub settings_of : {A : Type 0} → Export A → Settings
+settings_of e = settings_in e.tree
+
+abbrev pub point_at : {A : Type 0} → Export A → FileHandles → Point
+point_at e h = record { realm = realm_of e; log = e.tree.log; settings = settings_of e; handles = h }
+
+-- the state of a server
+abbrev pub state_of : {A : Type 0} → Export A → State
+state_of e = record { realm = realm_of e; trail = e.tree.log.trail; total = e.tree.log.total; settings = settings_of e }
 
 -- a call with these arguments
 abbrev pub called : Args → Identity → Moment → Call
@@ -61,15 +71,18 @@ called args caller now = record { arguments = args.bytes.now; record_len = args.
 abbrev pub holding : {A : Type 0} → List Line → Export A → Export A
 holding lines e = record e { tree = record e.tree { log = held lines e.tree.log } }
 
--- the world is another
+-- the realm with another world
 abbrev pub with_world : {A : Type 0} → World → Export A → Export A
 with_world w e = record e { tree = record e.tree { world = w } }
 
--- what an operation is run with
-abbrev pub context_of : code.Context → Context
-context_of c = record { caller = c.caller.now; now = c.now; book = c.book.now; calling = c.calling; position = c.position; count = c.count; room = c.room }
+-- the context of an operation where this book is loaded: lists decide for the caller by the book
+abbrev pub context_of : code.Context → Content → Context
+context_of c book = record { caller = member book c.caller.now; now = c.now; book = book; calling = c.calling; position = c.position; count = c.count; room = c.room }
 
--- the outcome that is told so: what the operation gives, or the status of its refusal
+abbrev pub context_at : {A : Type 0} → Export A → code.Context → Context
+context_at e c = context_of c e.tree.book
+
+-- the outcome of an answer: the operation's result, or the status of its refusal
 abbrev pub told_as : Meaning → Realm → Result (Unit {0}) Status → Result Outcome Status
 told_as m r (Ok done) = Ok (m.answer (whole r))
 told_as m r (Err status) = Err status
@@ -81,37 +94,37 @@ pub record GivesSo {A : Type 0} (may : Bool) (room : ℕ) (m : Meaning) (ends : 
   pub within : OnOk result (length after.bytes ≤ length before.bytes + room)
   pub unwritten : OnErr result (after ≡ before)
 
--- the same of one that takes no memory, before its end
+-- the answer of an operation that takes no memory, before its end
 abbrev pub Gives : {A : Type 0} → code.Context → (Context → FileHandles → Meaning) → Export A → FileHandles → Buffer → Result (Unit {0}) Status → Export A → FileHandles → Buffer → Type 0
-Gives c m old handles before result new handles' after = GivesSo false c.room (m (context_of c) handles) waits old handles before result new handles' after
+Gives c m old handles before result new handles' after = GivesSo false c.room (m (context_at old c) handles) waits old handles before result new handles' after
 
--- one that takes memory may say DELAY
+-- an operation that takes memory may answer DELAY
 abbrev pub GivesOrDelays : {A : Type 0} → code.Context → (Context → FileHandles → Meaning) → Export A → FileHandles → Buffer → Result (Unit {0}) Status → Export A → FileHandles → Buffer → Type 0
-GivesOrDelays c m old handles before result new handles' after = GivesSo true c.room (m (context_of c) handles) waits old handles before result new handles' after
+GivesOrDelays c m old handles before result new handles' after = GivesSo true c.room (m (context_at old c) handles) waits old handles before result new handles' after
 
--- what an operation that may be delayed gives, by what it means at its place
+-- the answer of an operation that may be delayed, by its meaning at its place
 abbrev pub GivesBy : {A : Type 0} → (Context → Operation → Bool) → (Context → FileHandles → Operation → Meaning) → (Log → Log) → code.Context → Op
     → Export A → FileHandles → Buffer → Result (Unit {0}) Status → Export A → FileHandles → Buffer → Type 0
 GivesBy delays means ends c op old handles before result new handles' after =
-    let context = context_of c in
+    let context = context_at old c in
     GivesSo (delays context (op_view op)) c.room (means context handles (op_view op)) ends old handles before result new handles' after
 
 -- there is room for the result of an operation that is run, and for a refusal
 abbrev pub HasRoom : code.Context → Buffer → Type 0
 HasRoom c out = (MIN_ROOM ≤ c.room) × (c.room + REFUSAL_ROOM ≤ out.room)
 
--- what is asked of an operation that is run alone
+-- a condition for an operation that is run
 abbrev pub IfRun : Bool → Type 0 → Type 0
 IfRun true A = A
 IfRun false A = Unit {0}
 
--- what CREATE makes
+-- the object that CREATE creates
 abbrev pub draft_view : drafts.Draft → Draft
 draft_view d = record { kind = d.kind; text = d.text.now }
 
--- what attributes set
+-- the values that attributes set
 abbrev pub wanted_view : {A : Type 0} → Attrs A → Wanted
-wanted_view a = made a.size a.list a.mode a.owner a.group
+wanted_view a = made a.size a.list a.mode a.owner a.group a.dacl a.sacl
 
 -- attributes are read, or refused with their status; DELAY alone says nothing of them
 abbrev pub IsWanted : {A : Type 0} → Result Wanted Status → Result (Attrs A) Status → Type 0
@@ -125,7 +138,7 @@ args_of a = (a.tag.now, (a.minor_version, a.count))
 abbrev pub arguments_of : CompoundArgs → Value args_form × List ℕ
 arguments_of a = (args_of a, a.operations.now)
 
--- what the refusal of a rename tells
+-- whether the refusal of a rename is INVAL
 abbrev pub is_inval : Option TreeFault → Bool
 is_inval (Some Inval) = true
 is_inval _ = false

@@ -41,7 +41,7 @@ write v c h = record {
       ∷ Holds (λ s. fits (write_offset v) (written_bytes v)) statuses.FBig tt
       ∷ Holds (λ s. has_tick_for (written_bytes v) s) statuses.NoSpc tt
       ∷ []);
-  -- all of them, as far as FILE_SYNC4 goes
+  -- all bytes, as stable as FILE_SYNC4
   answer = λ s. Done kinds.Write (length (written_bytes v), (inl tt, verifier));
   effect = in_world (λ w. with_write w (here h) (write_offset v) (written_bytes v) (at c w));
   goes = λ s. h;

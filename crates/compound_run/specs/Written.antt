@@ -1,4 +1,4 @@
--- What the code gives of a COMPOUND, as it writes it.
+-- The results of a COMPOUND, as the code writes them.
 use Rattle.std.specs.Prelude.{◌≡◌, ◌≤◌, ℕ, ◌+◌, ◌-◌, List, ◌++◌, length, Option, Some, None, Result, OnOk}
 use Rattle.xdr_wire.specs.Buffer.{Buffer, Appends}
 use Rattle.nfs_types.specs.declared.status.Status.{Status}
@@ -33,7 +33,7 @@ pub record RunGives {A : Type 0} (c : Context) (operations : List ℕ) (old : Ex
   pub ran : end.ran ≡ c.position + length results
   pub within : length after.bytes ≤ length before.bytes + c.room + REFUSAL_ROOM
 
--- The operations are refused before any is run, or run in turn: what is given, and where they end.
+-- The operations are refused before any is run, or run in turn: the results, and where they end.
 abbrev pub Opens : Option Status → List ℕ → Context → List ℕ → Point → List ℕ → Point → Type 0
 Opens (Some status) tag c operations old bytes new = (bytes ≡ head status tag 0) × (new ≡ old)
 Opens None tag c operations old bytes new = (results : List Given) × Runs c c.count operations old results new × (bytes ≡ together tag results)
@@ -41,12 +41,12 @@ Opens None tag c operations old bytes new = (results : List Given) × Runs c c.c
 abbrev pub OpensTo : {A : Type 0} → Option Status → List ℕ → Context → List ℕ → Export A → List ℕ → Export A → Type 0
 OpensTo fault tag c operations old bytes new = (handles : FileHandles) × Opens fault tag c operations (point_at old no_handles) bytes (point_at new handles)
 
--- The results stand behind what was there, in front of which a head would make them what is given.
+-- The results are put behind the buffer's bytes; with a head in front they would be the answer.
 abbrev pub OpensBehind : {A : Type 0} → Option Status → List ℕ → Context → List ℕ → Export A → Buffer → Ended → Export A → Buffer → Type 0
 OpensBehind fault tag c operations old before end new after =
     (results : List ℕ) × OpensTo fault tag c operations old (head end.status tag end.ran ++ results) new
     × Appends before after results × (length after.bytes ≤ length before.bytes + c.room + REFUSAL_ROOM)
 
--- What is given stands behind what was there, and is no more than a reply may have.
+-- The answer is put behind the buffer's bytes, and is within the limit of a reply.
 abbrev pub WritesAnswer : (List ℕ → Type 0) → Buffer → Buffer → Type 0
 WritesAnswer answers before after = (bytes : List ℕ) × answers bytes × Appends before after bytes × (length bytes ≤ MAX_RESULTS)

@@ -14,7 +14,7 @@ use std::alloc::Allocator;
 use xdr_wire::Writer;
 
 impl<A: Allocator + Copy> Export<A> {
-    /// Which of the rights that are asked have a meaning for the current object, and which of these its list grants.
+    /// The rights requested that are supported for the current object, and those that its list grants.
     pub fn access(
         &mut self,
         context: Context<'_>,

@@ -31,7 +31,7 @@ impl Lone<'_> {
 }
 
 impl<A: Allocator + Copy> Export<A> {
-    /// Does what the operation says.
+    /// Runs the operation.
     fn act(&mut self, caller: &Caller, lone: &Lone<'_>, out: &mut Writer<A>) -> Result<(), Status>
         requires room { limits.MIN_ROOM ≤ out.old.room }
         ensures gives { ActGives caller.now (lone_view lone.now) (realm_of self.old) out.old result (realm_of self.new) out.new }
@@ -45,7 +45,7 @@ impl<A: Allocator + Copy> Export<A> {
         }
     }
 
-    /// Does what the operation says, and writes its result. Its status is told.
+    /// Runs the operation, and writes its result. Answers its status.
     fn act_alone(&mut self, caller: &Caller, lone: &Lone<'_>, out: &mut Writer<A>) -> Status
         requires room { limits.MIN_ROOM ≤ out.old.room }
         ensures gives { ActedSo caller.now (lone_view lone.now) (realm_of self.old) out.old result (realm_of self.new) out.new }

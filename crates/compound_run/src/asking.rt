@@ -1,4 +1,4 @@
-//! What operations ask of lists.
+//! The demands of operations on lists.
 ghost use Rattle.std.specs.Prelude.{◌≡◌, ◌+◌, ◌*◌, ◌<◌, ◌≤◌, [], length, true};
 ghost use Rattle.acl_shape.specs.declared.bounds.TheConstants.{MAX_ENTRIES};
 ghost use Rattle.node_tree.specs.World.{bytes_of};
@@ -37,7 +37,7 @@ impl<A: Allocator + Copy> Export<A> {
         }
     }
 
-    /// Whether the lists grant what an operation asks before it looks up a name. Its lines are held.
+    /// Whether the lists grant the first demands of an operation, before it looks up a name. Its lines are held.
     pub fn grants_first(&mut self, op: &Op<'_>, handles: FileHandles, caller: &Caller) -> bool
         requires { self.old.tree.log.held ≡ [] }
         ensures answer { result ≡ grants_all self.old caller.now (first_of self.old op.now handles) }
@@ -48,7 +48,7 @@ impl<A: Allocator + Copy> Export<A> {
         self.grants(&first_demands(op, &facts), caller, op.number())
     }
 
-    /// Whether the lists grant what an operation asks first by the size of the current object and by the size that it sets. Its lines are held.
+    /// Whether the lists grant an operation's first demands by the size of the current object and the new size. Its lines are held.
     pub fn grants_sized(
         &mut self,
         op: &Op<'_>,
@@ -74,8 +74,8 @@ impl<A: Allocator + Copy> Export<A> {
         self.grants(&first_demands(op, &facts), caller, op.number())
     }
 
-    /// Whether the lists grant what an operation asks once it has looked up its names: the child that is named, and what has the new
-    /// name of a RENAME. Its lines are held.
+    /// Whether the lists grant the demands of an operation once it has looked up its names: the child of the name, and the target
+    /// of the new name of a RENAME. Its lines are held.
     pub fn grants_second(
         &mut self,
         op: &Op<'_>,
@@ -98,7 +98,7 @@ impl<A: Allocator + Copy> Export<A> {
         self.grants(&second_demands(op, &facts), caller, op.number())
     }
 
-    /// Whether the lists grant what OPEN asks of the file that is there, if one is, and by the size that is to be set. Its lines are held.
+    /// Whether the lists grant the demands of OPEN on the existing file, if there is one, and by the new size. Its lines are held.
     pub fn grants_opening(
         &mut self,
         op: &Op<'_>,
@@ -121,7 +121,7 @@ impl<A: Allocator + Copy> Export<A> {
         self.grants(&second_demands(op, &facts), caller, op.number())
     }
 
-    /// Whether the lists grant the demands, each where there is one; none is asked behind one that is refused. Their lines are held.
+    /// Whether the lists grant the demands, each where there is one; none is checked behind a refused one. Their lines are held.
     pub fn grants(&mut self, demands: &[Option<Demand>], caller: &Caller, op: u32) -> bool
         requires { length self.old.tree.log.held + MAX_ENTRIES * lists_in demands.now < MOST_HELD }
         ensures answer { result ≡ grants_all self.old caller.now demands.now }

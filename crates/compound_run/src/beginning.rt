@@ -1,4 +1,4 @@
-//! How a COMPOUND begins where sessions are in use (RFC 8881, sections 2.10.6.2 to 2.10.6.4 and 16.2).
+//! The beginning of a COMPOUND where sessions are in use (RFC 8881, sections 2.10.6.2 to 2.10.6.4 and 16.2).
 ghost use Rattle.std.specs.Prelude.{◌≡◌};
 ghost use Rattle.nfs_ops.specs.Operations.{number_of};
 ghost use Rattle.nfs_ops.specs.OpViews.{op_view};
@@ -22,20 +22,20 @@ pub(crate) enum Lone<'a> {
     DestroyClientId(DestroyClientIdArgs),
 }
 
-/// How a COMPOUND begins.
+/// The beginning of a COMPOUND.
 #[derive(Drop)]
 pub(crate) enum Beginning<'a> {
     /// No operation is run, and the COMPOUND has this status.
     Ends(Status),
     /// The first operation, of this number, is refused.
     Refuses(u32, Status),
-    /// It is the only one.
+    /// The operation is the only one.
     Acts(Lone<'a>),
     /// SEQUENCE, and the bytes of the operations behind it.
     Follows(SequenceArgs, &'a [u8]),
 }
 
-/// Begins with an operation that is to be the only one of so many, and has this number.
+/// Begins with an operation that has to be the only one of so many, and has this number.
 fn only(count: u32, number: u32, lone: Lone<'_>) -> Beginning<'_>
     requires { number ≡ number_of (lone_view lone) }
     ensures { beginning_view result ≡ specs.only count (lone_view lone.entry) }
@@ -64,7 +64,7 @@ fn begin_with<'a>(count: u32, op: Op<'a>, rest: &'a [u8]) -> Beginning<'a>
     }
 }
 
-/// How a COMPOUND of this minor version and so many operations begins, which stand in the bytes.
+/// The beginning of a COMPOUND of this minor version and so many operations in these bytes.
 pub(crate) fn begin(minor_version: u32, count: u32, operations: &[u8]) -> Beginning<'_>
     ensures { beginning_view result ≡ specs.beginning minor_version count operations.now }
 {

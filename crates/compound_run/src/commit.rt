@@ -13,7 +13,7 @@ use std::alloc::Allocator;
 use xdr_wire::Writer;
 
 impl<A: Allocator + Copy> Export<A> {
-    /// What was written of the current file is kept already.
+    /// The data that were written into the current file are kept already.
     pub fn commit(
         &self,
         context: Context<'_>,

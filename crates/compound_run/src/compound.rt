@@ -7,7 +7,7 @@ ghost use Rattle.xdr_wire.specs.Xdr.{padded};
 ghost use Rattle.compound_run.specs.Limits as limits;
 ghost use Rattle.compound_run.specs.Compound.{args_form, args_in, first_room, opening_fault};
 ghost use Rattle.compound_run.specs.Written.{RunGives, OpensTo, OpensBehind, WritesAnswer};
-ghost use Rattle.compound_run.specs.Views.{arguments_of, context_of};
+ghost use Rattle.compound_run.specs.Views.{arguments_of, context_at};
 
 use crate::context::Context;
 use crate::export::Export;
@@ -18,7 +18,7 @@ use nfs_types::Status;
 use std::alloc::{Allocator, Global};
 use xdr_wire::{Reader, Writer};
 
-/// How a COMPOUND ended: the status of the last operation that was run, and how many were.
+/// The end of a COMPOUND: the status of the last operation that was run, and how many were.
 #[derive(Clone, Copy, Debug, PartialEq, Eq)]
 pub(crate) struct Ended {
     pub status: Status,
@@ -35,7 +35,7 @@ pub(crate) struct CompoundArgs<'a> {
 }
 
 impl<A: Allocator + Copy> Export<A> {
-    /// Runs the operations from the context of the first on, which stand in the bytes, up to and with the first that isn't OK.
+    /// Runs the operations in these bytes, from the context of the first on, up to and with the first that isn't OK.
     pub fn run_all(
         &mut self,
         context: Context<'_>,
@@ -45,7 +45,7 @@ impl<A: Allocator + Copy> Export<A> {
         requires settled { self.old.tree.log.held ≡ [] }
         requires place { context.position ≤ context.count }
         requires room { context.room + limits.REFUSAL_ROOM ≤ results.old.room }
-        ensures gives { RunGives (context_of context.entry) operations.now self.old results.old result self.new results.new }
+        ensures gives { RunGives (context_at self.old context.entry) operations.now self.old results.old result self.new results.new }
         ensures settled { self.new.tree.log.held ≡ [] }
     {
         let end = results.capacity() - (results.room() - context.room);
@@ -115,7 +115,7 @@ impl<'a> CompoundArgs<'a> {
         requires count { context.count ≡ self.now.count }
         requires least { context.room ≡ first_room limits.MAX_REPLY self.now.tag.now }
         requires room { context.room + limits.REFUSAL_ROOM ≤ out.old.room }
-        ensures answers { OpensBehind (opening_fault limits.MAX_OPERATIONS self.now.minor_version self.now.count) self.now.tag.now (record (context_of context.entry) { room = first_room limits.MAX_REPLY self.now.tag.now }) self.now.operations.now export.old out.old result export.new out.new }
+        ensures answers { OpensBehind (opening_fault limits.MAX_OPERATIONS self.now.minor_version self.now.count) self.now.tag.now (record (context_at export.old context.entry) { room = first_room limits.MAX_REPLY self.now.tag.now }) self.now.operations.now export.old out.old result export.new out.new }
         ensures settled { export.new.tree.log.held ≡ [] }
     {
         if let Some(status) = self.fault() {
@@ -124,8 +124,8 @@ impl<'a> CompoundArgs<'a> {
         export.run_all(context, self.operations, out)
     }
 
-    /// Writes what the COMPOUND gives behind what `out` holds: its status and the number of its results are filled in once they are
-    /// known. The room of the context is that of the head and the results together.
+    /// Writes the results of the COMPOUND behind what `out` holds: its status and the number of its results are filled in once they
+    /// are known. The room of the context is that of the head and the results together.
     pub fn run<A: Allocator + Copy>(
         &self,
         export: &mut Export<A>,
@@ -138,7 +138,7 @@ impl<'a> CompoundArgs<'a> {
         requires count { context.count ≡ self.now.count }
         requires whole { context.room + limits.REFUSAL_ROOM ≡ limits.MAX_RESULTS }
         requires room { limits.MAX_RESULTS ≤ out.old.room }
-        ensures answers { WritesAnswer (λ bytes. OpensTo (opening_fault limits.MAX_OPERATIONS self.now.minor_version self.now.count) self.now.tag.now (record (context_of context.entry) { room = first_room limits.MAX_REPLY self.now.tag.now }) self.now.operations.now export.old bytes export.new) out.old out.new }
+        ensures answers { WritesAnswer (λ bytes. OpensTo (opening_fault limits.MAX_OPERATIONS self.now.minor_version self.now.count) self.now.tag.now (record (context_at export.old context.entry) { room = first_room limits.MAX_REPLY self.now.tag.now }) self.now.operations.now export.old bytes export.new) out.old out.new }
         ensures settled { export.new.tree.log.held ≡ [] }
     {
         let end = out.capacity() - (out.room() - context.room);

@@ -1,34 +1,32 @@
-//! What an operation is run with.
+//! The context of an operation.
 ghost use Rattle.std.specs.Prelude.{◌≡◌};
 ghost use Rattle.compound_run.specs.Meaning.{too_big_for};
 
 use nfs_types::{Moment, Status};
 use rpc_record::Caller;
-use who_book::Book;
 
 /// The session behind whose SEQUENCE operations are run (RFC 8881, section 18.46).
 #[derive(Clone, Copy, Debug, PartialEq, Eq)]
 pub(crate) struct Calling {
-    /// The number of its client.
+    /// The client of the session.
     pub client: u64,
-    /// Whether SEQUENCE asked that the reply be kept.
+    /// Whether SEQUENCE asked for the reply to be cached.
     pub keeps_reply: bool,
 }
 
-/// What an operation is run with.
+/// The context of an operation.
 #[derive(Clone, Copy)]
 pub(crate) struct Context<'t> {
+    /// The caller, as sent.
     pub caller: &'t Caller,
     pub now: Moment,
-    /// The book of names.
-    pub book: &'t Book,
     /// The session, if there is one.
     pub calling: Option<Calling>,
-    /// How many operations stand before it.
+    /// How many operations are before it.
     pub position: u32,
     /// How many operations its COMPOUND has.
     pub count: u32,
-    /// How many bytes its result may take.
+    /// The most bytes of its result.
     pub room: usize,
 }
 

@@ -1,5 +1,5 @@
 //! CREATE (RFC 8881, section 18.4).
-ghost use Rattle.std.specs.Prelude.{◌≡◌, ◌+◌, ◌<◌, ◌≤◌, [], ◌∷◌, length, Some, None, option_map, unwrap_or, IfOk, IfSome, IsSome, MatchResult};
+ghost use Rattle.std.specs.Prelude.{◌≡◌, ◌+◌, ◌<◌, ◌≤◌, [], ◌∷◌, length, Some, None, option_map, unwrap_or, IfOk, IfSome, IsOkUnless, IsSome, MatchResult};
 ghost use Rattle.acl_shape.specs.Bounds.{IsBounded};
 ghost use Rattle.acl_shape.specs.Permissions.{created_list, created_high};
 ghost use Rattle.nfs_types.specs.Sent.{wanted_of};
@@ -14,29 +14,31 @@ ghost use Rattle.node_tree.specs.Sound.{most_bytes};
 ghost use Rattle.compound_run.specs.Sight.{whole, child, directory_change};
 ghost use Rattle.compound_run.specs.Create.{create, list_at, making};
 ghost use Rattle.compound_run.specs.Create as specs;
-ghost use Rattle.compound_run.specs.Views.{context_of, GivesOrDelays, HasRoom, realm_of, draft_view, wanted_view, IsWanted};
+ghost use Rattle.compound_run.specs.Lists.{IsFit, base_of, new_fits, new_list};
+ghost use Rattle.compound_run.specs.Views.{context_at, GivesOrDelays, HasRoom, realm_of, draft_view, wanted_view, IsWanted};
 
 use crate::context::Context;
 use crate::export::{Export, check};
 use crate::filehandles::FileHandles;
+use crate::parts::put_parts;
 use crate::results::put_result;
-use acl_shape::{Given, created_permissions};
+use acl_list::AclList;
+use acl_shape::{Given, Permissions, created_permissions};
 use nfs_ops::{ChangeInfo, CreateArgs, CreateResult, CreateType, Op, OpResult};
 use nfs_types::{Attributes, Attrs, AttrsFault, Status, read_attrs};
 use node_tree::{Kind, MAX_TEXT, NewObject};
 use rpc_record::Caller;
 use std::alloc::{AllocError, Allocator};
-use who_book::Book;
 use xdr_wire::Writer;
 
-/// What is made: a directory, or a link with its text.
+/// The object that is created: a directory, or a link with its text.
 #[derive(Clone, Copy)]
 pub(crate) struct Draft<'a> {
     pub kind: Kind,
     pub text: &'a [u8],
 }
 
-/// What is made of this type. `None`: nothing.
+/// The object of this type. `None`: CREATE doesn't create it.
 fn draft_of<'a>(kind: &CreateType<'a>) -> Option<Draft<'a>>
     ensures { option_map draft_view result ≡ specs.draft_of (created (create_type_value kind.now)) }
 {
@@ -69,7 +71,7 @@ fn check_text(draft: Draft<'_>) -> Result<(), Status>
     Ok(())
 }
 
-/// Whether the owner that is wanted is the caller, and the group one of the caller's.
+/// Whether the owner to be set is the caller, and the group one of the caller's.
 pub(crate) fn is_own<A: Allocator>(caller: &Caller, wanted: &Attrs<A>) -> bool
     ensures { result ≡ specs.is_own caller.now (wanted_view wanted.now) }
 {
@@ -84,58 +86,135 @@ pub(crate) fn is_own<A: Allocator>(caller: &Caller, wanted: &Attrs<A>) -> bool
     owner && group
 }
 
+/// The given list of a new object before its parts: the empty list where a dacl is given, else the list that was sent, if any.
+fn base_of<A: Allocator>(
+    alloc: A,
+    list: Option<AclList<A>>,
+    dacl: &Option<AclList<A>>,
+) -> Option<AclList<A>>
+    requires bounded { IfSome list IsBounded }
+    ensures list { result ≡ base_of list dacl.now }
+    ensures bounded { IfSome result IsBounded }
+{
+    if dacl.is_some() {
+        Some(AclList::new(alloc))
+    } else {
+        list
+    }
+}
+
+/// A copy of these bytes. `Err`: there is no memory for them.
+fn copied<A: Allocator>(alloc: A, bytes: &[u8]) -> Result<Vec<u8, A>, AllocError>
+    ensures { IfOk result (λ copy. copy.items ≡ bytes.now) }
+{
+    let mut copy = Vec::with_capacity(alloc, bytes.len())?;
+    copy.extend_from_slice(bytes)?;
+    Ok(copy)
+}
+
 impl<A: Allocator + Copy> Export<A> {
-    /// What the attributes that were sent set. `Delay`: there is no memory for the list.
-    pub fn wanted(&self, book: &Book, kind: Kind, sent: &Attributes<'_>) -> Result<Attrs<A>, Status>
-        ensures wanted { IsWanted (wanted_of book.now kind (bitmap_value sent.now.set) sent.now.values.bytes.now) result }
+    /// The values that the attributes set. `Delay`: there is no memory for the list.
+    pub fn wanted(&self, kind: Kind, sent: &Attributes<'_>) -> Result<Attrs<A>, Status>
+        ensures wanted { IsWanted (wanted_of self.now.tree.book kind (bitmap_value sent.now.set) sent.now.values.bytes.now) result }
         ensures bounded { IfOk result (λ wanted. IfSome wanted.list IsBounded) }
     {
-        read_attrs(self.alloc, book, kind, sent).map_err(|fault| match fault {
+        read_attrs(self.alloc, self.tree.book(), kind, sent).map_err(|fault| match fault {
             AttrsFault::Refused(status) => status,
             AttrsFault::Memory => Status::Delay,
         })
     }
 
-    /// What is to be added to a directory.
+    /// The list of a new object before its parts, with the high bits of its mode. `Delay`: there is no memory for it.
+    fn base_permissions(
+        &self,
+        directory: u64,
+        kind: Kind,
+        given: Given<A>,
+    ) -> Result<Permissions<A>, Status>
+        requires there { IsSome (object self.now.tree.world directory) }
+        requires bounded { IfSome given.list IsBounded }
+        ensures space { IsOkUnless result Status.Delay }
+        ensures list { IfOk result (λ made. made.list ≡ created_list (list_at self.now.tree.world directory) kind given.mode given.list) }
+        ensures high { IfOk result (λ made. made.high ≡ created_high given.mode) }
+        ensures bounded { IfOk result (λ made. IsBounded made.list) }
+    {
+        let Some(parent) = self.tree.object(directory) else {
+            unreachable!();
+        };
+        match created_permissions(self.alloc, parent.list(), kind, given) {
+            Ok(made) => Ok(made),
+            Err(AllocError) => Err(Status::Delay),
+        }
+    }
+
+    /// The list of a new object by its attributes, with the high bits of its mode. `NoSpc`: it would not be within the bounds of
+    /// a list. `Delay`: there is no memory for it.
+    fn new_permissions(
+        &self,
+        directory: u64,
+        kind: Kind,
+        wanted: Attrs<A>,
+    ) -> Result<Permissions<A>, Status>
+        requires there { IsSome (object self.now.tree.world directory) }
+        requires bounded { IfSome wanted.list IsBounded }
+        ensures fits { IsFit (new_fits (wanted_view wanted) kind (list_at self.now.tree.world directory)) result }
+        ensures list { IfOk result (λ made. made.list ≡ new_list (wanted_view wanted) kind (list_at self.now.tree.world directory)) }
+        ensures high { IfOk result (λ made. made.high ≡ created_high wanted.mode) }
+        ensures bounded { IfOk result (λ made. IsBounded made.list) }
+    {
+        let Attrs {
+            list,
+            mode,
+            dacl,
+            sacl,
+            ..
+        } = wanted;
+        let list = base_of(self.alloc, list, &dacl);
+        let Permissions { list, high } = self.base_permissions(
+            directory,
+            kind,
+            Given { mode, list },
+        )?;
+        let list = put_parts(self.alloc, list, dacl, sacl)?;
+        Ok(Permissions { list, high })
+    }
+
+    /// The new object for a directory. `NoSpc`: its list would not be within the bounds of a list. `Delay`: there is no memory for it.
     pub fn new_object(
         &self,
         directory: u64,
         draft: Draft<'_>,
         wanted: Attrs<A>,
         caller: &Caller,
-    ) -> Result<NewObject<A>, AllocError>
+    ) -> Result<NewObject<A>, Status>
         requires there { IsSome (object self.now.tree.world directory) }
         requires bounded { IfSome wanted.list IsBounded }
         requires short { length draft.text.now ≤ most_bytes draft.kind }
+        ensures fits { IsFit (new_fits (wanted_view wanted) draft.entry.kind (list_at self.now.tree.world directory)) result }
         ensures kind { IfOk result (λ new. new.kind ≡ draft.entry.kind) }
         ensures bytes { IfOk result (λ new. new.bytes.items ≡ draft.entry.text.now) }
         ensures owner { IfOk result (λ new. new.owner ≡ caller.now.uid) }
         ensures group { IfOk result (λ new. new.group ≡ unwrap_or wanted.group caller.now.gid) }
-        ensures list { IfOk result (λ new. new.list ≡ created_list (list_at self.now.tree.world directory) draft.entry.kind wanted.mode wanted.list) }
+        ensures list { IfOk result (λ new. new.list ≡ new_list (wanted_view wanted) draft.entry.kind (list_at self.now.tree.world directory)) }
         ensures high { IfOk result (λ new. new.high ≡ created_high wanted.mode) }
         ensures bounded { IfOk result (λ new. IsBounded new.list) }
     {
-        let Some(parent) = self.tree.object(directory) else {
-            unreachable!();
+        let group = wanted.group.unwrap_or(caller.gid());
+        let permissions = self.new_permissions(directory, draft.kind, wanted)?;
+        let Ok(bytes) = copied(self.alloc, draft.text) else {
+            return Err(Status::Delay);
         };
-        let given = Given {
-            mode: wanted.mode,
-            list: wanted.list,
-        };
-        let permissions = created_permissions(self.alloc, parent.list(), draft.kind, given)?;
-        let mut bytes = Vec::with_capacity(self.alloc, draft.text.len())?;
-        bytes.extend_from_slice(draft.text)?;
         Ok(NewObject {
             kind: draft.kind,
             bytes,
             owner: caller.uid(),
-            group: wanted.group.unwrap_or(caller.gid()),
+            group,
             list: permissions.list,
             high: permissions.high,
         })
     }
 
-    /// What is wanted is added to the current directory, under a name that nothing has there, and becomes current.
+    /// Adds the new object to the current directory, under a free name. It becomes current.
     fn make(
         &mut self,
         context: Context<'_>,
@@ -150,7 +229,7 @@ impl<A: Allocator + Copy> Export<A> {
         requires live { kind_of self.old.tree.world directory ≡ Some Kind.Directory }
         requires change { directory_change self.old.tree.world directory ≡ before }
         requires draft { specs.draft (create_args_value args.now) ≡ draft_view wanted.0 }
-        requires wanted { specs.wanted (context_of context) (create_args_value args.now) ≡ wanted_view wanted.1 }
+        requires wanted { specs.wanted (context_at self.old context) (create_args_value args.now) ≡ wanted_view wanted.1 }
         requires bounded { IfSome wanted.1.list IsBounded }
         requires short { length args.now.name.bytes.now ≤ 255 }
         requires fits { length wanted.0.text.now ≤ most_bytes wanted.0.kind }
@@ -160,9 +239,8 @@ impl<A: Allocator + Copy> Export<A> {
     {
         let (draft, wanted) = wanted;
         let at = self.tick(context.now).ok_or(Status::NoSpc)?;
-        let Ok(new) = self.new_object(directory, draft, wanted, context.caller) else {
-            return Err(Status::Delay);
-        };
+        let caller = self.tree.member(context.caller);
+        let new = self.new_object(directory, draft, wanted, &caller)?;
         let number = self.add(directory, args.name.bytes, new, at)?;
         handles.current = Some(number);
         put_result(
@@ -178,7 +256,7 @@ impl<A: Allocator + Copy> Export<A> {
         Ok(())
     }
 
-    /// A directory or a link is made in the current directory, and becomes current.
+    /// Creates a directory or a link in the current directory. It becomes current.
     pub fn create(
         &mut self,
         context: Context<'_>,
@@ -202,7 +280,7 @@ impl<A: Allocator + Copy> Export<A> {
         let name = args.name.bytes;
         check(name)?;
         check_text(draft)?;
-        let wanted = self.wanted(context.book, draft.kind, &args.attributes)?;
+        let wanted = self.wanted(draft.kind, &args.attributes)?;
         if wanted.size.is_some() {
             return Err(Status::Inval);
         }
@@ -212,7 +290,7 @@ impl<A: Allocator + Copy> Export<A> {
         if self.find(directory, name).is_some() {
             return Err(Status::Exist);
         }
-        if !is_own(context.caller, &wanted) {
+        if !is_own(&self.tree.member(context.caller), &wanted) {
             return Err(Status::Perm);
         }
         self.make(

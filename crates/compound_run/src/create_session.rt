@@ -22,7 +22,7 @@ use session_slots::{Channel, Create, Created, Made};
 use std::alloc::Allocator;
 use xdr_wire::Writer;
 
-/// What a channel is asked to carry, RDMA apart.
+/// The attributes of a channel that is requested, RDMA apart.
 fn channel_of(asked: &nfs_ops::Channel) -> Channel
     ensures { result ≡ channel_of (channel_value asked.now) }
 {
@@ -36,7 +36,7 @@ fn channel_of(asked: &nfs_ops::Channel) -> Channel
     }
 }
 
-/// What a channel carries, without RDMA.
+/// The attributes of a channel, without RDMA.
 fn channel_given(granted: Channel) -> nfs_ops::Channel
     ensures { channel_value result ≡ channel_given granted }
 {
@@ -51,7 +51,7 @@ fn channel_given(granted: Channel) -> nfs_ops::Channel
     }
 }
 
-/// Writes a session that was made.
+/// Writes a session that was created.
 fn put_created<A: Allocator>(created: Created, out: &mut Writer<A>)
     requires room { limits.MIN_ROOM ≤ out.old.room }
     ensures written { Appends out.old out.new (spelled (session_made created)) }
@@ -70,7 +70,7 @@ fn put_created<A: Allocator>(created: Created, out: &mut Writer<A>)
 }
 
 impl<A: Allocator + Copy> Export<A> {
-    /// Asks for a session. The opens of a client whose record goes end.
+    /// Asks for a session. The opens of a client whose record goes are closed.
     fn make_session(&mut self, caller: &Caller, args: &CreateSessionArgs<'_>) -> Made
         ensures creates { Creates self.old.clients (create_of caller.now (create_session_args_value args.now)) result self.new.clients }
         ensures opens { opens_view self.new.opens.items ≡ opens_without result.gone (opens_view self.old.opens.items) }
@@ -87,7 +87,7 @@ impl<A: Allocator + Copy> Export<A> {
         made
     }
 
-    /// A client gets a session, and its record is confirmed. DELAY: there is no memory where a session would be made, and nothing
+    /// A client gets a session, and its record is confirmed. DELAY: there is no memory for a new session, and nothing
     /// changes.
     pub fn create_session(
         &mut self,

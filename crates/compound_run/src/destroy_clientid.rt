@@ -16,7 +16,7 @@ use std::alloc::Allocator;
 use xdr_wire::Writer;
 
 impl<A: Allocator + Copy> Export<A> {
-    /// The record of a client goes, which has neither opens nor sessions. It takes no memory.
+    /// The record of a client without opens and sessions goes. It takes no memory.
     pub fn destroy_clientid(
         &mut self,
         caller: &Caller,

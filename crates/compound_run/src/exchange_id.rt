@@ -20,10 +20,10 @@ use session_slots::{Exchange, Exchanged};
 use std::alloc::Allocator;
 use xdr_wire::{Opaque, Writer};
 
-/// The name of this server, and where its names are known.
+/// The server owner's major ID, and the server scope.
 const SERVER: &[u8] = b"nfs41-lists";
 
-/// Writes the record of a client that is told.
+/// Writes the record of a client.
 fn put_exchanged<A: Allocator>(told: Exchanged, out: &mut Writer<A>)
     requires room { limits.MIN_ROOM ≤ out.old.room }
     ensures written { Appends out.old out.new (spelled (exchanged told)) }
@@ -57,7 +57,7 @@ impl<A: Allocator + Copy> Export<A> {
         })
     }
 
-    /// A client is made known. DELAY: there is no memory where a record would be made, and nothing changes.
+    /// A client is made known. DELAY: there is no memory for a new record, and nothing changes.
     pub fn exchange_id(
         &mut self,
         caller: &Caller,

@@ -1,4 +1,4 @@
-//! What is served, in the words of what an operation sees of it.
+//! The realm that is served, with the calls that operations need.
 ghost use Rattle.std.specs.Prelude.{◌≡◌, ◌≢◌, ◌<◌, ◌≤◌, ◌^◌, if◌then◌else◌, length, true, false, Ok, Err, Some, None, IfOk, IfSome, IsSome, IsOkUnless, MatchResult, OnOk, OnErr};
 ghost use Rattle.acl_shape.specs.Bounds.{IsBounded};
 ghost use Rattle.nfs_types.specs.Name.{name_fault};
@@ -12,7 +12,7 @@ ghost use Rattle.compound_run.specs.Create.{can_add};
 ghost use Rattle.compound_run.specs.Rename.{goes_below, can_replace, can_move};
 ghost use Rattle.compound_run.specs.Write.{fits};
 ghost use Rattle.compound_run.specs.Realm.{with_loss};
-ghost use Rattle.compound_run.specs.Views.{realm_of, with_world, is_inval, is_exist};
+ghost use Rattle.compound_run.specs.Views.{realm_of, with_world, is_inval, is_exist, settings_of};
 
 use crate::opens::Open;
 use access_guard::GuardedTree;
@@ -21,10 +21,10 @@ use node_tree::{At, Kind, MAX_LINKS, NewObject, TreeFault};
 use session_slots::Clients;
 use std::alloc::{Allocator, Global};
 
-/// No counter reaches this one.
+/// A bound above all counters.
 const COUNTS: u64 = 1 << 63;
 
-/// What is served: the tree, with the guard of its lists, the open files, and the clients.
+/// The realm that is served: the tree, with the guard of its lists, the open files, and the clients.
 #[derive(Drop)]
 pub(crate) struct Export<A: Allocator + Copy = Global> {
     pub alloc: A,
@@ -37,7 +37,7 @@ pub(crate) struct Export<A: Allocator + Copy = Global> {
     pub clients: Clients<A>,
 }
 
-/// What is wrong with a name, if anything is.
+/// The fault of a name, if any.
 pub(crate) fn check(name: &[u8]) -> Result<(), Status>
     ensures fault { MatchResult result (λ done. name_fault name.now ≡ None) (λ status. name_fault name.now ≡ Some status) }
     ensures short { OnOk result (length name.now ≤ 255) }
@@ -48,7 +48,7 @@ pub(crate) fn check(name: &[u8]) -> Result<(), Status>
     }
 }
 
-/// The status of a change that is refused where it is known that only space or memory can be wanting.
+/// The status of a change that can only be refused for want of space or memory.
 pub(crate) fn status_of(fault: TreeFault) -> Status
     ensures memory { fault ≡ TreeFault.Memory → result ≡ Status.Delay }
     ensures space { fault ≡ TreeFault.NoSpc → result ≡ Status.NoSpc }
@@ -66,7 +66,7 @@ fn tells_below(fault: Option<TreeFault>) -> bool
     matches!(fault, Some(TreeFault::Inval))
 }
 
-/// Whether a rename is refused for what has the new name.
+/// Whether a rename is refused for the target of the new name.
 fn tells_taken(fault: Option<TreeFault>) -> bool
     ensures { result ≡ is_exist fault }
 {
@@ -94,7 +94,7 @@ impl<A: Allocator + Copy> Export<A> {
         Some(At { tick, moment: now })
     }
 
-    /// Makes an object under a name that nothing has. `NoSpc`: there is no space for it. `Delay`: there is no memory for it.
+    /// Creates an object under a free name. `NoSpc`: there is no space for it. `Delay`: there is no memory for it.
     pub fn add(
         &mut self,
         directory: u64,
@@ -129,7 +129,7 @@ impl<A: Allocator + Copy> Export<A> {
         self.tree.write(file, offset, more, at).map_err(status_of)
     }
 
-    /// Gives an object a name that nothing has. `NoSpc`: there is no space for it. `Delay`: there is no memory for it.
+    /// Gives an object a free name. `NoSpc`: there is no space for it. `Delay`: there is no memory for it.
     pub fn add_name(
         &mut self,
         directory: u64,
@@ -154,14 +154,14 @@ impl<A: Allocator + Copy> Export<A> {
             .map_err(status_of)
     }
 
-    /// Takes away the name of a child that holds nothing. Where that was its last name its opens end.
+    /// Takes away the name of a child without entries. Where that was its last name its opens are closed.
     pub fn unlink(&mut self, directory: u64, name: &[u8], target: u64, at: At)
         requires tick { IsTick self.old.tree.world at.tick }
         requires child { child (whole (realm_of self.old)) directory name.now ≡ Some target }
         requires empty { has_entries self.old.tree.world.names target ≡ false }
         ensures realm { realm_of self.new ≡ with_loss (unlinked self.old.tree.world directory name.now at) (Some target) (realm_of self.old) }
         ensures log { self.new.tree.log ≡ self.old.tree.log }
-        ensures capacity { self.new.tree.capacity ≡ self.old.tree.capacity }
+        ensures settings { settings_of self.new ≡ settings_of self.old }
     {
         if self.tree.unlink(directory, name, at).is_err() {
             unreachable!();
@@ -179,7 +179,7 @@ impl<A: Allocator + Copy> Export<A> {
         tells_below(self.tree.rename_fault(from, old, to, new))
     }
 
-    /// Whether a child can replace what has another name, if anything has it.
+    /// Whether a child can replace the target of another name, which may be absent.
     pub fn may_replace(&self, from: u64, old: &[u8], to: u64, new: &[u8], moved: u64) -> bool
         requires child { child (whole (realm_of self.now)) from old.now ≡ Some moved }
         requires other { is_one (Some moved) (child (whole (realm_of self.now)) to new.now) ≡ false }
@@ -215,7 +215,7 @@ impl<A: Allocator + Copy> Export<A> {
         self.tree.rename(from, old, to, new, at).map_err(status_of)
     }
 
-    /// Gives a name to an object in place of its old one. What had that name loses it, and its opens end where that was its last one.
+    /// Gives an object a name in place of its old one. A target of that name loses it. Its opens are closed where that was its last name.
     pub fn rename_child(
         &mut self,
         from: u64,
@@ -237,7 +237,7 @@ impl<A: Allocator + Copy> Export<A> {
         ensures ok { OnOk result (realm_of self.new ≡ with_loss (renamed self.old.tree.world from old.now to new.now at) moved.1 (realm_of self.old)) }
         ensures err { OnErr result (self.new ≡ self.old) }
         ensures log { self.new.tree.log ≡ self.old.tree.log }
-        ensures capacity { self.new.tree.capacity ≡ self.old.tree.capacity }
+        ensures settings { settings_of self.new ≡ settings_of self.old }
     {
         let (moved, replaced) = moved;
         self.move_name(from, old, to, new, moved, at)?;

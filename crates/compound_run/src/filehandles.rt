@@ -10,7 +10,7 @@ pub(crate) struct FileHandles {
 }
 
 impl FileHandles {
-    /// A COMPOUND begins with neither.
+    /// A COMPOUND begins with no filehandle.
     pub fn none() -> Self
         ensures { result ≡ no_handles }
     {

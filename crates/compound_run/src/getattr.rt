@@ -9,7 +9,7 @@ ghost use Rattle.node_tree.specs.World.{object};
 ghost use Rattle.compound_run.specs.Asking.{sight_of};
 ghost use Rattle.compound_run.specs.Getattr.{getattr, told};
 ghost use Rattle.compound_run.specs.Says.{PutsWithin, given_outcome};
-ghost use Rattle.compound_run.specs.Views.{context_of, Gives, HasRoom};
+ghost use Rattle.compound_run.specs.Views.{context_at, Gives, HasRoom};
 
 use crate::context::Context;
 use crate::export::Export;
@@ -44,13 +44,13 @@ impl<A: Allocator + Copy> Export<A> {
     ) -> Result<(), Full>
         requires there { IsSome (object self.now.tree.world number) }
         requires room { HasRoom context out.old }
-        ensures { PutsWithin context.entry.room (Done kinds.GetAttr (told (context_of context.entry) number (bitmap_value asked) (sight_of self.now))) out.old result out.new }
+        ensures { PutsWithin context.entry.room (Done kinds.GetAttr (told (context_at self.now context.entry) number (bitmap_value asked) (sight_of self.now))) out.old result out.new }
     {
         let Some(facts) = self.facts(number, Status::Ok) else {
             unreachable!();
         };
         let given = GivenAttributes {
-            book: context.book,
+            book: self.tree.book(),
             facts: &facts,
             asked,
         };

@@ -1,4 +1,4 @@
-//! What stands before the results of a COMPOUND, and results that are known (RFC 8881, section 16.2).
+//! The head of a COMPOUND's results, and results that are known (RFC 8881, section 16.2).
 ghost use Rattle.std.specs.Prelude.{◌+◌, ◌≤◌, length};
 ghost use Rattle.xdr_wire.specs.Buffer.{Appends};
 ghost use Rattle.compound_run.specs.Compound.{head};

@@ -22,22 +22,19 @@ use nfs_types::Moment;
 use rpc_record::Caller;
 use session_slots::{Begin, NewCall, REPLY_HEADER, Sequence};
 use std::alloc::Allocator;
-use who_book::Book;
 use xdr_wire::Writer;
 
 /// A call where sessions are in use.
 #[derive(Clone, Copy)]
 pub(crate) struct Coming<'t> {
     pub args: Args<'t>,
-    /// What its arguments say.
+    /// The arguments of the COMPOUND.
     pub compound: CompoundArgs<'t>,
     pub caller: &'t Caller,
     pub now: Moment,
-    /// The book of names.
-    pub book: &'t Book,
 }
 
-/// What a SEQUENCE gives that begins a new call.
+/// The result of a SEQUENCE that begins a new call.
 fn sequence_given(args: &SequenceArgs, new: NewCall) -> SequenceResult
     ensures { sequence_told result ≡ sequence_done (sequence_args_value args.now) new.highest_slot }
 {
@@ -51,7 +48,7 @@ fn sequence_given(args: &SequenceArgs, new: NewCall) -> SequenceResult
 }
 
 impl<A: Allocator + Copy> Export<A> {
-    /// Keeps what stands behind the first bytes as the results of a call.
+    /// Keeps the bytes behind the first ones as the results of a call.
     fn keep_from(&mut self, args: &SequenceArgs, out: &Writer<A>, start: usize)
         requires start { start ≤ length out.now.bytes }
         requires slot { IfSome (session_at self.old.clients (session_of args.now.session)) (λ s. args.now.slot < s.granted.slots) }
@@ -77,7 +74,7 @@ impl<A: Allocator + Copy> Export<A> {
         requires some { 1 ≤ call.compound.count }
         requires stands { StandsIn self.old.clients (session_of args.now.session) args.now.slot (begins.New new) }
         requires room { limits.MAX_RESULTS ≤ out.old.room }
-        ensures answers { WritesWithin (new.reply_size - limits.REPLY_HEADER) (λ bytes. SequencedKept (coming_behind call.entry (sequence_args_value args.now) new) call.entry.compound.tag.now (sequence_args_value args.now) (sequence_done (sequence_args_value args.now) new.highest_slot) operations.now self.old bytes self.new) out.old out.new }
+        ensures answers { WritesWithin (new.reply_size - limits.REPLY_HEADER) (λ bytes. SequencedKept (coming_behind self.old.tree.book call.entry (sequence_args_value args.now) new) call.entry.compound.tag.now (sequence_args_value args.now) (sequence_done (sequence_args_value args.now) new.highest_slot) operations.now self.old bytes self.new) out.old out.new }
         ensures settled { self.new.tree.log.held ≡ [] }
     {
         let start = out.len();
@@ -86,7 +83,6 @@ impl<A: Allocator + Copy> Export<A> {
         let context = Context {
             caller,
             now: call.now,
-            book: call.book,
             calling: Some(Calling {
                 client: new.client,
                 keeps_reply: args.keep,
@@ -114,7 +110,7 @@ impl<A: Allocator + Copy> Export<A> {
         requires settled { self.old.tree.log.held ≡ [] }
         requires some { 1 ≤ call.compound.count }
         requires room { limits.MAX_RESULTS ≤ out.old.room }
-        ensures answers { WritesWithin limits.MAX_RESULTS (λ bytes. AnswersSequence call.entry (sequence_args_value args.now) operations.now (state_of self.old call.entry.book.now) bytes (state_of self.new call.entry.book.now)) out.old out.new }
+        ensures answers { WritesWithin limits.MAX_RESULTS (λ bytes. AnswersSequence call.entry (sequence_args_value args.now) operations.now (state_of self.old) bytes (state_of self.new)) out.old out.new }
         ensures settled { self.new.tree.log.held ≡ [] }
     {
         let session = session_of(&args.session);
@@ -141,7 +137,7 @@ impl<A: Allocator + Copy> Export<A> {
         requires whole { length call.args.bytes.now ≤ call.args.record_len }
         requires settled { self.old.tree.log.held ≡ [] }
         requires room { limits.MAX_RESULTS ≤ out.old.room }
-        ensures answers { WritesWithin limits.MAX_RESULTS (λ bytes. AnswersComing call.entry (state_of self.old call.entry.book.now) bytes (state_of self.new call.entry.book.now)) out.old out.new }
+        ensures answers { WritesWithin limits.MAX_RESULTS (λ bytes. AnswersComing call.entry (state_of self.old) bytes (state_of self.new)) out.old out.new }
         ensures settled { self.new.tree.log.held ≡ [] }
     {
         let compound = call.compound;

@@ -1,6 +1,6 @@
-//! Runs a COMPOUND over a tree of objects, each of whose operations is judged by access control lists (RFC 8881, sections 16.2 and 18).
+//! Runs a COMPOUND over a tree of objects, with access control lists checked for each operation (RFC 8881, sections 16.2 and 18).
 //!
-//! An operation is one file here, and one of `specs/`, which says what it asks in order, what it gives and what becomes of the tree.
+//! Each operation has one file here, and one in `specs/` with its questions in order, its result and its effect on the tree.
 #![tactic(auto)]
 
 mod access;
@@ -29,6 +29,7 @@ mod lookupp;
 mod nverify;
 mod open;
 mod opens;
+mod parts;
 mod putfh;
 mod putrootfh;
 mod read;

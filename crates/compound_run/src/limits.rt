@@ -1,4 +1,4 @@
-//! The limits of a COMPOUND (RFC 8881, sections 2.10.6 and 16.2), in bytes where nothing else is said.
+//! The limits of a COMPOUND (RFC 8881, sections 2.10.6 and 16.2), in bytes where no other unit is given.
 
 /// The most bytes of a reply where there is no session, its record's mark not counted.
 pub const MAX_REPLY: usize = 65_536;
@@ -9,14 +9,14 @@ pub const MAX_RESULTS: usize = MAX_REPLY - 24;
 /// The most bytes of a COMPOUND's tag.
 pub(crate) const MAX_TAG: usize = 1_024;
 
-/// The one minor version that is spoken.
+/// The one minor version that is supported.
 pub(crate) const MINOR_VERSION: u32 = 1;
 
 /// The most operations of a COMPOUND where there is no session.
 pub(crate) const MAX_OPERATIONS: u32 = 16;
 
-/// The least room that an operation runs in: no result of one that changes something is longer.
+/// The least room that an operation runs in: no result of an operation that changes the tree is longer.
 pub(crate) const MIN_ROOM: usize = 256;
 
-/// Kept back in each reply for the result of an operation that is refused.
+/// The room of each reply for the result of an operation that is refused.
 pub(crate) const REFUSAL_ROOM: usize = 16;

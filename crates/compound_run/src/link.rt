@@ -19,7 +19,7 @@ use std::alloc::Allocator;
 use xdr_wire::Writer;
 
 impl<A: Allocator + Copy> Export<A> {
-    /// An object gets a name more, which nothing has, in a directory of this number and this change.
+    /// Gives an object one more name, a free one, in a directory of this number and this change.
     fn name_linked(
         &mut self,
         context: Context<'_>,
@@ -52,7 +52,7 @@ impl<A: Allocator + Copy> Export<A> {
         Ok(())
     }
 
-    /// The saved object gets a name more, in the current directory.
+    /// Gives the saved object one more name, in the current directory.
     pub fn link(
         &mut self,
         context: Context<'_>,

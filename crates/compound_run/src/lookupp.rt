@@ -17,7 +17,7 @@ use std::alloc::Allocator;
 use xdr_wire::Writer;
 
 impl<A: Allocator + Copy> Export<A> {
-    /// The directory that the current one lies in becomes current.
+    /// The parent of the current directory becomes current.
     pub fn lookupp(
         &mut self,
         context: Context<'_>,

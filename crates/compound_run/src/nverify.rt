@@ -18,7 +18,7 @@ use std::alloc::Allocator;
 use xdr_wire::Writer;
 
 impl<A: Allocator + Copy> Export<A> {
-    /// It is OK where attributes of the current object aren't all as they are sent. `Delay`: there is no memory to compare them.
+    /// OK where attributes of the current object don't all have these values. `Delay`: there is no memory to compare them.
     pub fn nverify(
         &mut self,
         context: Context<'_>,

@@ -13,12 +13,13 @@ ghost use Rattle.nfs_ops.specs.declared.op_kind.OpKind.TheVariants as kinds;
 ghost use Rattle.node_tree.specs.World.{object, kind_of};
 ghost use Rattle.compound_run.specs.Asking.{sight_of};
 ghost use Rattle.compound_run.specs.Create.{list_at};
+ghost use Rattle.compound_run.specs.Lists.{IsFit, new_fits};
 ghost use Rattle.compound_run.specs.Open as specs;
 ghost use Rattle.compound_run.specs.Open.{open_file, opening};
 ghost use Rattle.compound_run.specs.Opening.{HasPlace, IfByName, IsBefore, IsPlace, MakesFile};
 ghost use Rattle.compound_run.specs.Setattr as setting;
 ghost use Rattle.compound_run.specs.Sight.{child, directory_change, kind_at};
-ghost use Rattle.compound_run.specs.Views.{context_of, GivesOrDelays, HasRoom, realm_of, wanted_view, IsWanted};
+ghost use Rattle.compound_run.specs.Views.{context_at, GivesOrDelays, HasRoom, realm_of, wanted_view, IsWanted, settings_of};
 
 use crate::context::Context;
 use crate::create::{Draft, is_own};
@@ -35,14 +36,14 @@ use rpc_record::Caller;
 use std::alloc::{AllocError, Allocator};
 use xdr_wire::Writer;
 
-/// Whether a file may be made.
+/// Whether a file may be created.
 fn is_creating(how: &OpenHow<'_>) -> bool
     ensures { result ≡ rows.is_creating (parts.how (open_how_value how.now)) }
 {
     !matches!(how, OpenHow::NoCreate)
 }
 
-/// Whether a file that is there is truncated, where this size is to be set.
+/// Whether an existing file is truncated, where this size is to be set.
 fn is_truncating(how: &OpenHow<'_>, size: Option<u64>) -> bool
     ensures { result ≡ rows.is_truncating (parts.how (open_how_value how.now)) size }
 {
@@ -52,7 +53,7 @@ fn is_truncating(how: &OpenHow<'_>, size: Option<u64>) -> bool
     }
 }
 
-/// What it is opened for is neither missing nor unknown, it denies nothing, and its name is one; a file that has a filehandle is there
+/// The access is neither missing nor unknown, the share deny is 0, and the name is valid; a file that has a filehandle exists
 /// already.
 fn check_arguments(args: &OpenArgs<'_>) -> Result<(), Status>
     ensures fault { MatchResult result (λ done. specs.arguments_fault (open_args_value args.now) ≡ None) (λ status. specs.arguments_fault (open_args_value args.now) ≡ Some status) }
@@ -87,7 +88,7 @@ fn check_current(claim: &OpenClaim<'_>, kind: Kind) -> Result<(), Status>
     }
 }
 
-/// What isn't there is made where it may be; what is there is a file, and doesn't have to be made.
+/// An absent file is created where it may be; an existing object must be a file, and is refused by GUARDED4.
 fn check_found(how: &OpenHow<'_>, kind: Option<Kind>) -> Result<(), Status>
     ensures { MatchResult result (λ done. specs.found_fault (parts.how (open_how_value how.now)) kind ≡ None) (λ status. specs.found_fault (parts.how (open_how_value how.now)) kind ≡ Some status) }
 {
@@ -108,7 +109,7 @@ fn check_found(how: &OpenHow<'_>, kind: Option<Kind>) -> Result<(), Status>
     }
 }
 
-/// Which attributes are sent of a file that may be made.
+/// The attributes that are sent for a file that may be created.
 fn sent_set(how: &OpenHow<'_>) -> Bitmap
     ensures { bitmap_value result ≡ specs.sent_set (parts.how (open_how_value how.now)) }
 {
@@ -118,7 +119,7 @@ fn sent_set(how: &OpenHow<'_>) -> Bitmap
     }
 }
 
-/// Which attributes are set on a file that is there.
+/// The attributes that are set on an existing file.
 fn truncated_set(truncates: bool) -> Bitmap
     ensures { bitmap_value result ≡ (if truncates then 16 ∷ [] else []) }
 {
@@ -130,9 +131,9 @@ fn truncated_set(truncates: bool) -> Bitmap
 }
 
 impl<A: Allocator + Copy> Export<A> {
-    /// What the attributes set of a file that may be made. `Delay`: there is no memory for the list.
-    fn wanted_with(&self, context: Context<'_>, how: &OpenHow<'_>) -> Result<Attrs<A>, Status>
-        ensures wanted { IsWanted (specs.sent (context_of context.entry) (parts.how (open_how_value how.now))) result }
+    /// The values that the attributes of a new file set. `Delay`: there is no memory for the list.
+    fn wanted_with(&self, how: &OpenHow<'_>) -> Result<Attrs<A>, Status>
+        ensures wanted { IsWanted (specs.sent_by self.now.tree.book (parts.how (open_how_value how.now))) result }
         ensures bounded { IfOk result (λ wanted. IfSome wanted.list IsBounded) }
     {
         match how {
@@ -142,14 +143,16 @@ impl<A: Allocator + Copy> Export<A> {
                 mode: None,
                 owner: None,
                 group: None,
+                dacl: None,
+                sacl: None,
             }),
             OpenHow::Unchecked(attributes) | OpenHow::Guarded(attributes) => {
-                self.wanted(context.book, Kind::File, attributes)
+                self.wanted(Kind::File, attributes)
             }
         }
     }
 
-    /// What is there, if anything is.
+    /// The object of the name, if there is one.
     fn found(&self, handles: FileHandles, directory: u64, claim: &OpenClaim<'_>) -> Option<u64>
         requires here { handles.current ≡ Some directory }
         requires there { IsSome (object self.now.tree.world directory) }
@@ -162,7 +165,7 @@ impl<A: Allocator + Copy> Export<A> {
         }
     }
 
-    /// The kind of what is there.
+    /// The type of that object.
     fn kind_of(&self, file: Option<u64>) -> Option<Kind>
         requires live { IfSome file (λ file. IsSome (object self.now.tree.world file)) }
         ensures { result ≡ option_map (kind_at (sight_of self.now)) file }
@@ -176,16 +179,18 @@ impl<A: Allocator + Copy> Export<A> {
 }
 
 impl<A: Allocator + Copy> Export<A> {
-    /// A file as it is to be made in a directory, of the size that is set, each byte of it zero.
+    /// A new file for a directory, of the size that is set, each byte of it zero. `NoSpc`: its list would not be within
+    /// the bounds of a list. `Delay`: there is no memory for it.
     fn new_file(
         &self,
         directory: u64,
         wanted: Attrs<A>,
         caller: &Caller,
-    ) -> Result<NewObject<A>, AllocError>
+    ) -> Result<NewObject<A>, Status>
         requires there { IsSome (object self.now.tree.world directory) }
         requires bounded { IfSome wanted.list IsBounded }
         requires fits { setting.size_fits wanted.size ≡ true }
+        ensures fits { IsFit (new_fits (wanted_view wanted) Kind.File (list_at self.now.tree.world directory)) result }
         ensures made { IfOk result (MakesFile caller.now (list_at self.now.tree.world directory) (wanted_view wanted)) }
     {
         let size = wanted.size.unwrap_or(0) as usize;
@@ -194,11 +199,13 @@ impl<A: Allocator + Copy> Export<A> {
             text: &[],
         };
         let mut new = self.new_object(directory, draft, wanted, caller)?;
-        new.bytes.resize(size, 0)?;
-        Ok(new)
+        match new.bytes.resize(size, 0) {
+            Ok(()) => Ok(new),
+            Err(AllocError) => Err(Status::Delay),
+        }
     }
 
-    /// A file that isn't there is made in the current directory, and opened.
+    /// Creates an absent file in the current directory, and opens it.
     fn open_new(
         &mut self,
         context: Context<'_>,
@@ -215,13 +222,14 @@ impl<A: Allocator + Copy> Export<A> {
         requires claim { parts.claim (open_claim_value args.now.claim) ≡ ByName name.now }
         requires short { length name.now ≤ 255 }
         requires free { child (sight_of self.old) directory.0 name.now ≡ None }
-        requires wanted { specs.wanted (context_of context) (open_args_value args.now) ≡ wanted_view wanted }
+        requires wanted { specs.wanted (context_at self.old context) (open_args_value args.now) ≡ wanted_view wanted }
         requires bounded { IfSome wanted.list IsBounded }
         requires room { HasRoom context out.old }
         ensures { GivesOrDelays context.entry (opening (open_args_value args.now)) self.old handles.old out.old result self.new handles.new out.new }
     {
         let (directory, before) = directory;
-        if !is_own(context.caller, &wanted) {
+        let caller = self.tree.member(context.caller);
+        if !is_own(&caller, &wanted) {
             return Err(Status::Perm);
         }
         if !size_fits(wanted.size) {
@@ -229,9 +237,7 @@ impl<A: Allocator + Copy> Export<A> {
         }
         let at = self.tick(context.now).ok_or(Status::NoSpc)?;
         let place = self.place(context, args, None)?;
-        let Ok(new) = self.new_file(directory, wanted, context.caller) else {
-            return Err(Status::Delay);
-        };
+        let new = self.new_file(directory, wanted, &caller)?;
         let file = self.add(directory, name, new, at)?;
         let stateid = self.put_open(context, args.access % 256, place, file);
         handles.current = Some(file);
@@ -251,8 +257,8 @@ impl<A: Allocator + Copy> Export<A> {
         Ok(())
     }
 
-    /// Makes a place for the open of a file, and truncates the file, if it is to be. `NoSpc`: there is no place, or no tick is left.
-    /// `Delay`: there is no memory for the place.
+    /// Makes room for the open of a file, and truncates the file, if it is to be. `NoSpc`: there is no room, or no tick is left.
+    /// `Delay`: there is no memory for it.
     fn place_found(
         &mut self,
         context: Context<'_>,
@@ -261,15 +267,15 @@ impl<A: Allocator + Copy> Export<A> {
         truncates: bool,
     ) -> Result<Place<A>, Status>
         requires file { kind_of self.old.tree.world file ≡ Some Kind.File }
-        requires truncates { specs.truncates (context_of context) (open_args_value args.now) ≡ truncates }
-        ensures full { specs.has_space_for (context_of context.entry) (open_args_value args.now) 0 (Some file) (sight_of self.old) ≡ false → result ≡ Err Status.NoSpc }
-        ensures space { specs.has_space_for (context_of context.entry) (open_args_value args.now) 0 (Some file) (sight_of self.old) ≡ true → IsOkUnless result Status.Delay }
-        ensures place { IfOk result (IsPlace args.now.owner.bytes.now (specs.joined (context_of context.entry) (open_args_value args.now) (Some file) (sight_of self.old).opens)) }
+        requires truncates { specs.truncates (context_at self.old context) (open_args_value args.now) ≡ truncates }
+        ensures full { specs.has_space_for (context_at self.old context.entry) (open_args_value args.now) 0 (Some file) (sight_of self.old) ≡ false → result ≡ Err Status.NoSpc }
+        ensures space { specs.has_space_for (context_at self.old context.entry) (open_args_value args.now) 0 (Some file) (sight_of self.old) ≡ true → IsOkUnless result Status.Delay }
+        ensures place { IfOk result (IsPlace args.now.owner.bytes.now (specs.joined (context_at self.old context.entry) (open_args_value args.now) (Some file) (sight_of self.old).opens)) }
         ensures room { IfOk result (HasPlace self.new.next_open (vec_len self.new.opens) (vec_capacity self.new.opens)) }
-        ensures ok { OnOk result (realm_of self.new ≡ record (realm_of self.old) { world = specs.file_in (context_of context.entry) (open_args_value args.now) 0 (Some file) self.old.tree.world }) }
+        ensures ok { OnOk result (realm_of self.new ≡ record (realm_of self.old) { world = specs.file_in (context_at self.old context.entry) (open_args_value args.now) 0 (Some file) self.old.tree.world }) }
         ensures err { OnErr result (realm_of self.new ≡ realm_of self.old) }
         ensures log { self.new.tree.log ≡ self.old.tree.log }
-        ensures capacity { self.new.tree.capacity ≡ self.old.tree.capacity }
+        ensures settings { settings_of self.new ≡ settings_of self.old }
     {
         if !truncates {
             return self.place(context, args, Some(file));
@@ -282,7 +288,7 @@ impl<A: Allocator + Copy> Export<A> {
         Ok(place)
     }
 
-    /// A file that is there is truncated, if it is to be, and opened.
+    /// Truncates an existing file, if it is to be, and opens it.
     fn open_found(
         &mut self,
         context: Context<'_>,
@@ -296,7 +302,7 @@ impl<A: Allocator + Copy> Export<A> {
         requires found { specs.found (open_args_value args.now) handles.old (sight_of self.old) ≡ Some file }
         requires file { kind_of self.old.tree.world file ≡ Some Kind.File }
         requires change { IsBefore (parts.claim (open_claim_value args.now.claim)) (sight_of self.old) handles.old before }
-        requires truncates { specs.truncates (context_of context) (open_args_value args.now) ≡ truncates }
+        requires truncates { specs.truncates (context_at self.old context) (open_args_value args.now) ≡ truncates }
         requires room { HasRoom context out.old }
         ensures { GivesOrDelays context.entry (opening (open_args_value args.now)) self.old handles.old out.old result self.new handles.new out.new }
     {
@@ -321,7 +327,7 @@ impl<A: Allocator + Copy> Export<A> {
 }
 
 impl<A: Allocator + Copy> Export<A> {
-    /// What is found is opened, or made.
+    /// Opens the file of the name, or creates it.
     fn open_at(
         &mut self,
         context: Context<'_>,
@@ -337,7 +343,7 @@ impl<A: Allocator + Copy> Export<A> {
         requires found { specs.found (open_args_value args.now) handles.old (sight_of self.old) ≡ found }
         requires file { IfSome found (λ file. kind_of self.old.tree.world file ≡ Some Kind.File) }
         requires short { length (specs.name_in (parts.claim (open_claim_value args.now.claim))) ≤ 255 }
-        requires wanted { specs.wanted (context_of context) (open_args_value args.now) ≡ wanted_view wanted }
+        requires wanted { specs.wanted (context_at self.old context) (open_args_value args.now) ≡ wanted_view wanted }
         requires bounded { IfSome wanted.list IsBounded }
         requires room { HasRoom context out.old }
         ensures { GivesOrDelays context.entry (opening (open_args_value args.now)) self.old handles.old out.old result self.new handles.new out.new }
@@ -357,8 +363,8 @@ impl<A: Allocator + Copy> Export<A> {
         }
     }
 
-    /// A file is opened, by its name in the current directory or by the current filehandle, and becomes current. One that isn't there may
-    /// be made, one that is there truncated. `Delay`: there is no memory for it, and nothing has changed.
+    /// Opens a file, by its name in the current directory or by the current filehandle. It becomes current. An absent file may
+    /// be created, an existing file truncated. `Delay`: there is no memory for it, and nothing has changed.
     pub fn open(
         &mut self,
         context: Context<'_>,
@@ -377,7 +383,7 @@ impl<A: Allocator + Copy> Export<A> {
         check_current(&args.claim, node.kind())?;
         let before = node.change();
         check_arguments(args)?;
-        let wanted = self.wanted_with(context, &args.how)?;
+        let wanted = self.wanted_with(&args.how)?;
         if !self.grants_first(op, *handles, context.caller) {
             return Err(Status::Access);
         }

@@ -8,7 +8,7 @@ ghost use Rattle.compound_run.specs.Asking.{sight_of};
 ghost use Rattle.compound_run.specs.Open as specs;
 ghost use Rattle.compound_run.specs.Realm.{opens_left};
 ghost use Rattle.compound_run.specs.Opening.{HasPlace, IsPlace, placed, placed_stateid, reopened_by};
-ghost use Rattle.compound_run.specs.Views.{context_of, open_view, opens_view, realm_of};
+ghost use Rattle.compound_run.specs.Views.{context_at, open_view, opens_view, realm_of};
 
 use crate::context::Context;
 use crate::export::Export;
@@ -19,32 +19,32 @@ use std::alloc::{AllocError, Allocator, Global};
 /// The most files that may be open at once.
 const MAX_OPENS: usize = 4_096;
 
-/// No counter reaches this one.
+/// A bound above all counters.
 const COUNTS: u64 = 1 << 63;
 
 /// A file that is open (RFC 8881, section 18.16).
 #[derive(Debug, Drop)]
 pub struct Open<A: Allocator = Global> {
-    /// Its number.
+    /// The number of the open.
     pub number: u64,
     /// The number of the client that has it open.
     pub client: u64,
-    /// The bytes of its open-owner.
+    /// The bytes of the open-owner.
     pub owner: Vec<u8, A>,
     /// The number of the file.
     pub object: u64,
     /// To read 1, to write 2, for both 3.
     pub access: u32,
-    /// 1 at first, and one more each time that it is opened again; after 0xffffffff comes 1.
+    /// The seqid: 1 at first, and one more each time that it is opened again; after 0xffffffff comes 1.
     pub seqid: u32,
 }
 
-/// Where an open is to stand.
+/// The place of an open.
 #[derive(Drop)]
 pub(crate) enum Place<A: Allocator> {
     /// The owner has the file open by this number, with this seqid.
     Again { number: u64, seqid: u32 },
-    /// It isn't open yet; these are the owner's bytes.
+    /// The file isn't open yet; these are the owner's bytes.
     New { owner: Vec<u8, A> },
 }
 
@@ -56,7 +56,7 @@ fn risen(seqid: u32) -> u32
 }
 
 impl<A: Allocator> Open<A> {
-    /// Opens it again, also for this access, if it is the open of this number.
+    /// Opens it again, also for this access, if this is its number.
     fn reopen(&mut self, number: u64, access: u32)
         ensures { self.new ≡ reopened_by number access self.old }
     {
@@ -98,20 +98,20 @@ fn find_owned<'o, A: Allocator>(
 }
 
 impl<A: Allocator + Copy> Export<A> {
-    /// The owner's open of what is there, if there is one.
+    /// The owner's open of an object, if there is one.
     fn joined(
         &self,
         context: Context<'_>,
         args: &OpenArgs<'_>,
         file: Option<u64>,
     ) -> Option<&Open<A>>
-        ensures { option_map open_view (option_copied result) ≡ specs.joined (context_of context.entry) (open_args_value args.now) file (sight_of self.now).opens }
+        ensures { option_map open_view (option_copied result) ≡ specs.joined (context_at self.now context.entry) (open_args_value args.now) file (sight_of self.now).opens }
     {
         let file = file?;
         find_owned(&self.opens, context.client(), args.owner.bytes, file)
     }
 
-    /// Ends the opens of an object that has lost a name, if it is gone. It takes no memory.
+    /// Closes the opens of an object that has lost a name, if it is gone. It takes no memory.
     pub fn end_opens(&mut self, object: u64)
         ensures opens { opens_view self.new.opens.items ≡ opens_left self.old.tree.world (Some object) (opens_view self.old.opens.items) }
         ensures others { self.new ≡ record self.old { opens = self.new.opens } }
@@ -121,7 +121,7 @@ impl<A: Allocator + Copy> Export<A> {
         }
     }
 
-    /// Makes room for an open more, and copies its owner's bytes.
+    /// Makes room for one more open, and copies its owner's bytes.
     fn make_place(&mut self, owner: &[u8]) -> Result<Vec<u8, A>, AllocError>
         ensures owner { IfOk result (λ copy. copy.items ≡ owner.now) }
         ensures room { IfOk result (λ copy. vec_len self.new.opens + 1 ≤ vec_capacity self.new.opens) }
@@ -134,7 +134,7 @@ impl<A: Allocator + Copy> Export<A> {
         Ok(copy)
     }
 
-    /// Where the open of a file is to stand: that of its owner, if there is one, else a new one, for which room is made. `NoSpc`: too
+    /// The place of the open of a file: the owner's open, if there is one, else a new one, for which room is made. `NoSpc`: too
     /// many files are open, or no number is left. `Delay`: there is no memory for it.
     pub fn place(
         &mut self,
@@ -142,9 +142,9 @@ impl<A: Allocator + Copy> Export<A> {
         args: &OpenArgs<'_>,
         file: Option<u64>,
     ) -> Result<Place<A>, Status>
-        ensures full { specs.has_open_space (specs.joined (context_of context.entry) (open_args_value args.now) file (sight_of self.old).opens) (sight_of self.old) ≡ false → result ≡ Err Status.NoSpc }
-        ensures space { specs.has_open_space (specs.joined (context_of context.entry) (open_args_value args.now) file (sight_of self.old).opens) (sight_of self.old) ≡ true → IsOkUnless result Status.Delay }
-        ensures place { IfOk result (IsPlace args.now.owner.bytes.now (specs.joined (context_of context.entry) (open_args_value args.now) file (sight_of self.old).opens)) }
+        ensures full { specs.has_open_space (specs.joined (context_at self.old context.entry) (open_args_value args.now) file (sight_of self.old).opens) (sight_of self.old) ≡ false → result ≡ Err Status.NoSpc }
+        ensures space { specs.has_open_space (specs.joined (context_at self.old context.entry) (open_args_value args.now) file (sight_of self.old).opens) (sight_of self.old) ≡ true → IsOkUnless result Status.Delay }
+        ensures place { IfOk result (IsPlace args.now.owner.bytes.now (specs.joined (context_at self.old context.entry) (open_args_value args.now) file (sight_of self.old).opens)) }
         ensures room { IfOk result (HasPlace self.old.next_open (vec_len self.new.opens) (vec_capacity self.new.opens)) }
         ensures opens { self.new.opens.items ≡ self.old.opens.items }
         ensures others { self.new ≡ record self.old { opens = self.new.opens } }
@@ -174,7 +174,7 @@ impl<A: Allocator + Copy> Export<A> {
     ) -> StateId
         requires room { HasPlace self.old.next_open (vec_len self.old.opens) (vec_capacity self.old.opens) place }
         ensures stateid { stateid_value result ≡ placed_stateid place self.old.next_open }
-        ensures realm { realm_of self.new ≡ placed (context_of context.entry) access file place (realm_of self.old) }
+        ensures realm { realm_of self.new ≡ placed (context_at self.old context.entry) access file place (realm_of self.old) }
         ensures tree { self.new.tree ≡ self.old.tree }
     {
         match place {

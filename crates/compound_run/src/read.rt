@@ -10,7 +10,7 @@ ghost use Rattle.compound_run.specs.Asking.{sight_of};
 ghost use Rattle.compound_run.specs.Read as specs;
 ghost use Rattle.compound_run.specs.Read.{read, gives};
 ghost use Rattle.compound_run.specs.Runs.{spelled};
-ghost use Rattle.compound_run.specs.Views.{context_of, Gives, HasRoom};
+ghost use Rattle.compound_run.specs.Views.{context_at, Gives, HasRoom};
 
 use crate::context::Context;
 use crate::export::Export;
@@ -41,7 +41,7 @@ impl<A: Allocator + Copy> Source for Data<'_, A> {
     }
 }
 
-/// How many bytes are given at most, of so many that are asked, in so much room.
+/// The most bytes that are returned, of so many requested, in so much room.
 fn most_of(count: u32, room: usize) -> usize
     requires { 16 ≤ room }
     ensures { result ≡ specs.most_of count room }
@@ -54,7 +54,7 @@ impl<A: Allocator + Copy> Export<A> {
     /// Writes the bytes of a file, in the room of the operation, straight from the tree.
     fn put_data(&self, context: Context<'_>, file: u64, args: &ReadArgs, out: &mut Writer<A>)
         requires room { HasRoom context out.old }
-        ensures written { Appends out.old out.new (spelled (Done kinds.Read (gives (context_of context.entry) (read_args_value args.now) file (sight_of self.now)))) }
+        ensures written { Appends out.old out.new (spelled (Done kinds.Read (gives (context_at self.now context.entry) (read_args_value args.now) file (sight_of self.now)))) }
         ensures within { length out.new.bytes ≤ length out.old.bytes + context.entry.room }
     {
         let most = most_of(args.count, context.room);

@@ -13,7 +13,8 @@ ghost use Rattle.compound_run.specs.Readdir as specs;
 ghost use Rattle.compound_run.specs.Readdir.{readdir, listing_of};
 ghost use Rattle.compound_run.specs.Rows.{MAX_FIRST_LINES};
 ghost use Rattle.compound_run.specs.Listed.{IsNext, PutsEntry, given_view, refused_of, written_entry};
-ghost use Rattle.compound_run.specs.Views.{context_of, Gives, HasRoom};
+ghost use Rattle.compound_run.specs.Views.{context_at, Gives, HasRoom};
+ghost use Rattle.who_book.specs.Members.{member};
 
 use crate::context::Context;
 use crate::export::Export;
@@ -36,16 +37,16 @@ use xdr_wire::{Full, Writer};
 /// The number of the attribute rdattr_error.
 const RDATTR_ERROR: u32 = 11;
 
-/// The supported attributes without acl, as a bitmap is spelled.
+/// The supported attributes without acl, dacl and sacl, as a bitmap is spelled.
 const WITHOUT_LIST: &[u8] = b"\0\0\0\x03\xe8\x18\x2f\xff\0\xb0\0\x3a\0\0\x08\0";
 
-/// Those that READ_ATTRIBUTES doesn't govern.
-const UNGOVERNED: &[u8] = b"\0\0\0\x03\xe8\x18\x3f\xe7\0\x80\0\0\0\0\x08\0";
+/// The attributes that READ_ATTRIBUTES doesn't govern.
+const UNGOVERNED: &[u8] = b"\0\0\0\x03\xe8\x18\x3f\xe7\x0c\x80\0\0\0\0\x08\0";
 
-/// These without acl.
+/// These attributes without acl, dacl and sacl.
 const UNGOVERNED_WITHOUT_LIST: &[u8] = b"\0\0\0\x03\xe8\x18\x2f\xe7\0\x80\0\0\0\0\x08\0";
 
-/// The supported attributes that are given of an object where READ_ATTRIBUTES and READ_ACL are granted, each or not.
+/// The supported attributes that are returned of an object where READ_ATTRIBUTES and READ_ACL are granted, each or not.
 fn granted_set(attributes: bool, list: bool) -> Bitmap
     ensures { bitmap_value result ≡ specs.granted_words attributes list }
 {
@@ -117,15 +118,15 @@ impl<A: Allocator + Copy> Export<A> {
         Some((name.cookie(), object))
     }
 
-    /// What is given of an entry's object, with rdattr_error, or the demand that refuses the entry. It is looked up once what its list
-    /// grants.
+    /// The attributes of an entry's object, with rdattr_error, or the demand that refuses the entry. The grants of its list are
+    /// looked up once.
     fn judge(
         &mut self,
         caller: &Caller,
         child: Object,
         asked: &Bitmap,
     ) -> Result<(Status, Bitmap), Demand>
-        ensures judged { given_view result ≡ specs.judgment_of (judged_of self.old.tree.world) caller.now (bitmap_value asked.now) child.number (Some child) }
+        ensures judged { given_view result ≡ specs.judgment_of (judged_of self.old.tree.world) (member self.old.tree.book caller.now) (bitmap_value asked.now) child.number (Some child) }
         ensures state { self.new ≡ self.old }
     {
         let granted = self.tree.grants(child.number, caller);
@@ -152,7 +153,7 @@ impl<A: Allocator + Copy> Export<A> {
         out: &mut Writer<B>,
     ) -> Result<(), Full>
         requires there { IsSome (name_after self.now.tree.world directory cookie) }
-        ensures { (n : Name) → name_after self.now.tree.world directory cookie ≡ Some n → PutsEntry (specs.entry_of (context_of context.entry) (sight_of self.now) n given.0 (bitmap_value given.1)) out.old out.new result }
+        ensures { (n : Name) → name_after self.now.tree.world directory cookie ≡ Some n → PutsEntry (specs.entry_of (context_at self.now context.entry) (sight_of self.now) n given.0 (bitmap_value given.1)) out.old out.new result }
     {
         let Some(name) = self.tree.list_after(directory, cookie) else {
             unreachable!();
@@ -161,7 +162,7 @@ impl<A: Allocator + Copy> Export<A> {
         let Some(facts) = self.facts(name.child(), error) else {
             unreachable!();
         };
-        put_entry(context.book, &facts, asked, name, out)
+        put_entry(self.tree.book(), &facts, asked, name, out)
     }
 }
 
@@ -180,12 +181,12 @@ impl<A: Allocator + Copy> Entries for Children<'_, A> {
     ghost use Rattle.compound_run.specs.declared.export.Export as shape;
     ghost use Rattle.compound_run.specs.Asking.{sight_of};
     ghost use Rattle.compound_run.specs.Readdir.{judged_above};
-    ghost use Rattle.compound_run.specs.Views.{context_of};
+    ghost use Rattle.compound_run.specs.Views.{context_at};
     ghost use Rattle.nfs_types.specs.Views.{bitmap_value};
 
     type Refusal = Demand;
 
-    ghost left = { λ c. judged_above (context_of c.context) (bitmap_value c.asked) c.directory c.cookie (sight_of c.export.now) };
+    ghost left = { λ c. judged_above (context_at c.export.now c.context) (bitmap_value c.asked) c.directory c.cookie (sight_of c.export.now) };
 
     ghost Kept = { ℕ × shape.Export A };
 
@@ -215,7 +216,7 @@ impl<A: Allocator + Copy> Entries for Children<'_, A> {
 }
 
 impl<A: Allocator + Copy> Export<A> {
-    /// Writes the entries of a directory that are given; else nothing.
+    /// Writes the entries of a directory that are returned; else nothing.
     fn put_listing(
         &mut self,
         context: Context<'_>,
@@ -224,8 +225,8 @@ impl<A: Allocator + Copy> Export<A> {
         out: &mut Writer<A>,
     ) -> Result<(), ListFault<Demand>>
         requires room { HasRoom context out.old }
-        ensures ok { OnOk result (Lists (specs.listed (context_of context.entry) (readdir_args_value args.now) directory (sight_of self.old)) context.entry.room out.old out.new) }
-        ensures err { IfErr result (λ fault. (specs.listed (context_of context.entry) (readdir_args_value args.now) directory (sight_of self.old) ≡ Err fault) × (out.new ≡ out.old)) }
+        ensures ok { OnOk result (Lists (specs.listed (context_at self.old context.entry) (readdir_args_value args.now) directory (sight_of self.old)) context.entry.room out.old out.new) }
+        ensures err { IfErr result (λ fault. (specs.listed (context_at self.old context.entry) (readdir_args_value args.now) directory (sight_of self.old) ≡ Err fault) × (out.new ≡ out.old)) }
         ensures state { self.new ≡ self.old }
     {
         let mut children = Children {
@@ -238,7 +239,7 @@ impl<A: Allocator + Copy> Export<A> {
         write_readdir(&mut children, args.maxcount, context.room, out)
     }
 
-    /// Writes the listing of a directory. Where an entry is refused without rdattr_error asked, the lines of the demand that refuses it are held.
+    /// Writes the listing of a directory. Where an entry is refused for want of rdattr_error, the lines of the refused demand are held.
     fn list(
         &mut self,
         context: Context<'_>,

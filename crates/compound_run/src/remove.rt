@@ -16,7 +16,7 @@ use std::alloc::Allocator;
 use xdr_wire::Writer;
 
 impl<A: Allocator + Copy> Export<A> {
-    /// A name of the current directory goes, and with its last name the object. It takes no memory.
+    /// Takes away a name of the current directory. The object goes with its last name. It takes no memory.
     pub fn remove(
         &mut self,
         context: Context<'_>,

@@ -20,7 +20,7 @@ use std::alloc::Allocator;
 use xdr_wire::Writer;
 
 impl<A: Allocator + Copy> Export<A> {
-    /// A child of the saved directory gets a new name in the current one, which it may have, and what has that name loses it.
+    /// Gives a child of the saved directory a new name in the current one, which it may have. A target of that name loses it.
     fn move_child(
         &mut self,
         context: Context<'_>,
@@ -61,7 +61,7 @@ impl<A: Allocator + Copy> Export<A> {
         Ok(())
     }
 
-    /// A child of the saved directory gets a new name in the current one, and what has that name loses it.
+    /// Gives a child of the saved directory a new name in the current one. A target of that name loses it.
     pub fn rename(
         &mut self,
         context: Context<'_>,
@@ -128,7 +128,7 @@ impl<A: Allocator + Copy> Export<A> {
     }
 }
 
-/// Whether what has the new name is the child itself.
+/// Whether the target of the new name is the child itself.
 fn is_one(child: u64, target: Option<u64>) -> bool
     ensures { result ≡ is_one (Some child) target }
 {

@@ -11,7 +11,7 @@ use nfs_types::Status;
 use std::alloc::Allocator;
 use xdr_wire::Writer;
 
-/// Writes the result of an operation that is OK, for which there is room: one that carries no bytes of an object.
+/// Writes the result of an operation that is OK, for which there is room: a result that carries no bytes of an object.
 #[tactic(auto, unfolding(crate::specs::Runs::spelled))]
 pub(crate) fn put_result<A: Allocator>(given: OpResult<'_>, out: &mut Writer<A>)
     requires short { most (result_view given) ≤ limits.MIN_ROOM }

@@ -7,7 +7,7 @@ ghost use Rattle.access_guard.specs.Log.{settled};
 ghost use Rattle.compound_run.specs.Limits as limits;
 ghost use Rattle.compound_run.specs.Runs.{waits};
 ghost use Rattle.compound_run.specs.Telling.{is_delay};
-ghost use Rattle.compound_run.specs.Views.{context_of, point_at, GivesBy, HasRoom, IfRun};
+ghost use Rattle.compound_run.specs.Views.{context_at, point_at, GivesBy, HasRoom, IfRun};
 ghost use Rattle.compound_run.specs.Written.{StepGives};
 
 use crate::context::Context;
@@ -20,7 +20,7 @@ use nfs_types::Status;
 use std::alloc::Allocator;
 use xdr_wire::Writer;
 
-/// Whether it is an operation of sessions.
+/// Whether this is an operation of sessions.
 fn is_of_sessions(op: &Op<'_>) -> bool
     ensures { result ≡ specs.is_of_sessions (op_view op.now) }
 {
@@ -35,7 +35,7 @@ fn is_of_sessions(op: &Op<'_>) -> bool
     )
 }
 
-/// Whether an operation is to be the only one of its COMPOUND.
+/// Whether an operation has to be the only one of its COMPOUND.
 fn is_lone(op: &Op<'_>) -> bool
     ensures { result ≡ specs.is_lone (op_view op.now) }
 {
@@ -45,17 +45,17 @@ fn is_lone(op: &Op<'_>) -> bool
     )
 }
 
-/// Whether it is a SEQUENCE.
+/// Whether this is a SEQUENCE.
 fn is_sequence(op: &Op<'_>) -> bool
     ensures { result ≡ specs.is_sequence (op_view op.now) }
 {
     matches!(op, Op::Sequence(_))
 }
 
-/// What is wrong with an operation's place, if anything is: where there is no session its operations aren't supported. Behind a
-/// SEQUENCE there is no place for a further one, nor for one that is to be the only one of its COMPOUND.
+/// The fault of an operation's place, if any: where there is no session its operations aren't supported. Behind a SEQUENCE
+/// there is no place for a further one, nor for an operation that has to be the only one of its COMPOUND.
 fn place_fault(context: Context<'_>, op: &Op<'_>) -> Option<Status>
-    ensures { result ≡ specs.place_fault (context_of context.entry) (op_view op.now) }
+    ensures { result ≡ specs.place_fault_in context.entry.calling (op_view op.now) }
 {
     if !is_of_sessions(op) {
         return None;
@@ -72,7 +72,7 @@ fn place_fault(context: Context<'_>, op: &Op<'_>) -> Option<Status>
     None
 }
 
-/// Whether an operation is built: it needs room for its result.
+/// Whether an operation is supported: it needs room for its result.
 fn is_run(op: &Op<'_>) -> bool
     ensures { result ≡ specs.is_run (op_view op.now) }
 {
@@ -105,9 +105,9 @@ fn is_run(op: &Op<'_>) -> bool
     )
 }
 
-/// What is wrong with an operation's place or its room, if anything is.
+/// The fault of an operation's place or its room, if any.
 fn entry_fault(context: Context<'_>, op: &Op<'_>) -> Option<Status>
-    ensures { result ≡ specs.entry_fault (context_of context.entry) (op_view op.now) }
+    ensures { result ≡ specs.entry_fault_in context.entry.calling context.entry.room (op_view op.now) }
 {
     if let Some(fault) = place_fault(context, op) {
         return Some(fault);
@@ -118,7 +118,7 @@ fn entry_fault(context: Context<'_>, op: &Op<'_>) -> Option<Status>
     None
 }
 
-/// Whether an operation says that it found no memory.
+/// Whether an operation answers that it found no memory.
 fn is_delayed(answer: &Result<(), Status>) -> bool
     ensures { result ≡ is_delay answer.now }
 {
@@ -126,7 +126,7 @@ fn is_delayed(answer: &Result<(), Status>) -> bool
 }
 
 impl<A: Allocator + Copy> Export<A> {
-    /// What an operation asks behind its place and its room, and what it gives.
+    /// Answers an operation behind its place and its room.
     fn body(
         &mut self,
         context: Context<'_>,
@@ -220,7 +220,7 @@ impl<A: Allocator + Copy> Export<A> {
     ) -> Result<(), Status>
         requires settled { self.old.tree.log.held ≡ [] }
         requires room { context.room + limits.REFUSAL_ROOM ≤ out.old.room }
-        ensures gives { StepGives (context_of context.entry) (op_view op.now) (point_at self.old handles.old) out.old result (point_at self.new handles.new) out.new }
+        ensures gives { StepGives (context_at self.old context.entry) (op_view op.now) (point_at self.old handles.old) out.old result (point_at self.new handles.new) out.new }
         ensures settled { self.new.tree.log.held ≡ [] }
     {
         match self.run(context, handles, op, out) {

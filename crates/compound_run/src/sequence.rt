@@ -7,7 +7,7 @@ ghost use Rattle.compound_run.specs.Compound.{first_room};
 ghost use Rattle.compound_run.specs.Limits as limits;
 ghost use Rattle.compound_run.specs.Runs.{spelled};
 ghost use Rattle.compound_run.specs.SessionViews.{SequencedTo, SequencedBehind, WritesWithin, sequence_told};
-ghost use Rattle.compound_run.specs.Views.{context_of};
+ghost use Rattle.compound_run.specs.Views.{context_at};
 
 use crate::compound::{CompoundArgs, Ended, put_tag, put_word};
 use crate::context::Context;
@@ -19,7 +19,7 @@ use std::alloc::Allocator;
 use xdr_wire::Writer;
 
 impl CompoundArgs<'_> {
-    /// Writes what SEQUENCE gives, and runs the operations behind it. The results end before `end`.
+    /// Writes the result of SEQUENCE, and runs the operations behind it. The results end before `end`.
     fn run_sequenced<A: Allocator + Copy>(
         &self,
         export: &mut Export<A>,
@@ -34,7 +34,7 @@ impl CompoundArgs<'_> {
         requires some { 1 ≤ context.count }
         requires result { length out.old.bytes + limits.MIN_ROOM ≤ end }
         requires room { end + limits.REFUSAL_ROOM ≤ length out.old.bytes + out.old.room }
-        ensures answers { SequencedBehind (end + limits.REFUSAL_ROOM) (record (context_of context.entry) { room = end - length out.old.bytes - length (spelled (Done kinds.Sequence (sequence_result_value given))) }) self.now.tag.now (sequence_told given) operations.now export.old out.old result export.new out.new }
+        ensures answers { SequencedBehind (end + limits.REFUSAL_ROOM) (record (context_at export.old context.entry) { room = end - length out.old.bytes - length (spelled (Done kinds.Sequence (sequence_result_value given))) }) self.now.tag.now (sequence_told given) operations.now export.old out.old result export.new out.new }
         ensures settled { export.new.tree.log.held ≡ [] }
     {
         put_result(OpResult::Sequence(given), out);
@@ -45,8 +45,8 @@ impl CompoundArgs<'_> {
         export.run_all(second, operations, out)
     }
 
-    /// Writes what the COMPOUND gives, of whose operations these stand behind a SEQUENCE that gives this, behind what `out` holds: at
-    /// most so many bytes. Status and number of its results are filled in once they are known.
+    /// Writes the results of a COMPOUND with this SEQUENCE and these operations behind it, behind what `out` holds: at
+    /// most so many bytes. Status and number of the results are filled in once they are known.
     pub fn run_behind<A: Allocator + Copy>(
         &self,
         export: &mut Export<A>,
@@ -62,7 +62,7 @@ impl CompoundArgs<'_> {
         requires some { 1 ≤ context.count }
         requires least { 4072 ≤ limit }
         requires room { limit ≤ out.old.room }
-        ensures answers { WritesWithin limit (λ bytes. SequencedTo (record (context_of context.entry) { room = first_room (limit + limits.REPLY_HEADER) self.now.tag.now - length (spelled (Done kinds.Sequence (sequence_result_value given))) }) self.now.tag.now (sequence_told given) operations.now export.old bytes export.new) out.old out.new }
+        ensures answers { WritesWithin limit (λ bytes. SequencedTo (record (context_at export.old context.entry) { room = first_room (limit + limits.REPLY_HEADER) self.now.tag.now - length (spelled (Done kinds.Sequence (sequence_result_value given))) }) self.now.tag.now (sequence_told given) operations.now export.old bytes export.new) out.old out.new }
         ensures settled { export.new.tree.log.held ≡ [] }
     {
         let end = out.capacity() - (out.room() - limit) - REFUSAL_ROOM;

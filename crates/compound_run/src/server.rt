@@ -1,10 +1,11 @@
-//! The server: a tree of objects, its guard, and a book of names.
-ghost use Rattle.std.specs.Prelude.{◌≡◌, ◌≤◌, [], length, IfOk};
+//! The server: a tree of objects, with its guard and a book of names, and the COMPOUNDs over it.
+ghost use Rattle.std.specs.Prelude.{◌≡◌, ◌≤◌, [], length, Err, IfOk, MatchOption, Ok, OnErr, OnOk};
 ghost use Rattle.std.specs.NonZero.{non_zero_usize_get};
+ghost use Rattle.access_guard.specs.Epochs.{next_epoch};
 ghost use Rattle.access_guard.specs.Memory.{Agrees};
 ghost use Rattle.compound_run.specs.InSession.{AnswersInSession};
 ghost use Rattle.compound_run.specs.Limits as limits;
-ghost use Rattle.compound_run.specs.State.{fresh, Answers, RunsBare};
+ghost use Rattle.compound_run.specs.State.{fresh, with_book, Answers, RunsBare};
 ghost use Rattle.compound_run.specs.Views.{called, opens_view};
 
 use crate::compound::CompoundArgs;
@@ -34,12 +35,12 @@ pub struct Args<'a> {
     pub record_len: usize,
 }
 
-/// How a COMPOUND ended.
+/// The end of a COMPOUND.
 #[derive(Clone, Copy, Debug, PartialEq, Eq)]
 pub enum RunEnd {
-    /// It has results.
+    /// The COMPOUND has results.
     Replied,
-    /// Its tag, its minor version or the number of its operations can't be read, and there are no results.
+    /// The tag, the minor version or the number of operations can't be read, and there are no results.
     Garbage,
 }
 
@@ -47,7 +48,6 @@ pub enum RunEnd {
 #[derive(Drop)]
 pub struct Server<A: Allocator + Copy = Global> {
     export: Export<A>,
-    book: Book,
 }
 
 impl<A: Allocator + Copy> Model for Server<A> {
@@ -57,13 +57,13 @@ impl<A: Allocator + Copy> Model for Server<A> {
 
     ghost Value = { State };
 
-    ghost view = { λ s. state_of s.export s.book };
+    ghost view = { λ s. state_of s.export };
 
     ghost invariant = { λ s. s.export.tree.log.held ≡ [] };
 }
 
 impl<A: Allocator + Copy> Server<A> {
-    /// A server of this tree, which has run nothing yet. It remembers what lists come to for at most `capacity` pairs of a list and a
+    /// A server of this tree, which has run nothing yet. It remembers summaries of at most `capacity` pairs of a list and a
     /// caller, whose keys are hashed by `hasher`. `Err`: there is no memory for it.
     pub fn new(
         alloc: A,
@@ -77,12 +77,11 @@ impl<A: Allocator + Copy> Server<A> {
         Ok(Server {
             export: Export {
                 alloc,
-                tree: GuardedTree::new(alloc, tree, capacity, hasher)?,
+                tree: GuardedTree::new(alloc, tree, book, capacity, hasher)?,
                 opens: Vec::new(alloc),
                 next_open: 1,
                 clients: Clients::new(alloc),
             },
-            book,
         })
     }
 
@@ -90,7 +89,7 @@ impl<A: Allocator + Copy> Server<A> {
     /// isn't OK. Its results are put behind what `out` holds, at most [`MAX_RESULTS`] bytes, for which there has to be room.
     ///
     /// Another minor version than 1 answers MINOR_VERS_MISMATCH, and more than 16 operations TOO_MANY_OPS, with no results. The
-    /// operations of sessions, and those that aren't built, answer NOTSUPP. CREATE, LINK, NVERIFY, OPEN, RENAME, SETATTR, VERIFY and
+    /// operations of sessions, and unsupported ones, answer NOTSUPP. CREATE, LINK, NVERIFY, OPEN, RENAME, SETATTR, VERIFY and
     /// WRITE answer DELAY where memory is refused, and then nothing changes; no other takes memory that it needs.
     #[tactic(auto, unfolding(crate::specs::State::fate))]
     pub fn run_bare(
@@ -109,7 +108,6 @@ impl<A: Allocator + Copy> Server<A> {
         let context = Context {
             caller,
             now,
-            book: &self.book,
             calling: None,
             position: 0,
             count: compound.count,
@@ -122,10 +120,10 @@ impl<A: Allocator + Copy> Server<A> {
     /// Runs a COMPOUND where sessions are in use, at a moment (RFC 8881, sections 2.10.6 and 16.2). It is refused, repeated or run. Its
     /// results are put behind what `out` holds, at most [`MAX_RESULTS`] bytes, for which there has to be room.
     ///
-    /// Behind a SEQUENCE the operations run in turn, up to and with the first that isn't OK, within what the session was granted, and
-    /// their results are kept. The last call of a slot again gets what is kept, and changes nothing. EXCHANGE_ID, CREATE_SESSION,
-    /// DESTROY_SESSION and DESTROY_CLIENTID are each the only operation of their COMPOUND. DELAY comes where memory is refused, as in
-    /// [`Server::run_bare`], and of these also at EXCHANGE_ID and at a CREATE_SESSION that isn't repeated; then nothing changes.
+    /// Behind a SEQUENCE the operations run in turn, up to and with the first that isn't OK, within what the session was granted,
+    /// and their results are kept. A repeat of the last call of a slot gets the kept results, and changes nothing. EXCHANGE_ID,
+    /// CREATE_SESSION, DESTROY_SESSION and DESTROY_CLIENTID are each the only operation of their COMPOUND. DELAY is answered where
+    /// memory is refused, as in [`Server::run_bare`], and of these also at EXCHANGE_ID and at a new CREATE_SESSION; then nothing changes.
     #[tactic(auto, unfolding(crate::specs::InSession::fate))]
     pub fn run(
         &mut self,
@@ -146,10 +144,22 @@ impl<A: Allocator + Copy> Server<A> {
             compound,
             caller,
             now,
-            book: &self.book,
         };
         self.export.answer_in_session(call, out);
         RunEnd::Replied
+    }
+
+    /// Loads another book, and gives back the one before. From the next call on the lists decide for each caller by the new one,
+    /// and no summary that was remembered before is used again. The tree with its owner, the open files, the clients with their
+    /// sessions, and the trail stay. It takes no memory.
+    ///
+    /// `Err`: the epoch of the book has none after it ([`next_epoch`]); the new book is given back, and nothing changes.
+    pub fn reload(&mut self, book: Book) -> Result<Book, Book>
+        ensures given { MatchOption (next_epoch self.old.settings.epoch) (result ≡ Err book) (λ epoch. result ≡ Ok self.old.settings.book) }
+        ensures ok { OnOk result (self.new ≡ with_book book self.old) }
+        ensures err { OnErr result (self.new ≡ self.old) }
+    {
+        self.export.tree.reload(book)
     }
 
     /// The tree.
@@ -159,11 +169,11 @@ impl<A: Allocator + Copy> Server<A> {
         self.export.tree.tree()
     }
 
-    /// The guard, with the trail. What it remembers is what the lists come to now.
+    /// The guard, with the trail. Its remembered summaries are those of the lists now.
     pub fn guard(&self) -> &Guard<A>
         ensures log { result.now.log ≡ record { held = []; trail = self.now.trail; total = self.now.total } }
-        ensures capacity { result.now.memory.capacity ≡ self.now.capacity }
-        ensures agrees { Agrees result.now.memory.remembered self.now.realm.world }
+        ensures capacity { result.now.memory.capacity ≡ self.now.settings.capacity }
+        ensures agrees { Agrees result.now.memory.remembered self.now.settings.book self.now.settings.epoch self.now.realm.world }
     {
         self.export.tree.guard()
     }

@@ -16,7 +16,7 @@ fn are_zero(bytes: &[u8]) -> bool
     bytes.iter().all(|b| *b == 0)
 }
 
-/// The session of an id: 8 zero bytes and its number. Any other id is that of session 0, which there never is.
+/// The session of an id: 8 zero bytes and its number. Any other id is that of session 0, which never exists.
 pub(crate) fn session_of(id: &[u8; 16]) -> u64
     ensures { result ≡ specs.session_of id.now }
 {
@@ -71,7 +71,7 @@ impl<A: Allocator + Copy> Export<A> {
         }
     }
 
-    /// Ends the opens of a client that goes, if one does. It takes no memory.
+    /// Closes the opens of a client that goes, if one does. It takes no memory.
     pub fn end_opens_of(&mut self, gone: Option<u64>)
         ensures opens { opens_view self.new.opens.items ≡ specs.opens_without gone (opens_view self.old.opens.items) }
         ensures others { self.new ≡ record self.old { opens = self.new.opens } }

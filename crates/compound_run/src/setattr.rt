@@ -1,6 +1,8 @@
 //! SETATTR (RFC 8881, section 18.30).
 ghost use Rattle.std.specs.Prelude.{◌≡◌, ◌<◌, ◌≤◌, ◌+◌, ◌^◌, ◌||◌, [], true, is_some, Some, None, if◌then◌else◌, IfOk, IfSome, IsSome, IsOkUnless, MatchResult, OnOk, OnErr};
 ghost use Rattle.acl_shape.specs.Bounds.{IsBounded};
+ghost use Rattle.acl_shape.specs.Permissions.{changed_high, changed_list};
+ghost use Rattle.nfs_types.specs.Sent.{has_list};
 ghost use Rattle.nfs_types.specs.Views.{stateid_value};
 ghost use Rattle.nfs_ops.specs.OpViews.{op_view};
 ghost use Rattle.nfs_ops.specs.Operations.{Known};
@@ -10,16 +12,18 @@ ghost use Rattle.node_tree.specs.Sound.{IsTick};
 ghost use Rattle.node_tree.specs.World.{kind_of, object};
 ghost use Rattle.compound_run.specs.Asking.{sight_of};
 ghost use Rattle.compound_run.specs.Sight.{kind_at};
-ghost use Rattle.compound_run.specs.Setattr.{setattr, sent, size_fault, size_fits, has_counts, sets_list, sets_owner, sets_any, stamps, sized, setting};
+ghost use Rattle.compound_run.specs.Create.{list_at};
+ghost use Rattle.compound_run.specs.Lists.{IsFit, set_fits};
+ghost use Rattle.compound_run.specs.Setattr.{setattr, sent_by, size_fault, size_fits, has_counts, sets_list, sets_owner, sets_any, stamps, sized, setting};
 ghost use Rattle.compound_run.specs.Permits.{Permits, permitted, entitled};
-ghost use Rattle.compound_run.specs.Views.{context_of, GivesOrDelays, HasRoom, wanted_view, with_world, IsWanted};
+ghost use Rattle.compound_run.specs.Views.{context_at, GivesOrDelays, HasRoom, wanted_view, with_world, IsWanted};
 
 use crate::context::Context;
 use crate::export::{Export, status_of};
 use crate::filehandles::FileHandles;
+use crate::parts::put_parts;
 use crate::results::put_result;
 use crate::stateids::Purpose;
-use acl_list::AclList;
 use acl_shape::{Given, Permissions, changed_permissions};
 use nfs_ops::{Op, OpResult, SetAttrArgs, SetAttrResult};
 use nfs_types::{Attrs, Moment, StateId, Status};
@@ -27,14 +31,21 @@ use node_tree::{At, Kind, MAX_BYTES};
 use std::alloc::{AllocError, Allocator};
 use xdr_wire::Writer;
 
-/// No counter reaches this one.
+/// A bound above all counters.
 const COUNTS: u64 = 1 << 63;
+
+/// Whether a list or a part of a list is set.
+fn has_list<A: Allocator>(wanted: &Attrs<A>) -> bool
+    ensures { result ≡ has_list (wanted_view wanted.now) }
+{
+    wanted.list.is_some() || wanted.dacl.is_some() || wanted.sacl.is_some()
+}
 
 /// Whether another list is made.
 fn sets_list<A: Allocator>(wanted: &Attrs<A>) -> bool
     ensures { result ≡ sets_list (wanted_view wanted.now) }
 {
-    wanted.mode.is_some() || wanted.list.is_some()
+    wanted.mode.is_some() || has_list(wanted)
 }
 
 /// Whether an owner or a group is set.
@@ -51,7 +62,7 @@ fn sets_any<A: Allocator>(wanted: &Attrs<A>) -> bool
     wanted.size.is_some() || sets_list(wanted) || sets_owner(wanted)
 }
 
-/// Whether either is there.
+/// Whether one of the two is there.
 fn is_either(first: Option<u32>, second: Option<u32>) -> bool
     ensures { result ≡ is_some first || is_some second }
 {
@@ -79,7 +90,7 @@ pub(crate) fn size_fits(size: Option<u64>) -> bool
 }
 
 impl<A: Allocator + Copy> Export<A> {
-    /// What is wrong with a size that is to be set, if one is: it is a file's alone, and takes a stateid.
+    /// The fault of a size that is to be set, if any: only a file has a size to set, which takes a stateid.
     fn check_size(
         &self,
         context: Context<'_>,
@@ -88,7 +99,7 @@ impl<A: Allocator + Copy> Export<A> {
         stateid: &StateId,
     ) -> Result<(), Status>
         requires there { IsSome (object self.now.tree.world number) }
-        ensures fault { MatchResult result (λ done. size_fault size (context_of context.entry) number (stateid_value stateid.now) (sight_of self.now) ≡ None) (λ status. size_fault size (context_of context.entry) number (stateid_value stateid.now) (sight_of self.now) ≡ Some status) }
+        ensures fault { MatchResult result (λ done. size_fault size (context_at self.now context.entry) number (stateid_value stateid.now) (sight_of self.now) ≡ None) (λ status. size_fault size (context_at self.now context.entry) number (stateid_value stateid.now) (sight_of self.now) ≡ Some status) }
         ensures file { OnOk result (IfSome size (λ size. kind_of self.now.tree.world number ≡ Some Kind.File)) }
     {
         if size.is_none() {
@@ -103,24 +114,19 @@ impl<A: Allocator + Copy> Export<A> {
         self.check_stateid(context, number, stateid, Purpose::ToWrite)
     }
 
-    /// What the attributes that are sent set on an object. `Delay`: there is no memory for the list.
-    fn wanted_on(
-        &self,
-        context: Context<'_>,
-        number: u64,
-        args: &SetAttrArgs<'_>,
-    ) -> Result<Attrs<A>, Status>
+    /// The values that the attributes set on an object. `Delay`: there is no memory for the list.
+    fn wanted_on(&self, number: u64, args: &SetAttrArgs<'_>) -> Result<Attrs<A>, Status>
         requires there { IsSome (object self.now.tree.world number) }
-        ensures wanted { IsWanted (sent (context_of context.entry) (setattr_args_value args.now) (kind_at (sight_of self.now) number)) result }
+        ensures wanted { IsWanted (sent_by self.now.tree.book (setattr_args_value args.now) (kind_at (sight_of self.now) number)) result }
         ensures bounded { IfOk result (λ wanted. IfSome wanted.list IsBounded) }
     {
         let Some(node) = self.tree.object(number) else {
             unreachable!();
         };
-        self.wanted(context.book, node.kind(), &args.attributes)
+        self.wanted(node.kind(), &args.attributes)
     }
 
-    /// Whether a tick is left for what is set, and the stamps that it takes.
+    /// Whether a tick is left for the attributes, and the stamps that they take.
     #[tactic(auto, unfolding(crate::specs::Setattr::has_counts))]
     fn has_counts(&self, wanted: &Attrs<A>) -> bool
         ensures { result ≡ has_counts (wanted_view wanted.now) (sight_of self.now) }
@@ -131,27 +137,46 @@ impl<A: Allocator + Copy> Export<A> {
         self.tree.next_tick() < COUNTS && self.tree.next_stamp() <= COUNTS - stamps(wanted)
     }
 
-    /// What the list of an object becomes, and the high bits of its mode. `None`: it stays. `Err`: there is no memory for it.
-    fn permissions(
-        &self,
-        number: u64,
-        mode: Option<u32>,
-        list: Option<AclList<A>>,
-    ) -> Result<Option<Permissions<A>>, AllocError>
+    /// The list of an object after a mode and a list are set, and the high bits of its mode. `Delay`: there is no memory for it.
+    fn changed(&self, number: u64, given: Given<A>) -> Result<Permissions<A>, Status>
         requires there { IsSome (object self.now.tree.world number) }
-        requires bounded { IfSome list IsBounded }
-        ensures some { IfOk result (λ made. is_some made ≡ is_some mode || is_some list) }
-        ensures value { IfOk result (λ made. IfSome made (Permits self.now.tree.world number mode list)) }
+        requires bounded { IfSome given.list IsBounded }
+        ensures space { IsOkUnless result Status.Delay }
+        ensures list { IfOk result (λ made. IfSome (object self.now.tree.world number) (λ o. made.list ≡ changed_list o.list o.kind given.mode given.list)) }
+        ensures high { IfOk result (λ made. IfSome (object self.now.tree.world number) (λ o. made.high ≡ changed_high o.high given.mode)) }
+        ensures bounded { IfOk result (λ made. IsBounded made.list) }
     {
-        if mode.is_none() && list.is_none() {
-            return Ok(None);
-        }
         let Some(node) = self.tree.object(number) else {
             unreachable!();
         };
-        let given = Given { mode, list };
-        let made = changed_permissions(self.alloc, node.list(), node.high(), node.kind(), given)?;
-        Ok(Some(made))
+        match changed_permissions(self.alloc, node.list(), node.high(), node.kind(), given) {
+            Ok(made) => Ok(made),
+            Err(AllocError) => Err(Status::Delay),
+        }
+    }
+
+    /// The list of an object after its attributes are set, and the high bits of its mode. `None`: it stays. `NoSpc`: it would not
+    /// be within the bounds of a list. `Delay`: there is no memory for it.
+    fn permissions(&self, number: u64, wanted: Attrs<A>) -> Result<Option<Permissions<A>>, Status>
+        requires there { IsSome (object self.now.tree.world number) }
+        requires bounded { IfSome wanted.list IsBounded }
+        ensures fits { IsFit (set_fits (wanted_view wanted) (kind_at (sight_of self.now) number) (list_at self.now.tree.world number)) result }
+        ensures some { IfOk result (λ made. is_some made ≡ sets_list (wanted_view wanted)) }
+        ensures value { IfOk result (λ made. IfSome made (Permits self.now.tree.world number (wanted_view wanted))) }
+    {
+        if !sets_list(&wanted) {
+            return Ok(None);
+        }
+        let Attrs {
+            list,
+            mode,
+            dacl,
+            sacl,
+            ..
+        } = wanted;
+        let Permissions { list, high } = self.changed(number, Given { mode, list })?;
+        let list = put_parts(self.alloc, list, dacl, sacl)?;
+        Ok(Some(Permissions { list, high }))
     }
 
     /// Sets the size of a file, if one is to be set. `Delay`: there is no memory for it.
@@ -206,7 +231,8 @@ impl<A: Allocator + Copy> Export<A> {
         }
     }
 
-    /// Sets attributes of an object, all or none. `Delay`: there is no memory for them.
+    /// Sets attributes of an object, all or none. `NoSpc`: its list would not be within the bounds of a list. `Delay`: there is no memory
+    /// for them.
     #[tactic(auto, unfolding(crate::specs::Setattr::setting))]
     fn set_all(&mut self, number: u64, wanted: Attrs<A>, at: At) -> Result<(), Status>
         requires tick { IsTick self.old.tree.world at.tick }
@@ -215,7 +241,7 @@ impl<A: Allocator + Copy> Export<A> {
         requires fits { size_fits wanted.size ≡ true }
         requires bounded { IfSome wanted.list IsBounded }
         requires stamps { self.old.tree.world.next_stamp + stamps (wanted_view wanted) ≤ 2 ^ 63 }
-        ensures space { IsOkUnless result Status.Delay }
+        ensures fits { IsFit (set_fits (wanted_view wanted) (kind_at (sight_of self.old) number) (list_at self.old.tree.world number)) result }
         ensures ok { OnOk result (self.new ≡ with_world (setting number (wanted_view wanted) at self.old.tree.world) self.old) }
         ensures err { OnErr result (self.new ≡ self.old) }
     {
@@ -223,23 +249,16 @@ impl<A: Allocator + Copy> Export<A> {
             unreachable!();
         };
         let before = (node.owner(), node.group());
-        let Attrs {
-            size,
-            list,
-            mode,
-            owner,
-            group,
-        } = wanted;
-        let Ok(made) = self.permissions(number, mode, list) else {
-            return Err(Status::Delay);
-        };
+        let (size, owner, group) = (wanted.size, wanted.owner, wanted.group);
+        let made = self.permissions(number, wanted)?;
         self.set_size(number, size, at)?;
         self.set_permissions(number, made, at);
         self.set_principals(number, owner, group, before, at);
         Ok(())
     }
 
-    /// Sets the attributes that are wanted, or nothing where none is: then no tick is taken.
+    /// Sets these attributes; without any no tick is taken. `NoSpc`: the list would not be within the bounds of a list. `Delay`:
+    /// there is no memory for them.
     #[tactic(auto, unfolding(crate::specs::Setattr::has_counts, crate::specs::Setattr::setting))]
     fn set_any(&mut self, now: Moment, number: u64, wanted: Attrs<A>) -> Result<(), Status>
         requires there { IsSome (object self.old.tree.world number) }
@@ -247,7 +266,7 @@ impl<A: Allocator + Copy> Export<A> {
         requires fits { size_fits wanted.size ≡ true }
         requires bounded { IfSome wanted.list IsBounded }
         requires counts { has_counts (wanted_view wanted) (sight_of self.old) ≡ true }
-        ensures space { IsOkUnless result Status.Delay }
+        ensures fits { IsFit (set_fits (wanted_view wanted) (kind_at (sight_of self.old) number) (list_at self.old.tree.world number)) result }
         ensures ok { OnOk result (self.new ≡ with_world (setting number (wanted_view wanted) (record { tick = self.old.tree.world.next_tick; moment = now }) self.old.tree.world) self.old) }
         ensures err { OnErr result (self.new ≡ self.old) }
     {
@@ -260,7 +279,7 @@ impl<A: Allocator + Copy> Export<A> {
         self.set_all(number, wanted, at)
     }
 
-    /// Attributes of the current object are set, all of those that are sent or none. `Delay`: there is no memory for them.
+    /// Sets attributes of the current object, all of those that are sent or none. `Delay`: there is no memory for them.
     pub fn setattr(
         &mut self,
         context: Context<'_>,
@@ -278,7 +297,7 @@ impl<A: Allocator + Copy> Export<A> {
         if self.tree.object(number).is_none() {
             return Err(Status::Stale);
         }
-        let wanted = self.wanted_on(context, number, args)?;
+        let wanted = self.wanted_on(number, args)?;
         self.check_size(context, number, wanted.size, &args.stateid)?;
         if !self.grants_sized(op, handles, context.caller, wanted.size) {
             return Err(Status::Access);

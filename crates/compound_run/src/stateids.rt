@@ -4,7 +4,7 @@ ghost use Rattle.std.specs.Option.{option_copied};
 ghost use Rattle.nfs_types.specs.Views.{stateid_value};
 ghost use Rattle.compound_run.specs.Asking.{sight_of};
 ghost use Rattle.compound_run.specs.Stateids as specs;
-ghost use Rattle.compound_run.specs.Views.{context_of, open_view};
+ghost use Rattle.compound_run.specs.Views.{context_at, open_view};
 
 use crate::context::Context;
 use crate::export::Export;
@@ -12,19 +12,19 @@ use crate::opens::Open;
 use nfs_types::{StateId, Status};
 use std::alloc::Allocator;
 
-/// What an operation wants of a stateid.
+/// The purpose of an operation's stateid.
 #[derive(Clone, Copy, Debug, PartialEq, Eq)]
 pub(crate) enum Purpose {
     /// To read the file.
     ToRead,
-    /// To write it, or to set its size.
+    /// To write the file, or to set its size.
     ToWrite,
-    /// To close the open that it names.
+    /// To close the open.
     ToClose,
 }
 
 impl Purpose {
-    /// Whether a file that is open for this access serves it.
+    /// Whether a file that is open for this access serves the purpose.
     fn is_served_by(self, access: u32) -> bool
         ensures { result ≡ specs.serves_for self access }
     {
@@ -36,7 +36,7 @@ impl Purpose {
         }
     }
 
-    /// A special stateid is no open's; it serves all else.
+    /// A special stateid is no open's; it serves every other purpose.
     fn check_special(self) -> Result<(), Status>
         ensures { MatchResult result (λ done. specs.special_fault self ≡ None) (λ status. specs.special_fault self ≡ Some status) }
     {
@@ -50,7 +50,7 @@ impl Purpose {
 impl Context<'_> {
     /// The client whose opens an operation uses; where there is no session all are of client 0.
     pub fn client(self) -> u64
-        ensures { result ≡ specs.client_of (context_of self.entry) }
+        ensures { result ≡ specs.client_in self.entry.calling }
     {
         match self.calling {
             Some(calling) => calling.client,
@@ -60,7 +60,7 @@ impl Context<'_> {
 }
 
 impl<A: Allocator + Copy> Open<A> {
-    /// What is wrong with a seqid, if anything is.
+    /// The fault of a seqid, if any.
     fn check_seqid(&self, seqid: u32) -> Result<(), Status>
         ensures { MatchResult result (λ done. specs.seqid_fault seqid (open_view self.now) ≡ None) (λ status. specs.seqid_fault seqid (open_view self.now) ≡ Some status) }
     {
@@ -99,7 +99,7 @@ impl<A: Allocator + Copy> Export<A> {
         find_open(&self.opens, number, client, object)
     }
 
-    /// What is wrong with the stateid of an open, if anything is.
+    /// The fault of an open's stateid, if any.
     fn check_open(
         &self,
         context: Context<'_>,
@@ -107,7 +107,7 @@ impl<A: Allocator + Copy> Export<A> {
         stateid: &StateId,
         purpose: Purpose,
     ) -> Result<(), Status>
-        ensures { MatchResult result (λ done. specs.opened_fault (specs.serves_for purpose) (context_of context.entry) object (stateid_value stateid.now) (sight_of self.now) ≡ None) (λ status. specs.opened_fault (specs.serves_for purpose) (context_of context.entry) object (stateid_value stateid.now) (sight_of self.now) ≡ Some status) }
+        ensures { MatchResult result (λ done. specs.opened_fault (specs.serves_for purpose) (context_at self.now context.entry) object (stateid_value stateid.now) (sight_of self.now) ≡ None) (λ status. specs.opened_fault (specs.serves_for purpose) (context_at self.now context.entry) object (stateid_value stateid.now) (sight_of self.now) ≡ Some status) }
     {
         let number = stateid.open_number().ok_or(Status::BadStateId)?;
         let found = self.open_named(number, context.client(), object);
@@ -119,7 +119,7 @@ impl<A: Allocator + Copy> Export<A> {
         Ok(())
     }
 
-    /// What is wrong with a stateid, if anything is.
+    /// The fault of a stateid, if any.
     pub fn check_stateid(
         &self,
         context: Context<'_>,
@@ -127,7 +127,7 @@ impl<A: Allocator + Copy> Export<A> {
         stateid: &StateId,
         purpose: Purpose,
     ) -> Result<(), Status>
-        ensures { MatchResult result (λ done. specs.stateid_fault purpose (context_of context.entry) object (stateid_value stateid.now) (sight_of self.now) ≡ None) (λ status. specs.stateid_fault purpose (context_of context.entry) object (stateid_value stateid.now) (sight_of self.now) ≡ Some status) }
+        ensures { MatchResult result (λ done. specs.stateid_fault purpose (context_at self.now context.entry) object (stateid_value stateid.now) (sight_of self.now) ≡ None) (λ status. specs.stateid_fault purpose (context_at self.now context.entry) object (stateid_value stateid.now) (sight_of self.now) ≡ Some status) }
     {
         if stateid.is_special() {
             return purpose.check_special();

@@ -1,4 +1,4 @@
-//! What GETATTR, READDIR, VERIFY and NVERIFY say of an object (RFC 8881, sections 5.6 to 5.8 and 6.2).
+//! The attributes of an object for GETATTR, READDIR, VERIFY and NVERIFY (RFC 8881, sections 5.6 to 5.8 and 6.2).
 ghost use Rattle.std.specs.Prelude.{◌≡◌, IfSome, is_some, if◌then◌else◌, length};
 ghost use Rattle.acl_shape.specs.Inherited.{is_directory};
 ghost use Rattle.compound_run.specs.Asking.{sight_of};
@@ -21,7 +21,7 @@ fn size_told<A: Allocator>(node: &Node<A>) -> u64
 }
 
 impl<A: Allocator + Copy> Export<A> {
-    /// How many names an object has; a directory is told of as having one, also the root.
+    /// How many names an object has; a directory counts as having one, also the root.
     fn links_told(&self, number: u64, is_directory: bool) -> u32
         requires { is_directory ≡ is_directory_in (sight_of self.now).kinds number }
         ensures { result ≡ links_at (sight_of self.now) number }
@@ -33,7 +33,7 @@ impl<A: Allocator + Copy> Export<A> {
         }
     }
 
-    /// What is said of an object, with this status as rdattr_error. `None`: it isn't there.
+    /// The facts of an object, with this status as rdattr_error. `None`: it isn't there.
     pub fn facts(&self, number: u64, error: Status) -> Option<ObjectFacts<'_>>
         ensures says { IfSome result (Says (sight_of self.now) number error) }
         ensures there { is_some result ≡ is_some ((sight_of self.now).kinds number) }

@@ -1,4 +1,4 @@
-//! VERIFY (RFC 8881, section 18.31), and what NVERIFY has in common with it.
+//! VERIFY (RFC 8881, section 18.31), and its parts that NVERIFY uses.
 ghost use Rattle.std.specs.Prelude.{◌≡◌, [], nat_eq, Some, None, Err, IsSome, MatchResult};
 ghost use Rattle.std.specs.Cmp.Lexicographic.{pointwise};
 ghost use Rattle.nfs_types.specs.Given.{given_values};
@@ -10,7 +10,7 @@ ghost use Rattle.node_tree.specs.World.{object};
 ghost use Rattle.compound_run.specs.Asking.{sight_of};
 ghost use Rattle.compound_run.specs.Verify.{verify, is_same, set_fault};
 ghost use Rattle.compound_run.specs.Says.{values_given};
-ghost use Rattle.compound_run.specs.Views.{context_of, GivesOrDelays, HasRoom};
+ghost use Rattle.compound_run.specs.Views.{context_at, GivesOrDelays, HasRoom};
 ghost use Rattle.std.specs.Prelude.{IfOk};
 
 use crate::context::Context;
@@ -25,7 +25,7 @@ use xdr_wire::{Reader, Spell, Wire, Writer};
 /// The number of the attribute rdattr_error.
 const RDATTR_ERROR: u32 = 11;
 
-/// More than a bitmap of supported attributes and the length of their values take.
+/// More bytes than a bitmap of supported attributes and the length of their values take.
 const MOST_BEFORE: usize = 32;
 
 /// An attribute that isn't supported can't be compared, nor rdattr_error.
@@ -41,7 +41,7 @@ pub(crate) fn check_set(set: &Bitmap) -> Result<(), Status>
     Ok(())
 }
 
-/// Whether the values that are given are these bytes. `Err`: there is no memory to spell them.
+/// Whether the values that GETATTR returns are these bytes. `Err`: there is no memory to spell them.
 fn is_given<A: Allocator + Copy>(
     alloc: A,
     given: GivenAttributes<'_>,
@@ -62,7 +62,7 @@ fn is_given<A: Allocator + Copy>(
 }
 
 impl<A: Allocator + Copy> Export<A> {
-    /// Whether attributes of an object are as they are sent. `Delay`: there is no memory to compare them.
+    /// Whether attributes of an object have these values. `Delay`: there is no memory to compare them.
     pub fn is_same(
         &self,
         context: Context<'_>,
@@ -70,14 +70,14 @@ impl<A: Allocator + Copy> Export<A> {
         sent: &Attributes<'_>,
     ) -> Result<bool, Status>
         requires there { IsSome (object self.now.tree.world number) }
-        ensures same { IfOk result (λ same. same ≡ is_same (context_of context.entry) number (attributes_value sent.now) (sight_of self.now)) }
+        ensures same { IfOk result (λ same. same ≡ is_same (context_at self.now context.entry) number (attributes_value sent.now) (sight_of self.now)) }
         ensures delay { MatchResult result (λ same. Unit {0}) (λ status. status ≡ Status.Delay) }
     {
         let Some(facts) = self.facts(number, Status::Ok) else {
             unreachable!();
         };
         let given = GivenAttributes {
-            book: context.book,
+            book: self.tree.book(),
             facts: &facts,
             asked: sent.set,
         };
@@ -87,7 +87,7 @@ impl<A: Allocator + Copy> Export<A> {
         }
     }
 
-    /// It is OK where attributes of the current object are as they are sent. `Delay`: there is no memory to compare them.
+    /// OK where attributes of the current object have these values. `Delay`: there is no memory to compare them.
     pub fn verify(
         &mut self,
         context: Context<'_>,

@@ -27,7 +27,7 @@ fn fits(offset: u64, more: &[u8]) -> bool
 }
 
 impl<A: Allocator + Copy> Export<A> {
-    /// Bytes are written into the current file; no bytes take no tick. `Delay`: there is no memory for them, and nothing has changed.
+    /// Writes bytes into the current file; no bytes take no tick. `Delay`: there is no memory for them, and nothing has changed.
     pub fn write(
         &mut self,
         context: Context<'_>,

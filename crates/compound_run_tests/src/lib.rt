@@ -1,20 +1,9 @@
-//! Tests of `compound_run`: each outcome of each operation without sessions, as COMPOUNDs from bytes to bytes with the trail that they leave; the calls of one
-//! table also through `nfs_hub`, as records on a connection that come in pieces.
+//! Tests of `compound_run` that aren't texts of calls: directories that are read to their end over many calls, and every growth refused.
 #![tactic(auto)]
 
 #[cfg(test)]
-mod behind;
+mod listings;
 #[cfg(test)]
-mod data;
+mod memory;
 #[cfg(test)]
-mod files;
-#[cfg(test)]
-mod heads;
-#[cfg(test)]
-mod opened;
-#[cfg(test)]
-mod outcomes;
-#[cfg(test)]
-mod pieces;
-#[cfg(test)]
-mod told;
+mod session_memory;

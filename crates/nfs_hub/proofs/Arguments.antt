@@ -12,7 +12,7 @@ abbrev arguments_in : CallResult → List ℕ
 arguments_in (Ok call) = call.arguments
 arguments_in (Err fault) = []
 
--- a call that is taken has these arguments
+-- the call that is read has these arguments
 by_caller : (xid : ℕ) (arguments : List ℕ) (o : Option Identity) (call : Asked) → called_by xid arguments o ≡ Ok call → arguments ≡ call.arguments
 by_caller xid arguments None call is = cc
 by_caller xid arguments (Some caller) call is = ap arguments_in is

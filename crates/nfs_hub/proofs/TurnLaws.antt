@@ -71,7 +71,7 @@ passes id piece now old fed new out goes takes s is =
     let b = takes a.0 a.2 in
     (b.1.0, record { fed = a.0; comes = a.1; pending = b.0; taken = b.1.1 }, b.1.2)
 
--- what is pending behind a break is what is taken
+-- the bytes that are pending behind a break are taken
 pub breaks_in : {A : Type 0} (id : ℕ) (piece : List ℕ) (now : Moment) (old fed new : Hub A) (out : List ℕ) → BreaksSo id piece now old fed
     → IfSome (pending_at fed id) (λ pending. out ≡ pending) → IsSome (pending_at fed id) → new.service ≡ fed.service
     → (s : State) → IsHub old s → BreaksIn (piece, now) s id new.service out
@@ -138,7 +138,7 @@ short_push (p ∷ pieces) piece all h = (all.0, short_push pieces piece all.1 h)
 pub length_push : (pieces : List Read_at) (piece : Read_at) → length (pieces ++ piece ∷ []) ≡ length pieces + 1
 length_push pieces piece = length-append pieces (piece ∷ [])
 
--- turns so far, of which there were exactly so many, and what they wrote
+-- exactly so many turns so far, and the bytes that they wrote
 pub record Going {A : Type 0} (id count most : ℕ) (old : State) (hub : Hub A) (left left' held held' : Option (List ℕ)) : Type 0 where
   pub run : TurnsRun id most old hub left left'
   pub wrote : Appends held held' run.written
@@ -221,7 +221,7 @@ open_as b (Some c) (Some t) e same = (t, refl, same.broken ∙ some_is c.broken 
 pub open_state : {A : Type 0} (hub : Hub A) (id : ℕ) (b : Bool) → broken_at hub id ≡ Some b → (s : State) → IsHub hub s → (t : Connected) × (s.connection id ≡ Some t) × (t.broken ≡ b)
 open_state hub id b h s is = open_as b (get nat_cmp hub.connections id) (s.connection id) h (is.connections id)
 
--- ---- how it ends
+-- ---- the end of serving
 
 empty_unless : (b : Bool) (rest : List ℕ) → IsTrue b ↔ (rest ≢ []) → b ≡ false → rest ≡ []
 empty_unless b [] told false_is = refl
@@ -268,7 +268,7 @@ module _ {A : Type 0} (hub : Hub A) (id : ℕ) (s : State) (is : IsHub hub s) wh
       let told : IsTrue b ↔ (t.0.rest ≢ []) = subst (λ (o : Option Connected). IfSome o (λ c. IsTrue b ↔ (c.rest ≢ []))) t.1 tells in
       subst (λ (o : Option Connected). IsLeft end.Ended o) (sym t.1) (t.2, empty_unless b t.0.rest told false_is)
 
--- a turn that ends it
+-- a turn that ends the serving
 pub pass_ends : {A : Type 0} (why : ServeEnd) (id count most : ℕ) (piece : Read_at) (hub new : Hub A) (s : State) (left left' left'' held held' held'' : Option (List ℕ))
     → PassGives (Some why) id piece hub new held' held'' → count + 1 ≤ most → length piece.0 ≤ MAX_PIECE → Consumes left' left'' piece.0 → Going id count most s hub left left' held held' → TurnsEnd id most why s new left left'' held held''
 pass_ends end.Broken id count most piece hub new s left left' left'' held held' held'' p more short read going =

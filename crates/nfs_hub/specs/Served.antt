@@ -1,4 +1,4 @@
--- What serving one connection reads and writes.
+-- The bytes that serving one connection reads and writes.
 use Rattle.std.specs.Prelude.{◌≡◌, ◌≢◌, ◌≤◌, ◌<◌, ◌^◌, ◌⊎◌, ℕ, true, false, List, [], ◌∷◌, ◌++◌, length, Option, Some, None, IfSome, IsSome}
 use Rattle.std.specs.List.{flat_map}
 use Rattle.std.specs.Io.KnownBytes.{Appends, Consumes, IsAtEnd}
@@ -25,27 +25,27 @@ MAX_PIECE = 4096
 abbrev pub Read_at : Type 0
 Read_at = List ℕ × Moment
 
--- One turn: a piece comes, and what is pending then is taken.
+-- One turn: a piece comes, and then the pending bytes are taken.
 pub record Turn (id : ℕ) (piece : Read_at) (old : State) (out : List ℕ) (new : State) : Type 0 where
   pub fed : State
   pub comes : Step (Piece id piece.0 piece.1) old fed
   pub pending : IsPending (fed.connection id) out
   pub taken : Step (Take id (length out)) fed new
 
--- what the writer gets of what is taken: all of it, or a front of it where it failed
+-- the bytes that the writer gets of those taken: all of them, or a front of them where it failed
 abbrev pub Writes : ServeEnd → Option (List ℕ) → Option (List ℕ) → List ℕ → Type 0
 Writes Write held held' out = (front : List ℕ) × (rest : List ℕ) × (out ≡ front ++ rest) × Appends held held' front
 Writes end held held' out = Appends held held' out
 
--- a turn leads the hub on, and this is taken
+-- a turn leads the hub on, and these bytes are taken
 abbrev pub Passes : {A : Type 0} → ℕ → Read_at → Hub A → Hub A → List ℕ → Type 0
 Passes id piece old new out = (s : State) → IsHub old s → (t : State) × Turn id piece s out t × IsHub new t
 
--- the stream of a connection that was whole breaks in this piece, or a record of it does, behind which this is pending
+-- the stream of a connection that was whole breaks in this piece, or a record of it does, behind which these bytes are pending
 abbrev pub BreaksIn : Read_at → State → ℕ → Served → List ℕ → Type 0
 BreaksIn piece old id served out = IfSome (old.connection id) (λ c. CameToBreak piece.1 old.served c.pending (c.rest ++ piece.0) served out)
 
--- how a turn ends: the connection can go on, or it is broken, or the writer failed
+-- the end of a turn: the connection can go on, or it is broken, or the writer failed
 abbrev pub PassGives : {A : Type 0} → Option ServeEnd → ℕ → Read_at → Hub A → Hub A → Option (List ℕ) → Option (List ℕ) → Type 0
 PassGives None id piece old new held held' = (out : List ℕ) × Passes id piece old new out × Appends held held' out × (broken_at new id ≡ Some false)
 PassGives (Some Broken) id piece old new held held' =
@@ -61,7 +61,7 @@ PassGives (Some TooMany) id piece old new held held' = ⊥
 PassGives (Some Read) id piece old new held held' = ⊥
 PassGives (Some TurnsUsedUp) id piece old new held held' = ⊥
 
--- turns, one for each piece, and what they take in all
+-- turns, one for each piece, and all bytes that they take
 abbrev pub Turns : ℕ → List Read_at → State → List ℕ → State → Type 0
 Turns id [] old written new = (written ≡ []) × (new ≡ old)
 Turns id (piece ∷ pieces) old written new =
@@ -75,7 +75,7 @@ abbrev pub AreShort : List Read_at → Type 0
 AreShort [] = Unit {0}
 AreShort (piece ∷ pieces) = (length piece.0 ≤ MAX_PIECE) × AreShort pieces
 
--- how serving a connection ends that a piece broke
+-- the end of serving a connection that a piece broke
 abbrev pub broken_end : HubFault → ServeEnd
 broken_end fault.Broken = Broken
 broken_end fault.Memory = Memory
@@ -83,8 +83,8 @@ broken_end fault.NoSuch = Memory
 broken_end fault.TooMany = Memory
 broken_end fault.Exhausted = Memory
 
--- Turns of a connection that is open, from one state of the hub to another, at most so many: the pieces are what was read, each of
--- at most 4,096 bytes, and this was taken.
+-- Turns of a connection that is open, from one state of the hub to another, at most so many: the pieces were read, each of
+-- at most 4,096 bytes, and these bytes were taken.
 pub record TurnsRun {A : Type 0} (id most : ℕ) (old : State) (hub : Hub A) (left left' : Option (List ℕ)) : Type 0 where
   pub pieces : List Read_at
   pub written : List ℕ
@@ -95,7 +95,7 @@ pub record TurnsRun {A : Type 0} (id most : ℕ) (old : State) (hub : Hub A) (le
   pub few : length pieces ≤ most
   pub short : AreShort pieces
 
--- in the last of the turns the stream or a record of it breaks
+-- in the last turn the stream or a record of it breaks
 pub record BrokeLast (id : ℕ) (old : State) (pieces : List Read_at) (written : List ℕ) (new : State) : Type 0 where
   pub earlier : List Read_at
   pub last : Read_at
@@ -129,13 +129,13 @@ EndsFor TurnsUsedUp id most left old pieces written new = length pieces ≡ most
 EndsFor TooMany id most left old pieces written new = ⊥
 EndsFor end id most left old pieces written new = Unit {0}
 
--- so many turns at most, what they write, and why they ended
+-- so many turns at most, the bytes that they write, and why they ended
 abbrev pub TurnsEnd : {A : Type 0} → ℕ → ℕ → ServeEnd → State → Hub A → Option (List ℕ) → Option (List ℕ) → Option (List ℕ) → Option (List ℕ) → Type 0
 TurnsEnd id most end old hub left left' held held' =
     (run : TurnsRun id most old hub left left') × Writes end held held' run.written × IsLeft end (run.state.connection id)
     × EndsFor end id most left' old run.pieces run.written run.state
 
--- a connection is refused: as many are open as may be or no number is left; or memory is
+-- a connection is refused: the limit of open connections is reached, or no number is left; or memory is
 abbrev pub RefusedSo : {A : Type 0} → ServeEnd → Hub A → Type 0
 RefusedSo TooMany old = (MAX_CONNECTIONS ≤ open_count old) ⊎ (2 ^ 63 ≤ next_number old)
 RefusedSo Memory old = (open_count old < MAX_CONNECTIONS) × (next_number old < 2 ^ 63)
@@ -146,7 +146,7 @@ RefusedSo Read old = ⊥
 RefusedSo Write old = ⊥
 RefusedSo TurnsUsedUp old = ⊥
 
--- why a connection was refused, as serving it tells
+-- the end of serving, by the fault that refused the connection
 abbrev pub refused_end : HubFault → ServeEnd
 refused_end fault.Memory = Memory
 refused_end fault.TooMany = TooMany
@@ -162,7 +162,7 @@ pub record IsRefused {A : Type 0} (first : Served) (end : ServeEnd) (events : Li
   pub wrote : Appends held held' []
   pub ends : RefusedSo end old
 
--- Behind events that lead to the hub a connection is opened with the next number; its turns read and write what is said; and
+-- Behind events that lead to the hub a connection is opened with the next number; its turns read and write these bytes; and
 -- it is closed, which leads to the hub.
 pub record IsServed {A : Type 0} (first : Served) (end : ServeEnd) (most : ℕ) (events : List Event) (old new : Hub A) (left left' held held' : Option (List ℕ)) : Type 0 where
   pub start : State

@@ -1,10 +1,10 @@
 //! The server and its connections.
 ghost use Rattle.std.specs.Prelude.{◌≡◌, ◌≢◌, ◌↔◌, ◌≤◌, ◌<◌, ◌^◌, ℕ, List, [], ◌∷◌, ◌++◌, min, length, take, drop, true, false, Some, None, Ok, Err, IfOk, IsErrOf, IsNone, MatchOption, IfSome, IsTrue, option_map, is_err};
 ghost use Rattle.nfs_hub.specs.Answer.{Served, with_sessions, without_sessions};
-ghost use Rattle.nfs_hub.specs.Machine.{Event, Connect, Piece, Take, Close};
+ghost use Rattle.nfs_hub.specs.Machine.{Event, Connect, Piece, Take, Close, Reload};
 
 use crate::connection::{Connection, ConnectionFault};
-use crate::fault::HubFault;
+use crate::fault::{HubFault, Unloaded};
 use crate::server::Service;
 use compound_run::Server;
 use nfs_types::Moment;
@@ -17,7 +17,7 @@ use who_book::Book;
 /// The most connections that are open at once, broken ones among them.
 pub const MAX_CONNECTIONS: usize = 16;
 
-/// No number of a connection reaches this one.
+/// A bound above the numbers of all connections.
 const NUMBERS: u64 = 1 << 63;
 
 /// The number of a connection. None is used again.
@@ -48,7 +48,7 @@ pub struct Hub<A: Allocator + Copy = Global> {
 impl<A: Allocator + Copy> Hub<A> {
     ghost use Rattle.nfs_hub.specs.Machine.{State, Step};
     ghost use Rattle.nfs_hub.specs.Served.{IsPending};
-    ghost use Rattle.nfs_hub.specs.Hub.{IsHub, LeadsTo, Goes, ConnectGives, TakeGives, BreaksSo, broken_at, pending_at};
+    ghost use Rattle.nfs_hub.specs.Hub.{IsHub, LeadsTo, Goes, ConnectGives, ReloadGives, TakeGives, BreaksSo, broken_at, pending_at};
 
     /// A hub of this server, with no connection open.
     fn over(alloc: A, service: Service<A>) -> Self
@@ -63,16 +63,16 @@ impl<A: Allocator + Copy> Hub<A> {
     }
 
     /// A hub over the sample tree, without sessions: a root with the file `notes` and the directory `pub`. The book of names takes
-    /// only `Global`; this one has no names, and takes no memory. What the server remembers of lists is found by `hasher`. `Err`: there
-    /// is no memory for the hub.
+    /// only `Global`; this one has no names, and takes no memory. The server's remembered summaries are found by `hasher`. `Err`:
+    /// there is no memory for the hub.
     pub fn bare(alloc: A, global: Global, hasher: RandomState) -> Result<Self, AllocError>
         ensures { IfOk result (λ hub. LeadsTo without_sessions [] hub) }
     {
         Ok(Hub::over(alloc, Service::without_sessions(alloc, global, hasher)?))
     }
 
-    /// A hub over a root alone, with sessions. The root's owner, group and mode are those of the book. What the server remembers of
-    /// lists is found by `hasher`. `Err`: there is no memory for the hub.
+    /// A hub over a root alone, with sessions. The root's owner, group and mode are those of the book. The server's remembered
+    /// summaries are found by `hasher`. `Err`: there is no memory for the hub.
     pub fn new(alloc: A, book: Book, hasher: RandomState) -> Result<Self, AllocError>
         ensures { IfOk result (λ hub. LeadsTo (with_sessions book) [] hub) }
     {
@@ -86,8 +86,29 @@ impl<A: Allocator + Copy> Hub<A> {
         self.service.server()
     }
 
-    /// Opens a connection. `TooMany` exactly where as many are open as may be, else `Exhausted` exactly where no number
-    /// below 2^63 is left, else `Memory` where memory is refused; a refusal changes nothing.
+    /// Loads another book of names, and gives back the one before. The lists decide by it for every call whose last byte comes from
+    /// now on (RFC 8881, section 5.9), also where its first byte came before. The tree with its root's owner, the connections with
+    /// their pending bytes, the sessions with the results that they keep, the open files and the trail stay. It takes no memory and
+    /// runs nothing.
+    ///
+    /// `Exhausted` exactly where the epoch of the book, which begins at 1 and rises by 1 with each book, has none after it
+    /// ([`next_epoch`]); the new book is given back then, and nothing changes.
+    pub fn reload(&mut self, book: Book) -> Result<Book, Unloaded>
+        ensures leads { (first : Served) (events : List Event) → LeadsTo first events self.old → LeadsTo first (Reload book ∷ events) self.new }
+        ensures goes { Goes (Reload book) self.old self.new }
+        ensures gives { ReloadGives book result self.old self.new }
+    {
+        match self.service.reload(book) {
+            Ok(old) => Ok(old),
+            Err(book) => Err(Unloaded {
+                fault: HubFault::Exhausted,
+                book,
+            }),
+        }
+    }
+
+    /// Opens a connection. `TooMany` exactly where the limit of open connections is reached, else `Exhausted` exactly where no
+    /// number below 2^63 is left, else `Memory` where memory is refused; a refusal changes nothing.
     pub fn connect(&mut self) -> Result<ConnId, HubFault>
         ensures leads { (first : Served) (events : List Event) → LeadsTo first events self.old → LeadsTo first (Connect ∷ events) self.new }
         ensures goes { Goes Connect self.old self.new }
@@ -120,7 +141,7 @@ impl<A: Allocator + Copy> Hub<A> {
         Ok(connection.take(buf))
     }
 
-    /// Takes all that is pending on a connection; nothing where the number is no open connection's.
+    /// Takes all pending bytes of a connection; none where the number is no open connection's.
     pub(crate) fn take_all(&mut self, conn: ConnId) -> Vec<u8, A>
         ensures goes { (s : State) → IsHub self.old s → IsPending (s.connection conn) result.items × ((t : State) × Step (Take conn (length result.items)) s t × IsHub self.new t) }
         ensures broken { broken_at self.new conn ≡ broken_at self.old conn }
@@ -143,7 +164,7 @@ impl<A: Allocator + Copy> Hub<A> {
         }
     }
 
-    /// Closes a connection, and drops what it has read of an unfinished record and what is pending. `NoSuch` exactly
+    /// Closes a connection, and drops the rest of its stream and its pending bytes. `NoSuch` exactly
     /// where the number is no open connection's.
     pub fn close(&mut self, conn: ConnId) -> Result<(), HubFault>
         ensures leads { (first : Served) (events : List Event) → LeadsTo first events self.old → LeadsTo first (Close conn ∷ events) self.new }

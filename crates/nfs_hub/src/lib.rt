@@ -7,6 +7,7 @@ mod hub;
 mod server;
 mod serving;
 
-pub use fault::HubFault;
+pub use access_guard::next_epoch;
+pub use fault::{HubFault, Unloaded};
 pub use hub::{ConnId, Hub, MAX_CONNECTIONS};
 pub use serving::{Clock, ServeEnd, serve};

@@ -17,13 +17,13 @@ use std::io::{Read, Write};
 /// The most bytes that are read in a turn.
 const PIECE: usize = 4096;
 
-/// Tells the moment.
+/// A clock.
 pub trait Clock {
-    /// The moment as it is.
+    /// The present moment.
     fn now(&self) -> Moment;
 }
 
-/// How serving a connection ended.
+/// The end of serving a connection.
 #[derive(Clone, Copy, Debug, PartialEq, Eq)]
 pub enum ServeEnd {
     /// The input ended, behind a whole record.
@@ -34,7 +34,7 @@ pub enum ServeEnd {
     Broken = 3,
     /// Memory was refused, for the connection or in a piece.
     Memory = 4,
-    /// As many connections are open as may be, or no connection number is left.
+    /// The limit of open connections is reached, or no connection number is left.
     TooMany = 5,
     /// The reader failed.
     Read = 6,
@@ -44,7 +44,7 @@ pub enum ServeEnd {
     Turns = 8,
 }
 
-/// Writes all of the bytes; or says that the writer failed or took nothing.
+/// Writes all of the bytes; or answers that the writer failed or took nothing.
 fn write_out<W: Write>(writer: &mut W, bytes: &[u8]) -> bool
     ensures all { OnTrue result (Appends (W.contents writer.old) (W.contents writer.new) bytes.now) }
     ensures front { OnFalse result (Writes end.Write (W.contents writer.old) (W.contents writer.new) bytes.now) }
@@ -62,7 +62,7 @@ fn write_out<W: Write>(writer: &mut W, bytes: &[u8]) -> bool
     true
 }
 
-/// How serving a connection ends that a piece broke.
+/// The end of serving a connection that a piece broke.
 fn broken_by(fault: HubFault) -> ServeEnd
     ensures { result ≡ broken_end fault }
 {
@@ -74,7 +74,7 @@ fn broken_by(fault: HubFault) -> ServeEnd
     }
 }
 
-/// Feeds a piece, and writes what is pending then. `None` where the connection can go on.
+/// Feeds a piece, and then writes the pending bytes. `None` where the connection can go on.
 fn pass<A: Allocator + Copy, W: Write>(
     hub: &mut Hub<A>,
     conn: ConnId,
@@ -127,7 +127,7 @@ fn turn_by_turn<A: Allocator + Copy, R: Read, W: Write, C: Clock>(
     ServeEnd::Turns
 }
 
-/// How serving a connection ends that is refused.
+/// The end of serving a connection that is refused.
 fn refused(fault: HubFault) -> ServeEnd
     ensures { result ≡ refused_end fault }
 {
@@ -139,9 +139,9 @@ fn refused(fault: HubFault) -> ServeEnd
     }
 }
 
-/// Opens a connection, and for at most so many turns reads at most 4,096 bytes, feeds them at the clock's moment, and writes what
-/// is pending then, also where the piece broke the connection; at the end it closes the connection. Says how it ended;
-/// nothing was read where the connection was refused. Where the writer failed, it took a front of what was to be written.
+/// Opens a connection, and for at most so many turns reads at most 4,096 bytes, feeds them at the clock's moment, and then writes
+/// the pending bytes, also where the piece broke the connection; at the end it closes the connection. Answers how it ended;
+/// nothing was read where the connection was refused. Where the writer failed, it took a front of the bytes to be written.
 pub fn serve<A: Allocator + Copy, R: Read, W: Write, C: Clock>(
     hub: &mut Hub<A>,
     reader: &mut R,

@@ -22,7 +22,7 @@ root_mode = 511
 /// Carol is in the group of bob.
 const CAROL: Caller = (1003, 7, 100);
 
-/// How the sessions 1 to 4 come.
+/// The calls by which the sessions 1 to 4 are created.
 static OPENING: [Row; 8] = [
     (
         ROOT,
@@ -102,7 +102,7 @@ fn operations(connection: usize, call: usize) -> &'static str {
     OPERATIONS.get(place).copied().unwrap_or("")
 }
 
-/// Who calls for each client.
+/// The caller of each client.
 fn caller(client: usize) -> Caller {
     match client {
         0 => ROOT,
@@ -172,7 +172,7 @@ struct Pair {
     conn: ConnId,
 }
 
-/// Appends what is pending on a connection.
+/// Appends the pending bytes of a connection.
 fn drain(hub: &mut Hub, conn: ConnId, out: &mut Vec<u8>) -> Result<(), Fail> {
     let mut buf = [0u8; 8192];
     let taken = take_out(hub, conn, &mut buf)?;
@@ -200,7 +200,7 @@ fn send_whole(
     Ok(count)
 }
 
-/// Sends the next piece of a sender to the hub with many connections, and takes out what is pending.
+/// Sends the next piece of a sender to the hub with many connections, and takes out the pending bytes.
 fn send_piece(
     pair: &mut Pair,
     sender: &mut Sender,
@@ -215,7 +215,7 @@ fn send_piece(
     drain(&mut pair.many, sender.conn, given)
 }
 
-/// Sends a piece, and the calls that are whole then, and sees equal replies. Says how many calls they are.
+/// Sends a piece, and the calls that are whole then, and checks that the replies are equal. Answers how many calls they are.
 fn see_piece(
     rt: &impl Abort,
     alloc: Global,
@@ -237,7 +237,7 @@ fn next(number: u32) -> u32 {
     number.wrapping_mul(1_664_525).wrapping_add(1_013_904_223)
 }
 
-/// Sends 2,000 pieces of 1 to 71 bytes, and says how many calls were whole.
+/// Sends 2,000 pieces of 1 to 71 bytes, and answers how many calls were whole.
 fn see_pieces(
     rt: &impl Abort,
     alloc: Global,
@@ -257,7 +257,7 @@ fn see_pieces(
     Ok(calls)
 }
 
-/// What stands on a hub, and its trail, as text.
+/// The objects of a hub, and its trail, as text.
 fn picture(alloc: Global, hub: &Hub) -> Result<Vec<u8>, Fail> {
     let mut text = tree_text(alloc, hub, 1000)?;
     text.extend_from_slice(&trail_text(alloc, hub)?)?;
@@ -268,14 +268,14 @@ fn see_same(rt: &impl Abort, given: &[u8], wanted: &[u8]) {
     assert_eq!(rt; given, wanted);
 }
 
-/// Sees as many lines on both, and some.
+/// Checks that both have as many lines, and some.
 fn see_totals(rt: &impl Abort, pair: &Pair) {
     let total = pair.one.server().guard().total();
     assert_eq!(rt; pair.many.server().guard().total(), total);
     assert!(rt; total > 0);
 }
 
-/// Sees that both hubs are left with the same tree and trail.
+/// Checks that both hubs are left with the same tree and trail.
 fn see_left(rt: &impl Abort, alloc: Global, pair: &Pair) -> Result<(), Fail> {
     let many = picture(alloc, &pair.many)?;
     let one = picture(alloc, &pair.one)?;
@@ -284,7 +284,7 @@ fn see_left(rt: &impl Abort, alloc: Global, pair: &Pair) -> Result<(), Fail> {
     Ok(())
 }
 
-/// Lets the four sessions come on a hub.
+/// Creates the four sessions on a hub.
 fn open(rt: &impl Abort, alloc: Global, hub: &mut Hub) -> Result<(), Fail> {
     let stream = calls_of(alloc, opening())?;
     let given = told(alloc, hub, &stream, stream.len())?;

@@ -52,7 +52,7 @@ fn broken_stream(alloc: Global, call: &[u8], bad: &str) -> Result<Vec<u8>, Fail>
     Ok(stream)
 }
 
-/// How often a connection tells that it is broken, where a call stands before the bad record; and how many bytes then come out of it, in
+/// How often a connection answers that it is broken, where a call stands before the bad record; and how many bytes then come out of it, in
 /// pieces of 20.
 fn broken_by(
     hub: &mut Hub,
@@ -111,14 +111,14 @@ fn fragments_are_joined(rt: HostRuntime) -> Result<(), Fail> {
     Ok(())
 }
 
-/// Sees that a stream with a call of CREATE makes the directory `d` in `pub`.
+/// Checks that a stream with a call of CREATE makes the directory `d` in `pub`.
 fn see_made(rt: &impl Abort, hub: &mut Hub, stream: &[u8]) {
     assert_eq!(rt; answered(hub, stream), Ok(88));
     assert_eq!(rt; hub.server().tree().find(3, b"d"), Some(4));
     assert_eq!(rt; hub.server().guard().total(), 0);
 }
 
-/// The server behind the connections is the one that was changed.
+/// The calls change the server behind the connections.
 #[test]
 fn the_server_is_changed(rt: HostRuntime) -> Result<(), Fail> {
     let stream = bytes_of(rt.alloc(), CREATE_D)?;
@@ -136,7 +136,7 @@ enum Fate {
     Broken,
     /// So many bytes of a reply.
     Answered(usize),
-    /// Anything else.
+    /// Any other end.
     Wrong,
 }
 

@@ -1,4 +1,4 @@
-//! Streams that fail in the midst of a session's calls: no answer comes in place of the error.
+//! Streams that fail in the midst of a session's calls: no reply is sent in place of the error.
 
 use crate::plain::serve_all;
 use crate::scenes::{Scene, new_hub, rows_of};
@@ -53,7 +53,7 @@ struct Served<'a> {
     replies: &'a [u8],
 }
 
-/// Sees that a reader that fails after so many reads of five bytes ends serving with `Read`, and that the calls before it are answered.
+/// Checks that a reader that fails after so many reads of five bytes ends serving with `Read`, and that the calls before it are answered.
 fn see_read(
     rt: &impl Abort,
     alloc: Global,
@@ -102,7 +102,7 @@ impl Write for Kept {
     }
 }
 
-/// Sees that a writer that fails after so many writes of three bytes ends serving with `Write`, and has the front of the replies.
+/// Checks that a writer that fails after so many writes of three bytes ends serving with `Write`, and has the front of the replies.
 fn see_write(
     rt: &impl Abort,
     alloc: Global,
@@ -124,7 +124,7 @@ fn see_write(
     );
 }
 
-/// Sees it on a new hub.
+/// Checks serving with this reader on a new hub.
 fn see_read_anew(
     rt: &impl Abort,
     alloc: Global,
@@ -149,7 +149,7 @@ fn see_reads(
     Ok(())
 }
 
-/// Sees it on a new hub.
+/// Checks serving with this writer on a new hub.
 fn see_write_anew(
     rt: &impl Abort,
     alloc: Global,

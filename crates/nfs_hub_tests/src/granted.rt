@@ -5,7 +5,7 @@ use call_texts::{ALICE, BOB, ROOT, Row};
 use std::hash::RandomState;
 use std::test::Fail;
 
-/// A name goes where DELETE of the object or DELETE_CHILD of its directory is allowed, or neither is mentioned and ADD_FILE is allowed
+/// A name is removed where DELETE of the object or DELETE_CHILD of its directory is allowed, or neither is mentioned and ADD_FILE is allowed
 /// (RFC 8881, section 6.2.1.3.2). Five directories, objects 2, 4, 6, 8 and 10, each with a file `t`.
 static REMOVALS: [Row; 10] = [
     (
@@ -70,7 +70,7 @@ DENY uid=1002 op=REMOVE obj=8 mask=00000002 missing=00000002
 DENY uid=1002 op=REMOVE obj=11 mask=00010000 entry=0
 ";
 
-/// A mode that is set on a directory with a list keeps what isn't of the mode; set once more it changes nothing (RFC 8881, section 6.4.1).
+/// A mode that is set on a directory with a list keeps the entries that aren't of the mode; set once more it changes nothing (RFC 8881, section 6.4.1).
 static MODES: [Row; 2] = [
     (
         ROOT,
@@ -111,7 +111,7 @@ static NAMES: [Row; 4] = [
     ),
 ];
 
-/// Bob reads a file of alice until she sets another list. She removes it and makes a file of that name: he reads the new one, and the old
+/// Bob reads a file of alice until she sets another list. She removes it and creates a file of that name: he reads the new one, and the old
 /// filehandle is stale.
 static REPLACED: [Row; 7] = [
     (
@@ -152,7 +152,7 @@ static REPLACED: [Row; 7] = [
     ),
 ];
 
-/// A decision that an entry watches has its line. Who may only append writes at the end alone.
+/// A decision that an entry watches has its line. A user who may only append writes at the end alone.
 static WATCHED: [Row; 5] = [
     (
         ROOT,
@@ -187,8 +187,8 @@ DENY uid=1002 op=WRITE obj=2 mask=00000002 missing=00000002
 DENY uid=1002 op=WRITE obj=3 mask=00000002 missing=00000002
 ";
 
-/// A directory's entry with three attributes takes 64 bytes, and 56 where the attributes are refused and told so. The cookie of a removed
-/// entry gives those after it.
+/// A directory's entry with three attributes takes 64 bytes, and 56 where the attributes are refused and rdattr_error says so. The cookie of a
+/// removed entry gives the entries after it.
 static LISTINGS: [Row; 10] = [
     (
         ROOT,
@@ -242,8 +242,8 @@ static LISTINGS: [Row; 10] = [
     ),
 ];
 
-/// Whether a name is there is told to who may look it up alone. A directory can't replace one with names in it, nor go below itself; and
-/// a name onto another of one file changes nothing.
+/// Only a user who may look up a name is told whether it is there. A directory can't replace a directory that has entries, nor go below itself;
+/// and a rename onto another name of the same file changes nothing.
 static MOVES: [Row; 7] = [
     (
         ROOT,
@@ -333,7 +333,7 @@ alice = 1001
 [groups]
 ";
 
-/// An owner is told by the name of the book, and set by it or by digits without leading zeros.
+/// An owner is returned by the name of the book, and set by it or by digits without leading zeros.
 static OWNERS: [Row; 3] = [
     (
         ROOT,

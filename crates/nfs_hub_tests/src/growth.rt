@@ -2,7 +2,7 @@
 //! operation is delayed, or that breaks the connection for want of memory.
 
 use crate::pictures::{trail_text, tree_text};
-use crate::plain::{close, connect, feed, take_out, with_sessions};
+use crate::plain::{close, connect, feed, reload, take_out, with_sessions};
 use crate::scenes::{Scene, new_hub};
 use crate::{granted, sessions};
 use call_texts::{ROOT, Row, put_call_record, reply_of};
@@ -28,12 +28,12 @@ static SESSION: [Row; 2] = [
     ),
 ];
 
-/// Where the status of a reply's record stands, and its first result.
+/// The place of the status in a reply's record, and of its first result.
 const STATUS: usize = 28;
 
 const RESULTS: usize = 40;
 
-/// Where the count of operations stands in a call's record: behind its mark, header, tag and minor version.
+/// The place of the count of operations in a call's record: behind its mark, header, tag and minor version.
 const COUNT: usize = 76;
 
 /// The status DELAY, 10008.
@@ -46,7 +46,7 @@ fn may_be_delayed(operation: u32) -> bool {
     DELAYED.contains(&operation)
 }
 
-/// The parts of a hub that a refused operation leaves.
+/// The parts of a hub that a refused operation leaves as they were.
 #[derive(Debug, Drop, PartialEq, Eq)]
 struct Picture {
     tree: Vec<u8>,
@@ -120,7 +120,7 @@ fn is_delayed(reply: &[u8], wanted: &[u8]) -> bool {
         && word_at(wanted, last) == Some(operation)
 }
 
-/// The end that one call brings: `None` where it is answered.
+/// The end by one call: `None` where it is answered.
 fn fate_of<A: Allocator + Copy>(
     rt: &impl Abort,
     hub: &mut Hub<A>,
@@ -232,7 +232,7 @@ fn answered(run: &Run, fate: Fate) -> (usize, u32) {
     }
 }
 
-/// What stands on a hub behind the first calls of a run.
+/// The parts of a hub behind the first calls of a run.
 fn look_behind(
     alloc: Global,
     hub: &mut Hub,
@@ -243,7 +243,7 @@ fn look_behind(
     look(alloc, hub)
 }
 
-/// The parts of a hub that are to be left by a run that ended so.
+/// The parts of a hub that a run with this end leaves.
 fn wanted(alloc: Global, hasher: RandomState, run: &Run, fate: Fate) -> Result<Picture, Fail> {
     let mut hub = new_hub(alloc, hasher, "")?;
     look_behind(alloc, &mut hub, run, answered(run, fate))
@@ -266,7 +266,7 @@ fn count(seen: &mut Seen, fate: Fate) {
     }
 }
 
-/// Sees that a run leaves what the calls before its end leave with ample memory, and those before the operation that is delayed.
+/// Checks that a run leaves the parts that the calls before its end leave with ample memory, and the operations before the delayed one.
 fn see_left(
     rt: &impl Abort,
     alloc: Global,
@@ -306,7 +306,7 @@ fn least(alloc: Global, hasher: RandomState) -> Result<usize, Fail> {
     Err(Fail::new("no heap is large enough"))
 }
 
-/// Whether the two calls by which the session comes are answered over a heap of this size.
+/// Whether the two calls that create the session are answered over a heap of this size.
 fn has_session(
     rt: &impl Abort,
     alloc: Global,
@@ -338,7 +338,7 @@ fn ready(
     Err(Fail::new("no heap has a session"))
 }
 
-/// Sees a run over 400 heaps from a size on, each larger than the one before by a step.
+/// Checks a run over 400 heaps from a size on, each larger than the one before by a step.
 fn see_sizes(
     rt: &impl Abort,
     alloc: Global,
@@ -354,7 +354,7 @@ fn see_sizes(
     Ok(())
 }
 
-/// Sees a run over heaps that have no session, and over heaps that have one, 48 bytes apart.
+/// Checks a run over heaps that have no session, and over heaps that have one, 48 bytes apart.
 fn see_run(rt: &impl Abort, alloc: Global, hasher: RandomState, run: &Run) -> Result<Seen, Fail> {
     let mut seen = Seen {
         delayed: 0,
@@ -382,7 +382,7 @@ fn run_of(alloc: Global, opening: &[Row], rows: &[Row]) -> Result<Run, Fail> {
     Ok(run)
 }
 
-/// Sees a scene over heaps: some have its connection break, and some are ample.
+/// Checks a scene over heaps: some have its connection break, and some are ample.
 fn see_scene(
     rt: &impl Abort,
     alloc: Global,
@@ -415,7 +415,7 @@ fn see_scenes(
     Ok(())
 }
 
-/// The scenes of sessions: all with the small session but the last, which asks for its own.
+/// The scenes of sessions: all with the small session but the last, which creates its own.
 fn see_sessions(
     rt: &impl Abort,
     alloc: Global,
@@ -457,6 +457,50 @@ fn two_calls() -> &'static [Row] {
     &TWO_CALLS
 }
 
+/// Checks that a book is loaded, and leaves the other parts of the hub.
+fn see_reload<A: Allocator + Copy>(
+    rt: &impl Abort,
+    alloc: Global,
+    hub: &mut Hub<A>,
+    before: &Picture,
+) -> Result<(), Fail> {
+    if !reload(hub, Book::default(alloc)) {
+        return Err(Fail::new("no epoch"));
+    }
+    let after = look(alloc, hub)?;
+    assert_eq!(rt; &after, before, "reload");
+    Ok(())
+}
+
+/// Checks that a book is loaded behind a run over a heap of this size, however little memory is left.
+fn see_reload_over(
+    rt: &impl Abort,
+    alloc: Global,
+    hasher: RandomState,
+    run: &Run,
+    size: usize,
+) -> Result<(), Fail> {
+    let heap = LocalHeap::new(alloc, size)?;
+    let Ok(mut hub) = with_sessions(&heap, Book::default(alloc), hasher) else {
+        return Ok(());
+    };
+    let left = run_on(rt, alloc, &mut hub, run)?;
+    see_reload(rt, alloc, &mut hub, &left.picture)
+}
+
+/// Loading a book takes no memory.
+#[test]
+fn a_book_is_loaded_without_memory(rt: HostRuntime) -> Result<(), Fail> {
+    let hasher = RandomState::new(&rt)?;
+    let run = run_of(rt.alloc(), &SESSION, two_calls())?;
+    let least = least(rt.alloc(), hasher)?;
+    for index in 0..200usize {
+        let size = least.saturating_add(index.saturating_mul(512));
+        see_reload_over(&rt, rt.alloc(), hasher, &run, size)?;
+    }
+    Ok(())
+}
+
 /// The calls of a run with this index, on a connection.
 fn feed_call<A: Allocator + Copy>(
     hub: &mut Hub<A>,
@@ -468,7 +512,7 @@ fn feed_call<A: Allocator + Copy>(
     feed(hub, conn, call)
 }
 
-/// Lets the session come on a connection that is closed then, and makes the first call on another, whose reply stays pending.
+/// Creates the session on a connection that is closed then, and makes the first call on another, whose reply stays pending.
 fn begin<A: Allocator + Copy>(hub: &mut Hub<A>, run: &Run) -> Result<ConnId, HubFault> {
     let opening = connect(hub)?;
     feed_call(hub, opening, run, 0)?;
@@ -490,7 +534,7 @@ fn is_refused<A: Allocator + Copy>(hub: &mut Hub<A>, run: &Run) -> Result<bool, 
     Ok(fed == Err(HubFault::Memory) && again == Err(HubFault::Broken) && taken == 0)
 }
 
-/// Sees that the second call is run as a new one where the room of its reply was refused before. `false`: it wasn't.
+/// Checks that the second call is run as a new one where the room of its reply was refused before. `false`: it wasn't.
 fn see_again<A: Allocator + Copy>(
     rt: &impl Abort,
     hub: &mut Hub<A>,
@@ -511,7 +555,7 @@ fn see_again<A: Allocator + Copy>(
     Ok(true)
 }
 
-/// Sees it over a heap of this size. `false`: the heap is too small or too large for it.
+/// Checks the second call over a heap of this size. `false`: the heap is too small or too large for it.
 fn see_again_over(
     rt: &impl Abort,
     alloc: Global,
@@ -527,7 +571,7 @@ fn see_again_over(
     Ok(see_again(rt, &mut hub, run, wanted).unwrap_or(false))
 }
 
-/// A call whose reply has no room isn't run: the connection breaks, and the same bytes on another one are a new call.
+/// A call whose reply has no room isn't run: the connection breaks, and an equal call on another connection is new.
 #[test]
 fn a_call_without_room_is_new_again(rt: HostRuntime) -> Result<(), Fail> {
     let hasher = RandomState::new(&rt)?;
@@ -582,7 +626,7 @@ fn is_answered<A: Allocator + Copy>(
     Ok(out.get(..taken) == wanted)
 }
 
-/// Whether a client's session is delayed, and then a smaller one is made under the same number.
+/// Whether a client's session is delayed, and then a smaller one is created under the same sequence ID.
 fn is_made_smaller<A: Allocator + Copy>(hub: &mut Hub<A>, run: &Run) -> Result<bool, HubFault> {
     let conn = connect(hub)?;
     let has_client = is_answered(hub, conn, run, 0)?;
@@ -591,7 +635,7 @@ fn is_made_smaller<A: Allocator + Copy>(hub: &mut Hub<A>, run: &Run) -> Result<b
     Ok(has_client && is_delayed && is_made)
 }
 
-/// Whether it is so over a heap of this size.
+/// Whether the session is delayed, and a smaller one created, over a heap of this size.
 fn is_made_over(alloc: Global, hasher: RandomState, run: &Run, size: usize) -> Result<bool, Fail> {
     let heap = LocalHeap::new(alloc, size)?;
     let Ok(mut hub) = with_sessions(&heap, Book::default(alloc), hasher) else {

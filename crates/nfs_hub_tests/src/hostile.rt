@@ -12,7 +12,7 @@ use std::hash::RandomState;
 use std::process::Abort;
 use std::test::Fail;
 
-/// A name, a stream and its replies as words, and how serving it ends.
+/// A name, a stream and its replies as words, and the end of serving it.
 type Stream = (&'static str, &'static str, &'static str, ServeEnd);
 
 /// The bytes of a piece.
@@ -79,7 +79,7 @@ fn streams() -> &'static [Stream] {
     &STREAMS
 }
 
-/// Feeds a stream in pieces up to the first fault, and says which it is.
+/// Feeds a stream in pieces up to the first fault, which is answered.
 fn feed_all(hub: &mut Hub, conn: nfs_hub::ConnId, stream: &[u8], piece: usize) -> Option<HubFault> {
     for part in stream.chunks(piece.max(1)) {
         if let Err(fault) = feed(hub, conn, part) {
@@ -101,7 +101,7 @@ fn fed(hub: &mut Hub, stream: &[u8], piece: usize, out: &mut [u8]) -> Result<Tol
     Ok((fault, taken, again))
 }
 
-/// Sees a stream in pieces of this many bytes: a connection that breaks stays broken, and its earlier replies come.
+/// Checks a stream in pieces of this many bytes: a connection that breaks stays broken, and its earlier replies come.
 fn see_fed(
     rt: &impl Abort,
     hub: &mut Hub,
@@ -126,7 +126,7 @@ fn see_fed(
     Ok(())
 }
 
-/// Sees how serving a stream in pieces ends, and what is written.
+/// Checks the end of serving a stream in pieces, and the bytes that are written.
 fn see_served(
     rt: &impl Abort,
     alloc: Global,
@@ -146,7 +146,7 @@ fn see_served(
     assert_eq!(rt; written.as_slice(), wanted, "{name} in pieces of {piece}");
 }
 
-/// Sees what comes of a stream that is fed, and of the same one served.
+/// Checks the outcome of a stream that is fed, and of the stream when served.
 fn see_both(
     rt: &impl Abort,
     alloc: Global,
@@ -160,7 +160,7 @@ fn see_both(
     Ok(())
 }
 
-/// Sees a stream fed to one new hub and served by another.
+/// Checks a stream fed to one new hub and served by another.
 fn see_stream(
     rt: &impl Abort,
     alloc: Global,
@@ -276,7 +276,7 @@ static NUMBERS: [Row; 5] = [
     (ROOT, "$1.2 PUTROOTFH", "badsession SEQUENCE badsession"),
 ];
 
-/// Sees calls in pieces of this many bytes on a hub.
+/// Checks calls in pieces of this many bytes on a hub.
 fn see_rows_fed(
     rt: &impl Abort,
     alloc: Global,
@@ -289,7 +289,7 @@ fn see_rows_fed(
     see_replies(rt, alloc, &given, "fed", rows)
 }
 
-/// Sees calls served in pieces of this many bytes on a hub.
+/// Checks calls served in pieces of this many bytes on a hub.
 fn see_rows_served(
     rt: &impl Abort,
     alloc: Global,

@@ -23,7 +23,7 @@ fn send(hub: &mut Hub, sender: &mut Sender<'_>) -> Result<(), HubFault> {
     feed(hub, sender.conn, piece)
 }
 
-/// Who sends a half, four times, and whether the CREATE of `d` is whole before that of `e`.
+/// The senders of the halves, four times, and whether the CREATE of `d` is whole before that of `e`.
 static ORDERS: [(&str, bool); 6] = [
     ("ddee", true),
     ("dede", true),
@@ -130,7 +130,7 @@ fn halves_come_in_any_order(rt: HostRuntime) -> Result<(), Fail> {
     Ok(())
 }
 
-/// Opens as many connections as may be, the last of which breaks, and says which is the last.
+/// Opens as many connections as may be, the last of which breaks, and answers its number.
 fn open_all(hub: &mut Hub) -> Result<ConnId, HubFault> {
     let mut last = connect(hub)?;
     for _ in 1..MAX_CONNECTIONS {
@@ -140,7 +140,7 @@ fn open_all(hub: &mut Hub) -> Result<ConnId, HubFault> {
     Ok(last)
 }
 
-/// Whether a connection more is refused until one is closed, a broken one here; and a call on the new one is answered.
+/// Whether a further connection is refused until one is closed, a broken one here; and a call on the new one is answered.
 fn see_limit(hub: &mut Hub, call: &[u8]) -> Result<(bool, usize), HubFault> {
     let last = open_all(hub)?;
     let refused = connect(hub).err() == Some(HubFault::TooMany);

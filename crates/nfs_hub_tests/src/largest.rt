@@ -72,13 +72,15 @@ static LARGEST: [Row; 25] = [
     (
         ROOT,
         "$1.9 PUTFH @5 GETATTR 8 ffffffff ffffffff ffffffff ffffffff ffffffff ffffffff ffffffff ffffffff",
-        "ok =1.9 PUTFH ok GETATTR ok 3 e8183fff b0003a 800 ( 3 e8183fff b0003a 800 1 0 ^6 ^100000 1 1 0 ^1 ^0 1 5a 0 \
-         3b *3a A:0:1f07ff:EVERYONE@ f @5 ^5 ^100000 ff ^8000 ^f000 fff 1 '0 '0 ^0 0 ^0 0 ^5 0 )",
+        "ok =1.9 PUTFH ok GETATTR ok 3 e8183fff cb0003a 800 ( 3 e8183fff cb0003a 800 1 0 ^6 ^100000 1 1 0 ^1 ^0 1 5a 0 \
+         3b *3a A:0:1f07ff:EVERYONE@ f @5 ^5 ^100000 ff ^8000 ^f000 fff 1 '0 '0 ^0 0 ^0 0 ^5 \
+         0 3b *3a A:0:1f07ff:EVERYONE@ 0 0 0 )",
     ),
     (
         ROOT,
-        "$1.a PUTFH @5 VERIFY 3 e81837ff b0003a 800 ( 3 e8183fff b0003a 800 1 0 ^6 ^100000 1 1 0 ^1 ^0 1 5a \
-         3b *3a A:0:1f07ff:EVERYONE@ f @5 ^5 ^100000 ff ^8000 ^f000 fff 1 '0 '0 ^0 0 ^0 0 ^5 0 ) NVERIFY 3 e81837ff b0003a 800 ( ~f000 )",
+        "$1.a PUTFH @5 VERIFY 3 e81837ff cb0003a 800 ( 3 e8183fff cb0003a 800 1 0 ^6 ^100000 1 1 0 ^1 ^0 1 5a \
+         3b *3a A:0:1f07ff:EVERYONE@ f @5 ^5 ^100000 ff ^8000 ^f000 fff 1 '0 '0 ^0 0 ^0 0 ^5 \
+         0 3b *3a A:0:1f07ff:EVERYONE@ 0 0 0 ) NVERIFY 3 e81837ff cb0003a 800 ( ~f000 )",
         "ok =1.a PUTFH ok VERIFY ok NVERIFY ok",
     ),
     (
@@ -93,8 +95,9 @@ static LARGEST: [Row; 25] = [
     ),
     (
         ROOT,
-        "$1.d PUTFH @5 SETATTR 1 0 0 1 +4+12+33+36+37 ( ^100000 3b *3a A:0:1f07ff:EVERYONE@ fff '4294967295 '4294967295 )",
-        "ok =1.d PUTFH ok SETATTR ok +4+12+33+36+37",
+        "$1.d PUTFH @5 SETATTR 1 0 0 1 +4+12+33+36+37 ( ^100000 3b *3a A:0:1f07ff:EVERYONE@ fff '4294967295 '4294967295 ) \
+         SETATTR anon +58+59 ( 0 3a *39 A:0:1f07ff:EVERYONE@ 0 1 U:20:1:EVERYONE@ )",
+        "ok =1.d PUTFH ok SETATTR ok +4+12+33+36+37 SETATTR ok +58+59",
     ),
     (
         ROOT,
@@ -122,7 +125,7 @@ static LARGEST: [Row; 25] = [
     (
         ROOT,
         "$1.12 PUTROOTFH REMOVE ~fd PUTFH @4 REMOVE ~ff PUTROOTFH REMOVE 'd",
-        "ok =1.12 PUTROOTFH ok REMOVE ok 8>b PUTFH ok REMOVE ok 8>c PUTROOTFH ok REMOVE ok b>d",
+        "ok =1.12 PUTROOTFH ok REMOVE ok 8>c PUTFH ok REMOVE ok 8>d PUTROOTFH ok REMOVE ok c>e",
     ),
     (
         ROOT,

@@ -1,4 +1,4 @@
-//! Tests of `nfs_hub`: calls and replies as bytes, in any cut, and streams that fail.
+//! Tests of `nfs_hub`: calls and replies as bytes, in any cut, books that are loaded between them, and streams that fail.
 #![tactic(auto)]
 
 #[cfg(test)]
@@ -25,6 +25,8 @@ mod limits;
 mod pictures;
 #[cfg(test)]
 mod plain;
+#[cfg(test)]
+mod reloads;
 #[cfg(test)]
 mod scenes;
 #[cfg(test)]

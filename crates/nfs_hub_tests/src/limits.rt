@@ -17,7 +17,7 @@ struct Site {
     tick: u32,
 }
 
-/// One of many: a name more of the file, an open more of it, or a link more in a directory.
+/// A thing to add: a name of the file, an open of it, or a link in a directory.
 #[derive(Clone, Copy)]
 enum Growth {
     Name,
@@ -25,7 +25,7 @@ enum Growth {
     Object(u32),
 }
 
-/// Sees the answer to a call of user 0 in the session.
+/// Checks the answer to a call of user 0 in the session.
 fn see_call(
     rt: &impl Abort,
     alloc: Global,
@@ -55,7 +55,7 @@ fn see_call(
     Ok(())
 }
 
-/// The operations that make one thing more.
+/// The operations that add one thing.
 fn call_words(alloc: Global, growth: Growth, index: u32) -> Result<String, AllocError> {
     match growth {
         Growth::Name => format!(in alloc; " PUTROOTFH LINK 'n{index}"),
@@ -66,7 +66,7 @@ fn call_words(alloc: Global, growth: Growth, index: u32) -> Result<String, Alloc
     }
 }
 
-/// Their results, at this tick.
+/// The results of these operations, at this tick.
 fn result_words(
     alloc: Global,
     growth: Growth,
@@ -82,7 +82,7 @@ fn result_words(
     }
 }
 
-/// Adds the operations of one more, and their results. A directory's change is the tick before, and a change in it takes the next.
+/// Adds the operations of one more thing, and their results. A directory's change is the tick before, and a change in it takes the next.
 fn put_one(
     alloc: Global,
     call: &mut String,
@@ -95,12 +95,12 @@ fn put_one(
     Ok(())
 }
 
-/// Whether it takes a tick.
+/// Whether adding it takes a tick.
 fn takes_tick(growth: Growth) -> bool {
     !matches!(&growth, Growth::Open)
 }
 
-/// Sees one more, five times in a call.
+/// Checks one more thing, five times in a call.
 fn see_five(
     rt: &impl Abort,
     alloc: Global,
@@ -127,7 +127,7 @@ fn see_five(
     )
 }
 
-/// Sees so many times five more.
+/// Checks so many times five more things.
 fn see_many(
     rt: &impl Abort,
     alloc: Global,
@@ -157,7 +157,7 @@ fn see_names(rt: &impl Abort, alloc: Global, hub: &mut Hub, site: &mut Site) -> 
     see_call(rt, alloc, hub, site, more, refused)
 }
 
-/// There are 4,096 opens: the first one, and 4,095 by filehandle. One that is there is joined still.
+/// There are 4,096 opens: the first one, and 4,095 by filehandle. An owner's existing open is still joined.
 fn see_opens(rt: &impl Abort, alloc: Global, hub: &mut Hub, site: &mut Site) -> Result<(), Fail> {
     see_many(rt, alloc, hub, site, Growth::Open, 819)?;
     let joined = "PUTFH @2 OPEN 0 2 0 ^0 'o 0 4 OPEN 0 1 0 ^0 'p 0 4";
@@ -204,7 +204,7 @@ fn see_full(rt: &impl Abort, alloc: Global, hub: &mut Hub, site: &mut Site) -> R
     see_call(rt, alloc, hub, site, moved, ("ok", results))
 }
 
-/// Makes a directory of this number in `z`, which has this change, and so many times five links in it.
+/// Creates a directory of this number in `z`, which has this change, and so many times five links in it.
 fn see_filled(
     rt: &impl Abort,
     alloc: Global,

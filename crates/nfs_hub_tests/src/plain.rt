@@ -1,4 +1,4 @@
-//! The calls of a hub, bare of what is proved of them, so that a test's proof doesn't carry it along.
+//! The calls of a hub without their contracts, so that a test's proof doesn't carry them along.
 
 use crate::words::EPOCH;
 use nfs_hub::{Clock, ConnId, Hub, HubFault, ServeEnd, serve};
@@ -56,6 +56,11 @@ pub fn take_out<A: Allocator + Copy>(
     buf: &mut [u8],
 ) -> Result<usize, HubFault> {
     hub.take_out(conn, buf)
+}
+
+/// Whether a book is loaded.
+pub fn reload<A: Allocator + Copy>(hub: &mut Hub<A>, book: Book) -> bool {
+    hub.reload(book).is_ok()
 }
 
 pub fn feed_at<A: Allocator + Copy>(

@@ -16,7 +16,7 @@ pub struct Scene {
     pub name: &'static str,
     /// The book of names, where it is one with names.
     pub book: &'static str,
-    /// The calls by which the session comes.
+    /// The calls that create the session.
     pub opening: &'static [Row],
     pub rows: &'static [Row],
     /// The lines of the trail that are left.
@@ -26,7 +26,7 @@ pub struct Scene {
 }
 
 impl Scene {
-    /// A run without names in the book and with a session that comes first, of which no bytes are seen.
+    /// A run without names in the book and with a session that is created first, of which no bytes are checked.
     pub fn new(name: &'static str, rows: &'static [Row], lines: &'static str) -> Self {
         Scene {
             name,
@@ -39,7 +39,7 @@ impl Scene {
     }
 }
 
-/// A client comes and gets a session of 8 slots, in which a call has at most 16 operations, and a reply 65,536 bytes.
+/// A client is made known and gets a session of 8 slots, in which a call has at most 16 operations, and a reply 65,536 bytes.
 pub static SESSION: [Row; 2] = [
     (
         ROOT,
@@ -76,7 +76,7 @@ pub fn new_hub(alloc: Global, hasher: RandomState, text: &str) -> Result<Hub, Fa
     Ok(with_sessions(alloc, book, hasher)?)
 }
 
-/// Feeds a stream in pieces of this many bytes, and takes out what is pending after each.
+/// Feeds a stream in pieces of this many bytes, and takes out the pending bytes after each.
 fn pass(
     hub: &mut Hub,
     conn: ConnId,
@@ -103,12 +103,12 @@ pub fn told(alloc: Global, hub: &mut Hub, stream: &[u8], piece: usize) -> Result
     Ok(given)
 }
 
-/// Sees that bytes are these: of the call of this number, which is told otherwise.
+/// Checks the bytes of the call of this number.
 pub fn see_bytes(rt: &impl Abort, given: &[u8], wanted: &[u8], xid: u32, name: &str, call: &str) {
     assert_eq!(rt; given, wanted, "{name}, {xid}: {call}");
 }
 
-/// Sees that the first bytes are the reply to a call, and gives the others.
+/// Checks that the first bytes are the reply to a call, and gives the others.
 fn see_reply<'a>(
     rt: &impl Abort,
     alloc: Global,
@@ -123,7 +123,7 @@ fn see_reply<'a>(
     Ok(rest)
 }
 
-/// Sees that bytes are the replies to calls, and nothing more.
+/// Checks that bytes are the replies to calls, and nothing more.
 pub fn see_replies(
     rt: &impl Abort,
     alloc: Global,
@@ -141,7 +141,7 @@ pub fn see_replies(
     Ok(())
 }
 
-/// Sees the trail of a hub and the bytes of an object.
+/// Checks the trail of a hub and the bytes of an object.
 fn see_left(rt: &impl Abort, alloc: Global, hub: &Hub, scene: &Scene) -> Result<(), Fail> {
     let trail = trail_text(alloc, hub)?;
     assert_eq!(rt; trail.as_slice(), scene.lines.as_bytes(), "{}", scene.name);
@@ -151,14 +151,14 @@ fn see_left(rt: &impl Abort, alloc: Global, hub: &Hub, scene: &Scene) -> Result<
     Ok(())
 }
 
-/// The calls of a scene: those by which the session comes, and the others.
+/// The calls of a scene: those that create the session, and the others.
 pub fn rows_of(alloc: Global, scene: &Scene) -> Result<Vec<Row>, Fail> {
     let mut rows = Vec::from_slice(alloc, scene.opening)?;
     rows.extend_from_slice(scene.rows)?;
     Ok(rows)
 }
 
-/// Sees that calls in pieces of this many bytes are answered so by a hub, and what they leave.
+/// Checks that calls in pieces of this many bytes are answered so by a hub, and the state after them.
 fn see_on(
     rt: &impl Abort,
     alloc: Global,
@@ -173,7 +173,7 @@ fn see_on(
     see_left(rt, alloc, hub, scene)
 }
 
-/// Sees a scene in pieces of this many bytes over a new hub.
+/// Checks a scene in pieces of this many bytes over a new hub.
 fn see_in_pieces(
     rt: &impl Abort,
     alloc: Global,
@@ -186,7 +186,7 @@ fn see_in_pieces(
     see_on(rt, alloc, &mut hub, scene, &rows, piece)
 }
 
-/// Sees a scene in pieces of each size.
+/// Checks a scene in pieces of each size.
 fn see_scene(
     rt: &impl Abort,
     alloc: Global,

@@ -105,7 +105,7 @@ fn a_call_is_served(rt: HostRuntime) -> Result<(), Fail> {
     Ok(())
 }
 
-/// How serving these bytes ends, and how many bytes are written.
+/// The end of serving these bytes, and how many bytes are written.
 fn served(alloc: Global, hasher: RandomState, bytes: &[u8]) -> Result<(ServeEnd, usize), Fail> {
     let mut hub = bare(alloc, alloc, hasher)?;
     let mut written = Vec::new(alloc);
@@ -131,7 +131,7 @@ fn a_front_of_a_call_is_inside(rt: HostRuntime) -> Result<(), Fail> {
     Ok(())
 }
 
-/// How serving a call ends where the reader fails after so many reads, and how many bytes are written.
+/// The end of serving a call where the reader fails after so many reads, and how many bytes are written.
 fn read_so_far(
     alloc: Global,
     hasher: RandomState,
@@ -165,7 +165,7 @@ fn a_reader_fails(rt: HostRuntime) -> Result<(), Fail> {
     Ok(())
 }
 
-/// How serving a call ends where the writer stops after so many writes, and whether the connection is closed.
+/// The end of serving a call where the writer stops after so many writes, and whether the connection is closed.
 fn written_so_far(
     alloc: Global,
     hasher: RandomState,
@@ -220,7 +220,7 @@ fn fill(hub: &mut Hub) -> Result<(), HubFault> {
     Ok(())
 }
 
-/// How serving a stream ends, and serving it again while as many connections are open as may be; and how many bytes are written in all.
+/// The end of serving a stream, and of serving it again while all connections are open; and how many bytes are written in all.
 fn served_twice(
     alloc: Global,
     hasher: RandomState,
@@ -236,7 +236,7 @@ fn served_twice(
     Ok((first, is_open, second, written.len()))
 }
 
-/// A stream that breaks ends so, with the replies before it written; and a hub with no room for a connection says so.
+/// Serving a stream that breaks answers so, with the replies before it written; and without a free connection the hub says so.
 #[test]
 fn other_ends(rt: HostRuntime) -> Result<(), Fail> {
     let hasher = RandomState::new(&rt)?;
@@ -250,7 +250,7 @@ fn other_ends(rt: HostRuntime) -> Result<(), Fail> {
     Ok(())
 }
 
-/// Tells a second more each time.
+/// Gives one more second each time.
 #[derive(Drop)]
 struct Rising {
     seconds: Cell<i64>,
@@ -267,7 +267,7 @@ impl Clock for Rising {
     }
 }
 
-/// When the objects 4 and 5 were changed, which two calls make that come in pieces of their own, by a clock that rises.
+/// The times of the last changes of the objects 4 and 5, by two calls in pieces of their own, by a clock that rises.
 fn made_at(
     alloc: Global,
     hasher: RandomState,

@@ -5,7 +5,7 @@ use call_texts::{ALICE, BOB, ROOT, Row};
 use std::hash::RandomState;
 use std::test::Fail;
 
-/// A slot runs each number once: the last one again gets its results again, by an equal caller with equal bytes alone.
+/// A slot runs each sequence ID once: a retry of the last one gets its results again, by an equal caller with equal bytes alone.
 static SLOTS: [Row; 7] = [
     (
         ROOT,
@@ -92,7 +92,7 @@ static ROOMS: [Row; 6] = [
     ),
 ];
 
-/// A client comes and gets a session of 8 slots of the 64 that it asks for; another user has its record once its open is closed.
+/// A client is made known and gets a session of 8 slots of the 64 that it requests; another user has its record once its open is closed.
 static CLIENT: [Row; 13] = [
     (
         ROOT,

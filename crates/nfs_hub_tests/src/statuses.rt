@@ -334,7 +334,7 @@ fn what_sessions_refuse_is_told_in_every_cut(rt: HostRuntime) -> Result<(), Fail
     see_scenes(&rt, rt.alloc(), RandomState::new(&rt)?, &scenes)
 }
 
-/// Sees the answer to a call of user 0 on a connection.
+/// Checks the answer to a call of user 0 on a connection.
 fn see_call(
     rt: &impl Abort,
     alloc: Global,
@@ -359,7 +359,7 @@ fn see_call(
     Ok(())
 }
 
-/// Sees a client of an owner with this number of its own.
+/// Checks a client of an owner with this number of its own.
 fn see_client(
     rt: &impl Abort,
     alloc: Global,
@@ -380,7 +380,7 @@ fn see_client(
     )
 }
 
-/// Sees 64 clients, of which the last one's record is the last that there is room for.
+/// Checks 64 clients, of which the last one's record is the last that there is room for.
 fn see_clients(rt: &impl Abort, alloc: Global, hub: &mut Hub, conn: ConnId) -> Result<(), Fail> {
     for owner in 1..=64 {
         see_client(rt, alloc, hub, conn, owner)?;
@@ -389,7 +389,7 @@ fn see_clients(rt: &impl Abort, alloc: Global, hub: &mut Hub, conn: ConnId) -> R
     see_call(rt, alloc, hub, conn, (65, call, "nospc EXCHANGE_ID nospc"))
 }
 
-/// Sees a session of the first client, and of the smallest slots.
+/// Checks a session of the first client, and of the smallest slots.
 fn see_session(
     rt: &impl Abort,
     alloc: Global,
@@ -412,7 +412,7 @@ fn see_session(
     )
 }
 
-/// Sees 64 sessions and no more. The refusal is kept as the answer to its number.
+/// Checks 64 sessions and no more. The refusal is kept as the answer to its sequence ID.
 fn see_sessions(rt: &impl Abort, alloc: Global, hub: &mut Hub, conn: ConnId) -> Result<(), Fail> {
     for session in 1..=64 {
         see_session(rt, alloc, hub, conn, session)?;

@@ -1,4 +1,4 @@
--- What the arms give that read an operation by its kind, or a result.
+-- The results of the arms that read an operation by its kind, or a result.
 use Rattle.std.proofs.Common.{◌≡◌, ◌∙◌, ℕ, List, [], cond, Result, Ok, Err, sym, ap}
 use Rattle.std.specs.Prelude.{IsErrAnd}
 use Rattle.std.proofs.lemmas.Result.{err_from_is_err_and}
@@ -16,14 +16,14 @@ use Rattle.nfs_ops.specs.declared.op_result.OpResult.{OpResult}
 gives_err : {X V : Type 0} (view : X → V) (old new : List ℕ) (read : ReadOf V) (fault : XdrFault) (r : Result X XdrFault) → read ≡ Err fault → new ≡ old → IsErrAnd r (λ e. e ≡ fault) → Gives view old new r read
 gives_err view old new read fault r is stays h = let p = err_from_is_err_and r h in rw p.1 (is ∙ ap (λ (f : XdrFault). Err f) (sym p.2), stays)
 
--- arguments that aren't read, of an operation that asks nothing that isn't supported
+-- the arguments can't be read, and no argument of the operation is unsupported
 pub unread : (k : OpKind) (old new : List ℕ) (read : ReadOf (Value (row k).takes.form)) (fault : XdrFault) (r : Result Op XdrFault) → (row k).unsupported ≡ []
     → (read ≡ Err fault) × (new ≡ old) → IsErrAnd r (λ e. e ≡ fault) → Gives op_view old new r (supported k old read)
 unread k old new read fault r all e h =
     gives_err op_view old new (supported k old read) fault r
     (ap (supported k old) e.0 ∙ ap (λ (ts : List Xdr). let x : ReadOf Operation = cond (any_stands ts old) (Ok (Unsupported (row k).number, old)) (Err fault) in x) all) e.1 h
 
--- what an operation gives, and what isn't read of it
+-- the result of an operation, and the same where it can't be read
 abbrev gives : (k : OpKind) → ReadOf (Value (row k).gives.form) → ReadOf Outcome
 gives k read = read >>= λ x. Ok (Done k x.0, x.1)
 

@@ -1,4 +1,4 @@
--- An operation that is read stands at the front.
+-- An operation that is read is at the front of the bytes.
 use Rattle.std.proofs.Common.{◌≡◌, ℕ, Bool, true, false, cond, List, ◌++◌, Option, Some, None, Ok, Err, refl, sym, ap, subst, ◌∙◌}
 use Rattle.std.proofs.lemmas.List.{append_cancel_right}
 use Rattle.std.specs.Prelude.{nat_le, ◌&&◌}
@@ -24,7 +24,7 @@ pair_from t bytes r rest k v e f = rw e (rw f refl)
 abbrev alone : Operation → List ℕ → ReadOf Operation
 alone op r = Ok (op, r)
 
--- what isn't built isn't built
+-- a number without a row isn't an operation
 none_is_built : (b : Bool) (n : ℕ) → is_built (cond b (Unsupported n) Illegal) ≡ false
 none_is_built true n = refl
 none_is_built false n = refl

@@ -1,4 +1,4 @@
--- What the definition gives of entries of which the first ones fit and the next one doesn't.
+-- The listing of entries of which the first ones fit and the next one doesn't.
 use Rattle.std.proofs.Common.{◌≡◌, ◌≤◌, ◌<◌, ◌+◌, ◌++◌, ◌∙◌, ◌⊎◌, ℕ, Bool, true, false, cond, [], ◌∷◌, List, None, length, take, nat_le, nat_lt, suc, inl, inr, refl, sym, ap, subst, arith, Result, Ok, Err}
 use Rattle.std.specs.Prelude.{map}
 use Rattle.std.specs.List.{prefix_len, sum_by}
@@ -20,7 +20,7 @@ isn't_le a b h = elim (leb_tells a b) as (λ t. nat_le a b ≡ false) [ inl p �
 one_more : (n : ℕ) → 1 + n ≡ suc n
 one_more n = omega arith
 
--- those that fit, and those behind them
+-- the entries that fit, and those behind them
 abbrev pub parted : {R : Type 0} → List (Value entry) → List (Judged R) → List (Judged R)
 parted given rest = map Ok given ++ rest
 
@@ -28,7 +28,7 @@ before : {R : Type 0} (given : List (Value entry)) (rest : List (Judged R)) → 
 before [] rest = refl
 before (e ∷ given) rest = ap (λ (es : List (Value entry)). e ∷ es) (before given rest)
 
--- the next one, if it is given, goes past the limit
+-- the next entry, if it is returned, goes past the limit
 abbrev pub Passes : {R : Type 0} → ℕ → ℕ → List (Judged R) → Type 0
 Passes {R} limit size rest = (e : Value entry) (others : List (Judged R)) → rest ≡ Ok e ∷ others → limit < size + size_of_entry e
 
@@ -73,7 +73,7 @@ counted {R} limit given rest (inl none) passes =
     let nothing : Passes limit (listing_size []) rest = subst (λ (es : List (Value entry)). Passes limit (listing_size es) rest) none passes in
     ap (λ (es : List (Value entry)). fitting limit (parted es rest)) none ∙ none_counted limit 16 rest nothing ∙ ap length (sym none)
 
--- of those that are judged only the last can be refused
+-- only the last of the judged entries can be refused
 judged_so : {R : Type 0} (given : List (Value entry)) (rest : List (Judged R)) → first_refusal (take (suc (length given)) (parted given rest)) ≡ first_refusal (take 1 rest)
 judged_so [] rest = refl
 judged_so (e ∷ given) rest = judged_so given rest
@@ -128,9 +128,9 @@ too_small_listing {R} limit (Ok e ∷ others) passes granted few =
     ap (listing_unless limit all) (ap (λ (m : ℕ). first_refusal (take (1 + m) all)) n)
     ∙ ap (λ (m : ℕ). let r : Result Listing (ListFault R) = cond (nat_lt 0 m) (Ok (those_fitting limit all)) (Err TooSmall) in r) n
 
--- ---- what it is
+-- ---- the facts of a listing
 
--- those that fit, and those behind them, with such a size before them
+-- the entries that fit, and those behind them, with this size before them
 pub record Split {R : Type 0} (limit size : ℕ) (all : List (Judged R)) : Type 0 where
   pub given : List (Value entry)
   pub rest : List (Judged R)

@@ -1,4 +1,4 @@
--- An operation is read exactly where a spelling of it stands at the front.
+-- An operation is read exactly where a spelling of it is at the front.
 use Rattle.std.proofs.Common.{◌≡◌, ℕ, true, List, ◌++◌, None, Ok, sym, ap, ◌∙◌}
 use Rattle.xdr_wire.specs.Xdr.{Xdr, Value, uint, pair}
 use Rattle.xdr_wire.specs.Reading.{read_at}
@@ -12,7 +12,7 @@ use Rattle.nfs_ops.specs.Operations.{Operation, Known, Unsupported, Illegal, Bad
 use Rattle.nfs_ops.specs.declared.op_kind.OpKind.{OpKind}
 use Rattle.nfs_ops.proofs.Numbers.{kind_is}
 
--- what two fields are read from
+-- the bytes that two fields are read from
 pub pair_parts : (t : Xdr) (bytes rest : List ℕ) (v : Value (pair uint t)) → read_at (pair uint t) bytes ≡ Ok (v, rest) → (r : List ℕ) × (read_at uint bytes ≡ Ok (v.0, r)) × (read_at t r ≡ Ok (v.1, rest))
 pair_parts t bytes rest v e =
     let a = bind_ok (read_at uint bytes) _ (v, rest) e in

@@ -1,4 +1,4 @@
--- A row is found by its number, and what is found has that number.
+-- A row is found by its number, and the row that is found has that number.
 use Rattle.std.proofs.Common.{◌≡◌, ℕ, cond, List, [], ◌∷◌, Option, Some, None, refl, sym, ap, ◌∙◌, inl, inr, eq-eqb}
 use Rattle.std.proofs.lemmas.Bool.{ne_eqb, cases_eq}
 use Rattle.std.specs.Prelude.{◌==◌}

@@ -1,4 +1,4 @@
--- A result that is read stands at the front.
+-- A result that is read is at the front of the bytes.
 use Rattle.std.proofs.Common.{◌≡◌, ◌≢◌, ℕ, Bool, true, false, cond, List, ◌++◌, Option, Some, None, Ok, refl, sym, ap, subst, ◌∙◌, inl, inr, eq-eqb}
 use Rattle.std.proofs.lemmas.Bool.{ne_eqb, cases_eq}
 use Rattle.std.specs.Prelude.{◌==◌, nat_lt}
@@ -19,7 +19,7 @@ use Rattle.nfs_ops.proofs.Numbers.{number_is}
 use Rattle.nfs_ops.proofs.Founds.{pair_from, same_front}
 use Rattle.nfs_ops.proofs.ResultNexts.{result_is}
 
--- it has the number of a status, and stands at the front
+-- the result has the number of a status, and is at the front
 abbrev pub Found : Outcome → List ℕ → List ℕ → Type 0
 Found o bytes rest = IsResult o × Stands (outcome_item o) bytes rest
 
@@ -59,7 +59,7 @@ all_done_found : (n : ℕ) (bytes r q rest : List ℕ) (o : Outcome) → read_at
 unfolding done_at
 all_done_found n bytes r q rest o number_read status_is e = kind_found n bytes r q rest o (kind_at n) refl number_read status_is e
 
--- ---- a status that isn't OK is the one that was read
+-- ---- the status that isn't OK is the status that was read
 
 listed : (s k t : ℕ) (y : Option ℕ) → cond (s == k) (Some k) y ≡ Some t → (y ≡ Some t → s ≡ t) → s ≡ t
 listed s k t y e other =

@@ -1,4 +1,4 @@
--- A result that stands at the front is read.
+-- A result at the front is read.
 use Rattle.std.proofs.Common.{◌≡◌, ℕ, List, ◌++◌, Some, None, Ok, refl, sym, ap, ◌∙◌}
 use Rattle.std.proofs.lemmas.Bool.{ne_eqb}
 use Rattle.xdr_wire.specs.Xdr.{Value, uint, pair}

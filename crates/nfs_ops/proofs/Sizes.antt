@@ -1,4 +1,4 @@
--- How many bytes a result takes at most: its greatest size bounds each of its spellings.
+-- The size of a result: its greatest size bounds each of its spellings.
 use Rattle.std.proofs.Common.{◌≡◌, refl, ap, ◌∙◌, ℕ, ◌+◌, ◌*◌, ◌≤◌, List, [], ◌∷◌, length, Option, Some, None, Result, Ok, Err, replicate, inl, inr, IsTrue, is_ok, arith, true, false, cond, ◌==◌}
 use Rattle.std.specs.Int.{w32, to_be_bytes}
 use Rattle.std.specs.List.{flat_map, sum_by}
@@ -19,7 +19,7 @@ use Rattle.nfs_ops.specs.Rows.{row}
 use Rattle.nfs_ops.specs.declared.op_kind.OpKind.{OpKind}
 use Rattle.nfs_ops.specs.declared.op_kind.OpKind.TheVariants.{Access, Close, Commit, Create, GetAttr, GetFh, Link, Open, Read, ReadDir, ReadLink, Remove, Rename, SetAttr, Write, ExchangeId, CreateSession, Sequence}
 
--- what is at most n bytes long is written where there is room for n
+-- n bytes or fewer are written where there is room for n
 pub fits : {E : Type 0} (old new : Buffer) (item : List ℕ) (r : Result (Unit {0}) E) (n : ℕ) → Puts old new item r → length item ≤ n → n ≤ old.room → IsTrue (is_ok r)
 fits old new item (Ok x) n puts short room = refl
 fits old new item (Err e) n puts short room = absurd (omega (arith, puts.0, short, room))
@@ -41,7 +41,7 @@ padded_is v = length-append v (replicate (padding (length v)) 0) ∙ ap (λ (n :
 rounded : (n words : ℕ) → n ≤ 4 * words → with_padding n ≤ 4 * words
 rounded n words short = omega (arith, short)
 
--- more bytes take no less
+-- more bytes take as much room or more
 pub rises : (few many : ℕ) → few ≤ many → with_padding few ≤ with_padding many
 rises few many le = omega (arith, le)
 
@@ -77,7 +77,7 @@ pub entries_are : (es : List (Value entry)) → length (flat_map (link (spelling
 entries_are [] = refl
 entries_are (e ∷ es) = omega (arith, length-append (link (spelling entry) e) (flat_map (link (spelling entry)) es), entry_is e, entries_are es, sum_by-cons size_of_entry e es)
 
--- ---- what a result of the program has of them
+-- ---- the parts of a result of the program
 
 front_short : (w : ℕ) (ws : List ℕ) → length (front_word w ws) ≤ 1 + length ws
 front_short w [] = elim (w == 0) as (λ b. length (cond b [] (w ∷ [])) ≤ 1) [ true ↦ omega arith | false ↦ omega arith ]
@@ -118,7 +118,7 @@ getattr_short v = omega (arith, getattr_is v)
 pub getfh_short : (v : Value getfh_result) → length v ≤ 128 → size GetFh v ≤ 140
 getfh_short v short = omega (arith, opaque_is 128 v, rounded (length v) 32 short)
 
--- what stands behind the change of an OPEN
+-- the fields behind the change of an OPEN
 abbrev behind_change : Xdr
 behind_change = fields (always 0 ∷ bitmap ∷ always 0 ∷ [])
 
@@ -152,7 +152,7 @@ setattr_short v few = omega (arith, bitmap_is v, few)
 pub write_short : (v : Value write_result) → size Write v ≤ 24
 write_short v = omega (arith, two (always 2) zeros v.1, always_is 2 v.1.0, zeros_is v.1.1)
 
--- what stands at the end of an EXCHANGE_ID
+-- the fields at the end of an EXCHANGE_ID
 abbrev server_and_scope : Xdr
 server_and_scope = fields (opaque 11 ∷ opaque 11 ∷ always 0 ∷ [])
 
@@ -200,7 +200,7 @@ carried_is (Done ReadDir v) e = readdir_is v
 carried_is (Done ReadLink v) e = readlink_is v
 carried_is _ e = absurd cc
 
--- what carries bytes changes nothing, and no other result is as long
+-- a result that carries bytes changes nothing, and no other result is as long
 pub change_short : (o : Outcome) → is_change o ≡ true → most o ≤ change_size
 change_short (Done GetAttr v) e = absurd cc
 change_short (Done Read v) e = absurd cc

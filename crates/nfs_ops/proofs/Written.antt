@@ -36,7 +36,7 @@ end_bytes eof = to_be_bytes w32 0 ++ to_be_bytes w32 (number_of_bool eof)
 spelled : (given : List (Value entry)) (eof : Bool) → item_spelling (outcome_item (readdir_outcome (record { entries = given; eof = eof }))) ≡ (head ++ entries_bytes given) ++ end_bytes eof
 spelled given eof = ap (λ (b : List ℕ). head ++ b) (append_assoc (entries_bytes given) (to_be_bytes w32 0) (to_be_bytes w32 (number_of_bool eof)))
 
--- what stands once the entries do, with number, status and verifier before them
+-- the state once the entries are written, with number, status and verifier before them
 pub record Standing {R : Type 0} (limit : ℕ) (all : List (Judged R)) (old new : Buffer) (most begin : ℕ) (rest : List (Judged R)) : Type 0 where
   pub given : List (Value entry)
   pub parts : all ≡ parted given rest
@@ -68,7 +68,7 @@ len_is limit all old new most begin rest s =
     sum_is : (new old more entries sum : ℕ) → new ≡ old + more → more ≡ length head + entries → entries ≡ sum → new ≡ old + 16 + sum
     sum_is new old more entries sum p q r = omega (arith, p, q, r, head_size)
 
--- what ends within the first bytes fits the limit, and what ends behind them doesn't
+-- a result that ends within the first bytes fits the limit, and a longer one doesn't
 within : {R : Type 0} (limit : ℕ) (all : List (Judged R)) (old new : Buffer) (most begin : ℕ) (rest : List (Judged R)) (s : Standing limit all old new most begin rest) → length new.bytes ≤ most → listing_size s.given ≤ limit
 within limit all old new most begin rest s le = plain limit (length old.bytes) (length new.bytes) most (sum_by size_of_entry s.given) (len_is limit all old new most begin rest s) s.most_is le
   where
@@ -90,7 +90,7 @@ passing limit all old new most begin rest others e s is lt next behind same =
     let over : most < length new.bytes + length (linked_bytes next) = subst (λ (x : Value entry). most < length new.bytes + length (linked_bytes x)) (sym one) lt in
     subst (λ (n : ℕ). limit < listing_size s.given + n) size (beyond limit all old new most begin rest s (length (linked_bytes next)) over)
 
--- what is known of all entries
+-- the facts of all entries
 sendable_all : (given : List (Value entry)) → AllByRecursion IsSendable given → AllByRecursion (HasSpelling entry) given
 sendable_all [] h = tt
 sendable_all (e ∷ given) h = (h.0.0, sendable_all given h.1)
@@ -102,7 +102,7 @@ same_all (e ∷ given) h = let tail = same_all given h.1 in let first = h.0.1 in
 zero_spelled : (0 < 4294967296) × (◌≡◌ {A = ℕ} 0 0 × Unit {0})
 zero_spelled = (omega arith, (refl, tt))
 
--- what is known of the whole result
+-- the facts of the whole result
 listed : {R : Type 0} (limit room : ℕ) (all : List (Judged R)) (old new then : Buffer) (most begin : ℕ) (rest : List (Judged R)) (eof : Bool) (s : Standing limit all old new most begin rest)
     → limit + 8 ≤ room → listing limit all ≡ Ok (record { entries = s.given; eof = eof }) → length new.bytes ≤ most → Appends new then (end_bytes eof) → Lists (listing limit all) room old then
 listed limit room all old new then most begin rest eof s fits is le a =
@@ -116,7 +116,7 @@ listed limit room all old new then most begin rest eof s fits is le a =
       within = omega (arith, ap length a.behind, length-append new.bytes (end_bytes eof), le, s.most_is, fits);
     }
 
--- the buffer is as it was once what was written is cut off
+-- the buffer is as it was once the written bytes are cut off
 pub restored : {R : Type 0} (limit : ℕ) (all : List (Judged R)) (old new cut : Buffer) (most begin start : ℕ) (rest : List (Judged R)) → Standing limit all old new most begin rest → start ≡ length old.bytes
     → cut.bytes ≡ take start new.bytes → cut.room + start ≡ new.room + length new.bytes → cut ≡ old
 restored limit all old new cut most begin start rest s at bytes room = cut_back old new cut (head ++ entries_bytes s.given) start at s.behind bytes room
@@ -131,7 +131,7 @@ refused {R} limit all old new most begin rest others refusal s is =
 none_given : {R : Type 0} (limit : ℕ) (all : List (Judged R)) (old new : Buffer) (most begin : ℕ) (rest : List (Judged R)) (s : Standing limit all old new most begin rest) → most < length new.bytes → s.given ≡ []
 none_given limit all old new most begin rest s lt = elim s.fits as (λ f. s.given ≡ []) [ inl e ↦ e | inr le ↦ absurd (omega arith) ]
 
--- where nothing is given, all are left
+-- where no entry is returned, all are left
 all_left : {R : Type 0} (limit : ℕ) (all : List (Judged R)) (old new : Buffer) (most begin : ℕ) (rest : List (Judged R)) (s : Standing limit all old new most begin rest) → s.given ≡ [] → all ≡ rest
 all_left {R} limit all old new most begin rest s none = s.parts ∙ ap (λ (g : List (Value entry)). parted g rest) none
 
@@ -147,7 +147,7 @@ none_fits {R} limit all old new most begin rest others e s is none lt =
     no_entries [] f = refl
     no_entries (w ∷ given) f = absurd (omega (arith, f, sum_by-cons size_of_entry w given))
 
--- where no entry is left
+-- no entry is left
 pub ended : {R : Type 0} (limit room : ℕ) (all : List (Judged R)) (old new then : Buffer) (most begin start : ℕ) (rest : List (Judged R)) (r : Result (Unit {0}) (ListFault R)) → Standing limit all old new most begin rest
     → limit + 8 ≤ room → rest ≡ [] → EndsAs start most true new r then → OnOk r (Lists (listing limit all) room old then)
 ended {R} limit room all old new then most begin start rest (Err fault) s fits is e = tt
@@ -158,7 +158,7 @@ ended {R} limit room all old new then most begin start rest (Ok done) s fits is 
     ∙ given_listing limit s.given [] true le (λ e others f. absurd cc) (λ f. refl) refl (none_left (length s.given)) in
     listed limit room all old new then most begin rest true s fits whole e.0 e.1
 
--- there is no entry, and a result without one doesn't fit
+-- there is no entry, and a result without entries doesn't fit
 pub nothing_fits : {R : Type 0} (limit : ℕ) (all : List (Judged R)) (old new then : Buffer) (most begin start : ℕ) (rest : List (Judged R)) (r : Result (Unit {0}) (ListFault R)) → Standing limit all old new most begin rest → start ≡ length old.bytes
     → rest ≡ [] → EndsAs start most true new r then → IfErr r (λ fault. (listing limit all ≡ Err fault) × (then ≡ old))
 nothing_fits {R} limit all old new then most begin start rest (Ok done) s at is e = tt
@@ -177,7 +177,7 @@ some_given : {R : Type 0} (limit : ℕ) (all : List (Judged R)) (old new : Buffe
 some_given limit all old new most begin rest s some f =
     some (omega (arith, len_is limit all old new most begin rest s, s.begin_is, ap (sum_by size_of_entry) f))
 
--- where the next entry doesn't fit
+-- the next entry doesn't fit
 pub more_left : {R : Type 0} (limit room : ℕ) (all : List (Judged R)) (old new then : Buffer) (most begin start : ℕ) (rest others : List (Judged R)) (e : Value entry) (r : Result (Unit {0}) (ListFault R)) → Standing limit all old new most begin rest
     → limit + 8 ≤ room → rest ≡ Ok e ∷ others → (length new.bytes ≡ begin → ⊥) → most < length new.bytes + length (linked_bytes e) → EndsAs start most false new r then → OnOk r (Lists (listing limit all) room old then)
 more_left {R} limit room all old new then most begin start rest others e (Err fault) s fits is some lt ends = tt
@@ -189,7 +189,7 @@ more_left {R} limit room all old new then most begin start rest others e (Ok don
     ∙ given_listing limit s.given rest false le (passing limit all old new most begin rest others e s is lt) (λ f. absurd (some_given limit all old new most begin rest s some f)) (ap (λ (r : List (Judged R)). first_refusal (take 1 r)) is) more in
     listed limit room all old new then most begin rest false s fits whole ends.0 ends.1
 
--- there the buffer doesn't end behind the limit
+-- then the buffer doesn't end behind the limit
 pub no_fault : {R : Type 0} (limit : ℕ) (all : List (Judged R)) (old new then : Buffer) (most begin start : ℕ) (rest : List (Judged R)) (r : Result (Unit {0}) (ListFault R)) → Standing limit all old new most begin rest
     → (length new.bytes ≡ begin → ⊥) → EndsAs start most false new r then → IfErr r (λ fault. (listing limit all ≡ Err fault) × (then ≡ old))
 no_fault limit all old new then most begin start rest (Ok done) s some e = tt

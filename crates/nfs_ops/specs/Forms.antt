@@ -10,11 +10,11 @@ use Rattle.nfs_types.specs.Forms.{handle, stateid, time, bitmap, attributes, tri
 abbrev pub bytes : Xdr
 bytes = opaque 0xffff_ffff
 
--- a word that is always the same: an enum or a union of one number
+-- a word of one value: an enum or a union of one number
 abbrev pub always : ℕ → Xdr
 always n = union (arm n void no_more)
 
--- eight zero bytes: a verifier that says nothing (verifier4), and the number 0 (uint64_t)
+-- eight zero bytes: a verifier without meaning (verifier4), and the number 0 (uint64_t)
 abbrev pub zeros : Xdr
 zeros = fields (always 0 ∷ always 0 ∷ [])
 
@@ -22,7 +22,7 @@ zeros = fields (always 0 ∷ always 0 ∷ [])
 abbrev pub change_info : Xdr
 change_info = fields (always 1 ∷ hyper ∷ hyper ∷ [])
 
--- attributes with their values (fattr4): which ones, and the values one behind the other
+-- attributes with their values (fattr4): their set, and the values one behind the other
 abbrev pub set_of : Value attributes → List ℕ
 set_of v = v.0
 
@@ -33,15 +33,15 @@ values_of v = v.1
 abbrev pub with_padding : ℕ → ℕ
 with_padding n = n + padding n
 
--- The most bytes of a result, with its number and its status; this is all of one that is these two.
+-- The most bytes of a result that is only its number and its status.
 abbrev pub plain_size : ℕ
 plain_size = 8
 
--- The most bytes of a result of any operation that can change the tree: who has as much room runs it, and can tell how it went.
+-- The most bytes of a result of any operation that can change the tree: with as much room it runs, and its result can be sent.
 abbrev pub change_size : ℕ
 change_size = 256
 
--- ACCESS (18.1): the rights asked; those of them that have a meaning, and those granted
+-- ACCESS (18.1): the rights requested; those supported, and those granted
 abbrev pub access_args : Xdr
 access_args = uint
 
@@ -51,7 +51,7 @@ access_result = fields (uint ∷ uint ∷ [])
 abbrev pub access_size : ℕ
 access_size = 16
 
--- CLOSE (18.2): a number that is ignored, the open; what the open has become
+-- CLOSE (18.2): a number that is ignored, the open's stateid; the invalid stateid
 abbrev pub close_args : Xdr
 close_args = fields (uint ∷ stateid ∷ [])
 
@@ -138,7 +138,7 @@ created_name v = v.1.0
 abbrev pub created_attributes : Value create_args → Value attributes
 created_attributes v = v.1.1
 
--- GETATTR (18.7): the attributes asked; their values
+-- GETATTR (18.7): the attributes requested; their values
 abbrev pub getattr_args : Xdr
 getattr_args = bitmap
 
@@ -209,7 +209,7 @@ open_size = 88
 abbrev pub open_result_normal : Value open_result → Value open_result
 open_result_normal v = (v.0, (v.1.0, (v.1.1.0, (trimmed v.1.1.1.0, v.1.1.1.1))))
 
--- What an OPEN asks that isn't supported, up to the word that says so: exclusive creation (2, 3), and a claim of a
+-- The arguments of an OPEN that aren't supported, up to the unsupported word: exclusive creation (2, 3), and a claim of a
 -- reclaim or a delegation (1, 2, 3, 5, 6).
 abbrev pub exclusive : Xdr
 exclusive = union (arm 2 void (arm 3 void no_more))
@@ -294,7 +294,7 @@ read_count v = v.1.1
 abbrev pub read_gives : Bool → List ℕ → Value read_result
 read_gives eof item = (eof, item)
 
--- READDIR (18.23): cookie, a verifier and a count that are ignored, the most bytes, the attributes asked; a verifier,
+-- READDIR (18.23): cookie, a verifier and a count that are ignored, the most bytes, the attributes requested; a verifier,
 -- the entries, whether the end was reached
 abbrev pub readdir_args : Xdr
 readdir_args = fields (hyper ∷ fixed 8 ∷ uint ∷ uint ∷ bitmap ∷ [])
@@ -363,7 +363,7 @@ remove_result = change_info
 abbrev pub remove_size : ℕ
 remove_size = 28
 
--- RENAME (18.26): the old name, the new one; the changes of the source's directory and of the target's
+-- RENAME (18.26): the old name, the new name; the changes of the source's directory and of the target's
 abbrev pub rename_args : Xdr
 rename_args = fields (bytes ∷ bytes ∷ [])
 
@@ -383,7 +383,7 @@ new_name v = v.1
 
 -- SAVEFH (18.28): nothing; nothing
 
--- SETATTR (18.30): stateid, attributes; the attributes that were set, which stand there after a refusal too
+-- SETATTR (18.30): stateid, attributes; the attributes that were set, also where the operation fails
 abbrev pub setattr_args : Xdr
 setattr_args = fields (stateid ∷ attributes ∷ [])
 
@@ -413,7 +413,7 @@ verify_args = attributes
 abbrev pub stable_how : Xdr
 stable_how = union (arm 0 void (arm 1 void (arm 2 void no_more)))
 
--- WRITE (18.32): stateid, offset, how far it is to reach, the bytes; how many, how far they have reached, a verifier
+-- WRITE (18.32): stateid, offset, stability, the bytes; their count, the stability reached, a verifier
 abbrev pub write_args : Xdr
 write_args = fields (stateid ∷ hyper ∷ stable_how ∷ bytes ∷ [])
 
@@ -451,8 +451,8 @@ written_bytes v = v.1.1.1
 abbrev pub implementation : Xdr
 implementation = fields (bytes ∷ bytes ∷ time ∷ [])
 
--- EXCHANGE_ID (18.35): verifier, owner, flags, no protection, who made the client; client, sequence, flags, no
--- protection, the server's number and name, its scope, nobody
+-- EXCHANGE_ID (18.35): verifier, owner, flags, no protection, the client's implementation; client ID, sequence ID, flags, no
+-- protection, the server's number and name, its scope, no implementation
 abbrev pub exchange_id_args : Xdr
 exchange_id_args = fields (fixed 8 ∷ opaque 1024 ∷ uint ∷ always 0 ∷ array 1 implementation ∷ [])
 
@@ -462,8 +462,8 @@ exchange_id_result = fields (hyper ∷ uint ∷ uint ∷ always 0 ∷ zeros ∷ 
 abbrev pub exchange_id_size : ℕ
 exchange_id_size = 72
 
--- What an EXCHANGE_ID asks that isn't supported, up to the word that says so: the protection of state by SP4_MACH_CRED (1)
--- or SP4_SSV (2).
+-- The arguments of an EXCHANGE_ID that aren't supported, up to the unsupported word: the protection of state by SP4_MACH_CRED
+-- (1) or SP4_SSV (2).
 abbrev pub protection : Xdr
 protection = union (arm 1 void (arm 2 void no_more))
 
@@ -479,7 +479,7 @@ client_owner v = v.1.0
 abbrev pub exchange_id_flags : Value exchange_id_args → ℕ
 exchange_id_flags v = v.1.1.0
 
--- channel_attrs4: padding, sizes of request, reply and kept reply, operations, slots, RDMA
+-- channel_attrs4: padding, sizes of request, reply and cached reply, operations, slots, RDMA
 abbrev pub channel : Xdr
 channel = fields (uint ∷ uint ∷ uint ∷ uint ∷ uint ∷ uint ∷ array 1 uint ∷ [])
 
@@ -495,8 +495,8 @@ gss_handles = fields (uint ∷ bytes ∷ bytes ∷ [])
 abbrev pub callback_security : Xdr
 callback_security = union (arm 0 void (arm 1 authsys (arm 6 gss_handles no_more)))
 
--- CREATE_SESSION (18.36): client, sequence, flags, the two channels, program and credentials of callbacks; session,
--- sequence, flags, the two channels
+-- CREATE_SESSION (18.36): client ID, sequence ID, flags, the two channels, program and credentials of callbacks; session
+-- ID, sequence ID, flags, the two channels
 abbrev pub create_session_args : Xdr
 create_session_args = fields (hyper ∷ uint ∷ uint ∷ channel ∷ channel ∷ uint ∷ array 8 callback_security ∷ [])
 
@@ -541,8 +541,8 @@ slots c = c.1.1.1.1.1.0
 abbrev pub destroy_session_args : Xdr
 destroy_session_args = fixed 16
 
--- SEQUENCE (18.46): session, number, slot, highest slot, whether the reply is to be kept; session, number, slot,
--- highest slot, highest slot that is to come, no flags
+-- SEQUENCE (18.46): session ID, sequence ID, slot, highest slot, whether the reply is to be cached; session ID, sequence
+-- ID, slot, highest slot, target highest slot, no flags
 abbrev pub sequence_args : Xdr
 sequence_args = fields (fixed 16 ∷ uint ∷ uint ∷ uint ∷ boolean ∷ [])
 
@@ -568,7 +568,7 @@ highest_slot v = v.1.1.1.0
 abbrev pub keeps_reply : Value sequence_args → Bool
 keeps_reply v = v.1.1.1.1
 
--- DESTROY_CLIENTID (18.50): the client
+-- DESTROY_CLIENTID (18.50): the client ID
 abbrev pub destroy_clientid_args : Xdr
 destroy_clientid_args = hyper
 

@@ -21,7 +21,7 @@ getattr_outcome given = Done GetAttr given
 abbrev pub readdir_outcome : Listing → Outcome
 readdir_outcome given = Done ReadDir (zeros_value, (given.entries, given.eof))
 
--- The item stands behind what was there, which fails exactly where it has more than so many bytes. Then nothing changes.
+-- The item is put behind the buffer's bytes, which fails exactly where it has more than so many bytes. Then nothing changes.
 abbrev pub PutsWithin : {E : Type 0} → ℕ → Buffer → Buffer → Item → Result (Unit {0}) E → Type 0
 PutsWithin room old new item (Ok done) = Appends old new (item_spelling item) × (length (item_spelling item) ≤ room)
 PutsWithin room old new item (Err full) = (room < length (item_spelling item)) × (new ≡ old)

@@ -1,4 +1,4 @@
--- What the items of arrays and chains spell: the value of their form.
+-- The items of arrays and chains: each spells the value of its form.
 use Rattle.std.specs.Prelude.{None}
 use Rattle.std.proofs.Common.{inl, inr}
 use Rattle.xdr_wire.specs.Xdr.{Value, uint}
@@ -29,7 +29,7 @@ callback_security_value (credentials.Gss gss) = inr (inr (inl (gss_handles_value
 abbrev pub entry_value : Entry → Value entry
 entry_value e = (e.cookie, (e.name.bytes.now, attributes_value e.attributes))
 
--- the attributes that are given of an object
+-- the attributes that are returned of an object
 abbrev pub given_value : GivenAttributes → Value attributes
 given_value g = (given_set (bitmap_value g.asked), given_values g.book.now g.facts.now (bitmap_value g.asked))
 

@@ -1,4 +1,4 @@
--- What stands on the wire: a form, and a value of it that is in normal form.
+-- An item on the wire: a form, and a value of it that is in normal form.
 use Rattle.std.specs.Prelude.{◌≡◌, ℕ, List, [], ◌∷◌, Some, None}
 use Rattle.xdr_wire.specs.Xdr.{Xdr, Value, void, uint, pair, fields, HasSpelling, spelling, Begins}
 use Rattle.xdr_wire.specs.Wire.{Normal, normalized, both}
@@ -8,30 +8,30 @@ pub record Item : Type 0 where
   pub normal : Normal (Value form)
   pub value : Value form
 
--- what is spelled, and the normal form of its values
+-- a form, and the normal form of its values
 pub record Spelled : Type 0 where
   pub form : Xdr
   pub normal : Normal (Value form)
 
--- of which each value is its own
+-- a form of which each value is in normal form
 abbrev pub alone : Xdr → Spelled
 alone t = record { form = t; normal = None }
 
--- of which f gives the normal form
+-- a form of which f gives the normal form
 abbrev pub normally : (t : Xdr) → (Value t → Value t) → Spelled
 normally t f = record { form = t; normal = Some f }
 
 abbrev pub nothing : Spelled
 nothing = alone void
 
--- a number, and what stands behind it
+-- a number, and the value behind it
 abbrev pub numbered : ℕ → (s : Spelled) → Value s.form → Item
 numbered n s v = record { form = pair uint s.form; normal = both None s.normal; value = (n, v) }
 
 abbrev pub number : ℕ → Item
 number n = record { form = uint; normal = None; value = n }
 
--- a number, the status OK, and what stands behind them
+-- a number, the status OK, and the value behind them
 abbrev pub done : ℕ → (s : Spelled) → Value s.form → Item
 done n s v = record { form = fields (uint ∷ uint ∷ s.form ∷ []); normal = both None (both None s.normal); value = (n, (0, v)) }
 
@@ -48,6 +48,6 @@ ItemHasSpelling i = HasSpelling i.form i.value
 abbrev pub ItemIsNormal : Item → Type 0
 ItemIsNormal i = normalized i.normal i.value ≡ i.value
 
--- a spelling of the value, or of one with this normal form, stands at the front of the bytes, and the rest is behind it
+-- a spelling of the value, or of a value with this normal form, is at the front of the bytes, and the rest is behind it
 abbrev pub Stands : Item → List ℕ → List ℕ → Type 0
 Stands i bytes rest = (v : Value i.form) × Begins i.form v bytes rest × (normalized i.normal v ≡ i.value)

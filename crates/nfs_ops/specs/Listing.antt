@@ -1,4 +1,4 @@
--- Which entries READDIR gives: the longest beginning of those above the cookie with which the result stays within a limit (RFC 8881, section 18.23).
+-- The entries that READDIR returns: the longest beginning of those above the cookie that stays within a limit (RFC 8881, section 18.23).
 use Rattle.std.specs.Prelude.{◌≡◌, ◌≤◌, ◌<◌, ◌⊎◌, ◌↔◌, ◌+◌, ◌-◌, ℕ, min, Bool, true, nat_le, nat_lt, if◌then◌else◌, List, [], ◌∷◌, ◌++◌, length, map, take, Option, Some, None, Result, Ok, Err}
 use Rattle.std.specs.List.{prefix_len, sum_by}
 use Rattle.xdr_wire.specs.Xdr.{Value, HasSpelling, spelling, link}
@@ -9,11 +9,11 @@ use Rattle.nfs_ops.specs.declared.listing.ListFault.TheVariants.{Refused, TooSma
 use Rattle.nfs_ops.specs.declared.listing.Next.{Next}
 use Rattle.nfs_ops.specs.declared.listing.Next.TheVariants as next
 
--- An entry as it is judged: what is given of it, or what refuses it.
+-- A judged entry: the entry as it is returned, or its refusal.
 abbrev pub Judged : Type 0 → Type 0
 Judged Refusal = Result (Value entry) Refusal
 
--- entries that are given, and whether no entry is left behind them
+-- the entries that are returned, and whether no entry is left behind them
 pub record Listing : Type 0 where
   pub entries : List (Value entry)
   pub eof : Bool
@@ -24,22 +24,22 @@ pub record Listing : Type 0 where
 abbrev pub empty_size : ℕ
 empty_size = 16
 
--- the bytes behind the status of a result with these
+-- the bytes behind the status of a result with these entries
 abbrev pub listing_size : List (Value entry) → ℕ
 listing_size entries = empty_size + sum_by size_of_entry entries
 
--- the sizes with the first of them, with the first two, and so on, added to such a size
+-- the sizes with the first of these entries, with the first two, and so on, added to this size
 abbrev pub sizes_after : ℕ → List (Value entry) → List ℕ
 sizes_after size [] = []
 sizes_after size (e ∷ others) = (size + size_of_entry e) ∷ sizes_after (size + size_of_entry e) others
 
--- The most bytes of a result behind its status: what the client takes at most, and what number and status leave of the room.
+-- The most bytes of a result behind its status: the client's maxcount, and the room without number and status.
 abbrev pub readdir_limit : ℕ → ℕ → ℕ
 readdir_limit maxcount room = min (room - 8) maxcount
 
--- ---- what is given of entries that are judged in their order
+-- ---- the entries that are returned, judged in their order
 
--- those before the first that is refused
+-- the entries before the first that is refused
 abbrev pub given_before : {R : Type 0} → List (Judged R) → List (Value entry)
 given_before [] = []
 given_before (Ok e ∷ others) = e ∷ given_before others
@@ -49,22 +49,22 @@ given_before (Err refusal ∷ others) = []
 abbrev pub fitting : {R : Type 0} → ℕ → List (Judged R) → ℕ
 fitting limit all = prefix_len (λ size. nat_le size limit) (sizes_after empty_size (given_before all))
 
--- Each is judged before it is measured: those that fit are, and the one behind them.
+-- Each entry is judged before it is measured: the entries that fit are judged, and the one behind them.
 abbrev pub judged_within : {R : Type 0} → ℕ → List (Judged R) → List (Judged R)
 judged_within limit all = take (1 + fitting limit all) all
 
--- what refuses the first that is refused
+-- the refusal of the first entry that is refused
 abbrev pub first_refusal : {R : Type 0} → List (Judged R) → Option R
 first_refusal [] = None
 first_refusal (Ok e ∷ others) = first_refusal others
 first_refusal (Err refusal ∷ others) = Some refusal
 
--- one fits, or there is none and a result without entries does
+-- an entry fits, or there is none and a result without entries fits
 abbrev pub some_fit : {R : Type 0} → ℕ → List (Judged R) → Bool
 some_fit limit [] = nat_le empty_size limit
 some_fit limit (j ∷ others) = nat_lt 0 (fitting limit (j ∷ others))
 
--- those that fit, and whether they are all
+-- the entries that fit, and whether they are all
 abbrev pub those_fitting : {R : Type 0} → ℕ → List (Judged R) → Listing
 those_fitting limit all = record { entries = take (fitting limit all) (given_before all); eof = nat_le (length all) (fitting limit all) }
 
@@ -72,13 +72,13 @@ abbrev pub listing_unless : {R : Type 0} → ℕ → List (Judged R) → Option 
 listing_unless limit all (Some refusal) = Err (Refused refusal)
 listing_unless limit all None = if some_fit limit all then Ok (those_fitting limit all) else Err TooSmall
 
--- Of all entries above the cookie, by rising cookie: those that fit, unless one of the judged is refused, or nothing fits.
+-- The listing of all entries above the cookie, by rising cookie: those that fit, unless a judged entry is refused, or nothing fits.
 unfoldable pub listing : {R : Type 0} → ℕ → List (Judged R) → Result Listing (ListFault R)
 listing limit all = listing_unless limit all (first_refusal (judged_within limit all))
 
--- ---- what a listing is
+-- ---- the facts of a listing
 
--- A beginning of all, none of it refused, that fits. Behind it is no entry, or one that isn't refused and with which the result would go past the limit.
+-- The entries are a beginning of all, none of it refused, that fits. Behind it is no entry, or one that isn't refused and goes past the limit.
 pub record IsLongest {R : Type 0} (limit : ℕ) (all : List (Judged R)) (given : Listing) : Type 0 where
   pub rest : List (Judged R)
   pub parts : all ≡ map Ok given.entries ++ rest
@@ -88,14 +88,14 @@ pub record IsLongest {R : Type 0} (limit : ℕ) (all : List (Judged R)) (given :
   pub some_or_all : given.entries ≡ [] → rest ≡ []
   pub ends : (given.eof ≡ true) ↔ (rest ≡ [])
 
--- this refuses an entry, and those before it aren't refused and fit
+-- an entry has this refusal, and those before it aren't refused and fit
 pub record IsRefused {R : Type 0} (limit : ℕ) (all : List (Judged R)) (refusal : R) : Type 0 where
   pub before : List (Value entry)
   pub others : List (Judged R)
   pub parts : all ≡ map Ok before ++ Err refusal ∷ others
   pub fits : (before ≡ []) ⊎ (listing_size before ≤ limit)
 
--- Not even the first fits, which isn't refused; or there is none, and a result without entries doesn't fit.
+-- The first entry isn't refused and doesn't fit; or there is none, and a result without entries doesn't fit.
 pub record IsTooSmall {R : Type 0} (limit : ℕ) (all : List (Judged R)) : Type 0 where
   pub none : all ≡ [] → limit < empty_size
   pub first : (e : Value entry) (others : List (Judged R)) → all ≡ Ok e ∷ others → limit < listing_size (e ∷ [])
@@ -106,7 +106,7 @@ IsListing limit all (Ok given) = IsLongest limit all given
 IsListing limit all (Err (Refused refusal)) = IsRefused limit all refusal
 IsListing limit all (Err TooSmall) = IsTooSmall limit all
 
--- ---- what is written
+-- ---- the bytes that are written
 
 -- an entry behind its link
 abbrev pub linked_bytes : Value entry → List ℕ
@@ -116,7 +116,7 @@ linked_bytes e = link (spelling entry) e
 abbrev pub IsSendable : Value entry → Type 0
 IsSendable e = HasSpelling entry e × (entry_normal e ≡ e)
 
--- what becomes of the next of those that are left
+-- the outcome of the next of the entries that are left
 abbrev pub NextGives : {R : Type 0} → List (Judged R) → Buffer → Next R → List (Judged R) → Buffer → Type 0
 NextGives left old next.Written rest new = (e : Value entry) × (left ≡ Ok e ∷ rest) × Appends old new (linked_bytes e) × IsSendable e
 NextGives left old next.End rest new = (left ≡ []) × (new ≡ old)

@@ -22,7 +22,7 @@ pub record Filled {R : Type 0} (most : ℕ) (all : List (Judged R)) (old new : B
   pub fits : (given ≡ []) ⊎ (length new.bytes ≤ most)
   pub sendable : AllByRecursion IsSendable given
 
--- why the entries that are left are left
+-- why the writing stops before the entries that are left
 abbrev pub Stops : {R : Type 0} → ℕ → Buffer → Stop R → List (Judged R) → Type 0
 Stops most new stop.End rest = rest ≡ []
 Stops {R} most new (stop.Refused refusal) rest = (others : List (Judged R)) × (rest ≡ Err refusal ∷ others)
@@ -31,12 +31,12 @@ Stops {R} most new stop.Full rest = (e : Value entry) × (others : List (Judged 
 abbrev pub FillsUp : {R : Type 0} → ℕ → List (Judged R) → Buffer → Stop R → Buffer → Type 0
 FillsUp {R} most all old stopped new = (rest : List (Judged R)) × Filled most all old new rest × Stops most new stopped rest
 
--- the end mark and eof stand behind what was there, or only its first bytes are left
+-- the end mark and eof are put behind the buffer's bytes, or only its first bytes are left
 abbrev pub EndsAs : {R : Type 0} → ℕ → ℕ → Bool → Buffer → Result (Unit {0}) (ListFault R) → Buffer → Type 0
 EndsAs start most eof old (Ok done) new = (length old.bytes ≤ most) × Appends old new (to_be_bytes w32 0 ++ to_be_bytes w32 (number_of_bool eof))
 EndsAs start most eof old (Err fault) new = (fault ≡ TooSmall) × (most < length old.bytes) × (new.bytes ≡ take start old.bytes) × (new.room + start ≡ old.room + length old.bytes)
 
--- the result stands behind what was there, in its room
+-- the result is put behind the buffer's bytes, within its room
 pub record Lists {R : Type 0} (listed : Result Listing (ListFault R)) (room : ℕ) (old new : Buffer) : Type 0 where
   pub given : Listing
   pub is : listed ≡ Ok given

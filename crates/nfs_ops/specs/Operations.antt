@@ -1,5 +1,5 @@
--- An operation with its arguments as it stands in a COMPOUND, and how the next one is read (RFC 8881, sections 16.2 and 18). That
--- each step of reading has a name, and another for how it goes on (`.._from`, `or_bad`), is for the prover alone.
+-- An operation with its arguments as it stands in a COMPOUND, and how the next one is read (RFC 8881, sections 16.2 and 18). The
+-- names of the reading's steps and of how they go on (`.._from`, `or_bad`) are for the prover alone.
 use Rattle.std.specs.Prelude.{ℕ, Bool, true, false, ◌&&◌, ◌||◌, nat_le, if◌then◌else◌, List, [], ◌∷◌, Option, Some, None, Ok, Err, is_ok}
 use Rattle.xdr_wire.specs.Xdr.{Xdr, Value, uint}
 use Rattle.xdr_wire.specs.Reading.{Read as ReadOf, read_at}
@@ -11,11 +11,11 @@ use Rattle.nfs_ops.specs.declared.op_kind.OpKind.{OpKind}
 pub data Operation : Type 0 where
   -- an operation with the value of its arguments
   Known : (k : OpKind) → Value (row k).takes.form → Operation
-  -- a number of the protocol whose operation isn't supported, or what an operation of this number asks isn't
+  -- an operation that isn't supported, or whose arguments aren't, with its number
   Unsupported : ℕ → Operation
   -- a number that no operation has
   Illegal : Operation
-  -- the arguments of the operation of this number don't spell
+  -- the arguments of the operation of this number can't be read
   Bad : ℕ → Operation
 
 -- OP_ILLEGAL
@@ -29,25 +29,25 @@ number_of (Unsupported n) = n
 number_of Illegal = illegal
 number_of (Bad n) = n
 
--- the number and the arguments: what is written of it. Of what is no operation the number alone is.
+-- the number and the arguments, as they are written; without an operation the number alone
 abbrev pub op_item : Operation → Item
 op_item (Known k v) = numbered (row k).number (row k).takes v
 op_item (Unsupported n) = number n
 op_item Illegal = number illegal
 op_item (Bad n) = number n
 
--- whether it is an operation
+-- whether this is an operation with its arguments
 abbrev pub is_built : Operation → Bool
 is_built (Known k v) = true
 is_built _ = false
 
--- one of these forms stands at the front
+-- a value of one of these forms is at the front
 abbrev pub any_stands : List Xdr → List ℕ → Bool
 any_stands [] bytes = false
 any_stands (t ∷ []) bytes = is_ok (read_at t bytes)
 any_stands (t ∷ s ∷ others) bytes = is_ok (read_at t bytes) || any_stands (s ∷ others) bytes
 
--- the arguments, or that they ask what isn't supported, whatever follows the word that says so
+-- the arguments, or that they aren't supported, whatever follows the unsupported word
 abbrev pub supported : (k : OpKind) → List ℕ → ReadOf (Value (row k).takes.form) → ReadOf Operation
 supported k bytes (Ok x) = Ok (Known k x.0, x.1)
 supported k bytes (Err fault) = if any_stands (row k).unsupported bytes then Ok (Unsupported (row k).number, bytes) else Err fault
@@ -56,7 +56,7 @@ supported k bytes (Err fault) = if any_stands (row k).unsupported bytes then Ok 
 unfoldable pub arguments_of : OpKind → List ℕ → ReadOf Operation
 arguments_of k bytes = supported k bytes (in_normal_form (row k).takes.normal (read_at (row k).takes.form bytes))
 
--- a number whose operation isn't supported, whose arguments aren't read, or one that no operation has
+-- a number whose operation isn't supported, whose arguments aren't read, or a number that no operation has
 abbrev pub no_operation : ℕ → Operation
 no_operation n = if nat_le 3 n && nat_le n 58 then Unsupported n else Illegal
 

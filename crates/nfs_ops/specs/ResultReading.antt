@@ -1,4 +1,4 @@
--- How a result is read (RFC 8881, sections 15.1, 16.2 and 18).
+-- The reading of a result (RFC 8881, sections 15.1, 16.2 and 18).
 use Rattle.std.specs.Prelude.{ℕ, ◌==◌, nat_lt, if◌then◌else◌, List, Option, Some, None, Ok, Err}
 use Rattle.xdr_wire.specs.declared.fault.XdrFault.TheVariants.{BadChoice}
 use Rattle.xdr_wire.specs.Xdr.{uint}
@@ -10,7 +10,7 @@ use Rattle.nfs_ops.specs.Results.{Outcome, Done, Refused, SetAttrRefused}
 use Rattle.nfs_ops.specs.declared.op_kind.OpKind.{OpKind}
 use Rattle.nfs_ops.specs.declared.op_kind.OpKind.TheVariants.{SetAttr}
 
--- The statuses that aren't OK stand in three groups for the prover alone: those below 100
+-- The statuses that aren't OK are in three groups for the prover alone: those below 100
 abbrev pub file_refusal : ℕ → Option ℕ
 file_refusal s =
     if s == 1 then Some 1
@@ -80,7 +80,7 @@ session_refusal s =
 unfoldable pub refusal_at : ℕ → Option ℕ
 refusal_at s = if nat_lt s 100 then file_refusal s else if nat_lt s 10034 then state_refusal s else session_refusal s
 
--- behind OK: what this operation gives
+-- behind OK: the result of this operation
 unfoldable pub done_of : OpKind → List ℕ → ReadOf Outcome
 done_of k bytes = in_normal_form (row k).gives.normal (read_at (row k).gives.form bytes) >>= λ x. Ok (Done k x.0, x.1)
 
@@ -92,7 +92,7 @@ done_from bytes None = Err BadChoice
 unfoldable pub done_at : ℕ → List ℕ → ReadOf Outcome
 done_at n bytes = done_from bytes (kind_at n)
 
--- Behind another status than OK: nothing, or the bitmap of SETATTR, which says nothing then.
+-- Behind another status than OK: nothing, or the bitmap of SETATTR, which means nothing then.
 abbrev pub refused_from : ℕ → List ℕ → Option ℕ → ReadOf Outcome
 refused_from n bytes (Some status) =
     if n == (row SetAttr).number then (in_normal_form (Some trimmed) (read_at bitmap bytes) >>= λ x. Ok (SetAttrRefused status, x.1)) else Ok (Refused n status, bytes)

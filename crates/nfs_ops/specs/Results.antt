@@ -1,5 +1,5 @@
 -- The result of an operation as it stands in a COMPOUND's (RFC 8881, sections 16.2 and 18): its number, its status and,
--- where that is OK, what its form says.
+-- where that is OK, the value of its form.
 use Rattle.std.specs.Prelude.{ℕ, ◌==◌, Bool, true, false, if◌then◌else◌, [], ◌∷◌, Some}
 use Rattle.xdr_wire.specs.Xdr.{Value, uint, fields}
 use Rattle.nfs_types.specs.Forms.{bitmap}
@@ -13,14 +13,14 @@ use Rattle.nfs_ops.specs.declared.op_kind.OpKind.{OpKind}
 use Rattle.nfs_ops.specs.declared.op_kind.OpKind.TheVariants.{SetAttr}
 
 pub data Outcome : Type 0 where
-  -- the operation is OK, and gives this
+  -- the operation is OK, with this result
   Done : (k : OpKind) → Value (row k).gives.form → Outcome
   -- the operation of this number has another status than OK
   Refused : ℕ → ℕ → Outcome
-  -- SETATTR has, and nothing was set
+  -- SETATTR has another status than OK, and nothing was set
   SetAttrRefused : ℕ → Outcome
 
--- what is written of it
+-- the item of a result
 abbrev pub outcome_item : Outcome → Item
 outcome_item (Done k v) = done (row k).number (row k).gives v
 outcome_item (Refused n status) = plain n status
@@ -30,13 +30,13 @@ outcome_item (SetAttrRefused status) = record {
   value = ((row SetAttr).number, (status, []));
 }
 
--- The most bytes that are written of it. Of what an object or a request makes long, so many of its bytes count.
+-- The most bytes of a result. The bytes that an object or a request makes long count as many as they are.
 abbrev pub most : Outcome → ℕ
 most (Done k v) = (row k).most v
 most (Refused n status) = plain_size
 most (SetAttrRefused status) = setattr_refused_size
 
--- the results whose size is a function of what an object or a request makes long
+-- the results whose size an object or a request decides
 abbrev pub carries_bytes : Outcome → Bool
 carries_bytes (Done k v) = (row k).carries
 carries_bytes _ = false
@@ -51,7 +51,7 @@ abbrev pub is_refusal : Outcome → Bool
 is_refusal (Done k v) = false
 is_refusal _ = true
 
--- A refusal isn't OK: in its place stands SERVERFAULT, which is answered nowhere else.
+-- A refusal isn't OK: SERVERFAULT, which is answered nowhere else, is in its place.
 abbrev pub refusal : Status → ℕ
 refusal status = if statuses.number_of status == 0 then statuses.number_of ServerFault else statuses.number_of status
 

@@ -10,19 +10,19 @@ use Rattle.nfs_ops.specs.declared.op_kind.OpKind.TheVariants.{Access, Close, Com
 pub record Row : Type 0 where
   pub number : ℕ
   pub name : List ℕ
-  -- its arguments
+  -- the arguments of the operation
   pub takes : Spelled
-  -- arguments of it that ask what isn't supported, each up to the word that says so
+  -- the arguments that aren't supported, each up to the unsupported word
   pub unsupported : List Xdr
-  -- its result, behind number and status where that is OK
+  -- the result, behind number and status where that is OK
   pub gives : Spelled
-  -- the most bytes of such a result with its number and its status
+  -- the most bytes of the result with its number and its status
   pub most : Value gives.form → ℕ
-  -- whether that is the very number of them, since an object or a request makes the result long
+  -- whether the result has exactly so many bytes, since an object or a request decides its size
   pub carries : Bool
-  -- whether it can change the tree
+  -- whether the operation can change the tree
   pub changes : Bool
-  -- whether it may be answered DELAY; a CREATE_SESSION that is a repeat never is, which its caller says
+  -- whether the operation may be answered DELAY; a replayed CREATE_SESSION never is, which is up to the caller
   pub delays : Bool
 
 abbrev pub row : OpKind → Row
@@ -350,7 +350,7 @@ abbrev pub all_kinds : List OpKind
 all_kinds = Access ∷ Close ∷ Commit ∷ Create ∷ GetAttr ∷ GetFh ∷ Link ∷ Lookup ∷ LookupP ∷ NVerify ∷ Open ∷ PutFh ∷ PutRootFh ∷ Read ∷ ReadDir
     ∷ ReadLink ∷ Remove ∷ Rename ∷ RestoreFh ∷ SaveFh ∷ SetAttr ∷ Verify ∷ Write ∷ ExchangeId ∷ CreateSession ∷ DestroySession ∷ Sequence ∷ DestroyClientId ∷ ReclaimComplete ∷ []
 
--- the first of them that has the number
+-- the first of the operations that has the number
 abbrev pub with_number : List OpKind → ℕ → Option OpKind
 with_number [] n = None
 with_number (k ∷ others) n = if n == (row k).number then Some k else with_number others n

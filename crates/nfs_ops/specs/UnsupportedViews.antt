@@ -1,4 +1,4 @@
--- What is asked that isn't supported: the value of its form.
+-- Arguments that aren't supported: the value of their form.
 use Rattle.std.proofs.Common.{inl, inr}
 use Rattle.xdr_wire.specs.Xdr.{Value}
 use Rattle.nfs_ops.specs.Forms.{exclusive, other_claim, protection}

@@ -1,4 +1,4 @@
--- What each Rust value spells, without where it lies in memory: the value of its form.
+-- Each Rust value, without where it lies in memory: the value of its form.
 use Rattle.std.specs.Prelude.{ℕ, List, Some, None}
 use Rattle.std.proofs.Common.{inl, inr}
 use Rattle.xdr_wire.specs.Xdr.{Value}
@@ -222,7 +222,7 @@ destroy_clientid_args_value a = a.client
 abbrev pub reclaim_complete_args_value : ReclaimCompleteArgs → Value reclaim_complete_args
 reclaim_complete_args_value a = a.one_fs
 
--- what an operation says
+-- the operation of a Rust value
 abbrev pub op_view : Op → Operation
 op_view (ops.Access a) = Known kinds.Access (access_args_value a)
 op_view (ops.Close a) = Known kinds.Close (close_args_value a)
@@ -294,7 +294,7 @@ result_view results.DestroyClientId = Done kinds.DestroyClientId tt
 result_view results.ReclaimComplete = Done kinds.ReclaimComplete tt
 result_view (results.Refused n status) = refused n (refusal status)
 
--- A result as it was read: of a refusal the very number of its status, and so never that of OK.
+-- A result as it was read: a refusal has exactly the number of its status, and so never that of OK.
 abbrev pub read_view : OpResult → Outcome
 read_view (results.Refused n status) = refused n (number_of status)
 read_view r = result_view r

@@ -32,7 +32,7 @@ impl<'a, const N: u32> Wire<'a> for Always<N> {
     }
 }
 
-/// Eight zero bytes: a verifier that says nothing, or the number 0.
+/// Eight zero bytes: a verifier without meaning, or the number 0.
 #[derive(Clone, Copy)]
 pub struct Zeros;
 

@@ -87,7 +87,7 @@ impl<'a> Wire<'a> for GssHandles<'a> {
     }
 }
 
-/// With which credentials callbacks come (RFC 8881, section 18.36, `callback_sec_parms4`).
+/// The credentials of callbacks (RFC 8881, section 18.36, `callback_sec_parms4`).
 #[derive(Drop)]
 pub enum CallbackSecurity<'a> {
     /// AUTH_NONE (0).

@@ -1,7 +1,7 @@
 use std::alloc::Allocator;
 use xdr_wire::{AtMostOne, Full, Reader, Spell, Wire, Writer, XdrFault};
 
-/// What one direction of a session carries (RFC 8881, section 18.36, `channel_attrs4`).
+/// The attributes of one channel of a session (RFC 8881, section 18.36, `channel_attrs4`).
 #[derive(Clone, Copy)]
 pub struct Channel {
     /// Padding of requests and replies.
@@ -10,7 +10,7 @@ pub struct Channel {
     pub request_size: u32,
     /// The most bytes of a reply.
     pub reply_size: u32,
-    /// The most bytes of a reply that is kept.
+    /// The most bytes of a reply that is cached.
     pub cached_size: u32,
     /// The most operations of a COMPOUND.
     pub operations: u32,

@@ -37,10 +37,10 @@ impl<'a> Wire<'a> for CloseArgs {
     }
 }
 
-/// What is left of the open. The result of CLOSE (RFC 8881, section 18.2).
+/// The open was closed. The result of CLOSE (RFC 8881, section 18.2).
 #[derive(Clone, Copy)]
 pub struct CloseResult {
-    /// A stateid that no operation takes.
+    /// The invalid stateid, which no operation takes.
     pub stateid: StateId,
 }
 

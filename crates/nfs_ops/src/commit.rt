@@ -4,12 +4,12 @@ use xdr_wire::{Full, Reader, Spell, Wire, Writer, XdrFault};
 /// The number of COMMIT.
 pub const OP_COMMIT: u32 = 5;
 
-/// Wants the bytes written so far to be stable. The arguments of COMMIT (RFC 8881, section 18.3).
+/// Asks for the bytes written so far to be stable. The arguments of COMMIT (RFC 8881, section 18.3).
 #[derive(Clone, Copy)]
 pub struct CommitArgs {
-    /// Where they begin.
+    /// The offset of the bytes.
     pub offset: u64,
-    /// How many they are; 0 for all.
+    /// The count of the bytes; 0 for all.
     pub count: u32,
 }
 

@@ -7,7 +7,7 @@ use xdr_wire::{Full, Reader, Spell, Wire, Writer, XdrFault};
 /// The number of CREATE.
 pub const OP_CREATE: u32 = 6;
 
-/// The type of an object to be made, with what it needs (RFC 8881, section 18.4, `createtype4`).
+/// The type of an object to be created, with its data (RFC 8881, section 18.4, `createtype4`).
 #[derive(Clone, Copy)]
 pub enum CreateType<'a> {
     /// NF4REG (1).
@@ -76,14 +76,14 @@ impl<'a> Wire<'a> for CreateType<'a> {
     }
 }
 
-/// Makes an object that isn't a file. The arguments of CREATE (RFC 8881, section 18.4).
+/// Creates an object that isn't a file. The arguments of CREATE (RFC 8881, section 18.4).
 #[derive(Clone, Copy)]
 pub struct CreateArgs<'a> {
-    /// Of which type.
+    /// The type of the object.
     pub kind: CreateType<'a>,
-    /// Its name in the current directory.
+    /// The name of the object in the current directory.
     pub name: Bytes<'a>,
-    /// What it begins with.
+    /// The initial attributes.
     pub attributes: Attributes<'a>,
 }
 
@@ -114,10 +114,10 @@ impl<'a> Wire<'a> for CreateArgs<'a> {
     }
 }
 
-/// The object was made. The result of CREATE (RFC 8881, section 18.4).
+/// The object was created. The result of CREATE (RFC 8881, section 18.4).
 #[derive(Clone, Copy)]
 pub struct CreateResult {
-    /// The change of its directory.
+    /// The change of the directory.
     pub change: ChangeInfo,
     /// The attributes that were set.
     pub set: Bitmap,

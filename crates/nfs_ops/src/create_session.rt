@@ -6,22 +6,22 @@ use xdr_wire::{Array, Full, Reader, Spell, Wire, Writer, XdrFault};
 /// The number of CREATE_SESSION.
 pub const OP_CREATE_SESSION: u32 = 43;
 
-/// Makes a session of a client. The arguments of CREATE_SESSION (RFC 8881, section 18.36).
+/// Creates a session of a client. The arguments of CREATE_SESSION (RFC 8881, section 18.36).
 #[derive(Drop)]
 pub struct CreateSessionArgs<'a> {
-    /// Its number.
+    /// The client ID.
     pub client: u64,
-    /// One more than that of the last CREATE_SESSION.
+    /// The sequence ID: one more than that of the last CREATE_SESSION.
     pub sequence: u32,
     /// CREATE_SESSION4_FLAG bits.
     pub flags: u32,
-    /// What calls of the client may carry.
+    /// The attributes of the fore channel.
     pub fore: Channel,
-    /// What callbacks may carry.
+    /// The attributes of the backchannel.
     pub back: Channel,
     /// The program of callbacks.
     pub program: u32,
-    /// With which credentials callbacks come.
+    /// The credentials of callbacks.
     pub security: Array<'a, CallbackSecurity<'a>, 8>,
 }
 
@@ -68,18 +68,18 @@ impl<'a> Wire<'a> for CreateSessionArgs<'a> {
     }
 }
 
-/// The session was made. The result of CREATE_SESSION (RFC 8881, section 18.36).
+/// The session was created. The result of CREATE_SESSION (RFC 8881, section 18.36).
 #[derive(Clone, Copy)]
 pub struct CreateSessionResult {
-    /// Its id.
+    /// The session ID.
     pub session: [u8; 16],
-    /// That of the call.
+    /// The sequence ID of the request.
     pub sequence: u32,
     /// CREATE_SESSION4_FLAG bits.
     pub flags: u32,
-    /// What calls of the client may carry.
+    /// The attributes of the fore channel.
     pub fore: Channel,
-    /// What callbacks may carry.
+    /// The attributes of the backchannel.
     pub back: Channel,
 }
 

@@ -4,10 +4,10 @@ use xdr_wire::{Full, Reader, Spell, Wire, Writer, XdrFault};
 /// The number of DESTROY_CLIENTID.
 pub const OP_DESTROY_CLIENTID: u32 = 57;
 
-/// Ends a client. The arguments of DESTROY_CLIENTID (RFC 8881, section 18.50).
+/// Destroys a client ID. The arguments of DESTROY_CLIENTID (RFC 8881, section 18.50).
 #[derive(Clone, Copy)]
 pub struct DestroyClientIdArgs {
-    /// Its number.
+    /// The client ID.
     pub client: u64,
 }
 

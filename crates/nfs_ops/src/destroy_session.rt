@@ -4,10 +4,10 @@ use xdr_wire::{Full, Reader, Spell, Wire, Writer, XdrFault};
 /// The number of DESTROY_SESSION.
 pub const OP_DESTROY_SESSION: u32 = 44;
 
-/// Ends a session. The arguments of DESTROY_SESSION (RFC 8881, section 18.37).
+/// Destroys a session. The arguments of DESTROY_SESSION (RFC 8881, section 18.37).
 #[derive(Clone, Copy)]
 pub struct DestroySessionArgs {
-    /// Its id.
+    /// The session ID.
     pub session: [u8; 16],
 }
 

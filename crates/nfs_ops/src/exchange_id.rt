@@ -12,13 +12,13 @@ pub const MAX_SERVER: u32 = 11;
 /// Makes a client known, without protection of its state. The arguments of EXCHANGE_ID (RFC 8881, section 18.35).
 #[derive(Clone, Copy)]
 pub struct ExchangeIdArgs<'a> {
-    /// Of this start of the client.
+    /// The verifier of this incarnation of the client.
     pub verifier: [u8; 8],
-    /// The client's own name.
+    /// The client owner's ID.
     pub owner: Opaque<'a, 1024>,
     /// EXCHGID4_FLAG bits.
     pub flags: u32,
-    /// Who made the client.
+    /// The client's implementation.
     pub implementation: Option<Implementation<'a>>,
 }
 
@@ -57,15 +57,15 @@ impl<'a> Wire<'a> for ExchangeIdArgs<'a> {
 /// The client's record. The result of EXCHANGE_ID (RFC 8881, section 18.35).
 #[derive(Clone, Copy)]
 pub struct ExchangeIdResult<'a> {
-    /// Its number.
+    /// The client ID.
     pub client: u64,
-    /// The number that its next CREATE_SESSION is to have.
+    /// The sequence ID of the next CREATE_SESSION.
     pub sequence: u32,
     /// EXCHGID4_FLAG bits.
     pub flags: u32,
-    /// The server's name.
+    /// The server owner's major ID.
     pub server: Opaque<'a, MAX_SERVER>,
-    /// Where its names are known.
+    /// The server scope.
     pub scope: Opaque<'a, MAX_SERVER>,
 }
 

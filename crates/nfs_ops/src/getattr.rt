@@ -14,7 +14,7 @@ pub const OP_GETATTR: u32 = 9;
 /// Asks for attributes. The arguments of GETATTR (RFC 8881, section 18.7).
 #[derive(Clone, Copy)]
 pub struct GetAttrArgs {
-    /// Which ones.
+    /// The attributes requested.
     pub asked: Bitmap,
 }
 
@@ -45,7 +45,7 @@ impl<'a> Wire<'a> for GetAttrArgs {
 /// Attributes of the object. The result of GETATTR (RFC 8881, section 18.7).
 #[derive(Clone, Copy)]
 pub struct GetAttrResult<'a> {
-    /// Those of the attributes asked that are supported, with their values.
+    /// The attributes that are requested and supported, with their values.
     pub attributes: Attributes<'a>,
 }
 

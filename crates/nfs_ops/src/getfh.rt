@@ -8,7 +8,7 @@ pub const OP_GETFH: u32 = 10;
 /// The current filehandle. The result of GETFH (RFC 8881, section 18.8).
 #[derive(Clone, Copy)]
 pub struct GetFhResult<'a> {
-    /// Of the current object.
+    /// The current filehandle.
     pub handle: Handle<'a>,
 }
 

@@ -2,12 +2,12 @@ use crate::bytes::Bytes;
 use std::alloc::Allocator;
 use xdr_wire::{Full, Reader, Spell, Wire, Writer, XdrFault};
 
-/// Who made a client, and when (RFC 8881, section 18.35, `nfs_impl_id4`).
+/// The implementation of a client, and its date (RFC 8881, section 18.35, `nfs_impl_id4`).
 #[derive(Clone, Copy)]
 pub struct Implementation<'a> {
-    /// The maker's domain.
+    /// The implementer's domain.
     pub domain: Bytes<'a>,
-    /// What the maker calls it.
+    /// The name of the implementation.
     pub name: Bytes<'a>,
     /// Seconds and nanoseconds, which may be any number.
     pub date: (i64, u32),

@@ -7,7 +7,7 @@ ghost use Rattle.nfs_ops.specs.Readable.{IsResult};
 ghost use Rattle.nfs_ops.specs.Operations.{Operation, op_item, is_built, next_at};
 ghost use Rattle.nfs_ops.specs.Listing.{Judged, IsListing, listing};
 
-/// An operation is read exactly where a spelling of it stands at the front, whatever is behind it.
+/// An operation is read exactly where a spelling of it is at the front, whatever is behind it.
 pub fn reading_is_spelling()
     ensures { (o : Operation) (bytes rest : List ℕ) → is_built o ≡ true → (next_at bytes ≡ (o, rest)) ↔ Stands (op_item o) bytes rest }
 {}
@@ -22,12 +22,12 @@ pub fn reading_looks_no_further()
     ensures { (o : Operation) (front rest other : List ℕ) → is_built o ≡ true → next_at (front ++ rest) ≡ (o, rest) → next_at (front ++ other) ≡ (o, other) }
 {}
 
-/// A result that stands at the front is read, whatever is behind it.
+/// A result at the front is read, whatever is behind it.
 pub fn a_result_that_stands_is_read()
     ensures { (o : Outcome) (bytes rest : List ℕ) → IsResult o → Stands (outcome_item o) bytes rest → result_at bytes ≡ Ok (o, rest) }
 {}
 
-/// A result that is read has the number of a status, and stands at the front.
+/// A result that is read has the number of a status, and is at the front.
 pub fn a_result_that_is_read_stands()
     ensures { (o : Outcome) (bytes rest : List ℕ) → result_at bytes ≡ Ok (o, rest) → IsResult o × Stands (outcome_item o) bytes rest }
 {}
@@ -42,13 +42,13 @@ pub fn a_written_result_is_read()
     ensures { (o : Outcome) (rest : List ℕ) → IsResult o → ItemHasSpelling (outcome_item o) → ItemIsNormal (outcome_item o) → result_at (item_spelling (outcome_item o) ++ rest) ≡ Ok (o, rest) }
 {}
 
-/// What is written of a result has at most the bytes that `most` gives it: a constant beside its form, or a number of the
+/// A written result has at most the bytes that `most` gives it: a constant beside its form, or a number of the
 /// bytes that it carries.
 pub fn results_are_bounded()
     ensures { (o : Outcome) → ItemHasSpelling (outcome_item o) → length (item_spelling (outcome_item o)) ≤ most o }
 {}
 
-/// Of a GETATTR, READ, READDIR or READLINK that is OK it is the very number of bytes that are written.
+/// For a GETATTR, READ, READDIR or READLINK that is OK that number is exact.
 pub fn sizes_of_carried_bytes_are_exact()
     ensures { (o : Outcome) → carries_bytes o ≡ true → length (item_spelling (outcome_item o)) ≡ most o }
 {}
@@ -63,7 +63,7 @@ pub fn refusals_are_short()
     ensures { (o : Outcome) → is_refusal o ≡ true → most o ≤ setattr_refused_size }
 {}
 
-/// What a READDIR gives is the longest beginning of the entries that fits, unless an entry that is judged is refused, or nothing fits.
+/// READDIR returns the longest beginning of the entries that fits, unless a judged entry is refused, or nothing fits.
 pub fn a_listing_is_the_longest<R>()
     ensures { (limit : ℕ) (all : List (Judged R)) → IsListing limit all (listing limit all) }
 {}

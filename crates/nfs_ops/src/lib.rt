@@ -88,7 +88,7 @@ pub use setattr::{OP_SETATTR, SetAttrArgs, SetAttrResult};
 pub use verify::{OP_VERIFY, VerifyArgs};
 pub use write::{OP_WRITE, StableHow, WriteArgs, WriteResult};
 
-// What they share.
+// The parts of several operations.
 pub use always::{Always, Zeros};
 pub use bytes::Bytes;
 pub use callback_security::{AuthSys, CallbackSecurity, GssHandles};
@@ -96,7 +96,7 @@ pub use change_info::ChangeInfo;
 pub use channel::Channel;
 pub use implementation::Implementation;
 
-// Laws over what is read and written.
+// Laws of reading and writing.
 pub use laws::{
     a_listing_is_the_longest, a_result_that_is_read_stands, a_result_that_stands_is_read,
     a_written_result_is_read, changes_are_short, reading_a_result_looks_no_further,

@@ -12,16 +12,16 @@ use crate::readdir::GivenEntry;
 use std::alloc::Allocator;
 use xdr_wire::{Full, Spell, Writer};
 
-/// What became of the next entry.
+/// The outcome of the next entry.
 #[derive(Clone, Copy)]
 pub enum Next<R> {
-    /// It is written.
+    /// The entry is written.
     Written,
-    /// There is none.
+    /// There is no entry.
     End,
-    /// It is refused, by this.
+    /// The entry is refused, with this refusal.
     Refused(R),
-    /// There is no room for it.
+    /// There is no room for the entry.
     Full,
 }
 
@@ -30,12 +30,12 @@ pub trait Entries {
     ghost use Rattle.std.specs.Prelude.{◌≡◌, List};
     ghost use Rattle.nfs_ops.specs.Listing.{Judged, NextGives};
 
-    /// What refuses an entry.
+    /// The refusal of an entry.
     type Refusal: Copy;
 
-    // Those that are left, as they are judged.
+    // The entries that are left, as they are judged.
     ghost left: { Self → List (Judged Self.Refusal) };
-    // What judging and writing leave as it was.
+    // The state that judging and writing leave as it was.
     ghost Kept: { Type 0 } = { Unit {0} };
 
     ghost kept: { Self → Self.Kept };
@@ -57,9 +57,9 @@ pub fn write_entry<A: Allocator>(given: GivenEntry<'_>, writer: &mut Writer<A>) 
 /// Why there are no entries.
 #[derive(Clone, Copy)]
 pub enum ListFault<R> {
-    /// This refuses an entry.
+    /// An entry is refused, with this refusal.
     Refused(R),
-    /// Not even one entry fits, or there is none and a result without entries doesn't.
+    /// Not even one entry fits, or there is none and a result without entries doesn't fit.
     TooSmall,
 }
 

@@ -8,7 +8,7 @@ pub const OP_NVERIFY: u32 = 17;
 /// Goes on only if attributes differ. The arguments of NVERIFY (RFC 8881, section 18.15).
 #[derive(Clone, Copy)]
 pub struct NVerifyArgs<'a> {
-    /// With the values that are to differ.
+    /// The attributes, with the values that are to differ.
     pub attributes: Attributes<'a>,
 }
 

@@ -26,19 +26,19 @@ use crate::setattr::SetAttrArgs;
 use crate::verify::VerifyArgs;
 use crate::write::WriteArgs;
 
-/// The number under which a missing number and one that no operation has are answered, OP_ILLEGAL.
+/// OP_ILLEGAL, the number in the answer to a missing number and to a number that no operation has.
 pub(crate) const OP_ILLEGAL: u32 = 10_044;
 
 /// An operation with its arguments (RFC 8881, sections 16.2 and 18), or why there is none.
 #[derive(Drop)]
 pub enum Op<'a> {
-    /// ACCESS: which rights the caller has.
+    /// ACCESS: checks rights of the caller.
     Access(AccessArgs),
-    /// CLOSE: ends an open.
+    /// CLOSE: closes an open.
     Close(CloseArgs),
     /// COMMIT: makes bytes stable.
     Commit(CommitArgs),
-    /// CREATE: makes an object that isn't a file.
+    /// CREATE: creates an object that isn't a file.
     Create(CreateArgs<'a>),
     /// GETATTR: attributes of the object.
     GetAttr(GetAttrArgs),
@@ -74,32 +74,32 @@ pub enum Op<'a> {
     SaveFh,
     /// SETATTR: sets attributes.
     SetAttr(SetAttrArgs<'a>),
-    /// VERIFY: goes on only if attributes are the same.
+    /// VERIFY: goes on only if attributes have these values.
     Verify(VerifyArgs<'a>),
     /// WRITE: writes bytes of a file.
     Write(WriteArgs<'a>),
     /// EXCHANGE_ID: makes a client known.
     ExchangeId(ExchangeIdArgs<'a>),
-    /// CREATE_SESSION: makes a session.
+    /// CREATE_SESSION: creates a session.
     CreateSession(CreateSessionArgs<'a>),
-    /// DESTROY_SESSION: ends a session.
+    /// DESTROY_SESSION: destroys a session.
     DestroySession(DestroySessionArgs),
-    /// SEQUENCE: begins a call of a session.
+    /// SEQUENCE: begins a request of a session.
     Sequence(SequenceArgs),
-    /// DESTROY_CLIENTID: ends a client.
+    /// DESTROY_CLIENTID: destroys a client ID.
     DestroyClientId(DestroyClientIdArgs),
     /// RECLAIM_COMPLETE: no more reclaims.
     ReclaimComplete(ReclaimCompleteArgs),
-    /// A number from 3 to 58 whose operation isn't supported, and whose arguments aren't read; or what an OPEN or an
-    /// EXCHANGE_ID asks isn't supported.
+    /// A number from 3 to 58 whose operation isn't supported, and whose arguments aren't read; or that of an OPEN or an
+    /// EXCHANGE_ID whose arguments aren't supported.
     Unsupported(u32),
     /// A number that no operation has.
     Illegal,
-    /// The arguments of the operation of this number don't spell; where the number is missing it is OP_ILLEGAL.
+    /// The arguments of the operation of this number can't be read; where the number is missing it is OP_ILLEGAL.
     Bad(u32),
 }
 
-/// The number in the row of an operation, or that of what is none.
+/// The number in the row of an operation, or the number of an entry without operation.
 macro_rules! number {
     ($op:expr; $($row:ident $(($arguments:ident))? $number:ident $name:literal $(($given:ident))?,)*) => {
         match $op {

@@ -66,8 +66,8 @@ pub enum OpKind {
     ReclaimComplete,
 }
 
-/// The table of the operations, a row each: its variant, with its arguments if it takes any, its number, its name, and what it gives if
-/// that is anything. Hands all rows to the macro `$by`, behind what stands there for it.
+/// The table of the operations, a row each: its variant, with its arguments if it takes any, its number, its name, and its
+/// result if it has one. Hands all rows to the macro `$by`, behind the tokens that are there for it.
 macro_rules! rows {
     ($by:ident $(, $with:expr)*) => {
         $by! {
@@ -138,7 +138,7 @@ macro_rules! name {
 impl OpKind {
     ghost use Rattle.nfs_ops.specs.Rows.{row};
 
-    /// Its number.
+    /// The number of the operation.
     pub fn number(self) -> u32
         ensures { result ≡ (row self).number }
     {
@@ -153,7 +153,7 @@ impl OpKind {
         rows!(kind, number)
     }
 
-    /// Its name, in capitals and without the standard's `OP_`: ASCII, at most 20 bytes.
+    /// The name of the operation, in capitals and without the standard's `OP_`: ASCII, at most 20 bytes.
     pub fn name(self) -> &'static [u8]
         ensures name { result.now ≡ (row self).name }
         ensures short { length result.now ≤ 20 }

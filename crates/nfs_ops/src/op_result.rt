@@ -79,6 +79,6 @@ pub enum OpResult<'a> {
     DestroyClientId,
     /// RECLAIM_COMPLETE.
     ReclaimComplete,
-    /// The operation of this number has this status, and not OK.
+    /// The operation of this number has this status, which isn't OK.
     Refused(u32, Status),
 }

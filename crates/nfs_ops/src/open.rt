@@ -8,14 +8,14 @@ use xdr_wire::{Full, Opaque, Reader, Spell, Wire, Writer, XdrFault};
 /// The number of OPEN.
 pub const OP_OPEN: u32 = 18;
 
-/// Whether the file of an OPEN may be made (RFC 8881, section 18.16, `openflag4`). Exclusive creation isn't supported.
+/// Whether the file of an OPEN may be created (RFC 8881, section 18.16, `openflag4`). Exclusive creation isn't supported.
 #[derive(Clone, Copy)]
 pub enum OpenHow<'a> {
-    /// OPEN4_NOCREATE (0): it has to be there.
+    /// OPEN4_NOCREATE (0): the file has to be there.
     NoCreate,
-    /// UNCHECKED4 (0): it may be there, and is made with these attributes where it isn't.
+    /// UNCHECKED4 (0): the file may be there, and else is created with these attributes.
     Unchecked(Attributes<'a>),
-    /// GUARDED4 (1): it is made with these attributes, and must not be there.
+    /// GUARDED4 (1): the file is created with these attributes, and must not be there.
     Guarded(Attributes<'a>),
 }
 
@@ -56,10 +56,10 @@ impl<'a> Wire<'a> for OpenHow<'a> {
     }
 }
 
-/// Which file an OPEN is of (RFC 8881, section 18.16, `open_claim4`). Reclaims and delegations aren't supported.
+/// The file of an OPEN (RFC 8881, section 18.16, `open_claim4`). Reclaims and delegations aren't supported.
 #[derive(Clone, Copy)]
 pub enum OpenClaim<'a> {
-    /// CLAIM_NULL (0): that of this name in the current directory.
+    /// CLAIM_NULL (0): the file of this name in the current directory.
     ByName(Bytes<'a>),
     /// CLAIM_FH (4): the current object.
     ByHandle,
@@ -97,22 +97,22 @@ impl<'a> Wire<'a> for OpenClaim<'a> {
     }
 }
 
-/// Opens a file, which may be made. The arguments of OPEN (RFC 8881, section 18.16).
+/// Opens a file, which may be created. The arguments of OPEN (RFC 8881, section 18.16).
 #[derive(Clone, Copy)]
 pub struct OpenArgs<'a> {
     /// Ignored.
     pub seqid: u32,
-    /// What it is opened for: the low byte is 1 for reading, 2 for writing, 3 for both.
+    /// The share access: the low byte is 1 for reading, 2 for writing, 3 for both.
     pub access: u32,
-    /// What others may not open it for.
+    /// The share deny, against other opens.
     pub deny: u32,
     /// The client of the owner, ignored.
     pub client: u64,
-    /// Who opens it, by the client's own name.
+    /// The open owner, by the client's own name.
     pub owner: Opaque<'a, 1024>,
-    /// Whether the file may be made.
+    /// Whether the file may be created.
     pub how: OpenHow<'a>,
-    /// Which file.
+    /// The claim: the file.
     pub claim: OpenClaim<'a>,
 }
 
@@ -152,7 +152,7 @@ impl<'a> Wire<'a> for OpenArgs<'a> {
 /// The file is open. The result of OPEN (RFC 8881, section 18.16).
 #[derive(Clone, Copy)]
 pub struct OpenResult {
-    /// The open.
+    /// The stateid of the open.
     pub stateid: StateId,
     /// The change of the directory.
     pub change: ChangeInfo,

@@ -8,7 +8,7 @@ pub const OP_PUTFH: u32 = 22;
 /// Goes to an object by its filehandle. The arguments of PUTFH (RFC 8881, section 18.19).
 #[derive(Clone, Copy)]
 pub struct PutFhArgs<'a> {
-    /// The object's.
+    /// The object's filehandle.
     pub handle: Handle<'a>,
 }
 

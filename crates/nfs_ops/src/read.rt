@@ -18,9 +18,9 @@ pub const OP_READ: u32 = 25;
 /// Asks for bytes of a file. The arguments of READ (RFC 8881, section 18.22).
 #[derive(Clone, Copy)]
 pub struct ReadArgs {
-    /// An open, or a special one.
+    /// The stateid of an open, or a special one.
     pub stateid: StateId,
-    /// Where the bytes begin.
+    /// The offset of the bytes.
     pub offset: u64,
     /// How many bytes at most.
     pub count: u32,
@@ -59,7 +59,7 @@ pub const MAX_READ: u32 = 32_768;
 /// Bytes of the file. The result of READ (RFC 8881, section 18.22).
 #[derive(Clone, Copy)]
 pub struct ReadResult<'a> {
-    /// Whether the file ends behind them.
+    /// Whether the file ends behind the bytes.
     pub eof: bool,
     /// The bytes, at most 32,768.
     pub data: Opaque<'a, MAX_READ>,

@@ -10,13 +10,13 @@ pub const OP_READDIR: u32 = 26;
 /// Asks for entries of a directory. The arguments of READDIR (RFC 8881, section 18.23).
 #[derive(Clone, Copy)]
 pub struct ReadDirArgs {
-    /// That of the last entry that was given, 0 at first.
+    /// The cookie of the last entry that was returned, 0 at first.
     pub cookie: u64,
     /// Ignored.
     pub verifier: [u8; 8],
     /// Ignored.
     pub dircount: u32,
-    /// How many bytes the result may have.
+    /// The most bytes of the result.
     pub maxcount: u32,
     /// The attributes of each entry.
     pub asked: Bitmap,
@@ -56,10 +56,10 @@ impl<'a> Wire<'a> for ReadDirArgs {
 /// An entry of a directory (RFC 8881, section 18.23, `entry4`).
 #[derive(Clone, Copy)]
 pub struct Entry<'a> {
-    /// Rising from entry to entry.
+    /// The cookie, rising from entry to entry.
     pub cookie: u64,
     pub name: Bytes<'a>,
-    /// Those of the attributes asked that are supported, with their values.
+    /// The attributes that are requested and supported, with their values.
     pub attributes: Attributes<'a>,
 }
 
@@ -90,13 +90,13 @@ impl<'a> Wire<'a> for Entry<'a> {
     }
 }
 
-/// An entry that is written, with the attributes that are given of its object (RFC 8881, section 18.23, `entry4`).
+/// An entry that is written, with the attributes that are returned of its object (RFC 8881, section 18.23, `entry4`).
 #[derive(Clone, Copy)]
 pub struct GivenEntry<'a> {
-    /// Rising from entry to entry.
+    /// The cookie, rising from entry to entry.
     pub cookie: u64,
     pub name: Bytes<'a>,
-    /// The attributes asked, those of them that may be given.
+    /// The attributes requested that may be returned.
     pub attributes: GivenAttributes<'a>,
 }
 
@@ -119,9 +119,9 @@ impl<'a> Spell for GivenEntry<'a> {
 /// Entries of the directory. The result of READDIR (RFC 8881, section 18.23).
 #[derive(Drop)]
 pub struct ReadDirResult<'a> {
-    /// In the order of their cookies.
+    /// The entries, in the order of their cookies.
     pub entries: Chain<'a, Entry<'a>>,
-    /// Whether the directory ends behind them.
+    /// Whether the directory ends behind the entries.
     pub eof: bool,
 }
 

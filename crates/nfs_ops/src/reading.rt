@@ -35,7 +35,7 @@ fn read_exchange_id<'a>(reader: &mut Reader<'a>) -> Result<Op<'a>, XdrFault>
     }
 }
 
-/// What a number without a row is.
+/// The answer for a number without a row.
 fn no_operation<'a>(number: u32) -> Op<'a>
     ensures { op_view result ≡ specs.no_operation number }
 {

@@ -10,7 +10,7 @@ pub const MAX_TEXT: u32 = 1_024;
 /// The text of a symbolic link. The result of READLINK (RFC 8881, section 18.24).
 #[derive(Clone, Copy)]
 pub struct ReadLinkResult<'a> {
-    /// At most 1,024 bytes.
+    /// The text, at most 1,024 bytes.
     pub text: Opaque<'a, MAX_TEXT>,
 }
 

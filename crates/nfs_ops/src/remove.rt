@@ -9,7 +9,7 @@ pub const OP_REMOVE: u32 = 28;
 /// Removes a name. The arguments of REMOVE (RFC 8881, section 18.25).
 #[derive(Clone, Copy)]
 pub struct RemoveArgs<'a> {
-    /// Of the current directory.
+    /// The name in the current directory.
     pub name: Bytes<'a>,
 }
 

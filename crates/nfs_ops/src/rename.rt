@@ -9,9 +9,9 @@ pub const OP_RENAME: u32 = 29;
 /// Moves a name. The arguments of RENAME (RFC 8881, section 18.26).
 #[derive(Clone, Copy)]
 pub struct RenameArgs<'a> {
-    /// Of the saved directory.
+    /// The old name in the saved directory.
     pub old: Bytes<'a>,
-    /// Of the current directory.
+    /// The new name in the current directory.
     pub new: Bytes<'a>,
 }
 

@@ -102,7 +102,7 @@ fn refusal_of(number: u32) -> Option<Status>
     }
 }
 
-/// Reads what is given in a row, if that is anything. COMMIT gives a verifier that says nothing.
+/// Reads the result in a row, if it has one. COMMIT has a verifier without meaning.
 macro_rules! given {
     (Commit, $reader:expr) => {{
         let Zeros = Wire::read($reader)?;
@@ -112,7 +112,7 @@ macro_rules! given {
     ($row:ident, $reader:expr) => { Ok(OpResult::$row) };
 }
 
-/// Reads what is given in the row of a kind.
+/// Reads the result in the row of a kind.
 macro_rules! given_of {
     ($kind:expr, $reader:expr; $($row:ident $(($arguments:ident))? $number:ident $name:literal $(($given:ident))?,)*) => {
         match $kind {
@@ -121,14 +121,14 @@ macro_rules! given_of {
     };
 }
 
-/// Reads what an operation gives.
+/// Reads the result of an operation.
 fn read_done<'a>(kind: OpKind, reader: &mut Reader<'a>) -> Result<OpResult<'a>, XdrFault>
     ensures { Gives read_view reader.old reader.new result (done_of kind reader.old) }
 {
     rows!(given_of, kind, reader)
 }
 
-/// Reads what the operation of this number gives.
+/// Reads the result of the operation of this number.
 #[tactic(auto, unfolding(crate::specs::ResultReading::done_at))]
 fn read_numbered<'a>(number: u32, reader: &mut Reader<'a>) -> Result<OpResult<'a>, XdrFault>
     ensures { Gives read_view reader.old reader.new result (done_at number reader.old) }
@@ -139,7 +139,7 @@ fn read_numbered<'a>(number: u32, reader: &mut Reader<'a>) -> Result<OpResult<'a
     }
 }
 
-/// Reads what stands behind a refusal: the bitmap of SETATTR, which says nothing then, else nothing.
+/// Reads the rest of a refusal: the bitmap of SETATTR, which means nothing then, else nothing.
 fn read_behind_refusal<'a>(
     number: u32,
     status: Status,
@@ -156,7 +156,7 @@ fn read_behind_refusal<'a>(
     }
 }
 
-/// Reads what stands behind another status than OK.
+/// Reads the bytes behind another status than OK.
 #[tactic(auto, unfolding(crate::specs::ResultReading::refused_at))]
 fn read_refused<'a>(
     number: u32,
@@ -171,7 +171,7 @@ fn read_refused<'a>(
     }
 }
 
-/// Reads what stands behind a status.
+/// Reads the bytes behind a status.
 #[tactic(auto, unfolding(crate::specs::ResultReading::behind_status))]
 fn read_behind_status<'a>(
     number: u32,
@@ -186,8 +186,8 @@ fn read_behind_status<'a>(
     }
 }
 
-/// Reads a result, as a client does. `BadChoice` where no operation has the number of one that is OK, or where no status has
-/// the number of one that isn't. A fault leaves the reader where the result begins.
+/// Reads a result, as a client does. `BadChoice` where no operation has the number of a result that is OK, or no status has
+/// the number of a status that isn't. A fault leaves the reader where the result begins.
 #[tactic(auto, unfolding(crate::specs::ResultReading::result_at))]
 pub fn read_result<'a>(reader: &mut Reader<'a>) -> Result<OpResult<'a>, XdrFault>
     ensures { Gives read_view reader.old reader.new result (result_at reader.old) }

@@ -30,7 +30,7 @@ fn is_whole<const N: usize>(bytes: &[u8; N])
     let _bytes = *bytes;
 }
 
-/// Writes a refusal of this number. That of SETATTR has an empty bitmap behind its status.
+/// Writes a refusal of this number. SETATTR has an empty bitmap behind its status.
 fn write_refused<A: Allocator>(
     number: u32,
     refusal: u32,
@@ -64,7 +64,7 @@ pub fn write_refusal<A: Allocator>(
     write_refused(number, refusal(status), writer)
 }
 
-/// Writes number, status OK and what is given, once the prover is told how long these bytes of it are.
+/// Writes number, status OK and the result, once the prover is told how long these bytes of it are.
 macro_rules! whole {
     ($bytes:expr, $number:ident $given:ident, $writer:expr) => {{
         is_whole(&$bytes);
@@ -72,7 +72,7 @@ macro_rules! whole {
     }};
 }
 
-/// Writes number, status OK and what is given in a row, if that is anything. COMMIT gives a verifier that says nothing.
+/// Writes number, status OK and the result in a row, if it has one. COMMIT has a verifier without meaning.
 macro_rules! done {
     (Close $number:ident $given:ident, $writer:expr) => { whole!($given.stateid.other, $number $given, $writer) };
     (Open $number:ident $given:ident, $writer:expr) => { whole!($given.stateid.other, $number $given, $writer) };
@@ -92,9 +92,9 @@ macro_rules! done_of {
     };
 }
 
-/// Writes a result: its number, its status and, where that is OK, what the operation gives. `Full` exactly where the room is
-/// less than that takes; then nothing is written. It takes at most what `most` says: at most 256 bytes of an operation that can
-/// change the tree, and at most 12 of a refusal.
+/// Writes a result: its number, its status and, where that is OK, the result of the operation. `Full` exactly where the
+/// room is less than that takes; then nothing is written. It takes at most what `most` says: at most 256 bytes of an
+/// operation that can change the tree, and at most 12 of a refusal.
 pub fn write_result<A: Allocator>(outcome: OpResult, writer: &mut Writer<A>) -> Result<(), Full>
     ensures has_spelling { OnOk result (ItemHasSpelling (outcome_item (result_view outcome.entry))) }
     ensures in_normal_form { OnOk result (ItemIsNormal (outcome_item (result_view outcome.entry))) }

@@ -5,18 +5,18 @@ use xdr_wire::{Full, Reader, Spell, Wire, Writer, XdrFault};
 /// The number of SEQUENCE.
 pub const OP_SEQUENCE: u32 = 53;
 
-/// Begins a call of a session. The arguments of SEQUENCE (RFC 8881, section 18.46).
+/// Begins a request of a session. The arguments of SEQUENCE (RFC 8881, section 18.46).
 #[derive(Clone, Copy)]
 pub struct SequenceArgs {
-    /// Its id.
+    /// The session ID.
     pub session: [u8; 16],
-    /// One more than that of the slot's last call, or that of a call that is repeated.
+    /// The sequence ID: one more than that of the slot's last request, or that of a request that is retried.
     pub number: u32,
-    /// The slot.
+    /// The slot ID.
     pub slot: u32,
-    /// The highest slot that the client uses.
+    /// The highest slot ID that the client uses.
     pub highest: u32,
-    /// Whether the reply is to be kept for a repeat.
+    /// Whether the reply is to be cached for a retry.
     pub keep: bool,
 }
 
@@ -51,18 +51,18 @@ impl<'a> Wire<'a> for SequenceArgs {
     }
 }
 
-/// The call goes on. The result of SEQUENCE (RFC 8881, section 18.46).
+/// The request goes on. The result of SEQUENCE (RFC 8881, section 18.46).
 #[derive(Clone, Copy)]
 pub struct SequenceResult {
-    /// Its id.
+    /// The session ID.
     pub session: [u8; 16],
-    /// That of the call.
+    /// The sequence ID of the request.
     pub number: u32,
-    /// The slot.
+    /// The slot ID.
     pub slot: u32,
-    /// The highest slot that the client may use.
+    /// The highest slot ID that the client may use.
     pub highest: u32,
-    /// The highest slot that it is to use.
+    /// The target highest slot ID.
     pub target: u32,
 }
 

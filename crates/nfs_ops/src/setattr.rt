@@ -8,9 +8,9 @@ pub const OP_SETATTR: u32 = 34;
 /// Sets attributes. The arguments of SETATTR (RFC 8881, section 18.30).
 #[derive(Clone, Copy)]
 pub struct SetAttrArgs<'a> {
-    /// An open or a special one, looked at where the size is set.
+    /// The stateid of an open or a special one, checked where the size is set.
     pub stateid: StateId,
-    /// With their values.
+    /// The attributes, with their values.
     pub attributes: Attributes<'a>,
 }
 
@@ -43,7 +43,7 @@ impl<'a> Wire<'a> for SetAttrArgs<'a> {
 /// The attributes were set. The result of SETATTR (RFC 8881, section 18.30).
 #[derive(Clone, Copy)]
 pub struct SetAttrResult {
-    /// Which ones.
+    /// The attributes that were set.
     pub set: Bitmap,
 }
 

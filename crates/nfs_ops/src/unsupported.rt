@@ -1,4 +1,4 @@
-//! What an OPEN or an EXCHANGE_ID can ask that isn't supported, read up to the word that says so.
+//! The arguments of an OPEN or an EXCHANGE_ID that aren't supported, read up to the unsupported word.
 ghost use Rattle.std.specs.Prelude.{◌≡◌, ◌||◌, is_ok};
 ghost use Rattle.xdr_wire.specs.Reading.{read_at};
 ghost use Rattle.nfs_ops.specs.Forms.{open_exclusive, open_by_other_claim, exchange_id_protected};
@@ -102,7 +102,7 @@ impl<'a> Wire<'a> for OtherClaim {
     }
 }
 
-/// How the state of a client is to be protected (RFC 8881, section 18.35, `state_protect_how4`).
+/// The protection of a client's state (RFC 8881, section 18.35, `state_protect_how4`).
 #[derive(Clone, Copy)]
 pub(crate) enum Protection {
     /// SP4_MACH_CRED (1).

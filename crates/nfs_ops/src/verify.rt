@@ -5,10 +5,10 @@ use xdr_wire::{Full, Reader, Spell, Wire, Writer, XdrFault};
 /// The number of VERIFY.
 pub const OP_VERIFY: u32 = 37;
 
-/// Goes on only if attributes are the same. The arguments of VERIFY (RFC 8881, section 18.31).
+/// Goes on only if attributes have these values. The arguments of VERIFY (RFC 8881, section 18.31).
 #[derive(Clone, Copy)]
 pub struct VerifyArgs<'a> {
-    /// With the values that they are to have.
+    /// The attributes, with these values.
     pub attributes: Attributes<'a>,
 }
 

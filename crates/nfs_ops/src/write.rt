@@ -7,14 +7,14 @@ use xdr_wire::{Full, Reader, Spell, Wire, Writer, XdrFault};
 /// The number of WRITE.
 pub const OP_WRITE: u32 = 38;
 
-/// How far bytes that are written are to reach (RFC 8881, section 18.32, `stable_how4`).
+/// How stable bytes are to be written (RFC 8881, section 18.32, `stable_how4`).
 #[derive(Clone, Copy)]
 pub enum StableHow {
-    /// UNSTABLE4 (0): to memory.
+    /// UNSTABLE4 (0): in memory.
     Unstable,
-    /// DATA_SYNC4 (1): the bytes to the disk.
+    /// DATA_SYNC4 (1): the bytes on the disk.
     Data,
-    /// FILE_SYNC4 (2): bytes and attributes to the disk.
+    /// FILE_SYNC4 (2): bytes and attributes on the disk.
     File,
 }
 
@@ -55,11 +55,11 @@ impl<'a> Wire<'a> for StableHow {
 /// Writes bytes of a file. The arguments of WRITE (RFC 8881, section 18.32).
 #[derive(Clone, Copy)]
 pub struct WriteArgs<'a> {
-    /// An open, or a special one.
+    /// The stateid of an open, or a special one.
     pub stateid: StateId,
-    /// Where the bytes begin.
+    /// The offset of the bytes.
     pub offset: u64,
-    /// How far they are to reach.
+    /// How stable they are to be.
     pub stable: StableHow,
     /// The bytes.
     pub data: Bytes<'a>,
@@ -97,7 +97,7 @@ impl<'a> Wire<'a> for WriteArgs<'a> {
 /// The bytes were written, and are stable. The result of WRITE (RFC 8881, section 18.32).
 #[derive(Clone, Copy)]
 pub struct WriteResult {
-    /// How many bytes.
+    /// The count of the bytes.
     pub count: u32,
 }
 

@@ -9,7 +9,7 @@ use crate::op_kind::rows;
 use std::alloc::Allocator;
 use xdr_wire::{Full, Spell, Writer};
 
-/// The number in the row of an operation with its arguments, or the number of what is none.
+/// The number in the row of an operation with its arguments, or the number of an entry without operation.
 macro_rules! written {
     ($op:expr, $writer:expr; $($row:ident $(($arguments:ident))? $number:ident $name:literal $(($given:ident))?,)*) => {
         match $op {
@@ -21,8 +21,8 @@ macro_rules! written {
     };
 }
 
-/// Writes an operation: its number and its arguments. Of one that isn't supported, that is illegal or that is bad the number
-/// alone, which is all that was read of it. `Full` exactly where the room is less than that takes; then nothing is written.
+/// Writes an operation: its number and its arguments. Of an operation that isn't supported, that is illegal or that is bad
+/// only the number, as only it was read. `Full` exactly where the room is less than that takes; then nothing is written.
 pub fn write_op<A: Allocator>(op: Op, writer: &mut Writer<A>) -> Result<(), Full>
     ensures has_spelling { OnOk result (ItemHasSpelling (op_item (op_view op.entry))) }
     ensures in_normal_form { OnOk result (ItemIsNormal (op_item (op_view op.entry))) }

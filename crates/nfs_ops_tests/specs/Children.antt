@@ -1,4 +1,4 @@
--- What is given of the names of a slice.
+-- The entries of the names of a slice.
 use Rattle.std.specs.Prelude.{ℕ, List, Result, Ok, Err, map}
 use Rattle.xdr_wire.specs.Xdr.{Value}
 use Rattle.who_book.specs.Content.{Content}

@@ -10,7 +10,7 @@ use xdr_wire::Writer;
 pub struct Child {
     pub cookie: u64,
     pub name: Bytes<'static>,
-    /// The attributes that are given of it, or the fault that refuses it.
+    /// The attributes that are returned of its object, or the fault that refuses it.
     pub judged: Result<Bitmap, u32>,
 }
 

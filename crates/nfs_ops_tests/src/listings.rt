@@ -11,7 +11,7 @@ use xdr_wire::{Opaque, Writer};
 const HEAD: &[u8] = b"\0\0\0\x1a\0\0\0\0\0\0\0\0\0\0\0\0";
 
 /// The entries `f`, `go` and `x` of cookies 4, 6 and 7 behind their links, each a file of mode 0640 of which type, rdattr_error and
-/// mode are asked.
+/// mode are requested.
 const ENTRIES: [&[u8]; 3] = [
     b"\0\0\0\x01\0\0\0\0\0\0\0\x04\0\0\0\x01f\0\0\0\0\0\0\x02\0\0\x08\x02\0\0\0\x02\0\0\0\x0c\0\0\0\x01\0\0\0\0\0\0\x01\xa0",
     b"\0\0\0\x01\0\0\0\0\0\0\0\x06\0\0\0\x02go\0\0\0\0\0\x02\0\0\x08\x02\0\0\0\x02\0\0\0\x0c\0\0\0\x01\0\0\0\0\0\0\x01\xa0",
@@ -33,7 +33,7 @@ pub enum Ending {
     TooSmall,
 }
 
-/// A listing: how many names there are, which of them is refused, the most bytes that the client takes, the room, and what comes.
+/// A listing: how many names there are, which of them is refused, the client's maxcount, the room, and the result.
 #[derive(Clone, Copy, Debug)]
 pub struct Case {
     pub names: usize,
@@ -59,7 +59,7 @@ fn listing(
     }
 }
 
-/// All cases: an entry takes 48 bytes, and what stands around entries 16 behind the status and 24 in all.
+/// All cases: an entry takes 48 bytes, and the rest of a result 16 bytes behind the status and 24 in all.
 pub fn cases() -> [Case; 19] {
     [
         listing(1, None, 64, 256, Ending::Given(1, true)),
@@ -165,7 +165,7 @@ pub fn listed(alloc: Global, case: Case) -> Result<(Vec<u8>, Option<Ending>), Al
     Ok((writer.into_bytes(), ending))
 }
 
-/// The bytes that are to come of it.
+/// The bytes that the case expects.
 pub fn wanted(alloc: Global, ending: Ending) -> Result<Vec<u8>, AllocError> {
     let mut bytes = Vec::new(alloc);
     if let Ending::Given(count, whole) = ending {
@@ -178,7 +178,7 @@ pub fn wanted(alloc: Global, ending: Ending) -> Result<Vec<u8>, AllocError> {
     Ok(bytes)
 }
 
-/// The fault that is to come of it.
+/// The fault that the case expects.
 pub fn fault_of(ending: Ending) -> Option<Ending> {
     match ending {
         Ending::Given(_, _) => None,

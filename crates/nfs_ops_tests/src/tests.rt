@@ -58,7 +58,7 @@ fn results(rt: HostRuntime) -> Result<(), Fail> {
     Ok(())
 }
 
-/// Results that lend what they give: attributes, a filehandle, bytes, a link's text, the names of a server.
+/// Results that lend their bytes: attributes, a filehandle, bytes, a link's text, the names of a server.
 #[test]
 fn lent(rt: HostRuntime) -> Result<(), Fail> {
     for index in 0..lent::COUNT {
@@ -72,7 +72,7 @@ fn lent(rt: HostRuntime) -> Result<(), Fail> {
     Ok(())
 }
 
-/// Bytes that are no result: a number of no operation that is OK, a status that isn't one, a change that isn't atomic, and none.
+/// Bytes that are no result: a number of no operation that is OK, an unknown status, a change that isn't atomic, and none.
 #[test]
 fn no_results(rt: HostRuntime) -> Result<(), Fail> {
     for bytes in vectors::no_results() {
@@ -84,7 +84,7 @@ fn no_results(rt: HostRuntime) -> Result<(), Fail> {
     Ok(())
 }
 
-/// READDIR gives as many entries as fit, is refused where one that is judged is, and else finds too little room.
+/// READDIR returns as many entries as fit, is refused where a judged entry is, and else finds too little room.
 #[test]
 fn listings(rt: HostRuntime) -> Result<(), Fail> {
     for case in listings::cases() {

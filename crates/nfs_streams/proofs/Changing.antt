@@ -21,7 +21,7 @@ owner_here owner id i = rw (eq-eqb id id refl) refl
 owner_there : (owner : ℕ → ℕ) (id i k : ℕ) → k ≢ id → owner_with owner id i k ≡ owner k
 owner_there owner id i k ne = rw (ne_eqb k id ne) refl
 
--- Places `ps` with `x` at `i` become the same with `y` there, and with them the connection of number `id`.
+-- The places `ps` with `x` at `i` become those with `y` there, and with them the connection of number `id`.
 pub record Change {A : Type 0} (start : ℕ) (hub' : Hub A) (ps : List (Option Peer)) (i : ℕ) (x y : Option Peer) (acts acts' : List Act) (t s t' s' : State) (id : ℕ) : Type 0 where
   pub was : (p : Peer) → x ≡ Some p → p.conn ≡ id
   pub alone : (j : ℕ) (p : Peer) → j ≢ i → place_at ps j ≡ Some p → p.conn ≢ id
@@ -42,7 +42,7 @@ seat_move start k at at' h h' m m' e f g seat =
     subst (λ (o : Option Peer). Seat start k o h' m') (sym e)
     (subst (λ (o : Option Connected). Seat start k at o m') (sym f) (subst (λ (o : Option Connected). Seat start k at h o) (sym g) seat))
 
--- a number that has the place and isn't its connection's is elsewhere
+-- a number of this place that isn't its connection's is elsewhere
 seat_elsewhere : (start id k : ℕ) (x y : Option Peer) (h h' m m' : Option Connected) → k ≢ id → ((p : Peer) → x ≡ Some p → p.conn ≡ id) → ((p : Peer) → y ≡ Some p → p.conn ≡ id) → h' ≡ h → m' ≡ m → Seat start k x h m → Seat start k y h' m'
 seat_elsewhere start id k x y h h' m m' ne was now f g seat =
     elim seat [
@@ -129,7 +129,7 @@ one_place {acts = acts} st i j p q at at' same =
     let seated' : IsSeated st.owner acts j (Some q) = subst (λ (o : Option Peer). IsSeated st.owner acts j o) at' (st.seated j) in
     sym seated'.1 ∙ ap st.owner same ∙ seated.1
 
--- a connection goes on at its place, behind acts that seat nobody and close nothing
+-- a connection goes on at its place, behind acts that admit and close no stream
 pub stays_at : {A : Type 0} {start : ℕ} {hub : Hub A} {acts : List Act} {s : State} (ps : List (Option Peer)) (i : ℕ) (p p' : Peer) (st : Stands start hub (set ps i (Some p)) acts s) → i < length ps → p'.conn ≡ p.conn → p'.place ≡ p.place
     → (hub' : Hub A) (acts' : List Act) (t' s' : State) → IsHub hub' t' → ((k : ℕ) → k ≢ p.conn → t'.connection k ≡ st.state.connection k) → t'.next ≡ st.state.next → ((k : ℕ) → k ≢ p.conn → s'.connection k ≡ s.connection k) → s'.next ≡ s.next → s'.served ≡ t'.served
     → Seat start p.conn (Some p') (t'.connection p.conn) (s'.connection p.conn) → ((j : ℕ) → conn_at acts' j ≡ conn_at acts j) → open_in acts' ≡ open_in acts → Stands start hub' (set ps i (Some p')) acts' s'
@@ -152,7 +152,7 @@ stays_at {acts = acts} {s = s} ps i p p' st lt conn place hub' acts' t' s' is in
       count = count ∙ omega (arith, st.count, taken_swap ps i (Some p) (Some p') lt);
     })
 
--- behind acts that seat nobody and close nothing all stays
+-- behind acts that admit and close no stream everything stays
 pub stands_as : {A : Type 0} {start : ℕ} {hub : Hub A} {places : List (Option Peer)} {acts : List Act} {s : State} (acts' : List Act) → ((j : ℕ) → conn_at acts' j ≡ conn_at acts j) → open_in acts' ≡ open_in acts → Stands start hub places acts s → Stands start hub places acts' s
 stands_as {places = places} {acts = acts} acts' conns count st = record {
   state = st.state;
@@ -166,7 +166,7 @@ stands_as {places = places} {acts = acts} acts' conns count st = record {
   count = count ∙ st.count;
 }
 
--- a hub that is in the same state
+-- a hub in the state of another
 pub stands_in : {A : Type 0} {start : ℕ} {hub : Hub A} {places : List (Option Peer)} {acts : List Act} {s : State} (hub' : Hub A) → IsUnchanged hub hub' → Stands start hub places acts s → Stands start hub' places acts s
 stands_in {hub = hub} hub' same st = record {
   state = st.state;

@@ -1,4 +1,4 @@
--- First pending bytes that were taken from the hub.
+-- The first pending bytes, taken from the hub.
 use Rattle.std.proofs.Common.{◌≡◌, ◌≤◌, ℕ, List, [], ◌++◌, length, take, drop, Option, Some, None, sym, ap, subst, ◌∙◌, arith}
 use Rattle.std.specs.Prelude.{Result, Ok, Err, MatchOption, min}
 use Rattle.std.proofs.lemmas.List.{take-append-drop, length-take-le, drop_all}

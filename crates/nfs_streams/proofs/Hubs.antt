@@ -1,4 +1,4 @@
--- What the hub says of a connection that is open in its state, and states with one connection replaced.
+-- The answers of the hub about a connection that is open in its state, and states with one connection replaced.
 use Rattle.std.proofs.Common.{◌≡◌, ◌≢◌, ◌≤◌, ℕ, Bool, cond, eqb, List, Option, Some, None, option_map, refl, sym, ap, subst, ◌∙◌, inl, inr}
 use Rattle.std.specs.Prelude.{MatchOption}
 use Rattle.std.specs.Ordering.{nat_cmp}
@@ -30,7 +30,7 @@ module _ {A : Type 0} (hub : Hub A) (state : State) (is : IsHub hub state) where
   pub broken_of : (id : ℕ) (c : Connected) → state.connection id ≡ Some c → broken_at hub id ≡ Some c.broken
   broken_of id c e = same_broken (get nat_cmp hub.connections id) (state.connection id) c (is.connections id) e
 
-  -- a hub that is unchanged is in the state that it was in
+  -- an unchanged hub is in its state before
   pub unchanged : (new : Hub A) → IsUnchanged hub new → IsHub new state
   unchanged new same = record {
     served = is.served ∙ sym same.served;
@@ -38,7 +38,7 @@ module _ {A : Type 0} (hub : Hub A) (state : State) (is : IsHub hub state) where
     connections = λ id. subst (λ (o : Option (Connection A)). SameConnection o (state.connection id)) (sym (same.connections id)) (is.connections id);
   }
 
-  -- the hub is in each state that is the same
+  -- the hub is in each state equal to its own
   pub also_in : (other : State) → other.served ≡ state.served → other.next ≡ state.next → ((id : ℕ) → other.connection id ≡ state.connection id) → IsHub hub other
   also_in other served next same = record {
     served = served ∙ is.served;
@@ -59,7 +59,7 @@ put_there s served id o k ne = rw (ne_eqb k id ne) refl
 pub put_changes : (s : State) (served : Served) (id : ℕ) (o : Option Connected) → ChangesConnection id o s (put s served id o)
 put_changes s served id o = record { changed = put_here s served id o; others = put_there s served id o }
 
--- a step on an open connection: what it becomes
+-- a step on an open connection, and the connection after it
 pub record Stepped (id : ℕ) (on : Served → Connected → Served → Connected → Type 0) (old : State) (c : Connected) (new : State) : Type 0 where
   pub after : Connected
   pub does : on old.served c new.served after
@@ -78,7 +78,7 @@ steps id step old c d served opened does =
     let new = put old served id (Some d) in
     subst (λ (o : Option Connected). MatchOption o (new ≡ old) (λ c. (d : Connected) × step old.served c new.served d × ChangesConnection id (Some d) old new × (new.next ≡ old.next))) (sym opened) (d, does, put_changes old served id (Some d), refl)
 
--- numbers that are still to come stay so, where an open connection changes
+-- numbers still to come stay so, where an open connection changes
 pub fresh_on : (old new : State) (id : ℕ) (c : Connected) → IsFresh old → old.connection id ≡ Some c → ((k : ℕ) → k ≢ id → new.connection k ≡ old.connection k) → new.next ≡ old.next → IsFresh new
 fresh_on old new id c fresh opened others next k le =
     let le' : old.next ≤ k = subst (λ (n : ℕ). n ≤ k) next le in

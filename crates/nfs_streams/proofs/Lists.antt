@@ -1,4 +1,4 @@
--- Places, and what is known of acts.
+-- Places, and the known acts.
 use Rattle.std.proofs.Common.{◌≡◌, ◌≢◌, ◌<◌, ◌≤◌, ℕ, zero, suc, ◌+◌, cond, List, [], ◌∷◌, ◌++◌, length, Option, Some, None, refl, sym, ap, subst, ◌∙◌, inl, inr, append_assoc, arith}
 use Rattle.std.specs.Prelude.{is_some, set, get_or}
 use Rattle.std.proofs.lemmas.Bool.{cases_eq, cases_lt, eq-eqb, ne_eqb}
@@ -59,11 +59,11 @@ admitted_here acts i id = rw (eq-eqb i i refl) refl
 pub admitted_there : (acts : List Act) (i id j : ℕ) → j ≢ i → conn_at (Admitted i id ∷ acts) j ≡ conn_at acts j
 admitted_there acts i id j ne = rw (ne_eqb j i ne) refl
 
--- what was read at a place
+-- the connection that was read at a place
 pub read_at : (ps : List (Option Peer)) (i : ℕ) (x y : Option Peer) → i < length ps → get_or ps i x ≡ y → place_at ps i ≡ y
 read_at ps i x y lt at = get_or_default ps i None x lt ∙ at
 
--- a place more is free
+-- one place more is free
 pub all_freed : (ps ps' : List (Option Peer)) (i : ℕ) → i < length ps → ps' ≡ set ps i None → ((k : ℕ) → k < i → place_at ps k ≡ None) → (k : ℕ) → k < i + 1 → place_at ps' k ≡ None
 all_freed ps ps' i lt same free k le =
     ap (λ (l : List (Option Peer)). place_at l k) same ∙ elim (cases_eq k i) [
@@ -71,7 +71,7 @@ all_freed ps ps' i lt same free k le =
       | inr ne ↦ set_there ps i k None ne ∙ free k (omega arith)
     ]
 
--- all places below the number of them are free, and there are no others
+-- all places below the number of places are free, and there are no others
 pub none_past : (ps : List (Option Peer)) (n : ℕ) → length ps ≤ n → ((k : ℕ) → k < n → place_at ps k ≡ None) → (k : ℕ) → place_at ps k ≡ None
 none_past ps n le free k =
     elim (cases_lt k n) [

@@ -1,22 +1,23 @@
--- Each thing that serving does, as a step from one stage to the next.
+-- Each act of serving, as a step from one stage to the next.
 use Rattle.std.proofs.Common.{◌≡◌, ◌≢◌, ◌≤◌, ◌<◌, ℕ, ◌+◌, Bool, true, false, List, [], ◌∷◌, ◌++◌, length, take, drop, Option, Some, None, refl, sym, ap, subst, ◌∙◌, option_map, inl, inr, arith}
 use Rattle.std.specs.Ordering.{nat_cmp}
 use Rattle.std.specs.BTreeMap.{get}
 use Rattle.std.specs.Prelude.{ℤ, MatchOption, Err, Ok, set}
 use Rattle.std.proofs.lemmas.List.{drop_at, set-set, length-append, length-take-le, take-append-le, drop-append-le}
 use Rattle.std.proofs.lemmas.Bool.{cases_eq}
+use Rattle.who_book.specs.Content.{Content}
 use Rattle.compound_run.specs.State.{State as ServerState}
 use Rattle.nfs_types.specs.declared.moment.Moment.{Moment}
 use Rattle.nfs_hub.specs.declared.connection.Connection.{Connection}
 use Rattle.nfs_hub.specs.declared.hub.Hub.{Hub}
 use Rattle.nfs_hub.specs.declared.fault.HubFault.{HubFault}
 use Rattle.nfs_hub.specs.declared.fault.HubFault.TheVariants as fault
-use Rattle.nfs_hub.specs.Answer.{Served as ServedState}
-use Rattle.nfs_hub.specs.Machine.{Connected, State, Connect, Piece, Take, Close, Step, PieceOn, TakeOn, ChangesConnection, fresh}
+use Rattle.nfs_hub.specs.Answer.{Served as ServedState, reloaded}
+use Rattle.nfs_hub.specs.Machine.{Connected, State, Connect, Piece, Take, Close, Reload, Step, PieceOn, TakeOn, ChangesConnection, fresh}
 use Rattle.nfs_hub.specs.Hub.{IsHub, Goes, ConnectGives, IsUnchanged, SameConnection, pending_at, broken_at}
 use Rattle.nfs_streams.specs.declared.peer.Peer.{Peer}
 use Rattle.nfs_streams.specs.declared.serving.AllEnd.TheVariants.{Served, Turns, Wait, Keep}
-use Rattle.nfs_streams.specs.Acts.{Act, JustKnocked, IsSettled, Waited, Knocked, Admitted, Closed, Heard, Ended, Told, Failed, Kept, Lost, Adds, Has, conn_at, knocked}
+use Rattle.nfs_streams.specs.Acts.{Act, JustKnocked, IsSettled, Waited, Knocked, Admitted, Closed, Heard, Ended, Told, Failed, Kept, Lost, Loaded, Adds, Has, conn_at, knocked}
 use Rattle.nfs_streams.specs.Runs.{On, StepAt, CanHear, IsSpent, IsWaiting}
 use Rattle.nfs_streams.specs.Filling.{Fills}
 use Rattle.nfs_streams.specs.Seats.{Stands, Drained, IsSeated, IsFresh, place_at, taken}
@@ -112,7 +113,7 @@ module _ {A : Type 0} {n : ℕ} {o : Origin} {hub : Hub A} {left : ℕ} {before 
 held_waits : (held pending : List ℕ) → 0 < length held → held ++ pending ≢ []
 held_waits held pending some none = let len : length (held ++ pending) ≡ 0 = ap (λ (l : List ℕ). length l) none in absurd (omega (arith, length-append held pending, len))
 
--- some bytes that are held wait to be written
+-- held bytes wait to be written
 abbrev is_waiting : {A : Type 0} {start : ℕ} {hub : Hub A} {acts : List Act} {s : State} (ps : List (Option Peer)) (i : ℕ) (p : Peer) (st : Stands start hub (set ps i (Some p)) acts s) → i < length ps → 0 < length p.held → On acts p.place s IsWaiting
 is_waiting {acts = acts} ps i p st lt some =
     let h = here_at st i p (set_here ps i (Some p) lt) in
@@ -158,7 +159,7 @@ module _ {A : Type 0} {n : ℕ} {o : Origin} {hub : Hub A} {left : ℕ} {before 
         fewer = st.fewer;
       }
 
--- the bytes were lent, and the written ones are left out
+-- the bytes were lent, and the written bytes are left out
 pub told_of : {A : Type 0} {n : ℕ} {o : Origin} {hub : Hub A} {left : ℕ} {before : Option (List Act)} (ps : List (Option Peer)) (i : ℕ) (p : Peer) → i < length ps → Standing (Answering n) o hub (set ps i (Some p)) left before → (bytes held : List ℕ) (k : ℕ) (z : ℤ) (after : Option (List Act)) → 0 < length p.held → bytes ≡ p.held → held ≡ drop k p.held → k ≤ length bytes
     → Adds before after (Told p.place (take k bytes) ∷ []) → Standing (Answering n) o hub (set ps i (Some (record p { held = held; since = z }))) left after
 told_of {n = n} {o = o} {hub = hub} {left = left} {before = before} ps i p lt st bytes held k z after some same rest le said =
@@ -170,7 +171,7 @@ told_of {n = n} {o = o} {hub = hub} {left = left} {before = before} ps i p lt st
 none_some : {X : Type 0} (x : X) → None ≡ Some x → ⊥
 none_some x e = cc
 
--- behind the same acts and others that seat nobody and close nothing, a connection is closed
+-- behind the same acts and others that admit and close no stream, a connection is closed
 pub record Shut {A : Type 0} (start : ℕ) (hub' : Hub A) (places' : List (Option Peer)) (place : ℕ) (acts : List Act) (s : State) : Type 0 where
   pub machine : State
   pub step : StepAt acts place Close s machine
@@ -215,7 +216,7 @@ shut {acts = acts} {s = s} ps i p st lt hub' goes =
     }
 
 module _ {A : Type 0} {n : ℕ} {o : Origin} {hub : Hub A} {left : ℕ} {before : Option (List Act)} (ps : List (Option Peer)) (i : ℕ) (p : Peer) (lt : i < length ps) (st : Standing (Listening n) o hub (set ps i (Some p)) left before) (hub' : Hub A) (after : Option (List Act)) (goes : Goes (Close p.conn) hub hub') where
-  -- its stream has ended
+  -- the stream has ended
   pub ended : (mid : Option (List Act)) → Drained hub p → p.broken ≡ false → Adds before mid (Ended p.place ∷ []) → Adds mid after (Closed p.place ∷ []) → Standing (Listening n) o hub' (set ps i None) left after
   ended mid drained whole said closed =
       let over = Ended p.place ∷ st.acts in
@@ -229,7 +230,7 @@ module _ {A : Type 0} {n : ℕ} {o : Origin} {hub : Hub A} {left : ℕ} {before 
         fewer = st.fewer;
       }
 
-  -- it is broken
+  -- the connection is broken
   pub spent : Drained hub p → p.broken ≡ true → Adds before after (Closed p.place ∷ []) → Standing (Listening n) o hub' (set ps i None) left after
   spent drained broken closed =
       let h = here_at st.stands i p (set_here ps i (Some p) lt) in
@@ -251,7 +252,7 @@ module _ {A : Type 0} {n : ℕ} {o : Origin} {hub : Hub A} {left : ℕ} {before 
         fewer = st.fewer;
       }
 
--- writing to its stream has failed
+-- writing to the stream has failed
 pub failed : {A : Type 0} {n : ℕ} {o : Origin} {hub : Hub A} {left : ℕ} {before : Option (List Act)} (ps : List (Option Peer)) (i : ℕ) (p : Peer) → i < length ps → Standing (Answering n) o hub (set ps i (Some p)) left before → (hub' : Hub A) (mid after : Option (List Act)) → 0 < length p.held → Goes (Close p.conn) hub hub'
     → Adds before mid (Failed p.place ∷ []) → Adds mid after (Closed p.place ∷ []) → Standing (Answering n) o hub' (set ps i None) left after
 failed {o = o} {before = before} ps i p lt st hub' mid after some goes said closed =
@@ -271,7 +272,7 @@ failed {o = o} {before = before} ps i p lt st hub' mid after some goes said clos
       fewer = st.fewer;
     }
 
--- another has just knocked at a full house, or serving has stopped
+-- another stream has just come while the limit of open connections is reached, or serving has stopped
 closed_way : (stage : Stage) (o : Origin) (place : ℕ) (acts : List Act) (s s' : State) → IsClosing stage → Way stage o acts s → StepAt acts place Close s s' → Way (closed_stage stage) o (Closed place ∷ acts) s'
 closed_way (Listening n) o place acts s s' may way step = absurd may
 closed_way (Full n) o place acts s s' may way step = ((s, way.0, inr (inr (way.2, way.3)), step), way.1, tt)
@@ -293,7 +294,7 @@ closes {stage = stage} {o = o} {before = before} ps i p lt may st hub' after goe
       fewer = st.fewer;
     }
 
--- a stage at which none is closed goes on all the same
+-- a stage at which no connection is closed goes on unchanged
 pub unclosed : {A : Type 0} (stage : Stage) (o : Origin) (hub : Hub A) (places : List (Option Peer)) (left : ℕ) (now : Option (List Act)) → IsClosing stage → Standing stage o hub places left now → Standing (closed_stage stage) o hub places left now
 unclosed (Listening n) o hub places left now may st = absurd may
 unclosed (Full n) o hub places left now may st = record { acts = st.acts; machine = st.machine; way = (st.way.0, st.way.1, settled st.acts st.way.2); stands = st.stands; adds = st.adds; fewer = st.fewer }
@@ -305,11 +306,11 @@ unclosed (Answering n) o hub places left now may st = absurd may
 unclosed (Stopped end n) o hub places left now may st = absurd may
 unclosed (Ending served at) o hub places left now may st = st
 
--- nothing was said
+-- no act was added
 pub quiet : {A : Type 0} {stage : Stage} {o : Origin} {hub : Hub A} {places : List (Option Peer)} {left : ℕ} {before : Option (List Act)} (after : Option (List Act)) → Adds before after [] → Standing stage o hub places left before → Standing stage o hub places left after
 quiet {o = o} {before = before} after said st = record { acts = st.acts; machine = st.machine; way = st.way; stands = st.stands; adds = adds_on o.first before after st.acts [] st.adds said; fewer = st.fewer }
 
--- ---- one knocks
+-- ---- a stream comes
 
 pub knocks : {A : Type 0} {n : ℕ} {o : Origin} {hub : Hub A} {places : List (Option Peer)} {left : ℕ} {before : Option (List Act)} (after : Option (List Act)) (b : Bool) → Adds before after (knocked b) → Standing (Listening n) o hub places left before → Standing (Listening n) o hub places left after
 knocks {o = o} {before = before} after true said st = record {
@@ -420,7 +421,35 @@ refused {hub = hub} hub' why gives st = record {
   fewer = st.fewer;
 }
 
--- ---- it is waited, and the trail is kept
+-- ---- a book is loaded
+
+pub loads : {A : Type 0} {n : ℕ} {o : Origin} {hub : Hub A} {places : List (Option Peer)} {left : ℕ} {before : Option (List Act)} (hub' : Hub A) (book : Content) (after : Option (List Act)) → Goes (Reload book) hub hub' → Adds before after (Loaded book ∷ []) → Standing (Listening n) o hub places left before → Standing (Listening n) o hub' places left after
+loads {o = o} {places = places} {before = before} hub' book after goes said st =
+    let was = st.stands in
+    let g = goes was.state was.is in
+    let t' : State = record was.state { served = reloaded book was.state.served } in
+    let s' : State = record st.machine { served = reloaded book st.machine.served } in
+    let now : Stands o.start.next hub' places st.acts s' = record {
+      state = t';
+      is = subst (λ (w : State). IsHub hub' w) g.1 g.2;
+      fresh = was.fresh;
+      served = ap (λ (w : ServedState). reloaded book w) was.served;
+      next = was.next;
+      owner = was.owner;
+      each = was.each;
+      seated = was.seated;
+      count = was.count;
+    } in
+    record {
+      acts = Loaded book ∷ st.acts;
+      machine = s';
+      way = ((st.machine, st.way.0, st.way.2, refl), st.way.1, tt);
+      stands = stands_as (Loaded book ∷ st.acts) (λ j. refl) refl now;
+      adds = adds_on o.first before after st.acts (Loaded book ∷ []) st.adds said;
+      fewer = st.fewer;
+    }
+
+-- ---- serving has waited, and the trail is kept
 
 module _ {A : Type 0} {n : ℕ} {o : Origin} {hub : Hub A} {places : List (Option Peer)} {left : ℕ} {before : Option (List Act)} (st : Standing (Listening n) o hub places left before) (after : Option (List Act)) where
   pub waited : Adds before after (Waited true ∷ []) → Standing (Listening (n + 1)) o hub places left after
@@ -468,18 +497,18 @@ module _ {A : Type 0} {n : ℕ} {o : Origin} {hub : Hub A} {places : List (Optio
 pub answered : {A : Type 0} {n : ℕ} {o : Origin} {hub : Hub A} {places : List (Option Peer)} {left : ℕ} {now : Option (List Act)} → Standing (Answering n) o hub places left now → Standing (Listening n) o hub places left now
 answered st = record { acts = st.acts; machine = st.machine; way = (st.way.0, st.way.1, st.way.2); stands = st.stands; adds = st.adds; fewer = st.fewer }
 
--- ---- at a place of these
+-- ---- at one of the places
 
--- what is done at a place
+-- a step at a place
 pub at_place : {A : Type 0} (stage stage' : Stage) (o : Origin) (hub new : Hub A) (ps : List (Option Peer)) (i left : ℕ) (x y : Option Peer) (before after : Option (List Act)) → i < length ps → place_at ps i ≡ x → (Standing stage o hub (set ps i x) left before → Standing stage' o new (set ps i y) left after)
     → Standing stage o hub ps left before → Standing stage' o new (set ps i y) left after
 at_place stage stage' o hub new ps i left x y before after lt at does st = does (subst (λ (l : List (Option Peer)). Standing stage o hub l left before) (sym (set_back ps i x at)) st)
 
--- what is done at a place of these that has had another connection meanwhile
+-- a step at a place that has had another connection meanwhile
 pub gone_at : {A : Type 0} (stage : Stage) (o : Origin) (new : Hub A) (ps : List (Option Peer)) (i left : ℕ) (x y : Option Peer) (after : Option (List Act)) → Standing stage o new (set ps i y) left after → Standing stage o new (set (set ps i x) i y) left after
 gone_at stage o new ps i left x y after st = subst (λ (l : List (Option Peer)). Standing stage o new l left after) (sym (set-set ps i x y)) st
 
--- a stream is admitted at a free place of these
+-- a stream is admitted at a free place
 pub admits_at : {A : Type 0} {n : ℕ} {o : Origin} {hub : Hub A} {left : ℕ} {before : Option (List Act)} (ps : List (Option Peer)) (i id left' : ℕ) (held : List ℕ) (z : ℤ) (hub' : Hub A) (mid after : Option (List Act)) → i < length ps → i < 16 → place_at ps i ≡ None → held ≡ [] → Standing (Listening n) o hub ps left before → taken ps < o.most → left ≡ left' + 1
     → Adds before mid (Knocked ∷ []) → Goes Connect hub hub' → ConnectGives (Ok id) hub hub' → Adds mid after (Admitted i id ∷ []) → Standing (Listening n) o hub' (set ps i (Some (record { place = i; conn = id; held = held; broken = false; since = z }))) left' after
 admits_at {n = n} {o = o} {hub = hub} {left = left} {before = before} ps i id left' held z hub' mid after lt below free none st few less said goes gives let_in =
@@ -487,7 +516,7 @@ admits_at {n = n} {o = o} {hub = hub} {left = left} {before = before} ps i id le
     subst (λ (l : List ℕ). Standing (Listening n) o hub' (set ps i (Some (record { place = i; conn = id; held = l; broken = false; since = z }))) left' after) (sym none)
     (admits ps i id left' z hub' mid after lt below (subst (λ (l : List (Option Peer)). Standing (Listening n) o hub l left before) same st) (subst (λ (l : List (Option Peer)). taken l < o.most) same few) less said goes gives let_in)
 
--- serving stops where it is
+-- serving stops at its stage
 pub stops_served : {A : Type 0} {n : ℕ} {o : Origin} {hub : Hub A} {places : List (Option Peer)} {left : ℕ} {now : Option (List Act)} → Standing (Listening n) o hub places left now → Standing (Stopped Served n) o hub places left now
 stops_served st = record { acts = st.acts; machine = st.machine; way = (st.way.0, st.way.1, tt); stands = st.stands; adds = st.adds; fewer = st.fewer }
 

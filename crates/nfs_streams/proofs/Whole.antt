@@ -3,14 +3,14 @@ use Rattle.std.proofs.Common.{◌≡◌, ◌≢◌, ◌≤◌, ℕ, List, [], �
 use Rattle.std.specs.Prelude.{MatchOption, min}
 use Rattle.std.proofs.lemmas.Bool.{cases_eq}
 use Rattle.nfs_hub.specs.declared.hub.Hub.{Hub}
-use Rattle.nfs_hub.specs.Answer.{Served as ServedState}
-use Rattle.nfs_hub.specs.Machine.{Connected, State, Event, Connect, Piece, Take, Close, Step, PieceOn, TakeOn, ChangesConnection, Leads, opening}
+use Rattle.nfs_hub.specs.Answer.{Served as ServedState, reloaded}
+use Rattle.nfs_hub.specs.Machine.{Connected, State, Event, Connect, Piece, Take, Close, Reload, Step, PieceOn, TakeOn, ChangesConnection, Leads, opening}
 use Rattle.nfs_hub.specs.Hub.{LeadsTo}
 use Rattle.nfs_streams.specs.declared.peer.Peer.{Peer}
 use Rattle.nfs_streams.specs.declared.serving.AllEnd.{AllEnd}
 use Rattle.nfs_streams.specs.declared.serving.AllEnd.TheVariants.{Served, Turns, Wait, Keep}
 use Rattle.nfs_streams.specs.declared.serving.Limits.{Limits}
-use Rattle.nfs_streams.specs.Acts.{Act, Waited, Knocked, Admitted, Closed, Heard, Ended, Told, Failed, Kept, Lost, Adds}
+use Rattle.nfs_streams.specs.Acts.{Act, Waited, Knocked, Admitted, Closed, Heard, Ended, Told, Failed, Kept, Lost, Loaded, Adds}
 use Rattle.nfs_streams.specs.Runs.{Runs, Ends, Does}
 use Rattle.nfs_streams.specs.Seats.{Stands, IsFresh, IsSeated, Seat, place_at, taken}
 use Rattle.nfs_streams.specs.Standing.{Origin, Listening, Stopped, Ending, Standing, Moves, LeavesSo, RunGives}
@@ -18,7 +18,7 @@ use Rattle.nfs_streams.specs.All.{EndsSo, AreClosed, ServesAll}
 use Rattle.nfs_streams.proofs.Lists.{none_at, adds_none}
 use Rattle.nfs_streams.proofs.Hubs.{also_in, fresh_on}
 
--- ---- no connection has a number that is still to come
+-- ---- no connection has a number still to come
 
 fresh_as : (old new : State) → IsFresh old → new ≡ old → IsFresh new
 fresh_as old new fresh same = subst (λ (s : State). IsFresh s) (sym same) fresh
@@ -43,6 +43,7 @@ fresh_step (Close id) old new fresh step = λ k le.
       | inl e ↦ ap (λ (j : ℕ). new.connection j) e ∙ step.2.changed
       | inr ne ↦ step.2.others k ne ∙ fresh k (subst (λ (m : ℕ). m ≤ k) step.1 le)
     ]
+fresh_step (Reload book) old new fresh step = fresh_as (record old { served = reloaded book old.served }) new fresh step
 
 fresh_leads : (first : ServedState) (events : List Event) (s : State) → Leads first events s → IsFresh s
 fresh_leads first [] s leads = fresh_as (opening first) s (λ k le. refl) leads
@@ -118,6 +119,7 @@ does_lead first events acts (Told place bytes) old new does leads = (Take does.1
 does_lead first events acts (Failed place) old new does leads = ([], subst (λ (s : State). Leads first events s) (sym does) leads)
 does_lead first events acts (Kept state) old new does leads = ([], subst (λ (s : State). Leads first events s) (sym does) leads)
 does_lead first events acts Lost old new does leads = ([], subst (λ (s : State). Leads first events s) (sym does) leads)
+does_lead first events acts (Loaded book) old new does leads = (Reload book ∷ [], (old, leads, does))
 
 runs_lead : (first : ServedState) (events : List Event) (most : ℕ) (acts : List Act) (old new : State) → Runs most acts old new → Leads first events old → (later : List Event) × Leads first (later ++ events) new
 runs_lead first events most [] old new run leads = ([], subst (λ (s : State). Leads first events s) (sym run) leads)

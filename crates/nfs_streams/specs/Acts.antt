@@ -1,33 +1,36 @@
--- What is asked of streams and what they say to it, each of them at its place.
+-- The requests to streams and their answers, each of them at its place.
 use Rattle.std.specs.Prelude.{◌≡◌, ◌≤◌, ◌⊎◌, ◌+◌, ◌-◌, ◌==◌, ℕ, Bool, true, false, List, [], ◌∷◌, ◌++◌, Option, Some, None, take, if◌then◌else◌}
+use Rattle.who_book.specs.Content.{Content}
 use Rattle.compound_run.specs.State.{State as ServerState}
 use Rattle.nfs_streams.specs.declared.streams.Moved.{Moved}
 use Rattle.nfs_streams.specs.declared.streams.Moved.TheVariants.{Bytes, NotYet, Over}
 
--- one thing that was asked and said
+-- one request and its answer
 pub data Act : Type 0 where
-  -- it was waited, and whether that went well
+  -- serving has waited, and whether that went well
   Waited : Bool → Act
   -- another stream has come
   Knocked : Act
-  -- the stream that had come has this place, as the connection of this number
+  -- the stream that has come gets this place, as the connection of this number
   Admitted : ℕ → ℕ → Act
   -- the stream of the place is let go
   Closed : ℕ → Act
   -- these bytes were read of the stream of the place
   Heard : ℕ → List ℕ → Act
-  -- there is no more to read, or reading failed
+  -- no more bytes will come, or reading failed
   Ended : ℕ → Act
   -- these bytes were written to the stream of the place
   Told : ℕ → List ℕ → Act
   -- writing failed
   Failed : ℕ → Act
-  -- what a server in this state has on its trail is kept
+  -- the lines on the trail of a server in this state are kept
   Kept : ServerState → Act
   -- keeping the trail failed
   Lost : Act
+  -- another book of names has come, and is loaded
+  Loaded : Content → Act
 
--- what is known of the acts so far, the newest first, has these in front of it afterwards
+-- the known acts so far, the newest first, have these in front of them afterwards
 abbrev pub Adds : Option (List Act) → Option (List Act) → List Act → Type 0
 Adds None new acts = Unit {0}
 Adds (Some old) None acts = ⊥
@@ -41,13 +44,17 @@ abbrev pub kept : Bool → ServerState → List Act
 kept true state = Kept state ∷ []
 kept false state = Lost ∷ []
 
--- what a read says that came so far, into a buffer
+abbrev pub loaded : Option Content → List Act
+loaded (Some book) = Loaded book ∷ []
+loaded None = []
+
+-- the act of a read into a buffer that moved so many bytes
 abbrev pub came : ℕ → Moved → List ℕ → List Act
 came place (Bytes n) bytes = Heard place (take n bytes) ∷ []
 came place NotYet bytes = []
 came place Over bytes = Ended place ∷ []
 
--- what a write of these bytes says
+-- the act of a write of these bytes
 abbrev pub went : ℕ → Moved → List ℕ → List Act
 went place (Bytes n) bytes = Told place (take n bytes) ∷ []
 went place NotYet bytes = []
@@ -59,7 +66,7 @@ IsWithin (Bytes n) most = n ≤ most
 IsWithin NotYet most = Unit {0}
 IsWithin Over most = Unit {0}
 
--- ---- what acts have come to, the newest first
+-- ---- the values of acts, the newest first
 
 -- the number of the connection at a place, if there is one
 abbrev pub conn_at : List Act → ℕ → Option ℕ
@@ -74,6 +81,7 @@ conn_at (Told at bytes ∷ acts) place = conn_at acts place
 conn_at (Failed at ∷ acts) place = conn_at acts place
 conn_at (Kept state ∷ acts) place = conn_at acts place
 conn_at (Lost ∷ acts) place = conn_at acts place
+conn_at (Loaded book ∷ acts) place = conn_at acts place
 
 -- how many connections are at places
 abbrev pub open_in : List Act → ℕ
@@ -88,8 +96,9 @@ open_in (Told at bytes ∷ acts) = open_in acts
 open_in (Failed at ∷ acts) = open_in acts
 open_in (Kept state ∷ acts) = open_in acts
 open_in (Lost ∷ acts) = open_in acts
+open_in (Loaded book ∷ acts) = open_in acts
 
--- how many times it was waited
+-- how many waits there were
 abbrev pub waits : List Act → ℕ
 waits [] = 0
 waits (Waited well ∷ acts) = waits acts + 1
@@ -102,6 +111,7 @@ waits (Told at bytes ∷ acts) = waits acts
 waits (Failed at ∷ acts) = waits acts
 waits (Kept state ∷ acts) = waits acts
 waits (Lost ∷ acts) = waits acts
+waits (Loaded book ∷ acts) = waits acts
 
 -- how many streams were admitted
 abbrev pub admitted : List Act → ℕ
@@ -116,6 +126,7 @@ admitted (Told at bytes ∷ acts) = admitted acts
 admitted (Failed at ∷ acts) = admitted acts
 admitted (Kept state ∷ acts) = admitted acts
 admitted (Lost ∷ acts) = admitted acts
+admitted (Loaded book ∷ acts) = admitted acts
 
 -- the act is one of these
 abbrev pub Has : Act → List Act → Type 0
@@ -156,3 +167,4 @@ IsSettled (Told at bytes ∷ acts) = Unit {0}
 IsSettled (Failed at ∷ acts) = ⊥
 IsSettled (Kept state ∷ acts) = Unit {0}
 IsSettled (Lost ∷ acts) = ⊥
+IsSettled (Loaded book ∷ acts) = Unit {0}

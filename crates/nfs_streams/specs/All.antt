@@ -10,21 +10,21 @@ use Rattle.nfs_streams.specs.declared.serving.Limits.{Limits}
 use Rattle.nfs_streams.specs.Acts.{Act, Adds, IsUnwaited, IsLost, waits, admitted}
 use Rattle.nfs_streams.specs.Runs.{Runs, Ends, MOST_PLACES}
 
--- of the connections that were opened since a number none is open
+-- no connection of this number or a later one is open
 abbrev pub AreClosed : ℕ → State → Type 0
 AreClosed start s = (id : ℕ) → start ≤ id → s.connection id ≡ None
 
--- Why serving ends: as many connections as may be have come, and all of them are closed; all turns are used up; the last wait failed; or
--- the trail couldn't be kept.
+-- Why serving ends: the limit of connections has been admitted, and all of them are closed; all turns are used up; the last wait failed;
+-- or the trail couldn't be kept.
 abbrev pub EndsSo : AllEnd → Limits → State → List Act → State → Type 0
 EndsSo Served limits start acts s = (admitted acts ≡ limits.connections) × AreClosed start.next s
 EndsSo Turns limits start acts s = waits acts ≡ limits.turns
 EndsSo Wait limits start acts s = IsUnwaited acts
 EndsSo Keep limits start acts s = IsLost acts
 
--- Behind events that lead to the hub, acts of the streams lead the machine on, each of them allowed where it comes, with at most so many
--- waits and connections; then the streams that are at places yet are let go, and none of the connections that came is open. All these
--- acts, and no others, are those of the streams; and the hub is where they lead.
+-- Behind events that lead to the hub, acts of the streams lead the machine on, each of them allowed at its turn, with at most so many
+-- waits and connections; then the streams still at places are let go, and none of the connections that came is open. All these acts, and
+-- no others, are the acts of the streams; and they lead to the state of the hub.
 pub record ServesAll {A : Type 0} (first : ServedState) (events : List Event) (end : AllEnd) (limits : Limits) (new : Hub A) (before after : Option (List Act)) : Type 0 where
   pub start : State
   pub leads : Leads first events start

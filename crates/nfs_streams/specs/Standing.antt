@@ -1,4 +1,4 @@
--- How far serving has come, and what a part of it does.
+-- The stages of serving, and the parts of serving as steps between them.
 use Rattle.std.specs.Prelude.{◌≡◌, ◌≤◌, ◌<◌, ◌+◌, ℕ, List, ◌++◌, length, Option, Some, None, set}
 use Rattle.nfs_hub.specs.declared.hub.Hub.{Hub}
 use Rattle.nfs_hub.specs.Machine.{State}
@@ -12,15 +12,16 @@ use Rattle.nfs_streams.specs.Acts.{Act, Kept, Adds, Has, JustKnocked, IsUnwaited
 use Rattle.nfs_streams.specs.Runs.{Runs, Ends}
 use Rattle.nfs_streams.specs.Seats.{Stands, taken}
 
--- where serving began: in this state, when these acts were known, with so many that may be open at once and so many that may come
+-- the beginning of serving: its state, the acts known then, the limit of connections at once and the limit of connections in all
 pub record Origin : Type 0 where
   pub start : State
   pub first : Option (List Act)
   pub most : ℕ
   pub connections : ℕ
 
--- The stages of serving behind so many waits: it is listened; a stream has just come, and as many are open as may be; the trail is kept,
--- and it is answered; serving has stopped for a reason; it had stopped behind these acts in this state, and streams are let go.
+-- The stages of serving behind so many waits: listening; a stream has just come, and the limit of open connections is reached; the trail
+-- is kept, and replies are written; serving has stopped for a reason; it had stopped behind these acts in this state, and streams are let
+-- go.
 pub data Stage : Type 0 where
   Listening : ℕ → Stage
   Full : ℕ → Stage
@@ -28,7 +29,7 @@ pub data Stage : Type 0 where
   Stopped : AllEnd → ℕ → Stage
   Ending : List Act → State → Stage
 
--- what the last act says of why serving stopped
+-- the last act, by the reason why serving stopped
 abbrev pub StopsSo : AllEnd → List Act → Type 0
 StopsSo Served acts = Unit {0}
 StopsSo Turns acts = Unit {0}
@@ -43,7 +44,7 @@ Way (Answering n) o acts s = Runs o.most acts o.start s × (waits acts ≡ n) ×
 Way (Stopped end n) o acts s = Runs o.most acts o.start s × (waits acts ≡ n) × StopsSo end acts
 Way (Ending served at) o acts s = (endings : List Act) × (acts ≡ endings ++ served) × Ends served endings at s
 
--- Acts have led to this stage, and to what the hub and the places hold now; so many connections may still come.
+-- Acts have led to this stage, and to the present hub and places; so many connections may still come.
 pub record Standing {A : Type 0} (stage : Stage) (o : Origin) (hub : Hub A) (places : List (Option Peer)) (left : ℕ) (now : Option (List Act)) : Type 0 where
   pub acts : List Act
   pub machine : State
@@ -57,13 +58,17 @@ abbrev pub Moves : {A : Type 0} → Stage → Stage → ℕ → Hub A → List (
 Moves stage stage' most old places left new places' left' before after =
     (o : Origin) → o.most ≡ most → Standing stage o old places left before → Standing stage' o new places' left' after
 
--- of a place: at any place of any others its connection becomes another one, or goes
+-- a book that has come is loaded, or none has come, for any connections at the places
+abbrev pub Loads : {A : Type 0} → Hub A → Hub A → Option (List Act) → Option (List Act) → Type 0
+Loads old new before after = (n most left : ℕ) (places : List (Option Peer)) → Moves (Listening n) (Listening n) most old places left new places left before after
+
+-- at any place among any others the connection of the place becomes another one, or goes
 abbrev pub Changes : {A : Type 0} → Stage → Hub A → Option Peer → Hub A → Option Peer → Option (List Act) → Option (List Act) → Type 0
 Changes stage old peer new peer' before after =
     (o : Origin) (left index : ℕ) (places : List (Option Peer)) → index < length places
     → Standing stage o old (set places index peer) left before → Standing stage o new (set places index peer') left after
 
--- bytes that wait in the hub are held: nothing is done at any stage
+-- bytes that wait in the hub are held: no act, at any stage
 abbrev pub Refills : {A : Type 0} → Hub A → Peer → Hub A → Peer → Type 0
 Refills old peer new peer' = (stage : Stage) (now : Option (List Act)) → Changes stage old (Some peer) new (Some peer') now now
 
@@ -73,7 +78,7 @@ stays Idle peer = Some peer
 stays Busy peer = Some peer
 stays Gone peer = None
 
--- the stages at which a connection may be closed that may still go on, and what follows
+-- the stages at which a connection that may still go on may be closed, and the stage behind that
 abbrev pub IsClosing : Stage → Type 0
 IsClosing (Listening n) = ⊥
 IsClosing (Full n) = Unit {0}
@@ -88,12 +93,12 @@ closed_stage (Answering n) = Answering n
 closed_stage (Stopped end n) = Stopped end n
 closed_stage (Ending served at) = Ending served at
 
--- the stage behind a turn that says how long to wait, or that the trail couldn't be kept
+-- the stage behind a turn, by the length of the next wait, or by a trail that couldn't be kept
 abbrev pub turned_stage : Option Pause → ℕ → Stage
 turned_stage (Some pause) n = Listening n
 turned_stage None n = Stopped Keep n
 
--- What stands where serving stopped behind so many waits: no connection is open or to come; or all turns are used up.
+-- The end of serving behind so many waits: no connection is open or to come; or all turns are used up.
 abbrev pub LeavesSo : AllEnd → ℕ → ℕ → ℕ → List (Option Peer) → Type 0
 LeavesSo Served turns n left places = (left ≡ 0) × (taken places ≡ 0)
 LeavesSo Turns turns n left places = n ≡ turns

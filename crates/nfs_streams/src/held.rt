@@ -10,7 +10,7 @@ use std::marker::Model;
 /// The most bytes that are taken at a time.
 const CHUNK: usize = 4096;
 
-/// Bytes that are still to be written.
+/// Bytes still to be written.
 #[derive(Drop)]
 pub(crate) struct Held {
     bytes: [u8; CHUNK],
@@ -29,7 +29,7 @@ impl Model for Held {
 }
 
 impl Held {
-    /// None.
+    /// No bytes.
     pub(crate) fn new() -> Self
         ensures { result ≡ [] }
     {
@@ -40,7 +40,7 @@ impl Held {
         }
     }
 
-    /// Whether there are none.
+    /// Whether there are no bytes.
     pub(crate) fn is_empty(&self) -> bool
         ensures some { OnFalse result (0 < length self.now) }
         ensures none { OnTrue result (self.now ≡ []) }
@@ -55,7 +55,7 @@ impl Held {
         &self.bytes[self.from..self.to]
     }
 
-    /// Leaves out the first of them.
+    /// Leaves out the first `n` bytes.
     pub(crate) fn skip(&mut self, n: usize)
         requires { n ≤ length self.old }
         ensures { self.new ≡ drop n self.old }
@@ -63,7 +63,7 @@ impl Held {
         self.from += n;
     }
 
-    /// Where there are none, takes as many pending bytes of a connection as fit. None are pending where none are taken.
+    /// Where no bytes are held, takes as many pending bytes of a connection as fit. No bytes are pending where none are taken.
     pub(crate) fn fill<A: Allocator + Copy>(&mut self, hub: &mut Hub<A>, conn: ConnId)
         requires { self.old ≡ [] }
         ensures { Fills conn self.new hub.old hub.new }

@@ -12,7 +12,7 @@ use crate::streams::{Moved, Streams};
 use nfs_hub::{Clock, ConnId, Hub};
 use std::alloc::Allocator;
 
-/// The most bytes that are read at a time.
+/// The most bytes of one read.
 const PIECE: usize = 4096;
 
 /// How many times bytes of one connection are written in a turn, at most.
@@ -23,25 +23,25 @@ const ROUNDS: u32 = 32;
 pub(crate) struct Peer {
     pub(crate) place: usize,
     pub(crate) conn: ConnId,
-    /// The bytes that were taken of those that are pending on it, and aren't written yet.
+    /// The bytes that were taken of the pending bytes of the connection, and aren't written yet.
     pub(crate) held: Held,
     pub(crate) broken: bool,
-    /// The second in which it was admitted, or something was read or written last.
+    /// The second in which the connection was admitted, or bytes were read or written last.
     pub(crate) since: i64,
 }
 
-/// What a connection's part of a turn came to.
+/// The outcome of a connection's part of a turn.
 #[derive(Clone, Copy)]
 pub(crate) enum Turned {
-    /// Nothing was read or written.
+    /// No bytes were read or written.
     Idle,
-    /// Something was.
+    /// Bytes were read or written.
     Busy,
     /// The connection is closed.
     Gone,
 }
 
-/// Takes pending bytes where none are held. Whether some are held then; none are pending where none are.
+/// Takes pending bytes where none are held. Whether bytes are held then; if not, none are pending.
 fn refill<A: Allocator + Copy>(hub: &mut Hub<A>, peer: &mut Peer) -> bool
     ensures refills { Refills hub.old peer.old hub.new peer.new }
     ensures some { OnTrue result (0 < length peer.new.held) }
@@ -67,8 +67,8 @@ pub(crate) fn shut<A: Allocator + Copy, S: Streams<A>>(
     let _ = hub.close(peer.conn);
 }
 
-/// Where nothing waits to be written, reads a piece of a connection's stream and feeds it. The connection is closed where the
-/// stream has ended, or it is broken.
+/// Where no bytes wait to be written, reads a piece of a connection's stream and feeds it. The connection is closed where the stream has
+/// ended, or the connection is broken.
 pub(crate) fn listen<A: Allocator + Copy, S: Streams<A>, C: Clock>(
     hub: &mut Hub<A>,
     streams: &mut S,
@@ -101,7 +101,7 @@ pub(crate) fn listen<A: Allocator + Copy, S: Streams<A>, C: Clock>(
     }
 }
 
-/// Writes what waits, as far as the stream takes it at once. The connection is closed where writing fails.
+/// Writes the waiting bytes, as far as the stream takes them at once. The connection is closed where writing fails.
 fn tell<A: Allocator + Copy, S: Streams<A>, C: Clock>(
     hub: &mut Hub<A>,
     streams: &mut S,
@@ -128,7 +128,7 @@ fn tell<A: Allocator + Copy, S: Streams<A>, C: Clock>(
     }
 }
 
-/// Writes what waits, a part after another, until the stream takes no more, or so many parts were written.
+/// Writes the waiting bytes, a part after another, until the stream takes no more, or so many parts were written.
 pub(crate) fn answer<A: Allocator + Copy, S: Streams<A>, C: Clock>(
     hub: &mut Hub<A>,
     streams: &mut S,

@@ -1,4 +1,4 @@
-//! The places of connections: each has one or none.
+//! The places of connections: each has one connection or none.
 ghost use Rattle.std.specs.Prelude.{◌≡◌, ◌≤◌, ◌<◌, ℕ, List, length, set, None, IfSome};
 ghost use Rattle.std.specs.Bool.{OnTrue, OnFalse};
 ghost use Rattle.nfs_hub.specs.Machine.{State};
@@ -12,15 +12,15 @@ use crate::streams::{Streams, Wait};
 use nfs_hub::{Clock, Hub};
 use std::alloc::Allocator;
 
-/// A connection on which nothing was read or written for so many seconds of the clock is quiet.
+/// A connection on which no bytes were read or written for so many seconds of the clock is quiet.
 const QUIET: u64 = 2;
 
-/// Which connections may still be opened.
+/// The limits of the connections that may still be opened.
 #[derive(Drop)]
 pub(crate) struct Door {
-    /// How many of them.
+    /// How many connections may still be opened.
     pub(crate) left: u64,
-    /// How many are open at once.
+    /// How many connections may be open at once.
     pub(crate) places: usize,
     /// The hub had no memory for the stream that came last.
     pub(crate) refused: bool,
@@ -40,7 +40,7 @@ fn are_taken(places: &[Option<Peer>], most: usize) -> bool
     count >= most
 }
 
-/// Opens a connection at a free place for a stream that has come, if one has and may come in. Whether it was opened.
+/// Opens a connection at a free place for a stream that has come, if there is one and the limits allow it. Whether it was opened.
 fn let_in<A: Allocator + Copy, S: Streams<A>, C: Clock>(
     hub: &mut Hub<A>,
     streams: &mut S,
@@ -82,7 +82,7 @@ fn let_in<A: Allocator + Copy, S: Streams<A>, C: Clock>(
     true
 }
 
-/// Listens to the connection of a place; or lets one in. Whether anything was done.
+/// Reads of the connection of a place, or admits a stream at a free one. Whether anything was done.
 fn listen_at<A: Allocator + Copy, S: Streams<A>, C: Clock>(
     hub: &mut Hub<A>,
     streams: &mut S,
@@ -110,7 +110,7 @@ fn listen_at<A: Allocator + Copy, S: Streams<A>, C: Clock>(
     }
 }
 
-/// Listens at each place. Whether anything was done.
+/// Reads or admits at each place. Whether anything was done.
 pub(crate) fn listen_all<A: Allocator + Copy, S: Streams<A>, C: Clock>(
     hub: &mut Hub<A>,
     streams: &mut S,
@@ -130,7 +130,7 @@ pub(crate) fn listen_all<A: Allocator + Copy, S: Streams<A>, C: Clock>(
     busy
 }
 
-/// Writes to the connection of a place what waits. Whether anything was done.
+/// Writes the waiting bytes of the connection of a place. Whether anything was done.
 fn answer_at<A: Allocator + Copy, S: Streams<A>, C: Clock>(
     hub: &mut Hub<A>,
     streams: &mut S,
@@ -155,7 +155,7 @@ fn answer_at<A: Allocator + Copy, S: Streams<A>, C: Clock>(
     }
 }
 
-/// Writes what waits at each place. Whether anything was done.
+/// Writes the waiting bytes of each place. Whether anything was done.
 pub(crate) fn answer_all<A: Allocator + Copy, S: Streams<A>, C: Clock>(
     hub: &mut Hub<A>,
     streams: &mut S,
@@ -190,7 +190,7 @@ fn shut_at<A: Allocator + Copy, S: Streams<A>>(
     places[index] = None;
 }
 
-/// Closes what is open yet.
+/// Closes all connections still open.
 pub(crate) fn shut_all<A: Allocator + Copy, S: Streams<A>>(
     hub: &mut Hub<A>,
     streams: &mut S,
@@ -204,7 +204,7 @@ pub(crate) fn shut_all<A: Allocator + Copy, S: Streams<A>>(
     }
 }
 
-/// The place of the connection that has been quiet for longest, if one has been for so long that it may be closed.
+/// The place of the connection that has been quiet for longest, if it has been quiet for long enough to be closed.
 fn quietest(places: &[Option<Peer>], now: i64) -> Option<usize>
     ensures { IfSome result (λ index. index < length places.now) }
 {
@@ -222,8 +222,8 @@ fn quietest(places: &[Option<Peer>], now: i64) -> Option<usize>
     found
 }
 
-/// Where as many are open as may be and another stream has come, closes the connection that has been quiet for longest, if that was
-/// long. How long the next wait may take, where nothing else is to do.
+/// Where the limit of open connections is reached and another stream has come, closes the connection that has been quiet for longest, if
+/// that was long. How long the next wait may take, where nothing else is to do.
 pub(crate) fn make_room<A: Allocator + Copy, S: Streams<A>, C: Clock>(
     hub: &mut Hub<A>,
     streams: &mut S,

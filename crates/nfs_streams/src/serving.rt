@@ -3,7 +3,7 @@ ghost use Rattle.std.specs.Prelude.{◌≡◌, ◌≤◌, ℕ, List, length};
 ghost use Rattle.nfs_hub.specs.Answer.{Served as ServedState};
 ghost use Rattle.nfs_hub.specs.Machine.{Event};
 ghost use Rattle.nfs_hub.specs.Hub.{LeadsTo};
-ghost use Rattle.nfs_streams.specs.Standing.{Listening, Moves, RunGives, turned_stage};
+ghost use Rattle.nfs_streams.specs.Standing.{Listening, Loads, Moves, RunGives, turned_stage};
 ghost use Rattle.nfs_streams.specs.All.{ServesAll};
 
 use crate::peer::Peer;
@@ -17,7 +17,7 @@ use std::alloc::Allocator;
 pub struct Limits {
     /// How many connections are open at once. More than 16 count as 16.
     pub places: usize,
-    /// How many are opened at all.
+    /// How many connections are opened in all.
     pub connections: u64,
     /// How many turns there are.
     pub turns: u64,
@@ -26,13 +26,13 @@ pub struct Limits {
 /// How serving all streams ended.
 #[derive(Clone, Copy, Debug, PartialEq, Eq)]
 pub enum AllEnd {
-    /// As many connections as may be were opened, and all of them are closed.
+    /// The limit of connections was opened, and all of them are closed.
     Served = 1,
     /// The turns are used up.
     Turns = 2,
     /// Waiting failed.
     Wait = 3,
-    /// The trail couldn't be kept. Since then nothing was written.
+    /// The trail couldn't be kept. No bytes were written after that.
     Keep = 4,
 }
 
@@ -41,8 +41,18 @@ fn pause(busy: bool, room: Wait) -> Wait {
     if busy { Wait::No } else { room }
 }
 
-/// One turn: it is listened at all places, the trail is kept, and then it is answered at all places. How long the next wait may
-/// take; `None`: the trail couldn't be kept, and nothing was written.
+/// Loads another book of names, if one has come. Where no epoch is left for it the book before stays (`Hub::reload`).
+fn load_book<A: Allocator + Copy, S: Streams<A>>(hub: &mut Hub<A>, streams: &mut S)
+    ensures { Loads hub.old hub.new (S.acts streams.old) (S.acts streams.new) }
+{
+    let Some(book) = streams.book() else {
+        return;
+    };
+    let _ = hub.reload(book);
+}
+
+/// One turn: a book that has come is loaded, all places are read, the trail is kept, and then the waiting bytes of all places are written.
+/// How long the next wait may take; `None`: the trail couldn't be kept, and no bytes were written.
 fn turn<A: Allocator + Copy, S: Streams<A>, C: Clock>(
     hub: &mut Hub<A>,
     streams: &mut S,
@@ -54,6 +64,7 @@ fn turn<A: Allocator + Copy, S: Streams<A>, C: Clock>(
     ensures moves { (n : ℕ) → Moves (Listening n) (turned_stage result n) door.old.places hub.old places.old door.old.left hub.new places.new door.new.left (S.acts streams.old) (S.acts streams.new) }
     ensures most { door.new.places ≡ door.old.places }
 {
+    load_book(hub, streams);
     let heard = listen_all(hub, streams, clock, places, door);
     if !streams.keep(hub.server()) {
         return None;
@@ -63,7 +74,7 @@ fn turn<A: Allocator + Copy, S: Streams<A>, C: Clock>(
     Some(pause(heard | told, room))
 }
 
-/// So many turns, unless all connections are served before or something fails.
+/// So many turns, unless all connections are served earlier or something fails.
 fn run<A: Allocator + Copy, S: Streams<A>, C: Clock>(
     hub: &mut Hub<A>,
     streams: &mut S,
@@ -91,16 +102,17 @@ fn run<A: Allocator + Copy, S: Streams<A>, C: Clock>(
     AllEnd::Turns
 }
 
-/// Serves streams, as many at once as there are places, until so many connections were opened and are closed, or for so many turns;
-/// then lets go what is open yet. In a turn it is waited once; then at each place a piece of at most 4,096 bytes is read and fed, if
-/// nothing of that connection waits to be written, or a stream that has come is admitted, if the place has none; the trail is
-/// kept; and what waits is written, at most 128 KiB of each connection, as far as the streams take it. So a peer that sends
-/// and doesn't read costs the replies to one piece.
+/// Serves streams, as many at once as there are places, until so many connections were opened and are closed, or for so many turns; then
+/// lets go all streams still open. A turn waits once; a book of names that has come is loaded; then at each place a piece of at most 4,096
+/// bytes is read and fed, if no bytes of that connection wait to be written, or a stream that has come is admitted, if the place is free;
+/// the trail is kept; and the waiting bytes are written, at most 128 KiB of each connection, as far as the streams take them. So a peer
+/// that sends and doesn't read costs the replies to one piece; and each call whose last byte is read behind a wait is judged by the book
+/// that had come by then.
 ///
-/// A stream that ends or fails is let go at once and its connection closed, one whose connection is broken behind its replies, and the
-/// others go on. Where as many are open as may be and another stream has come, the one of which nothing was read or written for
-/// longest is let go, if for two seconds of the clock nothing was; until then the other one waits outside. So does one for which the hub
-/// has no memory, and it is tried again in the next turn, which comes within a second.
+/// A stream that ends or fails is let go at once and its connection closed, a stream whose connection is broken behind its replies, and
+/// the others go on. Where the limit of open connections is reached and another stream has come, the stream of which no bytes were read or
+/// written for longest is let go, if for two seconds of the clock none were; until then the other stream waits outside. So does a stream
+/// for which the hub has no memory, and it is tried again in the next turn, which comes within a second.
 pub fn serve_all<A: Allocator + Copy, S: Streams<A>, C: Clock>(
     hub: &mut Hub<A>,
     streams: &mut S,

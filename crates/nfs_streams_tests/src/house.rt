@@ -1,4 +1,4 @@
-//! Full houses: who never reads, who is silent, and who knocks at a full house.
+//! Full houses: peers that never read, silent peers, and peers that knock at a full house.
 
 use crate::memory::{Memory, Seat, Time};
 use crate::plain::{bare, serve};
@@ -10,19 +10,19 @@ use std::hash::RandomState;
 use std::process::Abort;
 use std::test::Fail;
 
-/// Peers at a house, and what becomes of them in 400 turns.
+/// Peers at a house, and their fate in 400 turns.
 #[derive(Clone, Copy)]
 struct House {
     name: &'static str,
-    /// How many may be open at once.
+    /// How many connections may be open at once.
     places: usize,
-    /// The peers, in the words of `script_of`.
+    /// The peers, as words of `script_of`.
     peers: &'static str,
-    /// The most that were open at once.
+    /// The most connections that were open at once.
     most: usize,
-    /// To how many calls each has the replies, a digit a peer.
+    /// How many calls of each peer have replies, a digit a peer.
     told: &'static str,
-    /// Who is let go first, and behind how many waits; 0: nobody is.
+    /// The peer that is let go first, and behind how many waits; 0: no peer.
     first: (u32, u64),
 }
 
@@ -97,7 +97,7 @@ fn houses() -> &'static [House] {
     &HOUSES
 }
 
-/// Who was let go first, and behind how many waits; 0: nobody was.
+/// The peer that was let go first, and behind how many waits; 0: no peer.
 fn first_gone(streams: &Memory<'_>) -> (u32, u64) {
     let mut first = (0, 0);
     let mut earliest = u64::MAX;
@@ -186,7 +186,7 @@ fn who_is_let_go(rt: HostRuntime) -> Result<(), Fail> {
     Ok(())
 }
 
-/// How much was read of the first peer, how much it was told, and how many waits were mere looks, behind 400 turns.
+/// Behind 400 turns: how many bytes were read of the first peer and written to it, and how many waits only looked.
 fn looks(
     alloc: Global,
     hasher: RandomState,
@@ -202,7 +202,7 @@ fn looks(
     Ok((first.map(|o| (o.read, o.told)), looks))
 }
 
-/// Of a peer that never reads one piece is read, and no more; and while nobody speaks it is waited, and not only looked.
+/// Of a peer that never reads one piece is read, and no more; and while no peer speaks serving waits, and doesn't only look.
 #[test]
 fn silence_is_waited_for(rt: HostRuntime) -> Result<(), Fail> {
     let hasher = RandomState::new(&rt)?;

@@ -1,6 +1,8 @@
-//! Tests of `nfs_streams`: streams in memory, ready in any order, some of which fail, break or are silent.
+//! Tests of `nfs_streams`: streams in memory, ready in any order, some of which fail, break or are silent, and books that come meanwhile.
 #![tactic(auto)]
 
+#[cfg(test)]
+mod books;
 #[cfg(test)]
 mod house;
 #[cfg(test)]

@@ -8,23 +8,24 @@ use nfs_streams::{Moved, Streams, Wait};
 use nfs_types::Moment;
 use std::alloc::{Allocator, Global};
 use std::cell::Cell;
+use who_book::Book;
 
-/// What the peer of a stream does.
+/// The acts of the peer of a stream.
 #[derive(Clone, Copy)]
 pub struct Script {
-    /// Behind how many waits it knocks.
+    /// How many waits come before its knock.
     pub comes: u64,
     /// How many calls it sends.
     pub calls: u32,
-    /// Behind its calls it sends what breaks a connection.
+    /// Behind its calls the peer sends bytes that break the connection.
     pub breaks: bool,
-    /// Behind all that its stream ends; else it stays silent.
+    /// Behind all its bytes the stream ends; else the peer stays silent.
     pub leaves: bool,
     /// The most bytes that a read gives.
     pub piece: usize,
-    /// The most bytes that a write takes; 0: it never reads.
+    /// The most bytes that a write takes; 0: the peer never reads.
     pub takes: usize,
-    /// In which waits of eight something can be read or written.
+    /// The waits of eight in which bytes can be read or written.
     pub ready: u8,
     /// The read of this number fails.
     pub fails_read: u32,
@@ -45,14 +46,14 @@ pub const USUAL: Script = Script {
     fails_write: u32::MAX,
 };
 
-/// What a word says of a peer: its kind by a letter, and a number, behind how many waits it knocks.
+/// The script of a word: the kind of the peer by a letter, and a number, how many waits come before its knock.
 ///
 /// | Letter | The peer |
 /// |---|---|
 /// | u | sends two calls and leaves |
-/// | b | sends two calls, and then what breaks its connection |
-/// | c | sends one call in single bytes, and then what breaks its connection; it takes three bytes at once |
-/// | g | sends at once what breaks its connection |
+/// | b | sends two calls, and then bytes that break its connection |
+/// | c | sends one call in single bytes, and then bytes that break its connection; it takes three bytes at once |
+/// | g | sends at once bytes that break its connection |
 /// | n | leaves at once |
 /// | w | sends two calls in single bytes and leaves |
 /// | o | sends a call, and then is silent; it is ready in one wait of eight |
@@ -105,7 +106,7 @@ pub fn script_of(word: &str) -> Script {
 pub enum Seat {
     Outside,
     At(usize),
-    /// It was let go behind so many waits.
+    /// The stream was let go behind so many waits.
     Gone(u64),
 }
 
@@ -113,11 +114,11 @@ pub enum Seat {
 pub struct Stream {
     script: Script,
     input: Vec<u8>,
-    /// How many bytes of it were read.
+    /// How many bytes of the stream were read.
     pub read: usize,
     reads: u32,
     writes: u32,
-    /// The bytes that were written to it.
+    /// The bytes that were written to the stream.
     pub told: Vec<u8>,
     pub seat: Seat,
 }
@@ -145,7 +146,7 @@ impl Clock for Time {
     }
 }
 
-/// Streams that knock in their order, and a trail that is kept.
+/// Streams that knock in turn, a trail that is kept, and a book that comes.
 #[derive(Drop)]
 pub struct Memory<'a> {
     time: &'a Time,
@@ -153,7 +154,7 @@ pub struct Memory<'a> {
     /// How many streams were admitted.
     pub admitted: usize,
     pub waits: u64,
-    /// How many of them were no mere looks.
+    /// How many waits didn't only look.
     pub rests: u64,
     /// The wait of this number fails; 0: none.
     pub fails_wait: u64,
@@ -164,6 +165,12 @@ pub struct Memory<'a> {
     pub lines: u64,
     /// The most streams that were at places at once.
     pub most: usize,
+    /// The book, while it hasn't come.
+    pub book: Option<Book>,
+    /// How many waits come before the book.
+    pub brings: u64,
+    /// How often `book` was called.
+    pub asked: u64,
 }
 
 impl<'a> Memory<'a> {
@@ -179,6 +186,9 @@ impl<'a> Memory<'a> {
             fails_keep: 0,
             lines: 0,
             most: 0,
+            book: None,
+            brings: 0,
+            asked: 0,
         }
     }
 
@@ -281,6 +291,14 @@ impl<A: Allocator + Copy> Streams<A> for Memory<'_> {
         let now = self.time.seconds.get();
         self.time.seconds.set(now.saturating_add(1));
         self.waits != self.fails_wait
+    }
+
+    fn book(&mut self) -> Option<Book> {
+        self.asked = self.asked.saturating_add(1);
+        if self.waits < self.brings {
+            return None;
+        }
+        self.book.take()
     }
 
     fn knocks(&mut self) -> bool {

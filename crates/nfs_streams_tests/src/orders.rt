@@ -11,7 +11,7 @@ use std::hash::RandomState;
 use std::process::Abort;
 use std::test::Fail;
 
-/// Three peers, and to how many calls the second gets the replies; with `None` it gets a front of them.
+/// Three peers, and how many calls of the second have replies; with `None` it gets a front of them.
 #[derive(Clone, Copy)]
 struct Three {
     scripts: [Script; 3],
@@ -23,7 +23,7 @@ fn see_end(rt: &impl Abort, end: AllEnd, added: bool) {
     assert!(rt; added);
 }
 
-/// Sees that a peer was told replies, to so many calls where that is known, and was let go.
+/// Sees that a peer got replies, to so many calls where that is known, and was let go.
 fn see_peer(rt: &impl Abort, peer: u32, outcome: Option<Outcome>, calls: Option<u32>) {
     assert_eq!(rt; outcome.map(|o| o.right), Some(true), "peer {peer}");
     let gone = outcome.map(|o| matches!(o.seat, Seat::Gone(_)));
@@ -34,7 +34,7 @@ fn see_peer(rt: &impl Abort, peer: u32, outcome: Option<Outcome>, calls: Option<
     }
 }
 
-/// Sees what each of the three is told: the first and the last all.
+/// Sees the replies to each of the three: to all calls of the first and the last.
 fn see_peers(
     rt: &impl Abort,
     alloc: Global,
@@ -48,7 +48,7 @@ fn see_peers(
     Ok(())
 }
 
-/// Adds their streams. Whether there was memory for them.
+/// Adds the streams of the three. Whether there was memory for them.
 fn add_three(alloc: Global, streams: &mut Memory<'_>, scripts: &[Script; 3]) -> Result<bool, Fail> {
     let first = add(alloc, streams, 1, scripts[0])?;
     let second = add(alloc, streams, 2, scripts[1])?;
@@ -56,7 +56,7 @@ fn add_three(alloc: Global, streams: &mut Memory<'_>, scripts: &[Script; 3]) -> 
     Ok(first & second & third)
 }
 
-/// Serves them.
+/// Serves the three.
 fn serve_three(
     rt: &impl Abort,
     alloc: Global,
@@ -87,7 +87,7 @@ fn see_three(
     serve_three(rt, alloc, &mut hub, &mut streams, &time, three)
 }
 
-/// In which waits of eight the three are ready.
+/// The waits of eight in which each of the three is ready.
 static READY: [[u8; 3]; 8] = [
     [0xff, 0xff, 0xff],
     [0x49, 0x92, 0x24],
@@ -127,7 +127,7 @@ fn ready_as([a, b, c]: [u8; 3], (piece, takes): (usize, usize)) -> Three {
     }
 }
 
-/// One between two that are as usual.
+/// One peer between two usual ones.
 fn between(script: Script, second: Option<u32>) -> Three {
     Three {
         scripts: [USUAL, script, USUAL],
@@ -146,7 +146,7 @@ fn streams_are_ready_in_any_order(rt: HostRuntime) -> Result<(), Fail> {
     Ok(())
 }
 
-/// The second of three, in the words of `script_of`, and to how many calls it gets the replies.
+/// The second of three, as a word of `script_of`, and how many of its calls have replies.
 static SECOND: [(&str, u32); 4] = [("b", 2), ("c", 1), ("g", 0), ("n", 0)];
 
 fn second() -> &'static [(&'static str, u32)] {
@@ -167,7 +167,7 @@ fn one_breaks_and_leaves_the_others(rt: HostRuntime) -> Result<(), Fail> {
     Ok(())
 }
 
-/// What its k-th read or write does, in short ones.
+/// The second peer's k-th read or write fails, in short pieces.
 fn failing(k: u32, at_read: bool) -> Three {
     let slow = Script {
         piece: 40,
@@ -192,7 +192,7 @@ fn failing(k: u32, at_read: bool) -> Three {
     )
 }
 
-/// Its k-th read fails, or its k-th write: it gets a front of its replies, and the others theirs.
+/// The k-th read of a peer fails, or its k-th write: it gets a front of its replies, and the other peers all of theirs.
 #[test]
 fn one_fails_and_leaves_the_others(rt: HostRuntime) -> Result<(), Fail> {
     let hasher = RandomState::new(&rt)?;

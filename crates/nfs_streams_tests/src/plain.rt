@@ -1,10 +1,11 @@
-//! The calls of a hub and of serving, bare of what is proved of them, so that a test's proof doesn't carry it along.
+//! The calls of a hub, of serving and of a book, without their contracts, so that a test's proof doesn't carry those along.
 
 use crate::memory::{Memory, Time};
 use nfs_hub::Hub;
 use nfs_streams::{AllEnd, Limits, serve_all};
 use std::alloc::{AllocError, Allocator, Global};
 use std::hash::RandomState;
+use who_book::{Book, BookFault};
 
 /// A hub of the sample tree, without sessions.
 pub fn bare(alloc: Global, hasher: RandomState) -> Result<Hub, AllocError> {
@@ -18,4 +19,9 @@ pub fn serve<A: Allocator + Copy>(
     limits: Limits,
 ) -> AllEnd {
     serve_all(hub, streams, time, limits)
+}
+
+/// The book of a text.
+pub fn read_book(alloc: Global, text: &str) -> Result<Book, BookFault> {
+    Book::read(alloc, text)
 }

@@ -1,4 +1,4 @@
-//! How serving ends, and what it leaves.
+//! The end of serving, by its reason.
 
 use crate::memory::{Memory, Time};
 use crate::plain::{bare, serve};
@@ -10,7 +10,7 @@ use std::hash::RandomState;
 use std::process::Abort;
 use std::test::Fail;
 
-/// Two peers with two calls each, and how serving them ends.
+/// Two peers with two calls each, and the end of serving them.
 #[derive(Clone, Copy)]
 struct Stop {
     name: &'static str,
@@ -23,7 +23,7 @@ struct Stop {
     end: AllEnd,
     waits: u64,
     admitted: usize,
-    /// How many replies were written to both.
+    /// How many replies were written to both peers.
     told: usize,
 }
 

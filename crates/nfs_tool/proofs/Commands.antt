@@ -1,4 +1,4 @@
--- What comes of an exchange whose reply was judged.
+-- The outcome of an exchange whose reply was judged.
 use Rattle.std.proofs.Common.{◌≡◌, inl, inr, ℕ, Bool, true, List, Ok, Some, None, refl, sym, ap, ◌∙◌, subst, Err}
 use Rattle.std.specs.Prelude.{◌⊎◌, if◌then◌else◌, Option, Result}
 use Rattle.nfs_ops.specs.Operations.{Operation}
@@ -15,13 +15,13 @@ use Rattle.nfs_tool.specs.declared.client.Client.{Client}
 use Rattle.nfs_tool.specs.declared.client.Reply.{Reply}
 
 module _ {S A V : Type 0} (contents remaining : S → Option (List ℕ)) (taken : List Outcome → Option V) (ops : List Operation) (old mid : Client S A) (reply : Reply A) (gives : ExchangeGives contents remaining ops old mid (Ok reply)) where
-  -- what the record says in answer to the call
+  -- the answer of the record to the call
   says_so : (P : Said → Type 0) → P (said reply.xid reply.asked.items reply.content.items) → P (said old.xid (asked_of ops) reply.content.items)
   says_so P h =
       subst (λ (x : ℕ). P (said x (asked_of ops) reply.content.items)) gives.1
       (subst (λ (a : List ℕ). P (said reply.xid a reply.content.items)) gives.2 h)
 
-  -- the client as the exchange left it, but for this
+  -- the client after the exchange, usable again
   left : Bool → Client S A
   left in_session = record mid { usable = true; number = if in_session then next mid.number else mid.number }
 
@@ -56,7 +56,7 @@ module _ {S A V : Type 0} (contents remaining : S → Option (List ℕ)) (taken 
       let told = says_so (λ (s : Said). (s.answer ≡ AllDone) × (taken s.results ≡ None)) h in
       (gives.0.unusable, inr (reply.content.items, gives.3, told.0, told.1))
 
-  -- what comes of an exchange whose reply told this
+  -- the outcome of an exchange by its reply
   pub concluded : {X : Type 0} (value : X → V) (in_session : Bool) (told : Result X ToolFault) (new : Client S A) → SaidGives value taken (said reply.xid reply.asked.items reply.content.items) told
       → Concludes in_session told mid new → AskGives contents remaining taken value in_session ops old new told
   concluded value in_session (Ok x) new h is = settled new (Some (value x)) in_session h is
@@ -69,7 +69,7 @@ module _ {S A V : Type 0} (contents remaining : S → Option (List ℕ)) (taken 
   concluded value in_session (Err fault.Entry) new h is = absurd h
   concluded value in_session (Err fault.Failed) new h is = absurd h
 
--- what comes of operations behind whose call no record was read
+-- the outcome of operations behind whose call no record was read
 pub unasked : {S A V X : Type 0} (contents remaining : S → Option (List ℕ)) (taken : List Outcome → Option V) (value : X → V) (in_session : Bool) (ops : List Operation) (old new : Client S A) (f : ToolFault)
     → ExchangeGives contents remaining ops old new (Err f) → AskGives contents remaining taken value in_session ops old new (Err f)
 unasked contents remaining taken value in_session ops old new fault.Memory (inl h) = inl h.1

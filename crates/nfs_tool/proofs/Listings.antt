@@ -14,7 +14,7 @@ use Rattle.nfs_tool.specs.declared.ls.Listing.{Listing}
 use Rattle.nfs_tool.proofs.Commands.{concluded}
 use Rattle.nfs_tool.proofs.Pages.{same_failure, stops}
 
--- an exchange whose reply told of a page
+-- an exchange whose reply has a page
 pub page_listed : {S A : Type 0} (contents remaining : S → Option (List ℕ)) (route : Route) (set : List ℕ) (listing listing' : Listing A) (old mid new : Client S A) (reply : Reply A) (told : Result Bool ToolFault)
     → ExchangeGives contents remaining (list_from route set old listing.cookie) old mid (Ok reply)
     → PageTaken (said reply.xid reply.asked.items reply.content.items) listing listing' told → Concludes true told mid new
@@ -29,7 +29,7 @@ page_listed contents remaining route set listing listing' old mid new reply (Err
     same_failure contents remaining page_in (page_with [] []) itself true (list_from route set old listing.cookie) old new f
     (concluded contents remaining page_in (list_from route set old listing.cookie) old mid reply gives (page_with [] []) true (Err f) new taken is)
 
--- a directory is listed up to behind these pages
+-- a directory is listed up to the end of these pages
 pub record Stands {A : Type 0} (listing : Listing A) (before : List Page) : Type 0 where
   pub lines : listing.text.items ≡ text_of before
   pub behind : listing.cookie ≡ cookie_of before

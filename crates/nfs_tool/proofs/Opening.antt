@@ -1,4 +1,4 @@
--- What comes of opening a session and of ending it.
+-- The outcomes of opening a session and of ending it.
 use Rattle.std.proofs.Common.{◌≡◌, inl, inr, ℕ, List, Ok, sym, ap, subst, Err}
 use Rattle.std.specs.Prelude.{◌⊎◌, Option, Result}
 use Rattle.nfs_tool.specs.Commands.{Spoils}
@@ -9,7 +9,7 @@ use Rattle.nfs_tool.specs.declared.client.Client.{Client}
 use Rattle.nfs_tool.specs.declared.sessions.Registration.{Registration}
 
 module _ {S A : Type 0} (contents remaining : S → Option (List ℕ)) (old mid last new : Client S A) (first : Ends contents remaining (destroy_session old.session) old mid (Ok tt)) where
-  -- the second exchange is of the client of the first
+  -- the second exchange goes on with the client of the first
   second : (told : Result (Unit {0}) ToolFault) → Ends contents remaining (destroy_client mid.client) mid last told → new ≡ last → Ends contents remaining (destroy_client old.client) mid new told
   second told h is =
       subst (λ (c : Client S A). Ends contents remaining (destroy_client old.client) mid c told) (sym is)

@@ -9,7 +9,7 @@ use Rattle.nfs_tool.specs.declared.fault.ToolFault.{ToolFault}
 use Rattle.nfs_tool.specs.declared.fault.ToolFault.TheVariants as fault
 use Rattle.nfs_tool.specs.declared.client.Client.{Client}
 
--- a failure says nothing of what would be taken
+-- a failure doesn't depend on the value that would be taken
 pub same_failure : {S A X Y V : Type 0} (contents remaining : S → Option (List ℕ)) (taken : List Outcome → Option V) (value : X → V) (other : Y → V) (in_session : Bool) (ops : List Operation) (old new : Client S A) (f : ToolFault)
     → AskGives contents remaining taken value in_session ops old new (Err f) → AskGives contents remaining taken other in_session ops old new (Err f)
 same_failure contents remaining taken value other in_session ops old new fault.Memory h = h
@@ -22,7 +22,7 @@ same_failure contents remaining taken value other in_session ops old new fault.E
 same_failure contents remaining taken value other in_session ops old new fault.Failed h = h
 
 module _ {S A V : Type 0} (paging : Paging S A V) (old : Client S A) where
-  -- some pages were asked, none of which is the last
+  -- some pages were asked, and none of them is the last
   pub record Paged (at : Client S A) (before : List V) : Type 0 where
     pub goes : Goes paging old before at
 

@@ -13,7 +13,7 @@ use Rattle.nfs_tool.specs.declared.client.Reply.{Reply}
 use Rattle.nfs_tool.proofs.Commands.{concluded}
 use Rattle.nfs_tool.proofs.Pages.{same_failure, stops}
 
--- an exchange whose reply told of a piece
+-- an exchange whose reply has a piece
 pub piece_read : {S A : Type 0} (contents remaining : S → Option (List ℕ)) (route : Route) (items items' : List ℕ) (old mid new : Client S A) (reply : Reply A) (told : Result Bool ToolFault)
     → ExchangeGives contents remaining (read_behind route old items) old mid (Ok reply)
     → PieceTaken (said reply.xid reply.asked.items reply.content.items) items items' told → Concludes true told mid new

@@ -68,7 +68,7 @@ module _ {S A : Type 0} (contents remaining : S → Option (List ℕ)) (o : Open
   pub write_fails : (f : ToolFault) → WriteGives contents remaining o done bytes mid new (Err f) → TextGives contents remaining o text old new (Err f)
   write_fails f h = (mid, counts, writes, behind (Err f) h)
 
--- ---- what comes of the open file
+-- ---- the outcome for the open file
 
 module _ {S A : Type 0} (contents remaining : S → Option (List ℕ)) (o : Open) (text : List ℕ) (old mid last new : Client S A) (written : Result (Unit {0}) ToolFault) (wrote : TextGives contents remaining o text old mid written) where
   pub filled : (told : Result (Unit {0}) ToolFault) → ClosesBehind contents remaining o written mid last told → Spoils told last new → FileGives contents remaining o text old new told
@@ -82,7 +82,7 @@ module _ {S A : Type 0} (contents remaining : S → Option (List ℕ)) (o : Open
   filled (Err fault.Entry) closes is = (written, mid, wrote, subst (λ (c : Client S A). ClosesBehind contents remaining o written mid c (Err fault.Entry)) (sym is) closes)
   filled (Err fault.Failed) closes is = (written, mid, wrote, subst (λ (c : Client S A). ClosesBehind contents remaining o written mid c (Err fault.Failed)) (sym is) closes)
 
--- A fault that no exchange has isn't told.
+-- A fault that no exchange has isn't answered.
 module _ {S A : Type 0} (contents remaining : S → Option (List ℕ)) (o : Open) (text : List ℕ) (f : ToolFault) (closes : (a b : Client S A) → CloseGives contents remaining o a b (Err f) → ⊥) (writes : (offset : ℕ) (bytes : List ℕ) (a b : Client S A) → WriteGives contents remaining o offset bytes a b (Err f) → ⊥) (other : (op : ℕ) (s : Status) → f ≡ fault.Refused op s → ⊥) where
   behind_none : (op : ℕ) (s : Status) (mid new : Client S A) (closed : Result (Unit {0}) ToolFault) → CloseGives contents remaining o mid new closed → Err f ≡ told_behind op s closed → ⊥
   behind_none op s mid new (Ok done) h e = let same : f ≡ fault.Refused op s = cc in other op s same
@@ -97,7 +97,7 @@ module _ {S A : Type 0} (contents remaining : S → Option (List ℕ)) (o : Open
       let same : g ≡ f = cc in
       writes (sum t.1) (piece (drop (sum t.1) text)) t.0 mid (subst (λ (k : ToolFault). WriteGives contents remaining o (sum t.1) (piece (drop (sum t.1) text)) t.0 mid (Err k)) same t.3)
 
--- ---- what comes of the command
+-- ---- the outcome of the command
 
 no_path_told : {S A : Type 0} (contents remaining : S → Option (List ℕ)) (text : List ℕ) (a b : Client S A) (o : Open) → FileGives contents remaining o text a b (Err fault.Path) → ⊥
 no_path_told contents remaining text a b o h = file_none contents remaining o text fault.Path (λ a b i. i) (λ offset bytes a b i. i) different a h.1 b h.0 h.2 h.3

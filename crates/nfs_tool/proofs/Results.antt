@@ -4,7 +4,7 @@ use Rattle.std.proofs.lemmas.List.{append-nil}
 use Rattle.xdr_wire.specs.declared.fault.XdrFault.{XdrFault}
 use Rattle.xdr_wire.specs.Reading.{◌>>=◌, Read, items_at}
 
--- results in front of those that are read on
+-- results in front of the results that are read next
 abbrev pub behind : {V : Type 0} → List V → Read (List V) → Read (List V)
 behind front (Ok x) = Ok (front ++ x.0, x.1)
 behind front (Err e) = Err e

@@ -1,6 +1,8 @@
 -- The words and the numbers of a script's lines.
 use Rattle.std.proofs.Common.{◌≡◌, ℕ, ◌+◌, ◌-◌, ◌*◌, ◌<◌, ◌≤◌, nat_lt, Bool, true, false, cond, ◌&&◌, List, [], ◌∷◌, length, drop, get_or, Some, None, Result, Ok, Err, refl, sym, arith, inl, inr}
-use Rattle.std.specs.Result.{MatchResult, is_ok}
+use Rattle.std.specs.Borrow.{Bor}
+use Rattle.std.specs.Option.{option_map}
+use Rattle.std.specs.Result.{MatchResult, is_ok, result_ok}
 use Rattle.std.specs.Str.{all_ascii_digits, IsUtf8, is_utf8}
 use Rattle.std.proofs.lemmas.Bool.{cases_Bool, lt-ltb, le-ltb}
 use Rattle.std.proofs.lemmas.List.{drop_more, drop_all}
@@ -41,3 +43,8 @@ pub tests_utf8 : {S E : Type 0} (r : Result S E) (bytes : List ℕ) (P : S → T
     → MatchResult r (λ s. P s × IsUtf8 bytes) (λ e. ¬ (IsUtf8 bytes) × Q e) → is_ok r ≡ is_utf8 bytes
 tests_utf8 (Ok s) bytes P Q h = sym (is_utf8-from_IsUtf8 bytes h.1)
 tests_utf8 (Err e) bytes P Q h = elim (cases_Bool (is_utf8 bytes)) [ inl is ↦ absurd (h.0 (IsUtf8-from_is_utf8 bytes is)) | inr isnt ↦ sym isnt ]
+
+pub read_utf8 : {E : Type 0} (r : Result (Bor (List ℕ)) E) (bytes : List ℕ) (Q : E → Type 0)
+    → MatchResult r (λ s. (s.now ≡ bytes) × IsUtf8 bytes) (λ e. ¬ (IsUtf8 bytes) × Q e) → option_map (λ t. t.now) (result_ok r) ≡ (cond (is_utf8 bytes) (Some bytes) None)
+read_utf8 (Ok s) bytes Q h = rw (is_utf8-from_IsUtf8 bytes h.1, h.0) refl
+read_utf8 (Err e) bytes Q h = elim (cases_Bool (is_utf8 bytes)) [ inl is ↦ absurd (h.0 (IsUtf8-from_is_utf8 bytes is)) | inr isnt ↦ rw isnt refl ]

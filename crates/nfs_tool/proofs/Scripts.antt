@@ -1,4 +1,4 @@
--- What a script prints of its lines.
+-- The effects and the answers of a script by its lines.
 use Rattle.std.proofs.Common.{◌≡◌, ◌≢◌, ℕ, ◌+◌, ◌*◌, ◌≤◌, ◌==◌, ◌&&◌, Bool, true, false, List, [], ◌∷◌, ◌++◌, length, take, codes, Option, Some, Result, Ok, Err, refl, sym, ap, subst, ◌∙◌, append_assoc, arith, inl, inr}
 use Rattle.std.specs.List.{flat_map}
 use Rattle.std.specs.Fmt.{decimal}
@@ -15,29 +15,37 @@ use Rattle.compound_run.specs.State as server
 use Rattle.nfs_hub.specs.Machine.{State}
 use Rattle.nfs_hub.specs.Hub.{IsHub}
 use Rattle.nfs_hub.specs.declared.hub.Hub.{Hub}
-use Rattle.nfs_tool.specs.ScriptLines.{Said, is_skipped, line_in}
-use Rattle.nfs_tool.specs.Script.{is_answered, told_text, Tells, LineWrites, LinePrints, Print, is_within, joined, IsCut, IsScriptFault, Stands, Answered, Answers, GoesOn, Puts, IsTrailOf, WritesTrail, trail_line, trail_text, Finished, Finishes, ScriptGives}
+use Rattle.nfs_tool.specs.Reloading.{Giving, Lent, Loads}
+use Rattle.nfs_tool.specs.ScriptLines.{Said, Run, Reload, is_skipped, line_in}
+use Rattle.nfs_tool.specs.Script.{is_answered, is_loaded, load_text, told_text, Tells, LineWrites, LinePrints, Print, is_within, joined, IsCut, IsScriptFault, Stands, Begins, Answered, Answers, GoesOn, Puts, IsTrailOf, WritesTrail, trail_line, trail_text, Finished, Finishes, ScriptGives}
+use Rattle.nfs_tool.specs.declared.reloading.LoadFault.{LoadFault}
 use Rattle.nfs_tool.specs.declared.running.Answer.{Answer}
 use Rattle.nfs_tool.specs.declared.scripting.Progress.{Progress}
 use Rattle.nfs_tool.specs.declared.fault.ToolFault.{ToolFault}
 
 -- ---- one line
 
-pub asked_told : {A : Type 0} (line : List ℕ) (held held' : Option (List ℕ)) (said : Said) (told : Result (Answer A) ToolFault) (result : Result Bool ToolFault)
-    → is_skipped line ≡ false → line_in line ≡ Some said → Tells (told_text told) (is_answered told) held held' result → LineWrites A line held held' result
-asked_told line held held' said told (Ok good) asks is tells =
-    (told_text told, inr (inr (record { asks = asks; said = said; is = is; told = told; text = refl; answered = tells.0 })), tells.1)
-asked_told line held held' said told (Err fault) asks is tells = subst IsScriptFault (sym tells) tt
+pub asked_told : {A T : Type 0} (gives : Giving T) (old new : Lent A T) (line : List ℕ) (held held' : Option (List ℕ)) (said : Said) (told : Result (Answer A) ToolFault) (result : Result Bool ToolFault)
+    → is_skipped line ≡ false → line_in line ≡ Some (Run said) → new.texts ≡ old.texts → Tells (told_text told) (is_answered told) held held' result → LineWrites gives old new line held held' result
+asked_told gives old new line held held' said told (Ok good) asks is stays tells =
+    (told_text told, inr (inr (inl (record { asks = asks; said = said; is = is; told = told; text = refl; answered = tells.0; stays = stays }))), tells.1)
+asked_told gives old new line held held' said told (Err fault) asks is stays tells = subst IsScriptFault (sym tells) tt
 
--- a line is answered behind others
-pub line_answered : {A : Type 0} (old new : Progress A) (line : List ℕ) (good : Bool) (held held' : Option (List ℕ)) → line ≡ old.line.items → LineWrites A line held held' (Ok good)
-    → new.is_good ≡ (old.is_good && good) → new.line ≡ old.line → Answers old new held held' (Ok tt)
-line_answered {A = A} old new line good held held' is writes both same whole out before =
-    let P : List ℕ → Type 0 = λ l. LinePrints A l writes.0 good in
+pub reload_told : {A T : Type 0} (gives : Giving T) (old new : Lent A T) (line : List ℕ) (held held' : Option (List ℕ)) (name : List ℕ) (told : Result (Unit {0}) LoadFault) (result : Result Bool ToolFault)
+    → is_skipped line ≡ false → line_in line ≡ Some (Reload name) → Loads gives name old new told → Tells (load_text told) (is_loaded told) held held' result → LineWrites gives old new line held held' result
+reload_told gives old new line held held' name told (Ok good) asks is loads tells =
+    (load_text told, inr (inr (inr (record { asks = asks; name = name; is = is; told = told; loads = loads; text = refl; answered = tells.0 }))), tells.1)
+reload_told gives old new line held held' name told (Err fault) asks is loads tells = subst IsScriptFault (sym tells) tt
+
+-- a line is answered behind earlier lines
+pub line_answered : {A T : Type 0} (gives : Giving T) (old new : Lent A T) (p q : Progress A) (line : List ℕ) (good : Bool) (held held' : Option (List ℕ)) → line ≡ p.line.items → LineWrites gives old new line held held' (Ok good)
+    → q.is_good ≡ (p.is_good && good) → q.line ≡ p.line → Answers gives old new p q held held' (Ok tt)
+line_answered {A = A} gives old new p q line good held held' is writes both same first whole out before =
+    let P : List ℕ → Type 0 = λ l. LinePrints gives old new l writes.0 good in
     record {
       printed = writes.0;
       wrote = writes.2;
-      prints = (out, old.is_good, writes.0, good, before, subst P is writes.1, refl, both);
+      prints = (old, out, p.is_good, writes.0, good, before, subst P is writes.1, refl, both);
       line = same;
     }
 
@@ -60,53 +68,53 @@ cut_line text lines last cut = record {
   is_line = refl;
 }
 
--- a byte goes behind what was read of a line
-pub byte_taken : {A : Type 0} (old new : Progress A) (b : ℕ) (held : Option (List ℕ)) → b ≢ 10 → new.line.items ≡ old.line.items ++ b ∷ [] → new.is_good ≡ old.is_good
-    → GoesOn old new (b ∷ []) held held (Ok tt)
-byte_taken {A = A} old new b held other line good text out stands =
+-- a byte is appended to the part of a line that was read
+pub byte_taken : {A T : Type 0} (gives : Giving T) (lent : Lent A T) (p q : Progress A) (b : ℕ) (held : Option (List ℕ)) → b ≢ 10 → q.line.items ≡ p.line.items ++ b ∷ [] → q.is_good ≡ p.is_good
+    → GoesOn gives lent lent p q (b ∷ []) held held (Ok tt)
+byte_taken {A = A} {T = T} gives lent p q b held other line good first text out stands =
     let Q : List ℕ → Type 0 = λ l. IsCut (text ++ b ∷ []) stands.whole l in
-    let R : Bool → Type 0 = λ g. Print A stands.whole out g in
-    let S : List ℕ → Type 0 = λ o. Stands new (text ++ b ∷ []) o in
-    let taken : Stands new (text ++ b ∷ []) out = record {
+    let R : Bool → Type 0 = λ g. Print gives first lent stands.whole out g in
+    let S : List ℕ → Type 0 = λ o. Stands gives first lent q (text ++ b ∷ []) o in
+    let taken : Stands gives first lent q (text ++ b ∷ []) out = record {
       whole = stands.whole;
-      cut = subst Q (sym line) (cut_byte text stands.whole old.line.items b other stands.cut);
+      cut = subst Q (sym line) (cut_byte text stands.whole p.line.items b other stands.cut);
       printed = subst R (sym good) stands.printed;
     } in
     ([], appends_none held, subst S (sym (append-nil out)) taken)
 
 -- a line ends
-pub line_ended : {A : Type 0} (old mid new : Progress A) (b : ℕ) (held held' : Option (List ℕ)) → b ≡ 10 → Answers old mid held held' (Ok tt) → new.line.items ≡ [] → new.is_good ≡ mid.is_good
-    → GoesOn old new (b ∷ []) held held' (Ok tt)
-line_ended {A = A} old mid new b held held' newline answers line good text out stands =
-    let a : Answered old mid held held' stands.whole out = answers stands.whole out stands.printed in
-    let T : ℕ → Type 0 = λ n. IsCut (text ++ n ∷ []) (old.line.items ∷ stands.whole) new.line.items in
-    let Q : List ℕ → Type 0 = λ l. IsCut (text ++ 10 ∷ []) (old.line.items ∷ stands.whole) l in
-    let R : Bool → Type 0 = λ g. Print A (old.line.items ∷ stands.whole) (out ++ a.printed) g in (
+pub line_ended : {A T : Type 0} (gives : Giving T) (old new : Lent A T) (p mid q : Progress A) (b : ℕ) (held held' : Option (List ℕ)) → b ≡ 10 → Answers gives old new p mid held held' (Ok tt) → q.line.items ≡ [] → q.is_good ≡ mid.is_good
+    → GoesOn gives old new p q (b ∷ []) held held' (Ok tt)
+line_ended {A = A} {T = T} gives old new p mid q b held held' newline answers line good first text out stands =
+    let a : Answered gives first new p mid held held' stands.whole out = answers first stands.whole out stands.printed in
+    let N : ℕ → Type 0 = λ n. IsCut (text ++ n ∷ []) (p.line.items ∷ stands.whole) q.line.items in
+    let Q : List ℕ → Type 0 = λ l. IsCut (text ++ 10 ∷ []) (p.line.items ∷ stands.whole) l in
+    let R : Bool → Type 0 = λ g. Print gives first new (p.line.items ∷ stands.whole) (out ++ a.printed) g in (
       a.printed,
       a.wrote,
       record {
-        whole = old.line.items ∷ stands.whole;
-        cut = subst T (sym newline) (subst Q (sym line) (cut_line text stands.whole old.line.items stands.cut));
+        whole = p.line.items ∷ stands.whole;
+        cut = subst N (sym newline) (subst Q (sym line) (cut_line text stands.whole p.line.items stands.cut));
         printed = subst R (sym good) a.prints;
       },
     )
 
 -- ---- pieces
 
-pub goes_nowhere : {A : Type 0} (p : Progress A) (held : Option (List ℕ)) → GoesOn p p [] held held (Ok tt)
-goes_nowhere p held text out stands =
-    let S : List ℕ → Type 0 = λ t. Stands p t (out ++ []) in
-    let O : List ℕ → Type 0 = λ o. Stands p text o in
+pub goes_nowhere : {A T : Type 0} (gives : Giving T) (lent : Lent A T) (p : Progress A) (held : Option (List ℕ)) → GoesOn gives lent lent p p [] held held (Ok tt)
+goes_nowhere gives lent p held first text out stands =
+    let S : List ℕ → Type 0 = λ t. Stands gives first lent p t (out ++ []) in
+    let O : List ℕ → Type 0 = λ o. Stands gives first lent p text o in
     ([], appends_none held, subst S (sym (append-nil text)) (subst O (sym (append-nil out)) stands))
 
-pub goes_further : {A : Type 0} (a b c : Progress A) (first second : List ℕ) (held held' held'' : Option (List ℕ)) → GoesOn a b first held held' (Ok tt) → GoesOn b c second held' held'' (Ok tt)
-    → GoesOn a c (first ++ second) held held'' (Ok tt)
-goes_further a b c first second held held' held'' one two text out stands =
-    let p = one text out stands in
-    let q = two (text ++ first) (out ++ p.0) p.2 in
-    let S : List ℕ → Type 0 = λ t. Stands c t ((out ++ p.0) ++ q.0) in
-    let O : List ℕ → Type 0 = λ o. Stands c (text ++ (first ++ second)) o in
-    (p.0 ++ q.0, appends_trans held held' held'' p.0 q.0 p.1 q.1, subst O (append_assoc out p.0 q.0) (subst S (append_assoc text first second) q.2))
+pub goes_further : {A T : Type 0} (gives : Giving T) (x y z : Lent A T) (a b c : Progress A) (front more : List ℕ) (held held' held'' : Option (List ℕ)) → GoesOn gives x y a b front held held' (Ok tt) → GoesOn gives y z b c more held' held'' (Ok tt)
+    → GoesOn gives x z a c (front ++ more) held held'' (Ok tt)
+goes_further gives x y z a b c front more held held' held'' one two first text out stands =
+    let p = one first text out stands in
+    let q = two first (text ++ front) (out ++ p.0) p.2 in
+    let S : List ℕ → Type 0 = λ t. Stands gives first z c t ((out ++ p.0) ++ q.0) in
+    let O : List ℕ → Type 0 = λ o. Stands gives first z c (text ++ (front ++ more)) o in
+    (p.0 ++ q.0, appends_trans held held' held'' p.0 q.0 p.1 q.1, subst O (append_assoc out p.0 q.0) (subst S (append_assoc text front more) q.2))
 
 -- ---- the trail
 
@@ -131,22 +139,32 @@ trail_written hub total lines held held' held'' (Err fault) is first second = se
 
 -- ---- a script
 
--- how far a script is read by so many reads
-pub record Running {A : Type 0} (p : Progress A) (count : ℕ) (left left' held held' : Option (List ℕ)) : Type 0 where
+-- the part of a script that so many reads read
+pub record Running {A T : Type 0} (gives : Giving T) (old new : Lent A T) (p : Progress A) (count : ℕ) (left left' held held' : Option (List ℕ)) : Type 0 where
   pub text : List ℕ
   pub out : List ℕ
   pub read : Consumes left left' text
   pub wrote : Appends held held' out
-  pub stands : Stands p text out
+  pub stands : Stands gives old new p text out
   pub few : length text ≤ 4096 * count
 
-pub runs_none : {A : Type 0} (p : Progress A) (left held : Option (List ℕ)) → Stands p [] [] → Running p 0 left left held held
-runs_none p left held stands = record { text = []; out = []; read = consumes_none left; wrote = appends_none held; stands = stands; few = omega arith }
+pub runs_none : {A T : Type 0} (gives : Giving T) (lent : Lent A T) (p : Progress A) (left held : Option (List ℕ)) → Begins p → Running gives lent lent p 0 left left held held
+runs_none gives lent p left held begins =
+    let Q : List ℕ → Type 0 = λ l. IsCut [] [] l in
+    let R : Bool → Type 0 = λ g. Print gives lent lent [] [] g in
+    record {
+      text = [];
+      out = [];
+      read = consumes_none left;
+      wrote = appends_none held;
+      stands = record { whole = []; cut = subst Q (sym begins.0) (record { parts = refl; are_lines = tt; is_line = refl }); printed = subst R (sym begins.1) (refl, refl, refl) };
+      few = omega arith;
+    }
 
-pub runs_further : {A : Type 0} (p q : Progress A) (count n : ℕ) (buf : List ℕ) (left left' left'' held held' held'' : Option (List ℕ)) → Running p count left left' held held'
-    → Consumes left' left'' (take n buf) → length buf ≤ 4096 → GoesOn p q (take n buf) held' held'' (Ok tt) → Running q (count + 1) left left'' held held''
-runs_further p q count n buf left left' left'' held held' held'' r more short goes =
-    let g = goes r.text r.out r.stands in
+pub runs_further : {A T : Type 0} (gives : Giving T) (x y z : Lent A T) (p q : Progress A) (count n : ℕ) (buf : List ℕ) (left left' left'' held held' held'' : Option (List ℕ)) → Running gives x y p count left left' held held'
+    → Consumes left' left'' (take n buf) → length buf ≤ 4096 → GoesOn gives y z p q (take n buf) held' held'' (Ok tt) → Running gives x z q (count + 1) left left'' held held''
+runs_further gives x y z p q count n buf left left' left'' held held' held'' r more short goes =
+    let g = goes x r.text r.out r.stands in
     record {
       text = r.text ++ take n buf;
       out = r.out ++ g.0;
@@ -156,17 +174,17 @@ runs_further p q count n buf left left' left'' held held' held'' r more short go
       few = rw (length-append r.text (take n buf)) (omega (arith, r.few, length-take n buf, min-le_right n (length buf)));
     }
 
-pub script_ended : {A : Type 0} (p : Progress A) (hub : Hub A) (count n : ℕ) (buf : List ℕ) (left left' left'' held held' held'' : Option (List ℕ)) (result : Result Bool ToolFault)
-    → Running p count left left' held held' → count ≤ 1000000 → n ≡ 0 → Consumes left' left'' (take n buf) → IsAtEnd left'' → Finishes p hub held' held'' result → ScriptGives hub left left'' held held'' result
-script_ended {A = A} p hub count n buf left left' left'' held held' held'' (Ok good) r below none more ends finishes =
-    let f : Finished p hub good held' held'' r.text r.out = finishes r.text r.out r.stands in
+pub script_ended : {A T : Type 0} (gives : Giving T) (x y z : Lent A T) (p : Progress A) (count n : ℕ) (buf : List ℕ) (left left' left'' held held' held'' : Option (List ℕ)) (result : Result Bool ToolFault)
+    → Running gives x y p count left left' held held' → count ≤ 1000000 → n ≡ 0 → Consumes left' left'' (take n buf) → IsAtEnd left'' → Finishes gives y z p held' held'' result → ScriptGives gives x z left left'' held held'' result
+script_ended {A = A} {T = T} gives x y z p count n buf left left' left'' held held' held'' (Ok good) r below none more ends finishes =
+    let f : Finished gives x z p good held' held'' r.text r.out = finishes x r.text r.out r.stands in
     let C : ℕ → Type 0 = λ m. Consumes left' left'' (take m buf) in
     let nothing : Consumes left' left'' [] = subst C none more in
-    let T : List ℕ → Type 0 = λ t. Consumes left left'' t in
+    let S : List ℕ → Type 0 = λ t. Consumes left left'' t in
     let W : List ℕ → Type 0 = λ o. Appends held held'' o in
     record {
       text = r.text;
-      read = subst T (append-nil r.text) (consumes_trans left left' left'' r.text [] r.read nothing);
+      read = subst S (append-nil r.text) (consumes_trans left left' left'' r.text [] r.read nothing);
       at_end = ends;
       few = omega (arith, r.few);
       whole = f.whole;
@@ -178,4 +196,4 @@ script_ended {A = A} p hub count n buf left left' left'' held held' held'' (Ok g
       is_trail = f.is_trail;
       wrote = subst W (sym (append_assoc r.out f.printed f.trail)) (appends_trans held held' held'' r.out (f.printed ++ f.trail) r.wrote f.wrote);
     }
-script_ended p hub count n buf left left' left'' held held' held'' (Err fault) r below none more ends finishes = finishes
+script_ended gives x y z p count n buf left left' left'' held held' held'' (Err fault) r below none more ends finishes = finishes

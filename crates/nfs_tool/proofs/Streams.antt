@@ -1,4 +1,4 @@
--- What goes over a stream in pieces.
+-- Bytes over a stream in pieces.
 use Rattle.std.proofs.Common.{◌≡◌, ℕ, ◌+◌, ◌-◌, ◌≤◌, List, [], ◌++◌, length, take, drop, Option, Some, None, refl, sym, ap, ◌∙◌, append_assoc, arith}
 use Rattle.std.specs.Prelude.{slice_range}
 use Rattle.std.specs.Io.KnownBytes.{Appends, Consumes, Keeps}
@@ -79,7 +79,7 @@ up_to r piece at to le =
     let n : at + (to - at) ≡ to = omega arith in
     append_assoc r (take at piece) (slice_range piece at to) ∙ ap (λ (t : List ℕ). r ++ t) (sym (take-add at (to - at) piece) ∙ ap (λ (k : ℕ). take k piece) n)
 
--- the bytes between end the piece
+-- the bytes between `at` and `to` end the piece
 pub to_whole : (r piece : List ℕ) (at to : ℕ) → at ≤ to → length piece ≤ to → (r ++ take at piece) ++ slice_range piece at to ≡ r ++ piece
 to_whole r piece at to le all = up_to r piece at to le ∙ ap (λ (t : List ℕ). r ++ t) (take_all to piece all)
 
@@ -89,7 +89,7 @@ to_end r piece at = append_assoc r (take at piece) (drop at piece) ∙ ap (λ (t
 pub at_start : (r piece : List ℕ) → r ++ take 0 piece ≡ r
 at_start r piece = append-nil r
 
--- a fault of framing is one of reading
+-- a fault of framing is a fault of reading
 pub frame_fault : (fault : ToolFault) → IsFrameFault fault → IsReadFault fault
 frame_fault faults.Path h = absurd h
 frame_fault (faults.Refused op status) h = absurd h

@@ -13,7 +13,7 @@ last_behind [] o = refl
 last_behind (p ∷ []) o = refl
 last_behind (p ∷ q ∷ front) o = last_behind (q ∷ front) o
 
--- what was popped is the last
+-- the popped result is the last
 pub popped : (items rest : List OpResult) (last : Option OpResult) → items ≡ rest ++ option_to_list last → (last ≡ None → items ≡ []) → option_map read_view last ≡ last_of (outcomes items)
 popped items rest None is none = ap (λ (os : List OpResult). last_of (outcomes os)) (sym (none refl))
 popped items rest (Some o) is none =
@@ -25,7 +25,7 @@ two_behind (q ∷ []) o p = refl
 two_behind (q ∷ r ∷ []) o p = refl
 two_behind (q ∷ r ∷ s ∷ front) o p = two_behind (r ∷ s ∷ front) o p
 
--- what was popped twice is the last two
+-- the two popped results are the last two
 pub popped_two : (items rest rest' : List OpResult) (last before : OpResult) → items ≡ rest ++ last ∷ [] → rest ≡ rest' ++ before ∷ [] → Some (read_view before, read_view last) ≡ last_two (outcomes items)
 popped_two items rest rest' last before is was =
     let both : items ≡ rest' ++ before ∷ last ∷ [] = is ∙ ap (λ (os : List OpResult). os ++ last ∷ []) was ∙ append_assoc rest' (before ∷ []) (last ∷ []) in

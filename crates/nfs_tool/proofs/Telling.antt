@@ -1,4 +1,4 @@
--- The text of what a command tells.
+-- The text of a command's answer.
 use Rattle.std.proofs.Common.{◌≡◌, ℕ, false, List, Option, Result, Ok, Err, Vec, ap, subst, sym, inr}
 use Rattle.nfs_tool.specs.AnswerTexts.{NewlineGives, says_text}
 use Rattle.nfs_tool.specs.Cat.{CatGives}
@@ -9,7 +9,7 @@ use Rattle.nfs_tool.specs.declared.running.Answer.{Answer}
 use Rattle.nfs_tool.specs.declared.fault.ToolFault.{ToolFault}
 use Rattle.nfs_tool.specs.declared.fault.ToolFault.TheVariants.{Memory}
 
--- a newline is put behind the bytes of a file; where memory is refused for it the client is spoilt
+-- a newline is put behind the bytes of a file; where memory is refused for the newline the client is spoilt
 pub newline_told : {S A : Type 0} (contents remaining : S → Option (List ℕ)) (path : List ℕ) (old mid new : Client S A) (bytes : Vec ℕ A) (told : Result (Answer A) ToolFault)
     → CatGives contents remaining (says_text {A = A}) path old mid (Ok bytes) → NewlineGives bytes.items told → Spoils told mid new → CatTells contents remaining path old new told
 newline_told {S = S} {A = A} contents remaining path old mid new bytes (Ok answer) gives text spoils =

@@ -4,7 +4,7 @@ use Rattle.std.specs.Prelude.{option_map, option_and_then}
 use Rattle.std.proofs.lemmas.List.{append-nil}
 use Rattle.nfs_tool.specs.Lines.{lines_of}
 
--- so much of a text stands, and this is left of it
+-- so much of a text was put, and so much is left
 abbrev pub behind : List ℕ → Option (List ℕ) → Option (List ℕ)
 behind done left = option_map (λ rest. done ++ rest) left
 
@@ -12,7 +12,7 @@ pub lines_none : (whole : Option (List ℕ)) → whole ≡ behind [] whole
 lines_none None = refl
 lines_none (Some text) = refl
 
--- a line more
+-- one line more
 step : (done line : List ℕ) (left : Option (List ℕ)) → behind done (option_map (λ rest. line ++ 10 ∷ rest) left) ≡ behind (done ++ (line ++ 10 ∷ [])) left
 step done line None = refl
 step done line (Some rest) = ap Some (ap (λ (t : List ℕ). done ++ t) (sym (append_assoc line (10 ∷ []) rest)) ∙ sym (append_assoc done (line ++ 10 ∷ []) rest))
@@ -28,7 +28,7 @@ module _ {X : Type 0} (text : X → Option (List ℕ)) (whole : Option (List ℕ
 pub lines_all : {X : Type 0} (text : X → Option (List ℕ)) (whole : Option (List ℕ)) (done : List ℕ) → whole ≡ behind done (lines_of text []) → whole ≡ Some done
 lines_all text whole done so = so ∙ ap Some (append-nil done)
 
--- what is put in three parts behind one another
+-- three parts that are put one behind the other
 pub put_behind : (a b c d done line : List ℕ) → d ≡ c ++ 10 ∷ [] → c ≡ b ++ line → b ≡ a ++ done → d ≡ a ++ (done ++ (line ++ 10 ∷ []))
 put_behind a b c d done line p q r =
     p ∙ ap (λ (t : List ℕ). t ++ 10 ∷ []) (q ∙ ap (λ (t : List ℕ). t ++ line) r)

@@ -19,7 +19,7 @@ use Rattle.nfs_tool.specs.declared.fault.ToolFault.TheVariants as fault
 use Rattle.nfs_tool.proofs.Pages.{same_failure}
 
 module _ {S A : Type 0} where
-  -- nothing was asked, or no other command runs
+  -- no operation was asked, or no other command runs
   abbrev pub Kept : Client S A → Client S A → Type 0
   Kept old new = (new ≡ old) ⊎ (new.usable ≡ false)
 
@@ -52,7 +52,7 @@ module _ {S A : Type 0} (contents remaining : S → Option (List ℕ)) where
     ap (λ (r : Route). far r handle) so,
   )
 
-  -- an approach fails behind others
+  -- an approach fails behind earlier approaches
   pub no_further : {X : Type 0} (value : X → List ℕ) (most : ℕ) (names : List (List ℕ)) (old mid new : Client S A) (handles : List (List ℕ)) (route first : Route) (f : ToolFault) → Approaches contents remaining most names old handles mid
       → route ≡ route_behind names handles → first ≡ near route → most < length route.names → AskGives contents remaining handle_in value true (approach mid first) mid new (Err f)
       → WalkFails contents remaining most names old new f
@@ -75,7 +75,7 @@ module _ {S A : Type 0} (contents remaining : S → Option (List ℕ)) where
 
 -- ---- the names that are left
 
--- from where a walk begins along lent names
+-- a walk from its start along lent names
 abbrev pub route_of : Start → List (Bor (List ℕ)) → Route
 route_of start names = record { start = start; names = map (λ n. n.now) names }
 
@@ -88,20 +88,20 @@ near_is start left first is = ap (route_of start) is ∙ ap (with_names start) (
 pub far_is : (start : Start) (left rest : List (Bor (List ℕ))) (handle : List ℕ) → rest ≡ drop most_names left → route_of (Object handle) rest ≡ far (route_of start left) handle
 far_is start left rest handle is = ap (route_of (Object handle)) is ∙ ap (with_names (Object handle)) (sym (drop-map (λ n. n.now) most_names left))
 
--- the first names of those that are left, as they are lent
+-- the first names of the names left, as they are lent
 pub nearest_of : (done : ℕ) (names left first : List (Bor (List ℕ))) → first ≡ take most_names left → left ≡ drop done names → first ≡ take most_names (drop done names)
 nearest_of done names left first is so = is ∙ ap (take most_names) so
 
--- how many names an approach walks of those behind the first so many
+-- how many of the names left an approach walks, behind so many names
 pub near_length : (done : ℕ) (names first : List (Bor (List ℕ))) → first ≡ take most_names (drop done names) → length first ≡ min most_names (length (drop done names))
 near_length done names first is = ap length is ∙ length-take most_names (drop done names)
 
--- the names that are left behind those that an approach walks
+-- the names that are left behind the names of an approach
 pub stepped : (done : ℕ) (names first : List (Bor (List ℕ))) → first ≡ take most_names (drop done names) → drop (done + length first) names ≡ drop most_names (drop done names)
 stepped done names first is =
     sym (drop-drop (length first) done names) ∙ ap (λ (n : ℕ). drop n (drop done names)) (near_length done names first is) ∙ drop_min most_names (drop done names)
 
--- An approach walks some names, and no more than are left.
+-- An approach walks at least one name, and no more than are left.
 pub near_bounds : (done most : ℕ) (names first : List (Bor (List ℕ))) → first ≡ take most_names (drop done names) → most < length names - done → (1 ≤ length first) × (done + length first ≤ length names)
 near_bounds done most names first is below =
     (omega (arith, near_length done names first is, length-drop done names, below), omega (arith, near_length done names first is, length-drop done names, below))
@@ -122,7 +122,7 @@ first_left names others n is =
     is ∙ ap (λ (k : ℕ). left_of_first k (length others)) (sym (length-map names (λ n. n.now)))
     ∙ ap (λ (k : ℕ). left_of_first (length (map (λ n. n.now) names)) k) (sym (length-map others (λ n. n.now)))
 
--- ---- what comes of a command
+-- ---- the outcome of a command
 
 pub commanded : {S A X : Type 0} (wrong : ToolFault → Type 0) (gives : Result X ToolFault → Type 0) (old new : Client S A) (result : Result X ToolFault) → (gives (Err fault.Memory) → Kept old new)
     → (gives (Err fault.Path) → ⊥) → (gives (Err fault.Entry) → ⊥) → (gives (Err fault.Failed) → ⊥) → gives result → Commanded wrong gives old new result
@@ -155,7 +155,7 @@ module _ {S A X : Type 0} (contents remaining : S → Option (List ℕ)) (most :
   pub no_failed : ((route : Route) (mid : Client S A) → does route mid (Err fault.Failed) → ⊥) → Walked contents remaining most names does old new (Err fault.Failed) → ⊥
   no_failed none h = walked_none fault.Failed (λ w. w.4) none h
 
-  -- what is done behind a walk
+  -- the outcome behind a walk
   pub behind : (mid : Client S A) (route : Route) (result : Result X ToolFault) → WalkGives contents remaining itself most names old mid (Ok route) → does route mid result
       → Walked contents remaining most names does old new result
   behind mid route (Ok x) walk h = (mid, route, walk, h)
@@ -178,7 +178,7 @@ module _ {S A X V : Type 0} (contents remaining : S → Option (List ℕ)) (take
       (λ a. no_path contents remaining most_names a.0 (There a.1) old new (λ route mid i. i) a.3) (λ a. no_entry contents remaining most_names a.0 (There a.1) old new (λ route mid i. i) a.3)
       (λ a. no_failed contents remaining most_names a.0 (There a.1) old new (λ route mid i. i) a.3) h
 
-  -- what comes of the request of a command is what comes of the command
+  -- the outcome of the request of a command is the outcome of the command
   pub command_runs : (mid : Client S A) (request : Request A) (names : List (List ℕ)) (op : Operation) (result : Result X ToolFault) → asks names op → ReadyGives contents remaining names op old mid (Ok request)
       → ((ops : List Operation) → Asks request ops → AskGives contents remaining taken value true ops mid new result) → CommandTells contents remaining taken value asks wrong old new result
   command_runs mid request names op result asked ready ran =
@@ -190,7 +190,7 @@ module _ {S A X V : Type 0} (contents remaining : S → Option (List ℕ)) (take
 
 -- ---- a command of two paths
 
--- with how many names left the approaches to the end of the first path end
+-- how many names of the first path may be left at the end of its approaches
 abbrev first_most : List (List ℕ) → List (List ℕ) → ℕ
 first_most names others = left_of_first (length names) (length others)
 
@@ -224,7 +224,7 @@ module _ {S A : Type 0} (contents remaining : S → Option (List ℕ)) (asks : L
 
 -- ---- the request of a command
 
--- Behind a walk the request is made, or memory is refused for it.
+-- Behind a walk the request is made, or memory is refused for the request.
 module _ {S A : Type 0} (contents remaining : S → Option (List ℕ)) where
   unmade : (most : ℕ) (names : List (List ℕ)) (old new : Client S A) (route : Route) (f : ToolFault) → WalkGives contents remaining itself most names old new (Ok route) → f ≡ fault.Memory
       → WalkFails contents remaining most names old new f

@@ -1,4 +1,4 @@
--- access: which of six rights the caller has.
+-- access: the rights of the caller, of six.
 use Rattle.std.specs.Prelude.{◌≡◌, ℕ, List, Option, Some, None, option_and_then}
 use Rattle.nfs_ops.specs.Operations.{Operation, Known}
 use Rattle.nfs_ops.specs.Results.{Outcome, Done}
@@ -12,7 +12,7 @@ use Rattle.nfs_tool.specs.declared.fault.ToolFault.TheVariants.{Path}
 abbrev pub access : Operation
 access = Known kinds.Access 0x3f
 
--- the path's names, and the operation that is asked at their end
+-- the path's names, and the operation at their end
 abbrev pub AccessAsks : List ℕ → List (List ℕ) → Operation → Type 0
 AccessAsks path names op = (names_in path ≡ Some names) × (op ≡ access)
 
@@ -21,7 +21,7 @@ abbrev pub NoPath : List ℕ → ToolFault → Type 0
 NoPath path Path = names_in path ≡ None
 NoPath path fault = ⊥
 
--- the rights that have a meaning, and those that are granted
+-- the rights that are supported, and the rights that are granted
 abbrev pub rights_of : Outcome → Option (ℕ × ℕ)
 rights_of (Done kinds.Access v) = Some (v.0, v.1)
 rights_of _ = None

@@ -1,4 +1,4 @@
--- getacl and setacl: an access control list as text.
+-- getacl, getdacl and getsacl, and setacl, setdacl and setsacl: an access control list, or a part of it, as text.
 use Rattle.std.specs.Prelude.{◌≡◌, ℕ, nat_lt, ◌==◌, if◌then◌else◌, List, ◌++◌, map, Contains, Option, Some, None, option_and_then, option_map, Result, Ok, Err}
 use Rattle.acl_list.specs.declared.entry.EntryKind.{EntryKind}
 use Rattle.acl_list.specs.declared.entry.EntryKind.TheVariants.{Allow, Deny, Audit, Alarm}
@@ -16,6 +16,8 @@ use Rattle.nfs_tool.specs.Lines.{lines_of}
 use Rattle.nfs_tool.specs.Taking.{last_of}
 use Rattle.nfs_tool.specs.Setting.{set_attributes, of_entries}
 use Rattle.nfs_tool.specs.declared.fault.ToolFault.{ToolFault}
+use Rattle.nfs_tool.specs.declared.list_part.ListPart.{ListPart}
+use Rattle.nfs_tool.specs.declared.list_part.ListPart.TheVariants.{Acl, Dacl, Sacl}
 use Rattle.nfs_tool.specs.declared.fault.ToolFault.TheVariants.{Path, Reply, Memory, Entry}
 
 -- ---- entries
@@ -34,7 +36,7 @@ kind_numbered n = if n == 0 then Some Allow else if n == 1 then Some Deny else i
 abbrev pub ace_of : EntryLine → Value ace
 ace_of e = (kind_number e.kind, (e.flags, (e.mask, e.who)))
 
--- An entry that can be written as text: its type is one of the four, and its flags take two digits.
+-- An entry that can be written as text: it has one of the four types, and its flags take two digits.
 abbrev pub line_of : Value ace → Option EntryLine
 line_of v = option_and_then (λ kind. if nat_lt v.1.0 256 then Some (record { kind = kind; flags = v.1.0; mask = v.1.1.0; who = v.1.1.1 }) else None) (kind_numbered v.0)
 
@@ -45,9 +47,9 @@ text_of v = option_map entry_text (line_of v)
 abbrev pub list_text : List (Value ace) → Option (List ℕ)
 list_text values = lines_of text_of values
 
--- ---- setacl
+-- ---- setting a list
 
--- entries that can be read, and what is sent of them
+-- entries that can be read, and the entries that are sent
 abbrev pub AreRead : List (List ℕ) → List (Value ace) → Type 0
 AreRead texts values = (lines : List EntryLine) × (map entry_in texts ≡ map Some lines) × (values ≡ map ace_of lines)
 
@@ -61,10 +63,10 @@ EntriesGive values texts (Err Entry) = SomeUnread texts
 EntriesGive values texts (Err Memory) = Unit {0}
 EntriesGive values texts (Err fault) = ⊥
 
--- the path's names, and the operation that is asked at their end
-abbrev pub SetAclAsks : List ℕ → List (List ℕ) → List (List ℕ) → Operation → Type 0
-SetAclAsks path texts names op =
-    (values : List (Value ace)) × (names_in path ≡ Some names) × AreRead texts values × (op ≡ set_attributes (of_entries values))
+-- the path's names, and the operation at their end
+abbrev pub SetAclAsks : ListPart → List ℕ → List (List ℕ) → List (List ℕ) → Operation → Type 0
+SetAclAsks part path texts names op =
+    (values : List (Value ace)) × (names_in path ≡ Some names) × AreRead texts values × (op ≡ set_attributes (of_entries part values))
 
 -- The path is read before the entries.
 abbrev pub WrongList : List ℕ → List (List ℕ) → ToolFault → Type 0
@@ -72,30 +74,40 @@ WrongList path texts Path = names_in path ≡ None
 WrongList path texts Entry = (names : List (List ℕ)) × (names_in path ≡ Some names) × SomeUnread texts
 WrongList path texts fault = ⊥
 
--- ---- getacl
+-- ---- reading a list
 
--- the set of attribute 12, acl, alone
-abbrev pub IsAcl : List ℕ → Type 0
-IsAcl set = (n : ℕ) → has_number set n ≡ (n == 12)
+abbrev pub attribute_of : ListPart → ℕ
+attribute_of Acl = 12
+attribute_of Dacl = 58
+attribute_of Sacl = 59
 
--- the path's names, and the operation that is asked at their end
-abbrev pub GetAclAsks : List ℕ → List (List ℕ) → Operation → Type 0
-GetAclAsks path names op = (set : List ℕ) × (names_in path ≡ Some names) × IsAcl set × (op ≡ Known kinds.GetAttr set)
+-- the set of this attribute alone
+abbrev pub IsAlone : ListPart → List ℕ → Type 0
+IsAlone part set = (n : ℕ) → has_number set n ≡ (n == attribute_of part)
 
--- the list among the attributes that were given
-abbrev pub list_in : Result Seen XdrFault → Option (List (Value ace))
-list_in (Ok seen) = seen.entries
-list_in (Err fault) = None
+-- the path's names, and the operation at their end
+abbrev pub GetAclAsks : ListPart → List ℕ → List (List ℕ) → Operation → Type 0
+GetAclAsks part path names op = (set : List ℕ) × (names_in path ≡ Some names) × IsAlone part set × (op ≡ Known kinds.GetAttr set)
+
+-- the entries among the given attributes, without the flags of a part
+abbrev pub entries_of : ListPart → Seen → Option (List (Value ace))
+entries_of Acl seen = seen.entries
+entries_of Dacl seen = option_map (λ a. a.1) seen.dacl
+entries_of Sacl seen = option_map (λ a. a.1) seen.sacl
+
+abbrev pub list_in : ListPart → Result Seen XdrFault → Option (List (Value ace))
+list_in part (Ok seen) = entries_of part seen
+list_in part (Err fault) = None
 
 -- the list as text
-abbrev pub acl_of : Outcome → Option (List ℕ)
-acl_of (Done kinds.GetAttr v) = option_and_then list_text (list_in (seen_of v.0 v.1))
-acl_of _ = None
+abbrev pub acl_of : ListPart → Outcome → Option (List ℕ)
+acl_of part (Done kinds.GetAttr v) = option_and_then list_text (list_in part (seen_of v.0 v.1))
+acl_of part _ = None
 
-abbrev pub acl_in : List Outcome → Option (List ℕ)
-acl_in results = option_and_then acl_of (last_of results)
+abbrev pub acl_in : ListPart → List Outcome → Option (List ℕ)
+acl_in part results = option_and_then (acl_of part) (last_of results)
 
--- the lines are put behind what was there
+-- the lines are put behind the earlier ones
 abbrev pub PutsList : List ℕ → List ℕ → List (Value ace) → Result (Unit {0}) ToolFault → Type 0
 PutsList old new values (Ok done) = (text : List ℕ) × (list_text values ≡ Some text) × (new ≡ old ++ text)
 PutsList old new values (Err Reply) = list_text values ≡ None

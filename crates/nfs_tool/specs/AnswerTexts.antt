@@ -1,4 +1,4 @@
--- What a command answers, as it is printed.
+-- The answer of a command, as it is printed.
 use Rattle.std.specs.Prelude.{◌≡◌, ℕ, List, [], ◌∷◌, ◌++◌, codes, Vec, Result, Ok, Err}
 use Rattle.nfs_ops.specs.declared.access.AccessResult.{AccessResult}
 use Rattle.nfs_tool.specs.Digits.{hex_word}
@@ -16,11 +16,11 @@ answer_text Done = ok_line
 answer_text (Rights line) = line
 answer_text (Text text) = text.items
 
--- rights that have a meaning, and those that are granted, by eight digits each
+-- the rights that are supported, and the rights that are granted, by eight digits each
 abbrev pub rights_line : AccessResult → List ℕ
 rights_line r = codes "access " ++ hex_word r.supported ++ codes " " ++ hex_word r.granted ++ 10 ∷ []
 
--- ---- the text of what a command tells
+-- ---- the text of a command's answer
 
 abbrev pub says_ok : Unit {0} → List ℕ
 says_ok done = ok_line
@@ -34,7 +34,7 @@ says_text v = v.items
 abbrev pub says_line : {A : Type 0} → Vec ℕ A → List ℕ
 says_line v = v.items ++ 10 ∷ []
 
--- The answer is this text of what is told, and a fault is told as it is.
+-- The answer is this text of the value, and a fault stays unchanged.
 abbrev pub SaysAs : {A V : Type 0} → (V → List ℕ) → Result V ToolFault → Result (Answer A) ToolFault → Type 0
 SaysAs text (Ok v) (Ok answer) = answer_text answer ≡ text v
 SaysAs text (Err fault) (Err fault') = fault' ≡ fault

@@ -7,7 +7,7 @@ use Rattle.nfs_tool.specs.Setting.{set_attributes, of_mode}
 use Rattle.nfs_tool.specs.declared.fault.ToolFault.{ToolFault}
 use Rattle.nfs_tool.specs.declared.fault.ToolFault.TheVariants.{Path, Entry}
 
--- the path's names, and the operation that is asked at their end
+-- the path's names, and the operation at their end
 abbrev pub ChModAsks : List ℕ → List ℕ → List (List ℕ) → Operation → Type 0
 ChModAsks word path names op = (mode : ℕ) × (mode_in word ≡ Some mode) × (names_in path ≡ Some names) × (op ≡ set_attributes (of_mode mode))
 

@@ -1,4 +1,4 @@
--- What a client knows, and what comes of a command.
+-- The state of a client, and the outcome of an exchange.
 use Rattle.std.specs.Prelude.{◌≡◌, ◌⊎◌, ℕ, ◌+◌, ◌%◌, ◌^◌, false, List, [], Option, Result, Ok, Err}
 use Rattle.rpc_record.specs.Identity.{Identity, identity}
 use Rattle.nfs_ops.specs.Operations.{Operation}
@@ -10,7 +10,7 @@ use Rattle.nfs_tool.specs.declared.client.Reply.{Reply as ReplyOf}
 use Rattle.nfs_tool.specs.declared.fault.ToolFault.{ToolFault}
 use Rattle.nfs_tool.specs.declared.fault.ToolFault.TheVariants.{Memory}
 
--- who calls: the user, and the group alone
+-- the caller: the user, with one group alone
 abbrev pub caller_of : {S A : Type 0} → Client S A → Identity
 caller_of client = identity client.uid client.gid []
 
@@ -20,17 +20,17 @@ pub record Exchange {S : Type 0} (contents remaining : S → Option (List ℕ)) 
   pub is_call : IsCall xid caller ops call
   pub talked : Talked contents remaining old new call content
 
--- An exchange that failed: a front of the call was written, or all of it and no record was read behind it.
+-- An exchange that failed: a front of the call was written, or all of the call and no record was read behind it.
 pub record Failing {S : Type 0} (contents : S → Option (List ℕ)) (old new : S) (xid : ℕ) (caller : Identity) (ops : List Operation) (fault : ToolFault) : Type 0 where
   pub call : List ℕ
   pub is_call : IsCall xid caller ops call
   pub failed : TalkFails contents old new call fault
 
--- the number behind this one
+-- the next number
 abbrev pub next : ℕ → ℕ
 next number = (number + 1) % 2 ^ 32
 
--- what an exchange that was begun leaves of what a client knows
+-- the client's state behind an exchange that was begun
 pub record Begun {S A : Type 0} (old new : Client S A) : Type 0 where
   pub unusable : new.usable ≡ false
   pub advanced : new.xid ≡ next old.xid
@@ -40,7 +40,7 @@ pub record Begun {S A : Type 0} (old new : Client S A) : Type 0 where
   pub session : new.session ≡ old.session
   pub number : new.number ≡ old.number
 
--- the record that was read; or nothing was written for want of memory; or why no record was read
+-- the record that was read; or no bytes were written for want of memory; or the fault for which no record was read
 abbrev pub ExchangeGives : {S A : Type 0} → (S → Option (List ℕ)) → (S → Option (List ℕ)) → List Operation → Client S A → Client S A → Result (ReplyOf A) ToolFault → Type 0
 ExchangeGives contents remaining ops old new (Ok reply) =
     Begun old new × (reply.xid ≡ old.xid) × (reply.asked.items ≡ asked_of ops) × Exchange contents remaining old.stream new.stream old.xid (caller_of old) ops reply.content.items

@@ -1,4 +1,4 @@
--- Which operations a command asks, and what comes of it.
+-- The operations of a command, and its outcome.
 use Rattle.std.specs.Prelude.{◌≡◌, ◌⊎◌, ℕ, ◌==◌, ◌&&◌, not, Bool, true, false, if◌then◌else◌, List, [], ◌∷◌, ◌++◌, map, Option, Some, None, Result, Ok, Err}
 use Rattle.nfs_types.specs.Status as statuses
 use Rattle.nfs_ops.specs.Operations.{Operation, Known}
@@ -14,7 +14,7 @@ use Rattle.nfs_tool.specs.declared.fault.ToolFault.TheVariants.{Path, Refused, R
 
 -- ---- operations
 
--- SEQUENCE on slot 0, the only one, by the slot's next number
+-- SEQUENCE on slot 0, the only slot, by the slot's next number
 abbrev pub sequence : {S A : Type 0} → Client S A → Operation
 sequence client = Known kinds.Sequence (client.session, (client.number, (0, (0, false))))
 
@@ -26,28 +26,28 @@ lookups names = map lookup names
 
 -- ---- words
 
--- the path is a name in a directory, the root's path with these names behind it
+-- the path is the directory's path from the root on, with this name behind it
 abbrev pub IsIn : List ℕ → List (List ℕ) → List ℕ → Type 0
 IsIn path directory name = names_in path ≡ Some (directory ++ name ∷ [])
 
--- the text is no path, or it is the root's, which is no name
+-- the text is no path, or it is `/`, which has no last name
 abbrev pub HasNoName : List ℕ → Type 0
 HasNoName path = (names_in path ≡ None) ⊎ (names_in path ≡ Some [])
 
--- ---- what comes of them
+-- ---- outcomes
 
--- an exchange whose reply says this
+-- an exchange whose reply has this answer
 abbrev pub Answered : {S A : Type 0} → (S → Option (List ℕ)) → (S → Option (List ℕ)) → List Operation → Client S A → Client S A → Answer → Type 0
 Answered contents remaining ops old new answer =
     (content : List ℕ) × Exchange contents remaining old.stream new.stream old.xid (caller_of old) ops content × ((said old.xid (asked_of ops) content).answer ≡ answer)
 
--- an exchange whose reply says that all is done, and that this is taken of its results
+-- an exchange whose reply has all operations OK, and this value, taken of its results
 abbrev pub Told : {S A V : Type 0} → (S → Option (List ℕ)) → (S → Option (List ℕ)) → (List Outcome → Option V) → List Operation → Client S A → Client S A → Option V → Type 0
 Told contents remaining taken ops old new v =
     (content : List ℕ) × Exchange contents remaining old.stream new.stream old.xid (caller_of old) ops content
     × ((said old.xid (asked_of ops) content).answer ≡ AllDone) × (taken (said old.xid (asked_of ops) content).results ≡ v)
 
--- The number of the slot's next call behind a call of the session, or behind another.
+-- The number of the slot's next call behind a call in the session, or behind any other call.
 abbrev pub number_behind : Bool → ℕ → ℕ
 number_behind in_session number = if in_session then next number else number
 
@@ -55,13 +55,13 @@ number_behind in_session number = if in_session then next number else number
 abbrev pub takes_number : Bool → ℕ → Bool
 takes_number in_session op = in_session && not (op == 53)
 
--- what a reply tells leaves of what a client knows behind an exchange
+-- the client's state behind an exchange by its reply
 abbrev pub Concludes : {S A X : Type 0} → Bool → Result X ToolFault → Client S A → Client S A → Type 0
 Concludes in_session (Ok x) old new = new ≡ record old { usable = true; number = number_behind in_session old.number }
 Concludes in_session (Err (Refused op status)) old new = new ≡ record old { usable = true; number = number_behind (takes_number in_session op) old.number }
 Concludes in_session (Err fault) old new = new ≡ old
 
--- What is done in the end where memory was refused behind an exchange: no other command runs.
+-- Where memory was refused behind an exchange, no other command runs in the end.
 abbrev pub Spoils : {S A X : Type 0} → Result X ToolFault → Client S A → Client S A → Type 0
 Spoils (Err Memory) old new = new ≡ record old { usable = false }
 Spoils told old new = new ≡ old
@@ -76,17 +76,17 @@ pub record Settled {S A : Type 0} (old new : Client S A) (number : ℕ) : Type 0
   pub session : new.session ≡ old.session
   pub numbered : new.number ≡ number
 
--- No other command runs: no record was read behind the call, or one that is no reply to it.
+-- No other command runs: no record was read behind the call, or a record that isn't a reply to the call.
 abbrev pub GivesUp : {S A : Type 0} → (S → Option (List ℕ)) → List Operation → Client S A → Client S A → ToolFault → Type 0
 GivesUp contents ops old new fault = (new.usable ≡ false) × Failing contents old.stream new.stream old.xid (caller_of old) ops fault
 
--- A record was read that is no reply to the call, or one of whose results nothing can be taken.
+-- A record was read that is no reply to the call, or a reply whose results have no such value.
 abbrev pub NoAnswer : {S A V : Type 0} → (S → Option (List ℕ)) → (S → Option (List ℕ)) → (List Outcome → Option V) → List Operation → Client S A → Client S A → Type 0
 NoAnswer contents remaining taken ops old new =
     (new.usable ≡ false) × (Answered contents remaining ops old new NoReply ⊎ Told contents remaining taken ops old new None)
 
--- What comes of operations, of whose results something is taken: it was taken; or the last operation run was refused; or no
--- other command runs.
+-- The outcome of operations with a value of their results: the value was taken; or the last operation run was refused; or no other command
+-- runs.
 abbrev pub AskGives : {S A X V : Type 0} → (S → Option (List ℕ)) → (S → Option (List ℕ)) → (List Outcome → Option V) → (X → V) → Bool → List Operation → Client S A → Client S A → Result X ToolFault → Type 0
 AskGives contents remaining taken value in_session ops old new (Ok x) =
     Told contents remaining taken ops old new (Some (value x)) × Settled old new (number_behind in_session old.number)
@@ -100,8 +100,8 @@ AskGives contents remaining taken value in_session ops old new (Err Path) = ⊥
 AskGives contents remaining taken value in_session ops old new (Err Entry) = ⊥
 AskGives contents remaining taken value in_session ops old new (Err Failed) = ⊥
 
--- What comes of a command, unless something is wrong with its words: then nothing is asked. On a client that isn't usable no command
--- runs. Where memory is refused nothing was asked, or no other command runs.
+-- The outcome of a command, unless its words are wrong: then no operation is asked. On a client that isn't usable no command runs. Where
+-- memory is refused no operation was asked, or no other command runs.
 abbrev pub Commanded : {S A X : Type 0} → (ToolFault → Type 0) → (Result X ToolFault → Type 0) → Client S A → Client S A → Result X ToolFault → Type 0
 Commanded wrong gives old new (Err Failed) = (old.usable ≡ false) × (new ≡ old)
 Commanded wrong gives old new (Err Path) = wrong Path × (new ≡ old)

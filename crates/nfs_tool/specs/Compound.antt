@@ -14,9 +14,9 @@ use Rattle.nfs_ops.specs.Rows.{row}
 use Rattle.nfs_ops.specs.ResultReading.{result_at}
 use Rattle.nfs_ops.specs.declared.op_kind.OpKind.TheVariants.{SetAttr}
 
--- ---- what is written
+-- ---- writing
 
--- COMPOUND4args up to the operations: a tag, the minor version, and how many operations there are
+-- COMPOUND4args up to the operations: a tag, the minor version, and the count of operations
 abbrev pub compound_head : Xdr
 compound_head = fields (opaque 1024 ∷ uint ∷ uint ∷ [])
 
@@ -41,7 +41,7 @@ pub record IsCall (xid : ℕ) (caller : Identity) (ops : List Operation) (bytes 
   pub parts : content ≡ call_bytes xid (Some caller) ++ compound_bytes ops
   pub spelled : AllByRecursion IsSpelled ops
 
--- ---- what is read
+-- ---- reading
 
 -- the status of a COMPOUND, and the results of its operations
 pub record Compound : Type 0 where
@@ -54,7 +54,7 @@ compound_at bytes =
     read_at uint bytes >>= λ status. read_at (opaque 4294967295) status.1 >>= λ tag. read_at uint tag.1 >>= λ count.
     items_at result_at count.0 count.1 >>= λ results. Ok (record { status = status.0; results = results.0 }, results.1)
 
--- nothing stands behind it
+-- no bytes are behind it
 abbrev pub all_of : Read Compound → Option Compound
 all_of (Ok (compound, [])) = Some compound
 all_of (Ok (compound, b ∷ rest)) = None
@@ -71,25 +71,25 @@ status_of (Done k v) = 0
 status_of (Refused n status) = status
 status_of (SetAttrRefused status) = status
 
--- what comes of a call: all its operations are OK, or the last one run, of this number, has this status; or what came is no reply
+-- the answer to a call: all its operations are OK, or the last one run, of this number, has this status; or the record is no reply
 pub data Answer : Type 0 where
   AllDone : Answer
   LastRefused : ℕ → ℕ → Answer
   NoReply : Answer
 
--- Behind the last result no operation is left where it is OK. Its status is the COMPOUND's.
+-- Behind the last result no operation is left where that result is OK. Its status is the status of the COMPOUND.
 abbrev pub ended_by : List ℕ → ℕ → Outcome → Answer
 ended_by left status last =
     if status_of last == status then (if status == 0 then (if length left == 0 then AllDone else NoReply) else LastRefused (number_of last) status) else NoReply
 
--- The results are those of the first operations asked, at least of one, and all but the last are OK.
+-- The results are results of the first operations asked, at least of one, and all but the last are OK.
 abbrev pub answer_of : List ℕ → ℕ → List Outcome → Answer
 answer_of asked status [] = NoReply
 answer_of [] status (o ∷ os) = NoReply
 answer_of (n ∷ left) status (o ∷ os) =
     if number_of o == n then (if length os == 0 then ended_by left status o else if status_of o == 0 then answer_of left status os else NoReply) else NoReply
 
--- what the results of a COMPOUND of the operations of these numbers say
+-- the results of a COMPOUND of the operations of these numbers, with their answer
 pub record Said : Type 0 where
   pub results : List Outcome
   pub answer : Answer
@@ -105,6 +105,6 @@ abbrev pub said_by : List ℕ → ReplyResult → Said
 said_by asked (Ok results) = said_of asked (all_of (compound_at results))
 said_by asked (Err fault) = no_reply
 
--- what a record says in answer to the call of this transaction that asks the operations of these numbers
+-- the answer of a record to the call of this transaction with the operations of these numbers
 abbrev pub said : ℕ → List ℕ → List ℕ → Said
 said xid asked content = said_by asked (answered xid content)

@@ -1,4 +1,4 @@
--- What reading a reply gives, without where the results lie.
+-- The value of reading a reply, without the place of the results.
 use Rattle.std.specs.Prelude.{◌≡◌, ℕ, false, List, map, Option, Some, None, Result, Ok, Err, is_ok}
 use Rattle.xdr_wire.specs.Reading.{items_at}
 use Rattle.nfs_ops.specs.ResultReading.{result_at}
@@ -13,13 +13,13 @@ use Rattle.nfs_tool.specs.declared.fault.ToolFault.TheVariants.{Refused, Reply, 
 abbrev pub outcomes : List OpResult → List Outcome
 outcomes results = map read_view results
 
--- The fault of an answer, where it isn't that all is done.
+-- The fault of an answer that isn't `AllDone`.
 abbrev pub FaultIs : ToolFault → Answer → Type 0
 FaultIs (Refused op status) answer = answer ≡ LastRefused op (statuses.number_of status)
 FaultIs Reply answer = answer ≡ NoReply
 FaultIs _ answer = ⊥
 
--- all is done, or which fault an answer is
+-- all is done, or the fault of an answer
 abbrev pub Judges : Result (Unit {0}) ToolFault → Answer → Type 0
 Judges (Ok done) answer = answer ≡ AllDone
 Judges (Err fault) answer = FaultIs fault answer
@@ -31,7 +31,7 @@ ItemsGive view count old new (Err Reply) = is_ok (items_at result_at count old) 
 ItemsGive view count old new (Err Memory) = Unit {0}
 ItemsGive view count old new (Err fault) = ⊥
 
--- the results of a COMPOUND with its status; or there is none; or memory is refused
+-- the results of a COMPOUND with its status; or the bytes are no COMPOUND; or memory is refused
 abbrev pub CompoundGives : {X : Type 0} → (X → List Outcome) → Option Compound → Result (ℕ × X) ToolFault → Type 0
 CompoundGives view compound (Ok x) = compound ≡ Some (record { status = x.0; results = view x.1 })
 CompoundGives view compound (Err Reply) = compound ≡ None

@@ -42,6 +42,6 @@ mode_in (b ∷ c ∷ d ∷ []) = four_in 48 b c d
 mode_in (a ∷ b ∷ c ∷ d ∷ []) = four_in a b c d
 mode_in _ = None
 
--- a mode's twelve bits as four octal digits
+-- the twelve bits of a mode as four octal digits
 abbrev pub mode_digits : ℕ → List ℕ
 mode_digits mode = (48 + mode / 512 % 8) ∷ (48 + mode / 64 % 8) ∷ (48 + mode / 8 % 8) ∷ (48 + mode % 8) ∷ []

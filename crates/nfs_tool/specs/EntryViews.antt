@@ -1,4 +1,4 @@
--- An entry's parts, without where its who lies.
+-- An entry's parts, without the place of its who.
 use Rattle.nfs_tool.specs.Entries.{EntryLine}
 use Rattle.nfs_tool.specs.declared.entry_text.EntryText.{EntryText}
 

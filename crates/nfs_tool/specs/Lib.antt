@@ -42,4 +42,5 @@ pub mod LocalFaults
 pub mod LocalStreams
 pub mod ScriptLines
 pub mod ScriptViews
+pub mod Reloading
 pub mod Script

@@ -1,4 +1,4 @@
--- What is known of an entry, without where it lies.
+-- The known attributes of an entry, without their place.
 use Rattle.std.specs.Prelude.{option_map}
 use Rattle.nfs_tool.specs.Lines as specs
 use Rattle.nfs_tool.specs.declared.listing.Listed.{Listed}

@@ -2,7 +2,7 @@
 use Rattle.std.specs.Prelude.{ℕ, ◌==◌, if◌then◌else◌, List, [], ◌∷◌, ◌++◌, Option, Some, None, option_and_then, option_map, decimal}
 use Rattle.nfs_tool.specs.Digits.{mode_digits}
 
--- what is known of an entry
+-- the known attributes of an entry
 pub record Listed : Type 0 where
   pub kind : Option ℕ
   pub mode : Option ℕ
@@ -11,7 +11,7 @@ pub record Listed : Type 0 where
   pub size : Option ℕ
   pub name : List ℕ
 
--- `?`, for what isn't known
+-- `?`, for an attribute that isn't known
 abbrev pub unknown : List ℕ
 unknown = 63 ∷ []
 
@@ -36,7 +36,7 @@ size_column None = unknown
 abbrev pub line : Listed → List ℕ
 line l = kind_text l.kind ++ 32 ∷ mode_column l.mode ++ 32 ∷ text_column l.owner ++ 32 ∷ text_column l.group ++ 32 ∷ size_column l.size ++ 32 ∷ l.name
 
--- items as lines, each with a newline behind it, where each has one
+-- items as lines, each with a newline behind it, where each item has a line
 abbrev pub lines_of : {X : Type 0} → (X → Option (List ℕ)) → List X → Option (List ℕ)
 lines_of text [] = Some []
 lines_of text (x ∷ xs) = option_and_then (λ t. option_map (λ rest. t ++ 10 ∷ rest) (lines_of text xs)) (text x)

@@ -1,4 +1,4 @@
--- ln: the object gets the name in its directory.
+-- ln: the object gets the new name in the new name's directory.
 use Rattle.std.specs.Prelude.{◌≡◌, ◌⊎◌, ℕ, Some, None, List}
 use Rattle.nfs_ops.specs.Operations.{Operation, Known}
 use Rattle.nfs_ops.specs.declared.op_kind.OpKind.TheVariants as kinds
@@ -10,7 +10,7 @@ use Rattle.nfs_tool.specs.declared.fault.ToolFault.TheVariants.{Path}
 abbrev pub link : List ℕ → Operation
 link name = Known kinds.Link name
 
--- the names of the old path and of the new one's directory, and the operation that is asked at the ends of both
+-- the names of the old path and of the new path's directory, and the operation at the ends of both
 abbrev pub LnAsks : List ℕ → List ℕ → List (List ℕ) → List (List ℕ) → Operation → Type 0
 LnAsks old new names directory op = (name : List ℕ) × (names_in old ≡ Some names) × IsIn new directory name × (op ≡ link name)
 

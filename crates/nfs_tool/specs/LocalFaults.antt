@@ -4,7 +4,7 @@ use Rattle.std.specs.declared.io.ErrorKind.TheVariants.{NotConnected, BrokenPipe
 use Rattle.nfs_hub.specs.declared.fault.HubFault.{HubFault}
 use Rattle.nfs_hub.specs.declared.fault.HubFault.TheVariants.{TooMany, NoSuch, Broken, Memory, Exhausted}
 
--- how a refusal of the hub is told by a stream
+-- the error of a stream for a refusal of the hub
 abbrev pub kind_of : HubFault → ErrorKind
 kind_of NoSuch = NotConnected
 kind_of Broken = BrokenPipe

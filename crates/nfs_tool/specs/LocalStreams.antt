@@ -1,4 +1,4 @@
--- What a stream over a connection of a hub does: a write is one piece of the connection, and a read one taking.
+-- A stream over a connection of a hub: a write is one piece of the connection, and a read is one taking.
 use Rattle.std.specs.Prelude.{◌≡◌, ◌≢◌, ◌↔◌, ℕ, true, false, List, ◌∷◌, length, Option, Some, None, IsNone, IfOk, IsErrOf, is_err, option_map, Result, Ok, Err}
 use Rattle.std.specs.IoError.{error_kind}
 use Rattle.std.specs.declared.io.Error.{Error}
@@ -23,15 +23,15 @@ pub record IsMomentOf {A : Type 0} (l : Local A) (moment : Moment) : Type 0 wher
   pub seconds : moment.seconds ≡ l.seconds
   pub whole : moment.nanoseconds ≡ 0
 
--- It isn't told what was written to a connection.
+-- The bytes that were written to a connection aren't known.
 abbrev pub unknown : {A : Type 0} → Local A → Option (List ℕ)
 unknown l = None
 
--- what can be read of a connection is what is pending on it
+-- the bytes that can be read of a connection are its pending bytes
 abbrev pub pending_of : {A : Type 0} → Local A → Option (List ℕ)
 pending_of l = pending_at l.hub.now l.conn
 
--- so many bytes where the hub did its part, and a refusal of it as an error of its kind
+-- so many bytes where the hub took or gave them, and a refusal of the hub as an error of its kind
 abbrev pub ToldAs : {X : Type 0} → (X → ℕ) → Result X HubFault → Result ℕ Error → Type 0
 ToldAs count (Ok x) (Ok n) = n ≡ count x
 ToldAs count (Err fault) (Err error) = error_kind error ≡ kind_of fault
@@ -46,14 +46,14 @@ pub record LeadsOn {A : Type 0} (event : Event) (old new : Hub A) : Type 0 where
 abbrev pub as_many : ℕ → ℕ
 as_many n = n
 
--- A read is one taking: what it tells is what the taking gives.
+-- A read is one taking, with its result.
 pub record Taken {A : Type 0} (old new : Local A) (buf buf' : List ℕ) (result : Result ℕ Error) : Type 0 where
   pub told : Result ℕ HubFault
   pub gives : TakeGives old.conn told old.hub.now new.hub.now buf buf'
   pub leads : IfOk told (λ n. LeadsOn (Take old.conn n) old.hub.now new.hub.now)
   pub tells : ToldAs as_many told result
 
--- A write is one piece at the stream's moment: what it tells is what feeding it gives.
+-- A write is one piece at the stream's moment, with the result of feeding it.
 pub record Fed {A : Type 0} (old new : Local A) (piece : List ℕ) (result : Result ℕ Error) : Type 0 where
   pub told : Result (Unit {0}) HubFault
   pub moment : Moment

@@ -22,27 +22,27 @@ use Rattle.nfs_tool.specs.declared.ls.Listing.{Listing}
 use Rattle.nfs_tool.specs.declared.fault.ToolFault.{ToolFault}
 use Rattle.nfs_tool.specs.declared.fault.ToolFault.TheVariants.{Reply, Memory}
 
--- ---- what is asked
+-- ---- calls
 
 -- 1 type, 4 size, 11 rdattr_error, 33 mode, 36 owner, 37 owner_group
 abbrev pub is_listed : ℕ → Bool
 is_listed n = (n == 1) || (n == 4) || (n == 11) || (n == 33) || (n == 36) || (n == 37)
 
--- the set of these
+-- the set of these attributes
 abbrev pub AreListed : List ℕ → Type 0
 AreListed set = (n : ℕ) → has_number set n ≡ is_listed n
 
--- READDIR of what comes behind a cookie, of at most 32,768 bytes. The verifier is zero, as in each reply that is taken; a dircount
--- of zero sets no bound.
+-- READDIR of the entries behind a cookie, of at most 32,768 bytes. The verifier is zero, as in each reply that is taken; a dircount of
+-- zero sets no bound.
 abbrev pub readdir : List ℕ → ℕ → Operation
 readdir set cookie = Known kinds.ReadDir (cookie, (replicate 8 0, (0, (32768, set))))
 
 abbrev pub list_from : {S A : Type 0} → Route → List ℕ → Client S A → ℕ → List Operation
 list_from route set client cookie = along client route (readdir set cookie)
 
--- ---- what is given
+-- ---- results
 
--- what is known of an entry
+-- the known attributes of an entry
 abbrev pub listed_by : List ℕ → Seen → Listed
 listed_by name s = record { kind = s.kind; mode = s.mode; owner = s.owner; group = s.group; size = s.size; name = name }
 
@@ -95,7 +95,7 @@ abbrev pub cookie_of : List Page → ℕ
 cookie_of [] = 0
 cookie_of (p ∷ before) = last_or (cookie_of before) p.cookies
 
--- Each READDIR is of what comes behind the last entry that was given.
+-- Each READDIR begins behind the last entry of the pages so far.
 abbrev pub by_listings : {S A : Type 0} → (S → Option (List ℕ)) → (S → Option (List ℕ)) → Route → List ℕ → Paging S A Page
 by_listings contents remaining route set = record {
   contents = contents;
@@ -105,9 +105,9 @@ by_listings contents remaining route set = record {
   ends = λ p. p.eof;
 }
 
--- ---- what comes of it
+-- ---- outcomes
 
--- lines are put behind those that were there
+-- lines are put behind the earlier ones
 pub record GoesOn {A : Type 0} (old new : Listing A) (text cookies : List ℕ) : Type 0 where
   pub lines : new.text.items ≡ old.text.items ++ text
   pub behind : new.cookie ≡ last_or old.cookie cookies
@@ -132,7 +132,7 @@ PutsPage old new page (Err Reply) = page ≡ None
 PutsPage old new page (Err Memory) = Unit {0}
 PutsPage old new page (Err fault) = ⊥
 
--- the lines of the page that a reply tells
+-- the lines of the page in a reply
 abbrev pub PageTaken : {A : Type 0} → Said → Listing A → Listing A → Result Bool ToolFault → Type 0
 PageTaken said old new (Ok eof) = (text : List ℕ) × (cookies : List ℕ) × SaidGives (page_with text cookies) page_in said (Ok eof) × GoesOn old new text cookies
 PageTaken said old new (Err fault) = SaidGives (page_with [] []) page_in said (Err fault)
@@ -145,7 +145,7 @@ ListGives contents remaining route set listing listing' old new (Ok eof) =
 ListGives contents remaining route set listing listing' old new (Err fault) =
     AskGives {X = Page} contents remaining page_in itself true (list_from route set old listing.cookie) old new (Err fault)
 
--- the lines of all entries of the directory at the path; or something is wrong with it, and nothing is asked
+-- the lines of all entries of the directory at the path; or the path is wrong, and no operation is asked
 abbrev pub LsGives : {S A X : Type 0} → (S → Option (List ℕ)) → (S → Option (List ℕ)) → (X → List ℕ) → List ℕ → Client S A → Client S A → Result X ToolFault → Type 0
 LsGives contents remaining value path old new result =
     Commanded (NoPath path) (λ told. (names : List (List ℕ)) × (set : List ℕ) × (names_in path ≡ Some names) × AreListed set

@@ -1,4 +1,4 @@
--- mkdir: a directory is made in its directory, without attributes.
+-- mkdir: a directory is created in its parent directory, without attributes.
 use Rattle.std.specs.Prelude.{◌≡◌, ℕ, List, []}
 use Rattle.std.proofs.Common.{inl, inr}
 use Rattle.nfs_ops.specs.Operations.{Operation, Known}
@@ -9,6 +9,6 @@ use Rattle.nfs_tool.specs.Commands.{IsIn}
 abbrev pub create : List ℕ → Operation
 create name = Known kinds.Create (inr (inl tt), (name, ([], [])))
 
--- the names of the path's directory, and the operation that is asked at their end
+-- the names of the parent directory's path, and the operation at their end
 abbrev pub MkDirAsks : List ℕ → List (List ℕ) → Operation → Type 0
 MkDirAsks path directory op = (name : List ℕ) × IsIn path directory name × (op ≡ create name)

@@ -1,4 +1,4 @@
--- mv: the name in its directory becomes the name in the other directory.
+-- mv: the old name in its directory becomes the new name in the other directory.
 use Rattle.std.specs.Prelude.{◌≡◌, ◌⊎◌, ℕ, List}
 use Rattle.nfs_ops.specs.Operations.{Operation, Known}
 use Rattle.nfs_ops.specs.declared.op_kind.OpKind.TheVariants as kinds
@@ -9,7 +9,7 @@ use Rattle.nfs_tool.specs.declared.fault.ToolFault.TheVariants.{Path}
 abbrev pub rename : List ℕ → List ℕ → Operation
 rename old new = Known kinds.Rename (old, new)
 
--- the names of the old path's directory and of the new one's, and the operation that is asked at the ends of both
+-- the names of the old path's directory and of the new path's, and the operation at the ends of both
 abbrev pub MvAsks : List ℕ → List ℕ → List (List ℕ) → List (List ℕ) → Operation → Type 0
 MvAsks old new source target op = (before : List ℕ) × (after : List ℕ) × IsIn old source before × IsIn new target after × (op ≡ rename before after)
 

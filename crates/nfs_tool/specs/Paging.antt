@@ -1,4 +1,4 @@
--- Commands that ask page by page up to an end. What each page asks is said by the pages before it, the last of them first.
+-- Commands that ask page by page up to an end. The operations of each page depend on the pages before it, the last of them first.
 use Rattle.std.specs.Prelude.{◌≡◌, ◌⊎◌, ℕ, Bool, true, false, List, [], ◌∷◌, length, Option, Result, Ok, Err}
 use Rattle.nfs_ops.specs.Operations.{Operation}
 use Rattle.nfs_ops.specs.Results.{Outcome}
@@ -14,7 +14,7 @@ most_calls = 10000
 abbrev pub itself : {V : Type 0} → V → V
 itself v = v
 
--- How pages are asked: which operations behind which pages, what is taken of their results, and whether it is the last page.
+-- Pages: the operations behind earlier pages, the value of their results, and whether it is the last page.
 pub record Paging (S A V : Type 0) : Type 0 where
   pub contents : S → Option (List ℕ)
   pub remaining : S → Option (List ℕ)
@@ -23,7 +23,7 @@ pub record Paging (S A V : Type 0) : Type 0 where
   pub ends : V → Bool
 
 module _ {S A V : Type 0} (paging : Paging S A V) where
-  -- what comes of the exchange behind these pages
+  -- the outcome of the exchange behind these pages
   abbrev pub PageGives : List V → Client S A → Client S A → Result V ToolFault → Type 0
   PageGives before old new result = AskGives paging.contents paging.remaining paging.taken itself true (paging.asks old before) old new result
 
@@ -36,7 +36,7 @@ module _ {S A V : Type 0} (paging : Paging S A V) where
   abbrev pub Stops : Client S A → Client S A → ToolFault → Type 0
   Stops old new fault = (mid : Client S A) × (before : List V) × Goes old before mid × PageGives before mid new (Err fault)
 
-  -- so many pages came, and not the last
+  -- the most pages came, and none of them was the last
   abbrev pub IsTooLong : Client S A → Client S A → Type 0
   IsTooLong old new = (mid : Client S A) × (before : List V) × Goes old before mid × (length before ≡ most_calls) × (new.usable ≡ false)
 

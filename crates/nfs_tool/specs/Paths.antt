@@ -8,11 +8,11 @@ is_slash b = b == 47
 abbrev pub is_name : List ℕ → Bool
 is_name name = not (length name == 0)
 
--- the parts between the slashes, each of which is a name: it isn't empty
+-- the parts between the slashes, each of which is a name: a part that isn't empty
 abbrev pub parts_of : List ℕ → Option (List (List ℕ))
 parts_of text = if list_all is_name (slice_split is_slash text) then Some (slice_split is_slash text) else None
 
--- what stands behind a slash at the front
+-- the rest behind a slash at the front
 abbrev pub behind_slash : List ℕ → Option (List ℕ)
 behind_slash [] = None
 behind_slash (b ∷ rest) = if is_slash b then Some rest else None
@@ -21,7 +21,7 @@ behind_slash (b ∷ rest) = if is_slash b then Some rest else None
 abbrev pub names_in : List ℕ → Option (List (List ℕ))
 names_in text = option_and_then (λ rest. if length rest == 0 then Some [] else parts_of rest) (behind_slash text)
 
--- how names are written as a path
+-- the path of names
 abbrev pub path_text : List (List ℕ) → List ℕ
 path_text [] = 47 ∷ []
 path_text (name ∷ names) = flat_map (λ n. 47 ∷ n) (name ∷ names)

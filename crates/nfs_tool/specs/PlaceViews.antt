@@ -1,4 +1,4 @@
--- What reading a path gives that is to have a name.
+-- The value of reading a path with at least one name.
 use Rattle.std.specs.Prelude.{ℕ, List, map, Result, Ok, Err}
 use Rattle.nfs_tool.specs.Commands.{IsIn, HasNoName}
 use Rattle.nfs_tool.specs.declared.path.Place.{Place}

@@ -1,4 +1,4 @@
--- put: a file is opened for writing and emptied, a text is written to it piece by piece, and it is closed.
+-- put: a file is opened for writing and emptied, a text is written to the file piece by piece, and the file is closed.
 use Rattle.std.specs.Prelude.{◌≡◌, ◌⊎◌, ℕ, nat_le, ◌&&◌, true, false, if◌then◌else◌, sum, List, [], ◌∷◌, ◌++◌, length, take, drop, Option, Some, None, option_and_then, option_map, Result, Ok, Err}
 use Rattle.std.proofs.Common.{inl, inr}
 use Rattle.xdr_wire.specs.Xdr.{Value}
@@ -23,19 +23,19 @@ use Rattle.nfs_tool.specs.declared.fault.ToolFault.TheVariants.{Refused, Memory}
 
 -- ---- operations
 
--- OPEN for writing (2), which denies others nothing, of the file of this name, which is made where there is none (UNCHECKED4), with
+-- OPEN for writing (2), which denies others no access, of the file of this name, which is created where there is none (UNCHECKED4), with
 -- the set of these attributes and these values
 abbrev pub open_by : Seen → List ℕ → ℕ → List ℕ → Operation
 open_by s values client name = Known kinds.Open (0, (2, (0, (client, (owner, (inr (inl (inl (shown_set s, values))), inl name))))))
 
--- The size is 0, also where there is such a file.
+-- The size is 0, also where the file exists.
 abbrev pub open_emptied : ℕ → List ℕ → Operation
 open_emptied client name = open_by (of_size 0) (shown_values (of_size 0)) client name
 
 abbrev pub put_handle : List ℕ → Operation
 put_handle handle = Known kinds.PutFh handle
 
--- WRITE from an offset on, which is to reach the disk (FILE_SYNC4)
+-- WRITE from an offset on, to stable storage (FILE_SYNC4)
 abbrev pub write : Value stateid → ℕ → List ℕ → Operation
 write s offset bytes = Known kinds.Write (s, (offset, (inr (inr (inl tt)), bytes)))
 
@@ -53,14 +53,14 @@ abbrev pub stateid_of : Outcome → Option (Value stateid)
 stateid_of (Done kinds.Open v) = Some v.0
 stateid_of _ = None
 
--- that of an OPEN and of the GETFH behind it
+-- the open of an OPEN and of the GETFH behind it
 abbrev pub open_of : Outcome × Outcome → Option Open
 open_of p = option_and_then (λ s. option_map (λ h. record { stateid = s; handle = h }) (handle_of p.1)) (stateid_of p.0)
 
 abbrev pub open_in : List Outcome → Option Open
 open_in results = option_and_then open_of (last_two results)
 
--- How many bytes were written, of so many that were sent: one at least.
+-- The count of a WRITE, of so many bytes that were sent: at least one.
 abbrev pub count_within : ℕ → ℕ → Option ℕ
 count_within sent n = if nat_le 1 n && nat_le n sent then Some n else None
 
@@ -71,9 +71,9 @@ written_of sent _ = None
 abbrev pub written_in : ℕ → List Outcome → Option ℕ
 written_in sent results = option_and_then (written_of sent) (last_of results)
 
--- ---- what is asked
+-- ---- calls
 
--- the names of the path's directory, and the operation that is asked at their end
+-- the names of the path's directory, and the operation at their end
 abbrev pub OpenAsks : ℕ → List ℕ → List (List ℕ) → Operation → Type 0
 OpenAsks client path directory op = (name : List ℕ) × IsIn path directory name × (op ≡ open_emptied client name)
 
@@ -91,9 +91,9 @@ close_it client o = sequence client ∷ put_handle o.handle ∷ close o.stateid 
 abbrev pub piece : List ℕ → List ℕ
 piece left = take 32768 left
 
--- ---- what comes of it
+-- ---- outcomes
 
--- what is told of a refused WRITE behind its CLOSE: the refusal, unless the CLOSE ends by a fault that is no refusal
+-- the answer to a refused WRITE behind its CLOSE: the refusal, unless the CLOSE ends by a fault that is no refusal
 abbrev pub told_behind : ℕ → Status → Result (Unit {0}) ToolFault → Result (Unit {0}) ToolFault
 told_behind op status (Ok done) = Err (Refused op status)
 told_behind op status (Err (Refused n s)) = Err (Refused op status)
@@ -106,12 +106,12 @@ module _ {S A : Type 0} (contents remaining : S → Option (List ℕ)) (o : Open
   abbrev pub CloseGives : Client S A → Client S A → Result (Unit {0}) ToolFault → Type 0
   CloseGives old new result = AskGives contents remaining takes_nothing nothing true (close_it old o) old new result
 
-  -- Each WRITE is of what comes behind the bytes that are written. How many each wrote, the last first.
+  -- Each WRITE begins behind the bytes written so far. The counts of the WRITEs, the last first.
   abbrev pub Writes : List ℕ → Client S A → List ℕ → Client S A → Type 0
   Writes text old [] new = new ≡ old
   Writes text old (n ∷ before) new = (mid : Client S A) × Writes text old before mid × WriteGives (sum before) (piece (drop (sum before) text)) mid new (Ok n)
 
-  -- the whole text is written; or a WRITE fails behind others
+  -- the whole text is written; or a WRITE fails behind earlier ones
   abbrev pub TextGives : List ℕ → Client S A → Client S A → Result (Unit {0}) ToolFault → Type 0
   TextGives text old new (Ok done) = (counts : List ℕ) × Writes text old counts new × (sum counts ≡ length text)
   TextGives text old new (Err fault) =
@@ -128,7 +128,7 @@ module _ {S A : Type 0} (contents remaining : S → Option (List ℕ)) (o : Open
   FileGives text old new (Err Memory) = new.usable ≡ false
   FileGives text old new result = (told : Result (Unit {0}) ToolFault) × (mid : Client S A) × TextGives text old mid told × ClosesBehind told mid new result
 
--- The file is opened, written and closed; or the OPEN fails, or what comes behind it.
+-- The file is opened, written and closed; or the OPEN fails, or a later exchange.
 abbrev pub PutFileGives : {S A : Type 0} → (S → Option (List ℕ)) → (S → Option (List ℕ)) → List ℕ → List Operation → Client S A → Client S A → Result (Unit {0}) ToolFault → Type 0
 PutFileGives {S} {A} contents remaining text ops old new (Ok done) =
     (mid : Client S A) × (o : Open) × AskGives contents remaining open_in itself true ops old mid (Ok o) × FileGives contents remaining o text mid new (Ok done)
@@ -141,7 +141,7 @@ abbrev pub PutAlong : {S A : Type 0} → (S → Option (List ℕ)) → (S → Op
 PutAlong contents remaining names op text old new result =
     Walked contents remaining most_before_two names (λ route mid r. PutFileGives contents remaining text (open_along mid route op) mid new r) old new result
 
--- The file is put in its directory; or something is wrong with the path, and nothing is asked.
+-- The file is put in its directory; or the path is wrong, and no operation is asked.
 abbrev pub PutCommandGives : {S A : Type 0} → (S → Option (List ℕ)) → (S → Option (List ℕ)) → List ℕ → List ℕ → Client S A → Client S A → Result (Unit {0}) ToolFault → Type 0
 PutCommandGives contents remaining path text old new result =
     Commanded (WrongPath path) (λ told. (directory : List (List ℕ)) × (op : Operation) × OpenAsks old.client path directory op

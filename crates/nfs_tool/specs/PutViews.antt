@@ -1,4 +1,4 @@
--- An open, without where its handle lies.
+-- An open, without the place of its handle.
 use Rattle.nfs_types.specs.Views.{stateid_value}
 use Rattle.nfs_tool.specs.Put.{Open}
 use Rattle.nfs_tool.specs.declared.put.Opened.{Opened}

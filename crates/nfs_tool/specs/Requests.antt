@@ -1,4 +1,4 @@
--- The operations that a request holds, and the call that it is spelled as.
+-- The operations of a request, and the call that spells them.
 use Rattle.std.specs.Prelude.{◌≡◌, ℕ, List, ◌++◌, map, Some, Result, Ok, Err}
 use Rattle.std.specs.List.{flat_map, AllByRecursion}
 use Rattle.xdr_wire.specs.Buffer.{Buffer}
@@ -20,7 +20,7 @@ pub record Asks {A : Type 0} (request : Request A) (ops : List Operation) : Type
   pub numbers : request.asked.items ≡ asked_of ops
   pub spelled : AllByRecursion IsSpelled ops
 
--- nothing but memory is refused
+-- no fault but `Memory`
 abbrev pub PutGives : {X : Type 0} → Result X ToolFault → Type 0
 PutGives (Ok done) = Unit {0}
 PutGives (Err fault) = fault ≡ Memory
@@ -30,12 +30,12 @@ abbrev pub HeadGives : ℕ → Identity → ℕ → Result Buffer ToolFault → 
 HeadGives xid caller count (Ok head) = head.bytes ≡ call_bytes xid (Some caller) ++ head_bytes count
 HeadGives xid caller count (Err fault) = fault ≡ Memory
 
--- the content as one record; or there is no memory for it, or it is longer than a record may be
+-- the content as one record; or there is no memory for the record, or it is longer than a record may be
 abbrev pub OneRecordGives : {X : Type 0} → (X → List ℕ) → List ℕ → Result X ToolFault → Type 0
 OneRecordGives bytes content (Ok call) = IsRecord content (bytes call)
 OneRecordGives bytes content (Err fault) = fault ≡ Memory
 
--- the call as one record; or there is no memory for it, or it is longer than a record may be
+-- the call as one record; or there is no memory for the record, or it is longer than a record may be
 abbrev pub SpellGives : {X : Type 0} → (X → List ℕ) → ℕ → Identity → List Operation → Result X ToolFault → Type 0
 SpellGives bytes xid caller ops (Ok call) = IsCall xid caller ops (bytes call)
 SpellGives bytes xid caller ops (Err fault) = fault ≡ Memory

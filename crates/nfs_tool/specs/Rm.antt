@@ -9,7 +9,7 @@ use Rattle.nfs_tool.specs.declared.fault.ToolFault.TheVariants.{Path}
 abbrev pub remove : List ℕ → Operation
 remove name = Known kinds.Remove name
 
--- the names of the path's directory, and the operation that is asked at their end
+-- the names of the path's directory, and the operation at their end
 abbrev pub RmAsks : List ℕ → List (List ℕ) → Operation → Type 0
 RmAsks path directory op = (name : List ℕ) × IsIn path directory name × (op ≡ remove name)
 

@@ -1,4 +1,4 @@
--- Where a walk begins, and the names that are left of it. A session takes 16 operations in a COMPOUND, and SEQUENCE is one of them.
+-- The start of a walk, and the names that are left of it. A session takes 16 operations in a COMPOUND, and SEQUENCE is one of them.
 use Rattle.std.specs.Prelude.{ℕ, ◌+◌, nat_le, if◌then◌else◌, List, [], ◌∷◌, ◌++◌, take, drop}
 use Rattle.nfs_ops.specs.Operations.{Operation, Known}
 use Rattle.nfs_ops.specs.declared.op_kind.OpKind.TheVariants as kinds
@@ -7,20 +7,20 @@ use Rattle.nfs_tool.specs.declared.client.Client.{Client}
 
 -- ---- how many names
 
--- the most names between where a walk begins and one operation
+-- the most names between the start of a walk and one operation
 abbrev pub most_names : ℕ
 most_names = 13
 
--- between where it begins and two operations, as OPEN and GETFH
+-- the most names between the start and two operations, as OPEN and GETFH
 abbrev pub most_before_two : ℕ
 most_before_two = 12
 
--- the most names of two paths together, with where each begins, SAVEFH between them and one operation behind them
+-- the most names of two paths together, with the start of each, SAVEFH between them and one operation behind them
 abbrev pub most_of_both : ℕ
 most_of_both = 11
 
--- With how many names left the approaches to the end of the first of two paths end, of so many names and so many: where one COMPOUND
--- can walk both paths there is none. Else the first is walked to its end, before a name of the second is.
+-- How many names of the first of two paths, of so many names and so many, may be left at the end of its approaches: where one COMPOUND can
+-- walk both paths there is no approach. Else the first is walked to its end, before a name of the second is.
 abbrev pub left_of_first : ℕ → ℕ → ℕ
 left_of_first names others = if nat_le (names + others) most_of_both then most_of_both else 0
 
@@ -43,7 +43,7 @@ abbrev pub begins : Start → Operation
 begins Root = Known kinds.PutRootFh tt
 begins (Object handle) = Known kinds.PutFh handle
 
--- from where a walk begins along the names left
+-- from the start of a walk along the names left
 abbrev pub walk : Route → List Operation
 walk route = begins route.start ∷ lookups route.names
 
@@ -51,7 +51,7 @@ walk route = begins route.start ∷ lookups route.names
 abbrev pub near : Route → Route
 near route = record { start = route.start; names = take most_names route.names }
 
--- what is left behind the first names, which end at the object of this filehandle
+-- the route behind the first names, which end at the object of this filehandle
 abbrev pub far : Route → List ℕ → Route
 far route handle = record { start = Object handle; names = drop most_names route.names }
 

@@ -1,4 +1,4 @@
--- What comes of each command, and the text that is told of it.
+-- The outcome of each command, and the text of its answer.
 use Rattle.std.specs.Prelude.{ℕ, List, Option, Result, Vec}
 use Rattle.nfs_tool.specs.Access.{AccessAsks, NoPath, rights_in}
 use Rattle.nfs_tool.specs.AccessViews.{rights_value}
@@ -18,7 +18,7 @@ use Rattle.nfs_tool.specs.declared.client.Client.{Client}
 use Rattle.nfs_tool.specs.declared.running.Answer.{Answer}
 use Rattle.nfs_tool.specs.declared.fault.ToolFault.{ToolFault}
 
--- a command gives what it is said to give, of which this text is told
+-- a command has a result by its statement, and the answer is this text of the result
 abbrev pub Tells : {A V : Type 0} → (Result V ToolFault → Type 0) → (V → List ℕ) → Result (Answer A) ToolFault → Type 0
 Tells {V = V} gives text result = (told : Result V ToolFault) × gives told × SaysAs text told result
 
@@ -26,7 +26,7 @@ Tells {V = V} gives text result = (told : Result V ToolFault) × gives told × S
 abbrev pub CatTells : {S A : Type 0} → (S → Option (List ℕ)) → (S → Option (List ℕ)) → List ℕ → Client S A → Client S A → Result (Answer A) ToolFault → Type 0
 CatTells {A = A} contents remaining path old new result = Tells {V = Vec ℕ A} (CatGives contents remaining says_text path old new) says_line result
 
--- what comes of a command, as text
+-- the outcome of a command, as text
 abbrev pub Runs : {S A : Type 0} → (S → Option (List ℕ)) → (S → Option (List ℕ)) → CommandLine → Client S A → Client S A → Result (Answer A) ToolFault → Type 0
 Runs {A = A} contents remaining (Ls path) old new result = Tells {V = Vec ℕ A} (LsGives contents remaining says_text path old new) says_text result
 Runs contents remaining (Cat path) old new result = CatTells contents remaining path old new result
@@ -36,6 +36,8 @@ Runs contents remaining (Ln from to) old new result = Tells (BothGive contents r
 Runs contents remaining (Mv from to) old new result = Tells (BothGive contents remaining (MvAsks from to) (WrongNames from to) old new) says_ok result
 Runs contents remaining (Rm path) old new result = Tells (CommandGives contents remaining (RmAsks path) (WrongPath path) old new) says_ok result
 Runs contents remaining (ChMod mode path) old new result = Tells (CommandGives contents remaining (ChModAsks mode path) (WrongMode mode path) old new) says_ok result
-Runs {A = A} contents remaining (GetAcl path) old new result = Tells {V = Vec ℕ A} (CommandTells contents remaining acl_in says_text (GetAclAsks path) (NoPath path) old new) says_text result
-Runs contents remaining (SetAcl path entries) old new result = Tells (CommandGives contents remaining (SetAclAsks path entries) (WrongList path entries) old new) says_ok result
+Runs {A = A} contents remaining (GetAcl part path) old new result =
+    Tells {V = Vec ℕ A} (CommandTells contents remaining (acl_in part) says_text (GetAclAsks part path) (NoPath path) old new) says_text result
+Runs contents remaining (SetAcl part path entries) old new result =
+    Tells (CommandGives contents remaining (SetAclAsks part path entries) (WrongList path entries) old new) says_ok result
 Runs contents remaining (Access path) old new result = Tells (CommandTells contents remaining rights_in rights_value (AccessAsks path) (NoPath path) old new) says_rights result

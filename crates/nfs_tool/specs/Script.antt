@@ -1,4 +1,4 @@
--- What a script prints: the answer to each line, and behind the last line the trail.
+-- The effects and the answers of a script: the answer to each line, and behind the last line the trail.
 use Rattle.std.specs.Prelude.{◌≡◌, ◌⊎◌, ℕ, ◌≤◌, ◌==◌, ◌&&◌, not, Bool, true, false, List, [], ◌∷◌, ◌++◌, length, codes, decimal, Option, Some, None, Result, Ok, Err}
 use Rattle.std.specs.List.{flat_map, list_all}
 use Rattle.std.specs.Io.KnownBytes.{Appends, Consumes, IsAtEnd}
@@ -9,18 +9,23 @@ use Rattle.nfs_hub.specs.Hub.{IsHub}
 use Rattle.nfs_hub.specs.declared.hub.Hub.{Hub}
 use Rattle.nfs_hub.specs.declared.fault.HubFault.{HubFault}
 use Rattle.nfs_hub.specs.declared.fault.HubFault.TheVariants as hub_fault
-use Rattle.nfs_tool.specs.AnswerTexts.{answer_text}
+use Rattle.who_book.specs.declared.fault.BookFault.{BookFault}
+use Rattle.who_book.specs.declared.fault.BookFault.TheVariants as book_fault
+use Rattle.nfs_tool.specs.AnswerTexts.{answer_text, ok_line}
 use Rattle.nfs_tool.specs.FaultTexts.{fault_text}
+use Rattle.nfs_tool.specs.Reloading.{Giving, Lent, Loads}
 use Rattle.nfs_tool.specs.Running.{Runs}
-use Rattle.nfs_tool.specs.ScriptLines.{Said, is_skipped, line_in}
+use Rattle.nfs_tool.specs.ScriptLines.{Said, Run, Reload, is_skipped, line_in}
 use Rattle.nfs_tool.specs.Sessions.{OpenGives}
 use Rattle.nfs_tool.specs.declared.client.Client.{Client}
+use Rattle.nfs_tool.specs.declared.reloading.LoadFault.{LoadFault}
+use Rattle.nfs_tool.specs.declared.reloading.LoadFault.TheVariants.{NoText, NoBook, Exhausted}
 use Rattle.nfs_tool.specs.declared.running.Answer.{Answer}
 use Rattle.nfs_tool.specs.declared.scripting.Progress.{Progress}
 use Rattle.nfs_tool.specs.declared.fault.ToolFault.{ToolFault}
 use Rattle.nfs_tool.specs.declared.fault.ToolFault.TheVariants.{Refused, Read, Write, Memory}
 
--- ---- what a line's command tells
+-- ---- the answer to a line's command
 
 -- the command of a client with a session of its own, over a stream; or no session is opened
 abbrev pub RunsOver : {S A : Type 0} → (S → Option (List ℕ)) → (S → Option (List ℕ)) → S → Said → List ℕ → Result (Answer A) ToolFault → Type 0
@@ -36,7 +41,7 @@ unconnected hub_fault.Exhausted = Write
 unconnected hub_fault.NoSuch = Write
 unconnected hub_fault.Broken = Write
 
--- ---- what is printed of it
+-- ---- the text that is printed
 
 abbrev pub is_refusal : ToolFault → Bool
 is_refusal (Refused op status) = true
@@ -50,7 +55,7 @@ abbrev pub told_text : {A : Type 0} → Result (Answer A) ToolFault → List ℕ
 told_text (Ok answer) = answer_text answer
 told_text (Err fault) = fault_line fault
 
--- it isn't `failed`
+-- the answer isn't `failed`
 abbrev pub is_answered : {A : Type 0} → Result (Answer A) ToolFault → Bool
 is_answered (Ok answer) = true
 is_answered (Err fault) = is_refusal fault
@@ -58,30 +63,68 @@ is_answered (Err fault) = is_refusal fault
 abbrev pub bad_line : List ℕ
 bad_line = codes "bad line" ++ 10 ∷ []
 
--- a line that asks a command prints what that tells
-pub record Asked (A : Type 0) (line out : List ℕ) (good : Bool) : Type 0 where
+-- the number of a book's fault
+abbrev pub book_number : BookFault → ℕ
+book_number book_fault.Text = 1
+book_number book_fault.Shape = 2
+book_number book_fault.Range = 3
+book_number book_fault.Twice = 4
+book_number book_fault.Memory = 5
+book_number book_fault.Member = 6
+
+-- as in `book 3`
+abbrev pub book_text : BookFault → List ℕ
+book_text fault = codes "book " ++ decimal (book_number fault)
+
+-- the text for loading another book; a hub without an epoch for the book is printed as a hub without a connection left
+abbrev pub load_text : Result (Unit {0}) LoadFault → List ℕ
+load_text (Ok done) = ok_line
+load_text (Err NoText) = bad_line
+load_text (Err (NoBook fault)) = book_text fault ++ 10 ∷ []
+load_text (Err Exhausted) = fault_line (unconnected hub_fault.Exhausted)
+
+abbrev pub is_loaded : Result (Unit {0}) LoadFault → Bool
+is_loaded (Ok done) = true
+is_loaded (Err fault) = false
+
+-- ---- one line, by the hub and the texts before it and behind it
+
+-- the answer to a command is printed; the texts stay
+pub record Asked {A T : Type 0} (old new : Lent A T) (line out : List ℕ) (good : Bool) : Type 0 where
   pub asks : is_skipped line ≡ false
   pub said : Said
-  pub is : line_in line ≡ Some said
+  pub is : line_in line ≡ Some (Run said)
   pub told : Result (Answer A) ToolFault
   pub text : out ≡ told_text told
   pub answered : good ≡ is_answered told
+  pub stays : new.texts ≡ old.texts
 
--- What a line prints, and whether that is neither `bad line` nor `failed`. A line that is skipped prints nothing.
-abbrev pub LinePrints : (A : Type 0) → List ℕ → List ℕ → Bool → Type 0
-LinePrints A line out good =
-    ((is_skipped line ≡ true) × (out ≡ []) × (good ≡ true))
-    ⊎ ((is_skipped line ≡ false) × (line_in line ≡ None) × (out ≡ bad_line) × (good ≡ false))
-    ⊎ Asked A line out good
+-- another book is loaded, or isn't, and that is printed
+pub record Reloaded {A T : Type 0} (gives : Giving T) (old new : Lent A T) (line out : List ℕ) (good : Bool) : Type 0 where
+  pub asks : is_skipped line ≡ false
+  pub name : List ℕ
+  pub is : line_in line ≡ Some (Reload name)
+  pub told : Result (Unit {0}) LoadFault
+  pub loads : Loads gives name old new told
+  pub text : out ≡ load_text told
+  pub answered : good ≡ is_loaded told
+
+-- The effect and the text of a line, and whether the text is neither `bad line` nor `failed` nor `book`. A skipped line prints no text.
+abbrev pub LinePrints : {A T : Type 0} → Giving T → Lent A T → Lent A T → List ℕ → List ℕ → Bool → Type 0
+LinePrints gives old new line out good =
+    ((is_skipped line ≡ true) × (out ≡ []) × (good ≡ true) × (new ≡ old))
+    ⊎ ((is_skipped line ≡ false) × (line_in line ≡ None) × (out ≡ bad_line) × (good ≡ false) × (new ≡ old))
+    ⊎ Asked old new line out good
+    ⊎ Reloaded gives old new line out good
 
 -- ---- lines, the last of them first
 
--- what lines print in their order, and whether none of it is `bad line` or `failed`
-abbrev pub Print : (A : Type 0) → List (List ℕ) → List ℕ → Bool → Type 0
-Print A [] out good = (out ≡ []) × (good ≡ true)
-Print A (line ∷ before) out good =
-    (earlier : List ℕ) × (was_good : Bool) × (printed : List ℕ) × (is_good : Bool) × Print A before earlier was_good
-    × LinePrints A line printed is_good × (out ≡ earlier ++ printed) × (good ≡ (was_good && is_good))
+-- the effects and the texts of lines in order, and whether no text is `bad line`, `failed` or `book`
+abbrev pub Print : {A T : Type 0} → Giving T → Lent A T → Lent A T → List (List ℕ) → List ℕ → Bool → Type 0
+Print gives old new [] out good = (new ≡ old) × (out ≡ []) × (good ≡ true)
+Print {A = A} {T = T} gives old new (line ∷ before) out good =
+    (mid : Lent A T) × (earlier : List ℕ) × (was_good : Bool) × (printed : List ℕ) × (is_good : Bool) × Print gives old mid before earlier was_good
+    × LinePrints gives mid new line printed is_good × (out ≡ earlier ++ printed) × (good ≡ (was_good && is_good))
 
 abbrev pub is_within : ℕ → Bool
 is_within b = not (b == 10)
@@ -96,7 +139,7 @@ abbrev pub AreLines : List (List ℕ) → Type 0
 AreLines [] = Unit {0}
 AreLines (line ∷ before) = (list_all is_within line ≡ true) × AreLines before
 
--- a text is these lines, with a newline behind each, and this one without
+-- a text is these lines, with a newline behind each, and the last line without a newline
 pub record IsCut (text : List ℕ) (lines : List (List ℕ)) (last : List ℕ) : Type 0 where
   pub parts : text ≡ joined lines ++ last
   pub are_lines : AreLines lines
@@ -104,7 +147,7 @@ pub record IsCut (text : List ℕ) (lines : List (List ℕ)) (last : List ℕ) :
 
 -- ---- the trail
 
--- its total, and the lines that are kept
+-- the total of the trail, and the lines that are kept
 abbrev pub trail_line : Line → List ℕ
 trail_line l = line_text l ++ 10 ∷ []
 
@@ -116,22 +159,22 @@ IsTrailOf hub text = (s : State) → IsHub hub s → text ≡ trail_text s.serve
 
 -- ---- a script
 
--- a script fails where its reader or its writer does, or for want of memory
+-- a script fails where its reader or its writer fails, or for want of memory
 abbrev pub IsScriptFault : ToolFault → Type 0
 IsScriptFault Read = Unit {0}
 IsScriptFault Write = Unit {0}
 IsScriptFault Memory = Unit {0}
 IsScriptFault fault = ⊥
 
--- where a script stands behind this text, of which this was printed
-pub record Stands {A : Type 0} (p : Progress A) (text out : List ℕ) : Type 0 where
+-- the state of a script with this hub and these texts behind this text, with the printed text
+pub record Stands {A T : Type 0} (gives : Giving T) (old new : Lent A T) (p : Progress A) (text out : List ℕ) : Type 0 where
   pub whole : List (List ℕ)
   pub cut : IsCut text whole p.line.items
-  pub printed : Print A whole out p.is_good
+  pub printed : Print gives old new whole out p.is_good
 
--- nothing was read or printed
+-- no bytes were read
 abbrev pub Begins : {A : Type 0} → Progress A → Type 0
-Begins p = Stands p [] []
+Begins p = (p.line.items ≡ []) × (p.is_good ≡ true)
 
 -- a text is printed, or the writer fails
 abbrev pub Puts : {X : Type 0} → List ℕ → Option (List ℕ) → Option (List ℕ) → Result X ToolFault → Type 0
@@ -147,54 +190,56 @@ abbrev pub Tells : List ℕ → Bool → Option (List ℕ) → Option (List ℕ)
 Tells text good held held' (Ok told) = (told ≡ good) × Appends held held' text
 Tells text good held held' (Err fault) = fault ≡ Write
 
--- what a line prints is written
-abbrev pub LineWrites : (A : Type 0) → List ℕ → Option (List ℕ) → Option (List ℕ) → Result Bool ToolFault → Type 0
-LineWrites A line held held' (Ok good) = (printed : List ℕ) × LinePrints A line printed good × Appends held held' printed
-LineWrites A line held held' (Err fault) = IsScriptFault fault
+-- the text of a line is written
+abbrev pub LineWrites : {A T : Type 0} → Giving T → Lent A T → Lent A T → List ℕ → Option (List ℕ) → Option (List ℕ) → Result Bool ToolFault → Type 0
+LineWrites gives old new line held held' (Ok good) = (printed : List ℕ) × LinePrints gives old new line printed good × Appends held held' printed
+LineWrites gives old new line held held' (Err fault) = IsScriptFault fault
 
--- the line that was read so far is answered behind these, and stays
-pub record Answered {A : Type 0} (old new : Progress A) (held held' : Option (List ℕ)) (whole : List (List ℕ)) (out : List ℕ) : Type 0 where
+-- the line that was read so far is answered behind these lines, and stays
+pub record Answered {A T : Type 0} (gives : Giving T) (first new : Lent A T) (p q : Progress A) (held held' : Option (List ℕ)) (whole : List (List ℕ)) (out : List ℕ) : Type 0 where
   pub printed : List ℕ
   pub wrote : Appends held held' printed
-  pub prints : Print A (old.line.items ∷ whole) (out ++ printed) new.is_good
-  pub line : new.line ≡ old.line
+  pub prints : Print gives first new (p.line.items ∷ whole) (out ++ printed) q.is_good
+  pub line : q.line ≡ p.line
 
-abbrev pub Answers : {A : Type 0} → Progress A → Progress A → Option (List ℕ) → Option (List ℕ) → Result (Unit {0}) ToolFault → Type 0
-Answers {A = A} old new held held' (Ok done) =
-    (whole : List (List ℕ)) → (out : List ℕ) → Print A whole out old.is_good → Answered old new held held' whole out
-Answers old new held held' (Err fault) = IsScriptFault fault
+abbrev pub Answers : {A T : Type 0} → Giving T → Lent A T → Lent A T → Progress A → Progress A → Option (List ℕ) → Option (List ℕ) → Result (Unit {0}) ToolFault → Type 0
+Answers {A = A} {T = T} gives old new p q held held' (Ok done) =
+    (first : Lent A T) → (whole : List (List ℕ)) → (out : List ℕ) → Print gives first old whole out p.is_good → Answered gives first new p q held held' whole out
+Answers gives old new p q held held' (Err fault) = IsScriptFault fault
 
--- it goes on behind this piece, of which is printed what is written
-abbrev pub GoesOn : {A : Type 0} → Progress A → Progress A → List ℕ → Option (List ℕ) → Option (List ℕ) → Result (Unit {0}) ToolFault → Type 0
-GoesOn old new piece held held' (Ok done) =
-    (text : List ℕ) → (out : List ℕ) → Stands old text out → (printed : List ℕ) × Appends held held' printed × Stands new (text ++ piece) (out ++ printed)
-GoesOn old new piece held held' (Err fault) = IsScriptFault fault
+-- the script goes on behind this piece, and the text printed for it is written
+abbrev pub GoesOn : {A T : Type 0} → Giving T → Lent A T → Lent A T → Progress A → Progress A → List ℕ → Option (List ℕ) → Option (List ℕ) → Result (Unit {0}) ToolFault → Type 0
+GoesOn {A = A} {T = T} gives old new p q piece held held' (Ok done) =
+    (first : Lent A T) → (text : List ℕ) → (out : List ℕ) → Stands gives first old p text out
+    → (printed : List ℕ) × Appends held held' printed × Stands gives first new q (text ++ piece) (out ++ printed)
+GoesOn gives old new p q piece held held' (Err fault) = IsScriptFault fault
 
 -- the trail of a hub is written
 abbrev pub WritesTrail : {A X : Type 0} → Hub A → Option (List ℕ) → Option (List ℕ) → Result X ToolFault → Type 0
 WritesTrail hub held held' (Ok x) = (text : List ℕ) × IsTrailOf hub text × Appends held held' text
 WritesTrail hub held held' (Err fault) = fault ≡ Write
 
--- the last line is answered, and behind it stands the trail of the hub as it is then
-pub record Finished {A : Type 0} (p : Progress A) (hub : Hub A) (good : Bool) (held held' : Option (List ℕ)) (text out : List ℕ) : Type 0 where
+-- the last line is answered, and behind it comes the trail of the hub in its state then
+pub record Finished {A T : Type 0} (gives : Giving T) (first new : Lent A T) (p : Progress A) (good : Bool) (held held' : Option (List ℕ)) (text out : List ℕ) : Type 0 where
   pub whole : List (List ℕ)
   pub cut : IsCut text whole p.line.items
   pub printed : List ℕ
-  pub prints : Print A (p.line.items ∷ whole) (out ++ printed) good
+  pub prints : Print gives first new (p.line.items ∷ whole) (out ++ printed) good
   pub trail : List ℕ
-  pub is_trail : IsTrailOf hub trail
+  pub is_trail : IsTrailOf new.hub trail
   pub wrote : Appends held held' (printed ++ trail)
 
-abbrev pub Finishes : {A : Type 0} → Progress A → Hub A → Option (List ℕ) → Option (List ℕ) → Result Bool ToolFault → Type 0
-Finishes p hub held held' (Ok good) = (text : List ℕ) → (out : List ℕ) → Stands p text out → Finished p hub good held held' text out
-Finishes p hub held held' (Err fault) = IsScriptFault fault
+abbrev pub Finishes : {A T : Type 0} → Giving T → Lent A T → Lent A T → Progress A → Option (List ℕ) → Option (List ℕ) → Result Bool ToolFault → Type 0
+Finishes {A = A} {T = T} gives old new p held held' (Ok good) =
+    (first : Lent A T) → (text : List ℕ) → (out : List ℕ) → Stands gives first old p text out → Finished gives first new p good held held' text out
+Finishes gives old new p held held' (Err fault) = IsScriptFault fault
 
--- the most bytes of a script, which is read by at most 1,000,000 reads of at most 4,096 bytes
+-- the most bytes of a script, in at most 1,000,000 reads of at most 4,096 bytes
 abbrev pub MOST_BYTES : ℕ
 MOST_BYTES = 4096000000
 
--- all of the reader was read, and each of its lines was answered; behind them stands the trail of the hub as it is then
-pub record Ended {A : Type 0} (hub : Hub A) (good : Bool) (left left' held held' : Option (List ℕ)) : Type 0 where
+-- all of the reader was read, and each of its lines was answered; behind them comes the trail of the hub in its state then
+pub record Ended {A T : Type 0} (gives : Giving T) (old new : Lent A T) (good : Bool) (left left' held held' : Option (List ℕ)) : Type 0 where
   pub text : List ℕ
   pub read : Consumes left left' text
   pub at_end : IsAtEnd left'
@@ -203,11 +248,11 @@ pub record Ended {A : Type 0} (hub : Hub A) (good : Bool) (left left' held held'
   pub last : List ℕ
   pub cut : IsCut text whole last
   pub printed : List ℕ
-  pub prints : Print A (last ∷ whole) printed good
+  pub prints : Print gives old new (last ∷ whole) printed good
   pub trail : List ℕ
-  pub is_trail : IsTrailOf hub trail
+  pub is_trail : IsTrailOf new.hub trail
   pub wrote : Appends held held' (printed ++ trail)
 
-abbrev pub ScriptGives : {A : Type 0} → Hub A → Option (List ℕ) → Option (List ℕ) → Option (List ℕ) → Option (List ℕ) → Result Bool ToolFault → Type 0
-ScriptGives hub left left' held held' (Ok good) = Ended hub good left left' held held'
-ScriptGives hub left left' held held' (Err fault) = IsScriptFault fault
+abbrev pub ScriptGives : {A T : Type 0} → Giving T → Lent A T → Lent A T → Option (List ℕ) → Option (List ℕ) → Option (List ℕ) → Option (List ℕ) → Result Bool ToolFault → Type 0
+ScriptGives gives old new left left' held held' (Ok good) = Ended gives old new good left left' held held'
+ScriptGives gives old new left left' held held' (Err fault) = IsScriptFault fault

@@ -1,11 +1,11 @@
--- The lines of a script, and what each asks.
+-- The lines of a script, and the wish of each: a command, or another book.
 use Rattle.std.specs.Prelude.{ℕ, ◌==◌, ◌&&◌, ◌||◌, nat_lt, not, Bool, false, length, if◌then◌else◌, List, [], ◌∷◌, codes, filter, Option, Some, None, option_and_then, option_map}
 use Rattle.std.specs.List.{list_all, slice_split}
 use Rattle.std.specs.Str.{bytes_eq, all_ascii_digits, is_utf8}
 use Rattle.who_book.specs.Spelling.{value_after}
 use Rattle.nfs_tool.specs.Words.{CommandLine, command_in}
 
--- the number of 32 bits that decimal digits are, also with zeros in front
+-- the number of 32 bits of decimal digits, also with zeros in front
 abbrev pub number_in : List ℕ → Option ℕ
 number_in word = if all_ascii_digits word && nat_lt (value_after 0 word) 4294967296 then Some (value_after 0 word) else None
 
@@ -21,11 +21,11 @@ is_comment (b ∷ bs) = b == 35
 abbrev pub is_skipped : List ℕ → Bool
 is_skipped line = is_comment line || list_all is_space line
 
--- what stands between spaces, but for what is empty
+-- the parts between spaces, without empty parts
 abbrev pub words_in : List ℕ → List (List ℕ)
 words_in line = filter (λ w. not (length w == 0)) (slice_split is_space line)
 
--- a command, and who calls
+-- a command and its caller
 pub record Said : Type 0 where
   pub uid : ℕ
   pub gid : ℕ
@@ -38,11 +38,34 @@ abbrev pub said_as : List ℕ → List ℕ → List (List ℕ) → Option Said
 said_as uid gid rest =
     option_and_then (λ u. option_and_then (λ g. option_map (said_by u g) (command_in rest)) (number_in gid)) (number_in uid)
 
--- what words ask: `as`, a uid, a gid and a command
+-- the command of words: `as`, a uid, a gid and a command
 abbrev pub said_in : List (List ℕ) → Option Said
 said_in (word ∷ uid ∷ gid ∷ rest) = if bytes_eq word (codes "as") then said_as uid gid rest else None
 said_in _ = None
 
--- what a line asks that is UTF-8
-abbrev pub line_in : List ℕ → Option Said
-line_in line = if is_utf8 line then said_in (words_in line) else None
+-- bytes as a text, if they are UTF-8
+abbrev pub text_in : List ℕ → Option (List ℕ)
+text_in bytes = if is_utf8 bytes then Some bytes else None
+
+-- the name behind `reload`
+abbrev pub reload_in : List (List ℕ) → Option (List ℕ)
+reload_in (word ∷ name ∷ []) = if bytes_eq word (codes "reload") then text_in name else None
+reload_in _ = None
+
+pub data Wish : Type 0 where
+  -- a command is run
+  Run : Said → Wish
+  -- the text of this name becomes the book
+  Reload : List ℕ → Wish
+
+abbrev pub run_or_reload : Option Said → Option (List ℕ) → Option Wish
+run_or_reload (Some said) name = Some (Run said)
+run_or_reload None name = option_map Reload name
+
+-- the wish of words
+abbrev pub wish_in : List (List ℕ) → Option Wish
+wish_in words = run_or_reload (said_in words) (reload_in words)
+
+-- the wish of a line, which has to be UTF-8
+abbrev pub line_in : List ℕ → Option Wish
+line_in line = if is_utf8 line then wish_in (words_in line) else None

@@ -1,4 +1,4 @@
--- open: a client is made known, and gets a session of one slot. end: session and client go.
+-- open: a client is registered, and gets a session of one slot. end: session and client are destroyed.
 use Rattle.std.specs.Prelude.{◌≡◌, ◌⊎◌, ℕ, false, codes, List, [], ◌∷◌, Option, Some, None, option_and_then, Result, Ok, Err}
 use Rattle.std.proofs.Common.{inl}
 use Rattle.xdr_wire.specs.Xdr.{Value}
@@ -15,11 +15,11 @@ use Rattle.nfs_tool.specs.declared.fault.ToolFault.TheVariants.{Memory, Failed}
 
 -- ---- operations
 
--- the client's own name
+-- the client's own owner id
 abbrev pub owner : List ℕ
 owner = codes "nfsc"
 
--- EXCHANGE_ID of a start of the client, without flags, without protection, without a maker
+-- EXCHANGE_ID of a start of the client, without flags, without state protection, without an implementation id
 abbrev pub exchange_id : List ℕ → Operation
 exchange_id verifier = Known kinds.ExchangeId (verifier, (owner, (0, (inl tt, []))))
 
@@ -31,7 +31,7 @@ fore = (0, (65536, (65536, (65536, (16, (1, []))))))
 abbrev pub back : Value channel
 back = (0, (4096, (4096, (0, (2, (1, []))))))
 
--- CREATE_SESSION of this client by this number, without flags and without callbacks
+-- CREATE_SESSION of this client by this sequence id, without flags and without callbacks
 abbrev pub create_session : ℕ → ℕ → Operation
 create_session client number = Known kinds.CreateSession (client, (number, (0, (fore, (back, (0, []))))))
 
@@ -43,7 +43,7 @@ destroy_client client = Known kinds.DestroyClientId client
 
 -- ---- results
 
--- the client's number, and the number of its next CREATE_SESSION
+-- the client id, and the sequence id of its next CREATE_SESSION
 abbrev pub record_of : Outcome → Option (ℕ × ℕ)
 record_of (Done kinds.ExchangeId v) = Some (v.0, v.1.0)
 record_of _ = None
@@ -65,9 +65,9 @@ session_in results = option_and_then session_of (last_of results)
 abbrev pub session_value : List ℕ → List ℕ
 session_value session = session
 
--- ---- what comes of them
+-- ---- outcomes
 
--- a client that knows of no session yet
+-- a client without a session yet
 pub record IsNew {S A : Type 0} (stream : S) (uid gid : ℕ) (client : Client S A) : Type 0 where
   pub over : client.stream ≡ stream
   pub user : client.uid ≡ uid
@@ -79,8 +79,8 @@ MadeKnown contents remaining verifier old new result = AskGives contents remaini
 abbrev pub SessionMade : {S A : Type 0} → (S → Option (List ℕ)) → (S → Option (List ℕ)) → Registration → Client S A → Client S A → Result (List ℕ) ToolFault → Type 0
 SessionMade contents remaining r old new result = AskGives contents remaining session_in session_value false (create_session r.client r.number ∷ []) old new result
 
--- EXCHANGE_ID tells of a record, and CREATE_SESSION by its numbers of a session, of which the client calls by number 1 then; or the
--- first exchange fails, or the second.
+-- EXCHANGE_ID gives a client id, and CREATE_SESSION by its numbers a session, on which the client calls by number 1 then; or the first
+-- exchange fails, or the second.
 abbrev pub OpenGives : {S A : Type 0} → (S → Option (List ℕ)) → (S → Option (List ℕ)) → S → ℕ → ℕ → List ℕ → Result (Client S A) ToolFault → Type 0
 OpenGives {S} {A} contents remaining stream uid gid verifier (Ok client) =
     (start : Client S A) × (known : Client S A) × (made : Client S A) × (r : Registration) × (session : List ℕ) × IsNew stream uid gid start

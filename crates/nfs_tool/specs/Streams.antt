@@ -1,4 +1,4 @@
--- What goes over a stream.
+-- Bytes over a stream.
 use Rattle.std.specs.Prelude.{◌≡◌, ℕ, List, ◌++◌, Bool, true, false, Option, Result, Ok, Err}
 use Rattle.std.specs.Io.KnownBytes.{Appends, Consumes}
 use Rattle.rpc_record.specs.Records.{IsRecord}
@@ -11,7 +11,7 @@ use Rattle.nfs_tool.specs.declared.fault.ToolFault.TheVariants.{Read, Write, Rep
 abbrev pub WritesFront : Option (List ℕ) → Option (List ℕ) → List ℕ → Type 0
 WritesFront held held' bytes = (front : List ℕ) × (rest : List ℕ) × (bytes ≡ front ++ rest) × Appends held held' front
 
--- all of the bytes were written, or the stream failed behind a front of them
+-- all of the bytes were written, or the stream failed behind a front of the bytes
 abbrev pub WriteGives : Option (List ℕ) → Option (List ℕ) → List ℕ → Result (Unit {0}) ToolFault → Type 0
 WriteGives held held' bytes (Ok done) = Appends held held' bytes
 WriteGives held held' bytes (Err fault) = (fault ≡ Write) × WritesFront held held' bytes
@@ -22,7 +22,7 @@ IsFrameFault Reply = Unit {0}
 IsFrameFault Memory = Unit {0}
 IsFrameFault fault = ⊥
 
--- the bytes are a record, or a part of one that the framer stands for
+-- the bytes are a record, or a part of a record, with the framer behind it
 abbrev pub PieceGives : Frame → List ℕ → List ℕ → Result Bool ToolFault → Type 0
 PieceGives framer content bytes (Ok true) = IsRecord content bytes
 PieceGives framer content bytes (Ok false) = Stands framer content bytes
@@ -33,7 +33,7 @@ abbrev pub IsReadFault : ToolFault → Type 0
 IsReadFault Read = Unit {0}
 IsReadFault fault = IsFrameFault fault
 
--- what was read is a record
+-- the bytes that were read are a record
 abbrev pub ReadsRecord : Option (List ℕ) → Option (List ℕ) → List ℕ → Type 0
 ReadsRecord left left' content = (bytes : List ℕ) × IsRecord content bytes × Consumes left left' bytes
 
@@ -52,7 +52,7 @@ pub record Wrote {S : Type 0} (contents : S → Option (List ℕ)) (old : S) (ca
   pub mid : S
   pub wrote : Appends (contents old) (contents mid) call
 
--- a front of the bytes was written and the stream failed; or all were, and no record was read behind them
+-- a front of the bytes was written and the stream failed; or all bytes were, and no record was read behind them
 abbrev pub TalkFails : {S : Type 0} → (S → Option (List ℕ)) → S → S → List ℕ → ToolFault → Type 0
 TalkFails contents old new call Write = WritesFront (contents old) (contents new) call
 TalkFails contents old new call fault = IsReadFault fault × Wrote contents old call

@@ -1,4 +1,4 @@
--- Commands along paths: approaches, and then the COMPOUND of the command, which walks the names that are left.
+-- Commands along paths: approaches, and then the COMPOUND of the command, which walks the names left.
 use Rattle.std.specs.Prelude.{◌⊎◌, ℕ, true, List, [], ◌∷◌, ◌++◌, length, Option, Result, Ok, Err}
 use Rattle.nfs_ops.specs.Operations.{Operation, Known}
 use Rattle.nfs_ops.specs.Results.{Outcome}
@@ -16,12 +16,12 @@ use Rattle.nfs_tool.specs.declared.fault.ToolFault.{ToolFault}
 abbrev pub save : Operation
 save = Known kinds.SaveFh tt
 
--- along a path, the object there is saved, along another one, and an operation
+-- along a path, SAVEFH there, along another path, and an operation
 abbrev pub along_both : {S A : Type 0} → Client S A → Route → Route → Operation → List Operation
 along_both client first second op = sequence client ∷ walk first ++ save ∷ walk second ++ op ∷ []
 
 module _ {S A : Type 0} (contents remaining : S → Option (List ℕ)) where
-  -- What comes of approaches until at most so many names are left, and of what is done behind them along these; or an approach fails.
+  -- The outcome of approaches until at most so many names are left, and of a step behind them with the route left; or an approach fails.
   abbrev pub Walked : {X : Type 0} → ℕ → List (List ℕ) → (Route → Client S A → Result X ToolFault → Type 0) → Client S A → Client S A → Result X ToolFault → Type 0
   Walked most names does old new (Ok x) =
       (mid : Client S A) × (route : Route) × WalkGives contents remaining itself most names old mid (Ok route) × does route mid (Ok x)
@@ -29,25 +29,24 @@ module _ {S A : Type 0} (contents remaining : S → Option (List ℕ)) where
       WalkFails contents remaining most names old new fault
       ⊎ ((mid : Client S A) × (route : Route) × WalkGives contents remaining itself most names old mid (Ok route) × does route mid (Err fault))
 
-  -- What comes of a command that asks an operation at the end of a path, and takes something of the results, unless something is wrong
-  -- with its words.
+  -- The outcome of a command that asks an operation at the end of a path, and takes a value of the results, unless its words are wrong.
   abbrev pub CommandTells : {X V : Type 0} → (List Outcome → Option V) → (X → V) → (List (List ℕ) → Operation → Type 0) → (ToolFault → Type 0) → Client S A → Client S A → Result X ToolFault → Type 0
   CommandTells taken value asks wrong old new result =
       Commanded wrong (λ told. (names : List (List ℕ)) × (op : Operation) × asks names op
       × Walked most_names names (λ route mid r. AskGives contents remaining taken value true (along mid route op) mid new r) old new told) old new result
 
-  -- what comes of one that takes nothing
+  -- the outcome of a command that takes no value
   abbrev pub CommandGives : (List (List ℕ) → Operation → Type 0) → (ToolFault → Type 0) → Client S A → Client S A → Result (Unit {0}) ToolFault → Type 0
   CommandGives asks wrong old new result = CommandTells takes_nothing nothing asks wrong old new result
 
-  -- What comes of one that asks an operation at the ends of two paths, and takes nothing: of the walk of the first, and behind it of the
-  -- second.
+  -- The outcome of a command that asks an operation at the ends of two paths, and takes no value: of the walk of the first, and behind it
+  -- of the second.
   abbrev pub BothGive : (List (List ℕ) → List (List ℕ) → Operation → Type 0) → (ToolFault → Type 0) → Client S A → Client S A → Result (Unit {0}) ToolFault → Type 0
   BothGive asks wrong old new result =
       Commanded wrong (λ told. (names : List (List ℕ)) × (others : List (List ℕ)) × (op : Operation) × asks names others op
       × Walked (left_of_first (length names) (length others)) names (λ first mid r. Walked most_of_both others (λ second last s. AskGives contents remaining takes_nothing nothing true (along_both last first second op) last new s) mid new r) old new told) old new result
 
-  -- the request of an operation at the end of a path, of which it walks the names that are left; or an approach fails
+  -- the request of an operation at the end of a path, which walks the names left; or an approach fails
   abbrev pub ReadyGives : List (List ℕ) → Operation → Client S A → Client S A → Result (Request A) ToolFault → Type 0
   ReadyGives names op old new (Ok request) = (route : Route) × WalkGives contents remaining itself most_names names old new (Ok route) × Asks request (along new route op)
   ReadyGives names op old new (Err fault) = WalkFails contents remaining most_names names old new fault

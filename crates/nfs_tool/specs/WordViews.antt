@@ -1,4 +1,4 @@
--- A command, without where its words lie.
+-- A command, without the place of its words.
 use Rattle.std.specs.Prelude.{map}
 use Rattle.nfs_tool.specs.Words as specs
 use Rattle.nfs_tool.specs.declared.words.Command.{Command}
@@ -13,6 +13,6 @@ command_line (code.Ln old new) = specs.Ln old.now new.now
 command_line (code.Mv old new) = specs.Mv old.now new.now
 command_line (code.Rm path) = specs.Rm path.now
 command_line (code.ChMod mode path) = specs.ChMod mode.now path.now
-command_line (code.GetAcl path) = specs.GetAcl path.now
-command_line (code.SetAcl path entries) = specs.SetAcl path.now (map (λ e. e.now) entries.now)
+command_line (code.GetAcl part path) = specs.GetAcl part path.now
+command_line (code.SetAcl part path entries) = specs.SetAcl part path.now (map (λ e. e.now) entries.now)
 command_line (code.Access path) = specs.Access path.now

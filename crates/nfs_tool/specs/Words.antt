@@ -1,6 +1,8 @@
 -- A command as words.
-use Rattle.std.specs.Prelude.{ℕ, ◌==◌, ◌&&◌, not, length, if◌then◌else◌, List, [], ◌∷◌, Option, Some, None, codes}
+use Rattle.std.specs.Prelude.{ℕ, ◌==◌, length, if◌then◌else◌, List, [], ◌∷◌, Option, Some, None, codes}
 use Rattle.std.specs.Str.{bytes_eq}
+use Rattle.nfs_tool.specs.declared.list_part.ListPart.{ListPart}
+use Rattle.nfs_tool.specs.declared.list_part.ListPart.TheVariants.{Acl, Dacl, Sacl}
 
 pub data CommandLine : Type 0 where
   Ls : List ℕ → CommandLine
@@ -8,15 +10,16 @@ pub data CommandLine : Type 0 where
   -- the path and the text
   Put : List ℕ → List ℕ → CommandLine
   MkDir : List ℕ → CommandLine
-  -- the old path and the new one
+  -- the old path and the new path
   Ln : List ℕ → List ℕ → CommandLine
   Mv : List ℕ → List ℕ → CommandLine
   Rm : List ℕ → CommandLine
   -- the mode and the path
   ChMod : List ℕ → List ℕ → CommandLine
-  GetAcl : List ℕ → CommandLine
-  -- the path and the entries, of which there is one at least
-  SetAcl : List ℕ → List (List ℕ) → CommandLine
+  -- the list or its part, and the path
+  GetAcl : ListPart → List ℕ → CommandLine
+  -- the list or its part, the path and the entries, of which there is at least one
+  SetAcl : ListPart → List ℕ → List (List ℕ) → CommandLine
   Access : List ℕ → CommandLine
 
 -- a command of one path
@@ -26,11 +29,13 @@ of_one name path =
     else if bytes_eq name (codes "cat") then Some (Cat path)
     else if bytes_eq name (codes "mkdir") then Some (MkDir path)
     else if bytes_eq name (codes "rm") then Some (Rm path)
-    else if bytes_eq name (codes "getacl") then Some (GetAcl path)
+    else if bytes_eq name (codes "getacl") then Some (GetAcl Acl path)
+    else if bytes_eq name (codes "getdacl") then Some (GetAcl Dacl path)
+    else if bytes_eq name (codes "getsacl") then Some (GetAcl Sacl path)
     else if bytes_eq name (codes "access") then Some (Access path)
     else None
 
--- a command of two words besides `setacl`
+-- a command of two words that doesn't set a list
 abbrev pub of_two : List ℕ → List ℕ → List ℕ → Option CommandLine
 of_two name first second =
     if bytes_eq name (codes "put") then Some (Put first second)
@@ -43,12 +48,23 @@ abbrev pub exactly_two : List ℕ → List ℕ → List (List ℕ) → Option Co
 exactly_two name first (second ∷ []) = of_two name first second
 exactly_two name first _ = None
 
--- `setacl` takes one entry at least, the other commands one word more
-abbrev pub of_more : List ℕ → List ℕ → List (List ℕ) → Option CommandLine
-of_more name first others =
-    if bytes_eq name (codes "setacl") && not (length others == 0) then Some (SetAcl first others) else exactly_two name first others
+-- the list that a command sets, if the command sets a list
+abbrev pub set_by : List ℕ → Option ListPart
+set_by name =
+    if bytes_eq name (codes "setacl") then Some Acl
+    else if bytes_eq name (codes "setdacl") then Some Dacl
+    else if bytes_eq name (codes "setsacl") then Some Sacl
+    else None
 
--- the command that words are, with its number of words
+-- a command that sets a list takes at least one entry, any other command one word more
+abbrev pub setting_or_two : Option ListPart → List ℕ → List ℕ → List (List ℕ) → Option CommandLine
+setting_or_two (Some part) name first others = if length others == 0 then None else Some (SetAcl part first others)
+setting_or_two None name first others = exactly_two name first others
+
+abbrev pub of_more : List ℕ → List ℕ → List (List ℕ) → Option CommandLine
+of_more name first others = setting_or_two (set_by name) name first others
+
+-- the command of words, by their number
 abbrev pub command_in : List (List ℕ) → Option CommandLine
 command_in (name ∷ path ∷ []) = of_one name path
 command_in (name ∷ first ∷ second ∷ others) = of_more name first (second ∷ others)

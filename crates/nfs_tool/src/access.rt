@@ -1,4 +1,4 @@
-//! Which rights the caller has.
+//! The rights of the caller.
 ghost use Rattle.std.specs.Prelude.{◌≡◌, false, Err, option_map, option_and_then};
 ghost use Rattle.nfs_ops.specs.ResultViews.{read_view};
 ghost use Rattle.nfs_tool.specs.Access.{AccessAsks, NoPath, rights_of, rights_in};
@@ -20,10 +20,10 @@ use nfs_ops::{AccessArgs, AccessResult, Op, OpResult};
 use std::alloc::Allocator;
 use std::io::{Read, Write};
 
-/// The rights that are asked: READ, LOOKUP, MODIFY, EXTEND, DELETE and EXECUTE.
+/// The rights that ACCESS asks for: READ, LOOKUP, MODIFY, EXTEND, DELETE and EXECUTE.
 const ALL_RIGHTS: u32 = 0x3f;
 
-/// What a result says of rights.
+/// The rights of a result.
 fn rights(found: Option<OpResult<'_>>) -> Option<AccessResult>
     ensures { option_map rights_value result ≡ option_and_then rights_of (option_map read_view found.entry) }
 {
@@ -33,7 +33,7 @@ fn rights(found: Option<OpResult<'_>>) -> Option<AccessResult>
     }
 }
 
-/// The rights that results end with.
+/// The rights at the end of results.
 fn rights_told<A: Allocator>(results: Vec<OpResult<'_>, A>) -> Result<AccessResult, ToolFault>
     ensures { TakeGives rights_value (rights_in (outcomes results.entry.items)) result }
 {
@@ -44,7 +44,7 @@ fn rights_told<A: Allocator>(results: Vec<OpResult<'_>, A>) -> Result<AccessResu
 }
 
 impl<A: Allocator + Copy> Reply<A> {
-    /// The rights that the results end with.
+    /// The rights at the end of the results.
     fn rights(&self, alloc: A) -> Result<AccessResult, ToolFault>
         ensures { SaidGives rights_value rights_in (said self.now.xid self.now.asked.items self.now.content.items) result }
     {
@@ -71,7 +71,7 @@ impl<S: Read + Write, A: Allocator + Copy> Client<S, A> {
         told
     }
 
-    /// Which of the six rights of ACCESS have a meaning for an object, and which of them the caller has.
+    /// The rights of ACCESS that are supported for an object, of six, and those of them that the caller has.
     pub fn access(&mut self, path: &[u8]) -> Result<AccessResult, ToolFault>
         ensures failed { self.old.usable ≡ false → result ≡ Err Failed }
         ensures gives { CommandTells S.contents S.remaining rights_in rights_value (AccessAsks path.now) (NoPath path.now) self.old self.new result }

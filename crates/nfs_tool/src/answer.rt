@@ -1,4 +1,4 @@
-//! What a reply says of the operations that were asked.
+//! The answer of a reply to the operations that were asked.
 ghost use Rattle.std.specs.Prelude.{◌≡◌, MatchResult, Ok, Err};
 ghost use Rattle.nfs_ops.specs.ResultViews.{read_view};
 ghost use Rattle.nfs_types.specs.Status as statuses;
@@ -19,10 +19,10 @@ use rpc_record::read_reply;
 use std::alloc::Allocator;
 use xdr_wire::{Reader, XdrFault};
 
-/// The most bytes of a COMPOUND's tag, which has no bound but the record's.
+/// The most bytes of a COMPOUND's tag, which has no bound but that of the record.
 const MAX_TAG: usize = 0xffff_ffff;
 
-/// The number of the operation that a result is of, and its status.
+/// The number of the operation of a result, and its status.
 fn heading(outcome: &OpResult<'_>) -> (u32, Status)
     ensures number { result.0 ≡ number_of (read_view outcome.now) }
     ensures status { statuses.number_of result.1 ≡ status_of (read_view outcome.now) }
@@ -61,7 +61,7 @@ fn heading(outcome: &OpResult<'_>) -> (u32, Status)
     }
 }
 
-/// What can't be read is no reply.
+/// A record that can't be read is no reply.
 fn told<T>(read: Result<T, XdrFault>) -> Result<T, ToolFault>
     ensures { MatchResult read (λ x. result ≡ Ok x) (λ _. result ≡ Err fault.Reply) }
 {
@@ -107,7 +107,7 @@ fn read_compound<A: Allocator>(
     Ok((status, results))
 }
 
-/// What the last result says, behind which these operations are left.
+/// The answer by the last result, with these operations left behind it.
 fn judge_last(left: &[u32], status: u32, last: &OpResult<'_>) -> Result<(), ToolFault>
     ensures { Judges result (ended_by left.now status (read_view last.now)) }
 {
@@ -124,7 +124,7 @@ fn judge_last(left: &[u32], status: u32, last: &OpResult<'_>) -> Result<(), Tool
     Ok(())
 }
 
-/// What results say of the operations of these numbers.
+/// The answer by results, for the operations of these numbers.
 fn judge(asked: &[u32], status: u32, results: &[OpResult<'_>]) -> Result<(), ToolFault>
     ensures { Judges result (answer_of asked.now status (outcomes results.now)) }
 {
@@ -147,8 +147,8 @@ fn judge(asked: &[u32], status: u32, results: &[OpResult<'_>]) -> Result<(), Too
     judge(left, status, others)
 }
 
-/// The results that a record has for the call of this transaction that asks the operations of these numbers, where each of
-/// them is OK. `Refused`: the last operation that was run has another status. `Reply`: the record is no reply to the call.
+/// The results in a record for the call of this transaction with the operations of these numbers, where each operation is OK. `Refused`:
+/// the last operation that was run has another status. `Reply`: the record is no reply to the call.
 pub(crate) fn read_answer<'a, A: Allocator>(
     alloc: A,
     xid: u32,

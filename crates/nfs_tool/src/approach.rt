@@ -22,7 +22,7 @@ use nfs_types::Handle;
 use std::alloc::{AllocError, Allocator};
 use std::io::{Read, Write};
 
-/// What a result says of a filehandle.
+/// The filehandle in the result of a GETFH.
 pub(crate) fn handle_told(found: OpResult<'_>) -> Option<Handle<'_>>
     ensures { option_map handle_value result ≡ handle_of (read_view found.entry) }
 {
@@ -50,7 +50,7 @@ pub(crate) fn handle_bytes<A: Allocator>(
     Ok(bytes)
 }
 
-/// The filehandle that a result tells.
+/// The filehandle in a result, if there is one.
 fn reached<A: Allocator>(alloc: A, found: Option<OpResult<'_>>) -> Result<Vec<u8, A>, ToolFault>
     ensures { TakeGives (λ v. v.items) (option_and_then handle_of (option_map read_view found.entry)) result }
 {
@@ -64,7 +64,7 @@ fn reached<A: Allocator>(alloc: A, found: Option<OpResult<'_>>) -> Result<Vec<u8
 }
 
 impl<A: Allocator + Copy> Reply<A> {
-    /// The filehandle that the results end with.
+    /// The filehandle at the end of the results.
     fn reached(&self, alloc: A) -> Result<Vec<u8, A>, ToolFault>
         ensures { SaidGives (λ v. v.items) handle_in (said self.now.xid self.now.asked.items self.now.content.items) result }
     {
@@ -88,7 +88,7 @@ impl<S: Read + Write, A: Allocator + Copy> Client<S, A> {
         Ok(request)
     }
 
-    /// Walks these names by a COMPOUND of their own. The filehandle that they end at.
+    /// Walks these names by a COMPOUND of their own. The filehandle at their end.
     fn approach(&mut self, start: &Start<A>, names: &[&[u8]]) -> Result<Vec<u8, A>, ToolFault>
         ensures { AskGives S.contents S.remaining handle_in (λ v. v.items) true (approach self.old (route_from start.now names.now)) self.old self.new result }
     {
@@ -143,7 +143,7 @@ impl<S: Read + Write, A: Allocator + Copy> Client<S, A> {
         Ok(request)
     }
 
-    /// Approaches the end of a path. The request of an operation there, which walks the names that are left.
+    /// Approaches the end of a path. The request of an operation there, which walks the names left.
     pub(crate) fn ready(&mut self, names: &[&[u8]], op: Op<'_>) -> Result<Request<A>, ToolFault>
         ensures { ReadyGives S.contents S.remaining (map (λ n. n.now) names.now) (op_view op.entry) self.old self.new result }
     {
@@ -153,7 +153,7 @@ impl<S: Read + Write, A: Allocator + Copy> Client<S, A> {
         }
     }
 
-    /// The request of an operation at the ends of two routes. The object at the end of the first is the saved one.
+    /// The request of an operation at the ends of two routes. The object at the end of the first route is the saved filehandle.
     fn request_both(
         &self,
         first: &Route<'_, A>,
@@ -171,8 +171,8 @@ impl<S: Read + Write, A: Allocator + Copy> Client<S, A> {
         Ok(request)
     }
 
-    /// Approaches the ends of two paths, first that of the first. The request of an operation there, which walks the names that are left
-    /// of both.
+    /// Approaches the ends of two paths, the end of the first path first. The request of an operation there, which walks the names left of
+    /// both.
     pub(crate) fn ready_both(
         &mut self,
         names: &[&[u8]],

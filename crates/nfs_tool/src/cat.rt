@@ -23,7 +23,7 @@ use std::io::{Read, Write};
 /// The most calls of one command.
 pub(crate) const MOST_CALLS: u32 = 10_000;
 
-/// What a result says of bytes.
+/// The bytes of a result.
 fn piece(found: Option<OpResult<'_>>) -> Option<ReadResult<'_>>
     ensures { option_map piece_value result ≡ option_and_then piece_of (option_map read_view found.entry) }
 {
@@ -34,7 +34,7 @@ fn piece(found: Option<OpResult<'_>>) -> Option<ReadResult<'_>>
 }
 
 impl<A: Allocator + Copy> Reply<A> {
-    /// The bytes that the results end with.
+    /// The bytes at the end of results.
     fn piece(&self, alloc: A) -> Result<ReadResult<'_>, ToolFault>
         ensures { SaidGives piece_value piece_in (said self.now.xid self.now.asked.items self.now.content.items) result }
     {
@@ -47,7 +47,7 @@ impl<A: Allocator + Copy> Reply<A> {
         }
     }
 
-    /// Puts the bytes that the results end with behind those that were read. Whether the file ends there.
+    /// Puts the bytes at the end of the results behind the bytes read so far. Whether the file ends there.
     fn put_piece(&self, alloc: A, bytes: &mut Vec<u8, A>) -> Result<bool, ToolFault>
         ensures { PieceTaken (said self.now.xid self.now.asked.items self.now.content.items) bytes.old.items bytes.new.items result }
     {
@@ -64,7 +64,7 @@ impl<A: Allocator + Copy> Reply<A> {
 impl<S: Read + Write, A: Allocator + Copy> Client<S, A> {
     ghost use Rattle.std.specs.Prelude.{IfOk};
 
-    /// The request of the bytes behind so many.
+    /// The request of the bytes from an offset on.
     fn prepare_read(&self, route: &Route<'_, A>, offset: usize) -> Result<Request<A>, ToolFault>
         ensures asks { IfOk result (λ r. Asks r (read_from (route_value route.now) self.now offset)) }
         ensures memory { PutGives result }
@@ -78,7 +78,7 @@ impl<S: Read + Write, A: Allocator + Copy> Client<S, A> {
         self.request_along(route, op)
     }
 
-    /// Reads the bytes behind those that were read. Whether the file ends behind them.
+    /// Reads the bytes behind the bytes read so far. Whether the file ends behind them.
     fn read_piece(
         &mut self,
         route: &Route<'_, A>,
@@ -114,7 +114,7 @@ impl<S: Read + Write, A: Allocator + Copy> Client<S, A> {
         Err(ToolFault::Reply)
     }
 
-    /// The bytes of a file, in at most 10,000 calls. `Reply`: there are more of them.
+    /// The bytes of a file, in at most 10,000 calls. `Reply`: the file has more bytes.
     pub fn cat(&mut self, path: &[u8]) -> Result<Vec<u8, A>, ToolFault>
         ensures failed { self.old.usable ≡ false → result ≡ Err Failed }
         ensures gives { CatGives S.contents S.remaining (λ v. v.items) path.now self.old self.new result }

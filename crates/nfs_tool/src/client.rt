@@ -1,4 +1,4 @@
-//! A client, and one exchange of it.
+//! A client, and one exchange by it.
 ghost use Rattle.std.specs.Prelude.{◌≡◌, ◌∷◌, [], List, MatchResult, true, false, if◌then◌else◌};
 ghost use Rattle.nfs_ops.specs.Operations.{Operation};
 ghost use Rattle.nfs_tool.specs.Compound.{said};
@@ -31,11 +31,11 @@ pub struct Client<S, A: Allocator = Global> {
     pub(crate) session: [u8; 16],
     /// The number of the slot's next call.
     pub(crate) number: u32,
-    /// Whether nothing of an exchange is left open. No command runs on a stream where something is.
+    /// Whether no exchange is left open. No command runs on a stream with an exchange that is open.
     pub(crate) usable: bool,
 }
 
-/// The record that came behind a call, with what was asked.
+/// The record that came behind a call, with the operations of the call.
 #[derive(Drop)]
 pub(crate) struct Reply<A: Allocator> {
     xid: u32,
@@ -51,7 +51,7 @@ impl<A: Allocator + Copy> Reply<A> {
         read_answer(alloc, self.xid, &self.asked, &self.content)
     }
 
-    /// Nothing but that each is OK.
+    /// No value: each operation is OK.
     fn done(&self, alloc: A) -> Result<(), ToolFault>
         ensures { SaidGives nothing takes_nothing (said self.now.xid self.now.asked.items self.now.content.items) result }
     {
@@ -62,7 +62,7 @@ impl<A: Allocator + Copy> Reply<A> {
     }
 }
 
-/// Whether a call whose operation of this number was refused took the slot's number.
+/// Whether a call with a refused operation of this number took the slot's number.
 fn takes_number(in_session: bool, op: u32) -> bool
     ensures { result ≡ takes_number in_session op }
 {
@@ -74,8 +74,8 @@ impl<S: Read + Write, A: Allocator + Copy> Client<S, A> {
     ghost use Rattle.nfs_tool.specs.Commands.{sequence, Concludes, Spoils, AskGives};
     ghost use Rattle.nfs_tool.specs.declared.fault.ToolFault.TheVariants.{Memory, Failed};
 
-    /// A client that goes on with a session of the client of this number, over a stream on which nothing of an exchange is left
-    /// open. It calls as this user and in this group alone. The last number is that of the next call on slot 0.
+    /// A client that goes on with a session of the client of this number, over a stream on which no exchange is left open. The client
+    /// calls as this user and in this group alone. The last number is the number of the next call on slot 0.
     pub fn resume(
         alloc: A,
         stream: S,
@@ -126,7 +126,7 @@ impl<S: Read + Write, A: Allocator + Copy> Client<S, A> {
         }
     }
 
-    /// A client on whose stream something of an exchange is left open runs no command.
+    /// A client on whose stream an exchange is left open runs no command.
     pub(crate) fn start(&self) -> Result<(), ToolFault>
         ensures { MatchResult result (λ _. self.now.usable ≡ true) (λ fault. (fault ≡ Failed) × (self.now.usable ≡ false)) }
     {
@@ -162,8 +162,8 @@ impl<S: Read + Write, A: Allocator + Copy> Client<S, A> {
         }
     }
 
-    /// The exchange is over where its reply told this: what was taken of the results, or that the last operation was refused.
-    /// A call in a session takes the slot's number.
+    /// The exchange is over where its reply gave this: the value of the results, or that the last operation was refused. A call in a
+    /// session takes the slot's number.
     pub(crate) fn conclude<T>(&mut self, told: &Result<T, ToolFault>, in_session: bool)
         ensures { Concludes in_session told.now self.old self.new }
     {
@@ -174,7 +174,7 @@ impl<S: Read + Write, A: Allocator + Copy> Client<S, A> {
         }
     }
 
-    /// Asks a request's operations, whose results say no more than that they are OK.
+    /// Asks a request's operations, where it is enough that they are OK.
     pub(crate) fn run(&mut self, request: Request<A>, in_session: bool) -> Result<(), ToolFault>
         ensures { (ops : List Operation) → Asks request ops → AskGives S.contents S.remaining takes_nothing nothing in_session ops self.old self.new result }
     {

@@ -9,13 +9,13 @@ use std::alloc::{AllocError, Allocator};
 /// An entry of a list as text, `TYPE:FLAGS:MASK:WHO`.
 #[derive(Clone, Copy, Debug)]
 pub struct EntryText<'a> {
-    /// Its type.
+    /// The type of the entry.
     pub kind: EntryKind,
-    /// Its flags.
+    /// The flags of the entry.
     pub flags: u8,
-    /// Its mask.
+    /// The mask of the entry.
     pub mask: u32,
-    /// Whom it is about, as text.
+    /// The who of the entry, as text.
     pub who: &'a [u8],
 }
 
@@ -41,7 +41,7 @@ fn byte(high: u8, low: u8) -> Option<u8>
     Some(16 * high + low)
 }
 
-/// Two hexadecimal digits at the front, and what stands behind them.
+/// Two hexadecimal digits at the front, and the rest behind them.
 fn byte_at(text: &[u8]) -> Option<(u8, &[u8])>
     ensures { option_map (λ x. (x.0, x.1.now)) result ≡ byte_at text.now }
 {
@@ -51,7 +51,7 @@ fn byte_at(text: &[u8]) -> Option<(u8, &[u8])>
     }
 }
 
-/// Eight hexadecimal digits at the front, and what stands behind them.
+/// Eight hexadecimal digits at the front, and the rest behind them.
 fn word_at(text: &[u8]) -> Option<(u32, &[u8])>
     ensures { option_map (λ x. (x.0, x.1.now)) result ≡ word_at text.now }
 {
@@ -62,7 +62,7 @@ fn word_at(text: &[u8]) -> Option<(u32, &[u8])>
     Some((u32::from_be_bytes([a, b, c, d]), rest))
 }
 
-/// What stands behind a colon at the front.
+/// The rest behind a colon at the front.
 fn behind_colon(text: &[u8]) -> Option<&[u8]>
     ensures { option_map (λ rest. rest.now) result ≡ behind_colon text.now }
 {
@@ -97,7 +97,7 @@ fn letter(kind: EntryKind) -> u8
     }
 }
 
-/// The type of an entry by the letter at the front, and what stands behind it.
+/// The type of an entry by the letter at the front, and the rest behind it.
 fn kind_at(text: &[u8]) -> Option<(EntryKind, &[u8])>
     ensures { option_map (λ x. (x.0, x.1.now)) result ≡ kind_at text.now }
 {
@@ -138,8 +138,8 @@ pub(crate) fn hex_word(value: u32) -> [u8; 8]
 impl<'a> EntryText<'a> {
     ghost use Rattle.nfs_tool.specs.EntryViews.{entry_line};
 
-    /// The entry that a text is: a letter (A, D, U or L), two and eight hexadecimal digits in either case, and a who, with a
-    /// colon before each but the first. The who is all behind the third colon.
+    /// The entry of a text: a letter (A, D, U or L), two and eight hexadecimal digits in either case, and a who, with a colon before each
+    /// but the first. The who is all behind the third colon.
     pub fn read(text: &'a [u8]) -> Option<Self>
         ensures { option_map entry_line result ≡ entry_in text.entry.now }
     {
@@ -155,7 +155,7 @@ impl<'a> EntryText<'a> {
         })
     }
 
-    /// What stands before the who.
+    /// The text before the who.
     fn head(&self) -> [u8; 14]
         ensures { result ≡ entry_head (entry_line self.now) }
     {

@@ -1,4 +1,4 @@
-//! Why a command has no answer.
+//! The faults of a command.
 ghost use Rattle.std.specs.Prelude.{◌≡◌};
 ghost use Rattle.nfs_tool.specs.declared.fault.ToolFault.TheVariants.{Memory};
 
@@ -6,16 +6,16 @@ use nfs_types::Status;
 use std::alloc::{AllocError, AllocFailed};
 use thiserror::Error;
 
-/// Why a command has no answer.
+/// The fault of a command without an answer.
 #[derive(Clone, Copy, Debug, PartialEq, Eq, Error)]
 pub enum ToolFault {
-    /// A path is neither `/` nor names each with `/` in front, or `/` stands where a name is needed.
+    /// A path is neither `/` nor names each with `/` in front, or `/` is given for a name.
     #[error("no path, or no name in it")]
     Path,
     /// The server refused the operation of this number with this status.
     #[error("operation {0} was refused")]
     Refused(u32, Status),
-    /// What came is no reply to the call.
+    /// The record that came is no reply to the call.
     #[error("no reply to the call")]
     Reply,
     /// The stream can't be read, or ended inside a reply, or a reply took too many reads.
@@ -30,7 +30,7 @@ pub enum ToolFault {
     /// A mode isn't one to four octal digits, or an entry can't be read.
     #[error("no mode, or no entry")]
     Entry,
-    /// An earlier command left the stream where no other command can follow.
+    /// An earlier command left the stream in a state in which no other command can follow.
     #[error("an earlier command failed")]
     Failed,
 }

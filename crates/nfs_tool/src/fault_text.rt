@@ -78,7 +78,7 @@ impl FaultText {
     }
 }
 
-/// The name of a status, which is short.
+/// The name of a status, of at most 20 bytes.
 fn status_name(status: Status) -> &'static [u8]
     ensures name { result.now ≡ name_of status }
     ensures short { length result.now ≤ 20 }
@@ -108,7 +108,7 @@ fn failed_text(number: u32) -> FaultText
 
 impl ToolFault {
     /// The text that a program prints: `refused OP STATUS` by the names of both, as in `refused READ ACCESS`, and for any other fault
-    /// `failed N` with its number. It takes no memory.
+    /// `failed N` with its number. `text` takes no memory.
     pub fn text(self) -> FaultText
         ensures { result ≡ fault_text self }
     {

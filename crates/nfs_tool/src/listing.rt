@@ -6,23 +6,23 @@ use crate::modes::mode_text;
 use itoa::Buffer;
 use std::alloc::{AllocError, Allocator};
 
-/// What stands for what isn't known.
+/// The column of an attribute that isn't known.
 const UNKNOWN: &[u8] = b"?";
 
-/// What is known of an entry of a directory.
+/// The known attributes of an entry of a directory.
 #[derive(Clone, Copy, Debug)]
 pub struct Listed<'a> {
-    /// Its type, `nfs_ftype4`.
+    /// The type, `nfs_ftype4`.
     pub kind: Option<u32>,
     pub mode: Option<u32>,
     pub owner: Option<&'a [u8]>,
     pub group: Option<&'a [u8]>,
-    /// In bytes.
+    /// The size in bytes.
     pub size: Option<u64>,
     pub name: &'a [u8],
 }
 
-/// Puts a column and a space behind it.
+/// Puts a column and a space behind the column.
 fn put_column<A: Allocator>(out: &mut Vec<u8, A>, text: &[u8]) -> Result<(), AllocError>
     ensures { OnOk result (out.new.items ≡ out.old.items ++ (text.now ++ 32 ∷ [])) }
 {
@@ -72,7 +72,7 @@ fn put_size<A: Allocator>(out: &mut Vec<u8, A>, size: Option<u64>) -> Result<(),
 impl Listed<'_> {
     ghost use Rattle.nfs_tool.specs.LineViews.{listed};
 
-    /// Puts the line: kind, mode, owner, group, size and name, with a space between two. `?` stands for what isn't known.
+    /// Puts the line: kind, mode, owner, group, size and name, with a space between two. `?` is an attribute that isn't known.
     pub fn put<A: Allocator>(&self, out: &mut Vec<u8, A>) -> Result<(), AllocError>
         ensures { OnOk result (out.new.items ≡ out.old.items ++ line (listed self.now)) }
     {

@@ -42,7 +42,7 @@ fn attributes_listed() -> Bitmap
         .with(Attribute::OwnerGroup.number())
 }
 
-/// A text as it lies in a reply.
+/// A text in a reply.
 fn text_in(text: Option<Bytes<'_>>) -> Option<&[u8]>
     ensures { option_map (λ t. t.now) result ≡ option_map (λ t. t.bytes.now) text.entry }
 {
@@ -52,12 +52,12 @@ fn text_in(text: Option<Bytes<'_>>) -> Option<&[u8]>
     }
 }
 
-/// How far a directory is listed.
+/// The lines of a directory, as far as it is listed.
 #[derive(Drop)]
 pub(crate) struct Listing<A: Allocator> {
-    /// A line for each entry that was given, with a newline behind it.
+    /// A line for each given entry, with a newline behind it.
     text: Vec<u8, A>,
-    /// The cookie of the last of them, 0 before the first.
+    /// The cookie of the last given entry, 0 before the first.
     cookie: u64,
 }
 
@@ -83,7 +83,7 @@ impl<A: Allocator> Listing<A> {
         Ok(())
     }
 
-    /// Puts the line of each entry. `Reply`: the attributes of one of them can't be read.
+    /// Puts the line of each entry. `Reply`: the attributes of an entry can't be read.
     fn put_all<'a>(&mut self, entries: Chain<'a, Entry<'a>>) -> Result<(), ToolFault>
         ensures { PutsEntries self.old self.new (chain_values forms.entry (Some forms.entry_normal) entries.entry.bytes.now) result }
     {
@@ -97,7 +97,7 @@ impl<A: Allocator> Listing<A> {
         Ok(())
     }
 
-    /// Puts the lines of the page that a result tells. Whether the directory ends behind it.
+    /// Puts the lines of the page in a result. Whether the directory ends behind it.
     fn put_page(&mut self, found: Option<OpResult<'_>>) -> Result<bool, ToolFault>
         ensures { PutsPage self.old self.new (option_and_then page_of (option_map read_view found.entry)) result }
     {
@@ -113,7 +113,7 @@ impl<A: Allocator> Listing<A> {
 }
 
 impl<A: Allocator + Copy> Reply<A> {
-    /// Puts the lines of the page that the results end with. Whether the directory ends behind it.
+    /// Puts the lines of the page at the end of the results. Whether the directory ends behind it.
     fn put_page(&self, alloc: A, listing: &mut Listing<A>) -> Result<bool, ToolFault>
         ensures { PageTaken (said self.now.xid self.now.asked.items self.now.content.items) listing.old listing.new result }
     {
@@ -147,7 +147,7 @@ impl<S: Read + Write, A: Allocator + Copy> Client<S, A> {
         self.request_along(route, op)
     }
 
-    /// Lists the entries behind those that were listed. Whether the directory ends behind them.
+    /// Lists the entries behind those listed so far. Whether the directory ends behind them.
     fn list_page(
         &mut self,
         route: &Route<'_, A>,
@@ -187,8 +187,8 @@ impl<S: Read + Write, A: Allocator + Copy> Client<S, A> {
         Err(ToolFault::Reply)
     }
 
-    /// The entries of a directory, in at most 10,000 calls: a line for each, with a newline behind it (`Listed::put`). `Reply`: there
-    /// are more of them.
+    /// The entries of a directory, in at most 10,000 calls: a line for each, with a newline behind it (`Listed::put`). `Reply`: the
+    /// directory has more entries.
     pub fn ls(&mut self, path: &[u8]) -> Result<Vec<u8, A>, ToolFault>
         ensures failed { self.old.usable ≡ false → result ≡ Err Failed }
         ensures gives { LsGives S.contents S.remaining (λ v. v.items) path.now self.old self.new result }

@@ -1,4 +1,4 @@
-//! Making a directory.
+//! Creating a directory.
 ghost use Rattle.std.specs.Prelude.{◌≡◌, false, Err};
 ghost use Rattle.nfs_tool.specs.MkDir.{MkDirAsks};
 ghost use Rattle.nfs_tool.specs.Rm.{WrongPath};
@@ -15,7 +15,7 @@ use std::alloc::Allocator;
 use std::io::{Read, Write};
 
 impl<S: Read + Write, A: Allocator + Copy> Client<S, A> {
-    /// Makes a directory, which inherits its access control list.
+    /// Creates a directory, which inherits its access control list.
     pub fn mkdir(&mut self, path: &[u8]) -> Result<(), ToolFault>
         ensures failed { self.old.usable ≡ false → result ≡ Err Failed }
         ensures gives { CommandGives S.contents S.remaining (MkDirAsks path.now) (WrongPath path.now) self.old self.new result }

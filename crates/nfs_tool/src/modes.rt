@@ -25,7 +25,7 @@ fn four(a: u8, b: u8, c: u8, d: u8) -> Option<u32>
     Some(((a * 8 + b) * 8 + c) * 8 + d)
 }
 
-/// The mode that a word of one to four octal digits is.
+/// The mode of a word of one to four octal digits.
 pub fn read_mode(word: &[u8]) -> Option<u32>
     ensures value { result ≡ mode_in word.now }
     ensures small { IfSome result (λ mode. mode < 4096) }

@@ -60,10 +60,12 @@ fn of_size(size: u64) -> ShownAttributes<'static>
         mode: None,
         owner: None,
         group: None,
+        dacl: None,
+        sacl: None,
     }
 }
 
-/// What a result says of an open.
+/// The stateid in the result of an OPEN.
 fn stateid_told(found: OpResult<'_>) -> Option<StateId>
     ensures { option_map stateid_value result ≡ stateid_of (read_view found.entry) }
 {
@@ -73,7 +75,7 @@ fn stateid_told(found: OpResult<'_>) -> Option<StateId>
     }
 }
 
-/// The open that results end with, told by an OPEN and the GETFH behind it.
+/// The open at the end of results: of an OPEN and of the GETFH behind it.
 fn open_told<A: Allocator + Copy>(
     alloc: A,
     results: Vec<OpResult<'_>, A>,
@@ -93,7 +95,7 @@ fn open_told<A: Allocator + Copy>(
     Ok(Opened { stateid, handle })
 }
 
-/// How many bytes a result says were written, of so many that were sent. None: it says no such number.
+/// The count of a WRITE's result, of so many bytes that were sent. None: the result has no such count.
 fn written(found: Option<OpResult<'_>>, sent: usize) -> Option<usize>
     ensures { result ≡ option_and_then (written_of sent) (option_map read_view found.entry) }
 {
@@ -108,7 +110,7 @@ fn written(found: Option<OpResult<'_>>, sent: usize) -> Option<usize>
     }
 }
 
-/// The bytes that are written next of those that are left.
+/// The bytes of the next WRITE, of those left.
 fn piece(left: &[u8]) -> &[u8]
     ensures { result.now ≡ piece left.now }
 {
@@ -130,7 +132,7 @@ impl<A: Allocator> Opened<A> {
 }
 
 impl<A: Allocator + Copy> Reply<A> {
-    /// The open that the results end with.
+    /// The open at the end of the results.
     fn opened(&self, alloc: A) -> Result<Opened<A>, ToolFault>
         ensures { SaidGives open_value open_in (said self.now.xid self.now.asked.items self.now.content.items) result }
     {
@@ -140,7 +142,7 @@ impl<A: Allocator + Copy> Reply<A> {
         }
     }
 
-    /// How many bytes were written, of so many that were sent.
+    /// The count of a WRITE, of so many bytes that were sent.
     fn written(&self, alloc: A, sent: usize) -> Result<usize, ToolFault>
         ensures { SaidGives itself (written_in sent) (said self.now.xid self.now.asked.items self.now.content.items) result }
     {
@@ -154,7 +156,7 @@ impl<A: Allocator + Copy> Reply<A> {
     }
 }
 
-/// OPEN for writing of the file of this name, which is made where there is none, with these attributes by these values.
+/// OPEN for writing of the file of this name, which is created where there is none, with these attributes by these values.
 fn opening<'a>(
     client: u64,
     name: &'a [u8],
@@ -217,7 +219,7 @@ impl<S: Read + Write, A: Allocator + Copy> Client<S, A> {
         Ok(request)
     }
 
-    /// Writes bytes of an open file from an offset on, or some of the first of them. How many were written.
+    /// Writes bytes of an open file from an offset on, or some of the first of these bytes. How many were written.
     fn write_piece(
         &mut self,
         opened: &Opened<A>,
@@ -273,8 +275,8 @@ impl<S: Read + Write, A: Allocator + Copy> Client<S, A> {
         self.run(request, true)
     }
 
-    /// Closes a file behind the last WRITE, also behind a refused one, which is told then. A CLOSE to which no reply came is told in its
-    /// place.
+    /// Closes a file behind the last WRITE, also behind a refused WRITE, whose fault is the answer then. A CLOSE without a reply is
+    /// answered in its place.
     fn close_behind(
         &mut self,
         opened: &Opened<A>,
@@ -330,8 +332,8 @@ impl<S: Read + Write, A: Allocator + Copy> Client<S, A> {
         }
     }
 
-    /// Makes a text the bytes of a file, which is made where there is none: OPEN, a WRITE for each 32,768 bytes, CLOSE. The file is closed
-    /// behind a refused WRITE too, which is told then.
+    /// Makes a text the bytes of a file, which is created where there is none: OPEN, a WRITE for each 32,768 bytes, CLOSE. The file is
+    /// closed behind a refused WRITE too, whose fault is the answer then.
     pub fn put(&mut self, path: &[u8], text: &[u8]) -> Result<(), ToolFault>
         ensures failed { self.old.usable ≡ false → result ≡ Err Failed }
         ensures gives { PutCommandGives S.contents S.remaining path.now text.now self.old self.new result }

@@ -1,4 +1,4 @@
-//! The operations of a call, and the call as it is written.
+//! The operations of a call, and the call as written.
 ghost use Rattle.std.specs.Prelude.{◌≡◌, ◌++◌, ◌∷◌, [], List, map, IsTrue, MatchResult, OnOk, IfOk, Ok};
 ghost use Rattle.rpc_record.specs.Identity.{is_member};
 ghost use Rattle.nfs_tool.specs.declared.fault.ToolFault.TheVariants.{Memory};
@@ -18,16 +18,16 @@ const HEAD_LIMIT: usize = CALL_HEADER_LIMIT + 12;
 /// The minor version of NFS version 4.1.
 const MINOR_VERSION: u32 = 1;
 
-/// The operations of a COMPOUND, as they are written.
+/// The operations of a COMPOUND, as written.
 #[derive(Drop)]
 pub(crate) struct Request<A: Allocator> {
-    /// Their bytes.
+    /// The bytes of the operations.
     body: Writer<A>,
-    /// The number of each.
+    /// The number of each operation.
     asked: Vec<u32, A>,
 }
 
-/// What has no room takes more than a record may have.
+/// `Memory` where the bytes have no room: they are more than a record may have.
 pub(crate) fn has_room(put: Result<(), Full>) -> Result<(), ToolFault>
     ensures { MatchResult result (λ _. put ≡ Ok tt) (λ fault. fault ≡ Memory) }
 {
@@ -37,7 +37,7 @@ pub(crate) fn has_room(put: Result<(), Full>) -> Result<(), ToolFault>
     }
 }
 
-/// Bytes as they are sent. `Memory`: they are longer than their length can tell, and so than a record.
+/// Bytes as sent. `Memory`: the bytes are longer than a length can tell, and so than a record.
 pub(crate) fn sendable(bytes: &[u8]) -> Result<Bytes<'_>, ToolFault>
     ensures { MatchResult result (λ b. b.bytes.now ≡ bytes.now) (λ fault. fault ≡ Memory) }
 {
@@ -63,7 +63,7 @@ fn head<A: Allocator>(
     Ok(head)
 }
 
-/// Two parts as one record. `Memory` also where they are longer than a record may be.
+/// Two parts as one record. `Memory` also where the parts are longer than a record may be.
 fn one_record<A: Allocator>(alloc: A, head: &[u8], body: &[u8]) -> Result<Vec<u8, A>, ToolFault>
     ensures { OneRecordGives (λ v. v.items) (head.now ++ body.now) result }
 {
@@ -82,7 +82,7 @@ impl<A: Allocator + Copy> Request<A> {
     ghost use Rattle.nfs_tool.specs.Requests.{Asks, PutGives, SpellGives, asked_of};
     ghost use Rattle.nfs_tool.specs.Commands.{lookups};
 
-    /// Of no operations.
+    /// A request of no operations.
     pub(crate) fn new(alloc: A) -> Result<Self, ToolFault>
         ensures asks { IfOk result (λ r. Asks r []) }
         ensures memory { PutGives result }
@@ -104,7 +104,7 @@ impl<A: Allocator + Copy> Request<A> {
         Ok(())
     }
 
-    /// Along these names, from the current directory on.
+    /// LOOKUP of each of these names, from the current directory on.
     pub(crate) fn lookups(&mut self, names: &[&[u8]]) -> Result<(), ToolFault>
         ensures asks { OnOk result ((ops : List Operation) → Asks self.old ops → Asks self.new (ops ++ lookups (map (λ n. n.now) names.now))) }
         ensures memory { PutGives result }
@@ -125,7 +125,7 @@ impl<A: Allocator + Copy> Request<A> {
         asked
     }
 
-    /// The call of these operations as one record. `Memory` also where it is longer than a record may be.
+    /// The call of these operations as one record. `Memory` also where the call is longer than a record may be.
     pub(crate) fn spell(&self, alloc: A, xid: u32, caller: Caller) -> Result<Vec<u8, A>, ToolFault>
         requires { IsTrue (is_member caller caller.gid) }
         ensures { (ops : List Operation) → Asks self.now ops → SpellGives (λ v. v.items) xid caller ops result }

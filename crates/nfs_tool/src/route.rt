@@ -1,4 +1,4 @@
-//! Where a walk begins, and the names that are left of it.
+//! The start of a walk, and the names that are left of it.
 ghost use Rattle.std.specs.Prelude.{◌≡◌, ◌++◌, ◌∷◌, [], List, OnOk, IfOk, take};
 ghost use Rattle.nfs_types.specs.Views.{handle_value};
 ghost use Rattle.nfs_ops.specs.Operations.{Operation};
@@ -13,7 +13,7 @@ use nfs_types::Handle;
 use std::alloc::Allocator;
 use xdr_wire::Opaque;
 
-/// The most names that a COMPOUND walks before one operation. With SEQUENCE and where the walk begins these are the 16 operations that a
+/// The most names that a COMPOUND walks before one operation. With SEQUENCE and the start of the walk these are the 16 operations that a
 /// session takes.
 pub(crate) const MOST_NAMES: usize = 13;
 
@@ -23,8 +23,8 @@ pub(crate) const MOST_BEFORE_TWO: usize = 12;
 /// The most names of two paths that a COMPOUND walks before one operation, with SAVEFH between them.
 pub(crate) const MOST_OF_BOTH: usize = 11;
 
-/// With how many names left the approaches to the end of the first of two paths end, of so many names and so many. Where one COMPOUND can
-/// walk both there is none; else the first is walked to its end, before a name of the second is.
+/// How many names of the first of two paths, of so many names and so many, may be left at the end of its approaches. Where one COMPOUND
+/// can walk both paths there is no approach; else the first is walked to its end, before a name of the second is.
 pub(crate) fn left_of_first(names: usize, others: usize) -> usize
     ensures { result ≡ left_of_first names others }
 {
@@ -34,7 +34,7 @@ pub(crate) fn left_of_first(names: usize, others: usize) -> usize
     MOST_OF_BOTH
 }
 
-/// The names that one approach walks of these.
+/// The names of one approach, of these.
 pub(crate) fn nearest<'a>(names: &'a [&'a [u8]]) -> &'a [&'a [u8]]
     ensures { result.now ≡ take most_names names.entry.now }
 {
@@ -42,7 +42,7 @@ pub(crate) fn nearest<'a>(names: &'a [&'a [u8]]) -> &'a [&'a [u8]]
     near
 }
 
-/// Where a walk begins.
+/// The start of a walk.
 #[derive(Drop)]
 pub(crate) enum Start<A: Allocator> {
     Root,
@@ -50,14 +50,14 @@ pub(crate) enum Start<A: Allocator> {
     Object(Vec<u8, A>),
 }
 
-/// A walk: where it begins, and the names that are left of it.
+/// A walk: its start, and the names that are left of it.
 #[derive(Drop)]
 pub(crate) struct Route<'a, A: Allocator> {
     pub(crate) start: Start<A>,
     pub(crate) names: &'a [&'a [u8]],
 }
 
-/// A filehandle as it is sent. `Memory`: it is longer than a filehandle may be.
+/// A filehandle as sent. `Memory`: the handle is longer than a filehandle may be.
 pub(crate) fn handle_sent(bytes: &[u8]) -> Result<Handle<'_>, ToolFault>
     ensures sent { IfOk result (λ h. handle_value h ≡ bytes.now) }
     ensures memory { PutGives result }
@@ -69,7 +69,7 @@ pub(crate) fn handle_sent(bytes: &[u8]) -> Result<Handle<'_>, ToolFault>
 }
 
 impl<A: Allocator + Copy> Request<A> {
-    /// To where a walk begins: PUTROOTFH, or PUTFH (RFC 8881, section 18.19).
+    /// The start of a walk: PUTROOTFH, or PUTFH (RFC 8881, section 18.19).
     pub(crate) fn begin(&mut self, start: &Start<A>) -> Result<(), ToolFault>
         ensures asks { OnOk result ((ops : List Operation) → Asks self.old ops → Asks self.new (ops ++ begins (start_value start.now) ∷ [])) }
         ensures memory { PutGives result }
@@ -83,7 +83,7 @@ impl<A: Allocator + Copy> Request<A> {
         }
     }
 
-    /// Along the names of a route.
+    /// LOOKUP of the names of a route.
     pub(crate) fn walk(&mut self, route: &Route<'_, A>) -> Result<(), ToolFault>
         ensures asks { OnOk result ((ops : List Operation) → Asks self.old ops → Asks self.new (ops ++ walk (route_value route.now))) }
         ensures memory { PutGives result }

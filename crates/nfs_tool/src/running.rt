@@ -10,22 +10,22 @@ use nfs_ops::AccessResult;
 use std::alloc::{Allocator, Global};
 use std::io::{Read, Write};
 
-/// The bytes of the line that tells rights.
+/// The bytes of the line of rights.
 const RIGHTS_LINE: usize = 25;
 
-/// What a command answers, as text: lines, each with a newline behind it, or the bytes of a file with a newline behind them.
+/// The answer to a command, as text: lines, each with a newline behind it, or the bytes of a file with a newline behind them.
 #[derive(Drop)]
 pub enum Answer<A: Allocator = Global> {
-    /// `ok`: the command was done, and has no more to tell.
+    /// `ok`: the command was done, and has no other text.
     Done,
     /// `access SUPPORTED GRANTED`, by eight hexadecimal digits each.
     Rights([u8; RIGHTS_LINE]),
-    /// Lines, or the bytes of a file, as they are printed.
+    /// Lines, or the bytes of a file, as printed.
     Text(Vec<u8, A>),
 }
 
 impl<A: Allocator> Answer<A> {
-    /// The text as it is printed, with its newlines.
+    /// The text as printed, with its newlines.
     pub fn as_bytes(&self) -> &[u8]
         ensures { result.now ≡ answer_text self.now }
     {
@@ -37,7 +37,7 @@ impl<A: Allocator> Answer<A> {
     }
 }
 
-/// The line that tells rights: those that have a meaning, and those that are granted.
+/// The line of rights: the rights that are supported, and the rights that are granted.
 fn rights_line(rights: AccessResult) -> [u8; RIGHTS_LINE]
     ensures { result ≡ rights_line rights }
 {
@@ -49,7 +49,7 @@ fn rights_line(rights: AccessResult) -> [u8; RIGHTS_LINE]
     ]
 }
 
-/// The answer of a command that tells no more than that it was done.
+/// The answer to a command that has no other text than `ok`.
 fn done<A: Allocator>(told: Result<(), ToolFault>) -> Result<Answer<A>, ToolFault>
     ensures { SaysAs says_ok told result }
 {
@@ -59,7 +59,7 @@ fn done<A: Allocator>(told: Result<(), ToolFault>) -> Result<Answer<A>, ToolFaul
     }
 }
 
-/// The answer of a command that tells rights.
+/// The answer to a command that gives rights.
 fn rights<A: Allocator>(told: Result<AccessResult, ToolFault>) -> Result<Answer<A>, ToolFault>
     ensures { SaysAs says_rights told result }
 {
@@ -69,7 +69,7 @@ fn rights<A: Allocator>(told: Result<AccessResult, ToolFault>) -> Result<Answer<
     }
 }
 
-/// The answer of a command that tells lines.
+/// The answer to a command that gives lines.
 fn lines<A: Allocator>(told: Result<Vec<u8, A>, ToolFault>) -> Result<Answer<A>, ToolFault>
     ensures { SaysAs says_text told result }
 {
@@ -106,8 +106,8 @@ impl<S: Read + Write, A: Allocator + Copy> Client<S, A> {
         }
     }
 
-    /// Runs a command, and gives its answer as text: what `ls` and `getacl` list, the bytes of a file with a newline behind them, the
-    /// rights of `access`, and `ok` of any other command. The text of a fault is `ToolFault::text`.
+    /// Runs a command, and gives its answer as text: the lines of `ls`, `getacl`, `getdacl` and `getsacl`, the bytes of a file with a
+    /// newline behind them, the rights of `access`, and `ok` of any other command. The text of a fault is `ToolFault::text`.
     pub fn answer(&mut self, command: Command<'_>) -> Result<Answer<A>, ToolFault>
         ensures { Runs S.contents S.remaining (command_line command.entry) self.old self.new result }
     {
@@ -120,8 +120,8 @@ impl<S: Read + Write, A: Allocator + Copy> Client<S, A> {
             Command::Mv(old, new) => done(self.mv(old, new)),
             Command::Rm(path) => done(self.rm(path)),
             Command::ChMod(mode, path) => done(self.chmod(mode, path)),
-            Command::GetAcl(path) => lines(self.getacl(path)),
-            Command::SetAcl(path, entries) => done(self.setacl(path, entries)),
+            Command::GetAcl(part, path) => lines(self.get_list(part, path)),
+            Command::SetAcl(part, path, entries) => done(self.set_list(part, path, entries)),
             Command::Access(path) => rights(self.access(path)),
         }
     }

@@ -2,15 +2,17 @@
 ghost use Rattle.std.specs.Prelude.{◌≡◌, map, option_map, IfOk};
 ghost use Rattle.std.specs.List.{list_all};
 ghost use Rattle.std.specs.Str.{is_utf8};
-ghost use Rattle.nfs_tool.specs.ScriptLines.{number_in, is_space, is_comment, is_skipped, words_in, said_in};
-ghost use Rattle.nfs_tool.specs.ScriptViews.{said_line};
+ghost use Rattle.nfs_tool.specs.ScriptLines.{number_in, is_space, is_comment, is_skipped, words_in, said_in, text_in, reload_in, wish_in};
+ghost use Rattle.nfs_tool.specs.ScriptViews.{said_line, wish_line};
 
 use crate::words::Command;
 use std::alloc::{AllocError, Allocator};
 
 const AS: &[u8] = b"as";
 
-/// What a line of a script asks: a command, and who calls.
+const RELOAD: &[u8] = b"reload";
+
+/// A command and its caller.
 #[derive(Clone, Copy, Debug)]
 pub(crate) struct Said<'a> {
     pub(crate) uid: u32,
@@ -18,7 +20,16 @@ pub(crate) struct Said<'a> {
     pub(crate) command: Command<'a>,
 }
 
-/// The number that decimal digits are; there may be zeros in front. `None`: a byte is no digit, or the number has more than 32 bits.
+/// The wish of a line of a script.
+#[derive(Clone, Copy, Debug)]
+pub(crate) enum Wish<'a> {
+    /// `as UID GID COMMAND ..`: a command is run.
+    Run(Said<'a>),
+    /// `reload FILE`: the text of this name becomes the book.
+    Reload(&'a str),
+}
+
+/// The number of decimal digits; there may be zeros in front. `None`: a byte is no digit, or the number has more than 32 bits.
 fn number_in(word: &[u8]) -> Option<u32>
     ensures { result ≡ number_in word.now }
 {
@@ -41,21 +52,21 @@ fn is_comment(line: &[u8]) -> bool
     matches!(line, [b'#', ..])
 }
 
-/// Whether nothing but spaces stands in a line.
+/// Whether a line has nothing but spaces.
 fn is_blank(line: &[u8]) -> bool
     ensures { result ≡ list_all is_space line.now }
 {
     line.iter().all(|byte| *byte == b' ')
 }
 
-/// Whether a line asks nothing: nothing but spaces stands in it, or it begins with `#`.
+/// Whether a line has no wish: it has nothing but spaces, or begins with `#`.
 pub(crate) fn is_skipped(line: &[u8]) -> bool
     ensures { result ≡ is_skipped line.now }
 {
     is_comment(line) || is_blank(line)
 }
 
-/// The words of a line, which stand between its spaces. None of them is empty.
+/// The words of a line, between its spaces. None of them is empty.
 pub(crate) fn words_in<A: Allocator>(alloc: A, line: &[u8]) -> Result<Vec<&[u8], A>, AllocError>
     ensures { IfOk result (λ v. map (λ w. w.now) v.items ≡ words_in line.now) }
 {
@@ -71,8 +82,28 @@ pub(crate) fn is_text(line: &[u8]) -> bool
     str::from_utf8(line).is_ok()
 }
 
+/// Bytes as a text, if they are UTF-8.
+fn text_in(bytes: &[u8]) -> Option<&str>
+    ensures { option_map (λ t. t.now) result ≡ text_in bytes.now }
+{
+    str::from_utf8(bytes).ok()
+}
+
+/// The name behind `reload`.
+fn reload_in<'a>(words: &'a [&'a [u8]]) -> Option<&'a str>
+    ensures { option_map (λ t. t.now) result ≡ reload_in (map (λ w. w.now) words.entry.now) }
+{
+    let [word, name] = words else {
+        return None;
+    };
+    if *word != RELOAD {
+        return None;
+    }
+    text_in(name)
+}
+
 impl<'a> Said<'a> {
-    /// What words ask: `as`, a uid and a gid in decimal digits, and a command with its number of words.
+    /// The command of words: `as`, a uid and a gid in decimal digits, and a command with its number of words.
     pub(crate) fn read(words: &'a [&'a [u8]]) -> Option<Self>
         ensures { option_map said_line result ≡ said_in (map (λ w. w.now) words.entry.now) }
     {
@@ -86,5 +117,17 @@ impl<'a> Said<'a> {
         let gid = number_in(gid)?;
         let command = Command::read(rest)?;
         Some(Said { uid, gid, command })
+    }
+}
+
+impl<'a> Wish<'a> {
+    /// The wish of words, if they have one.
+    pub(crate) fn read(words: &'a [&'a [u8]]) -> Option<Self>
+        ensures { option_map wish_line result ≡ wish_in (map (λ w. w.now) words.entry.now) }
+    {
+        match Said::read(words) {
+            Some(said) => Some(Wish::Run(said)),
+            None => reload_in(words).map(Wish::Reload),
+        }
     }
 }

@@ -1,36 +1,39 @@
-//! Running a script: lines of commands, each by a client of its own, against a hub in memory.
-ghost use Rattle.std.specs.Prelude.{◌≡◌, ◌∷◌, [], ◌&&◌, ◌++◌, false, map, option_map, length, codes, decimal};
+//! Running a script against a hub in memory: lines of commands, each by a client of its own, and lines that load another book.
+ghost use Rattle.std.specs.Prelude.{◌≡◌, ◌∷◌, [], ◌&&◌, ◌++◌, false, true, Ok, map, option_map, length, codes, decimal};
 ghost use Rattle.std.specs.List.{flat_map};
-ghost use Rattle.nfs_tool.specs.Script.{RunsOver, unconnected, is_refusal, is_answered, fault_line, bad_line, told_text, trail_line, Puts, WritesLine, Tells, LineWrites, Begins, Answers, GoesOn, WritesTrail, Finishes, ScriptGives};
+ghost use Rattle.nfs_tool.specs.Reloading.{lent};
+ghost use Rattle.nfs_tool.specs.Script.{RunsOver, unconnected, is_refusal, is_answered, is_loaded, fault_line, bad_line, book_number, book_text, told_text, load_text, trail_line, Puts, WritesLine, Tells, LineWrites, Begins, Answers, GoesOn, WritesTrail, Finishes, ScriptGives};
 ghost use Rattle.nfs_tool.specs.ScriptLines.{is_skipped, words_in, line_in};
-ghost use Rattle.nfs_tool.specs.ScriptViews.{said_line};
+ghost use Rattle.nfs_tool.specs.ScriptViews.{said_line, wish_line};
 
 use crate::client::Client;
 use crate::fault::ToolFault;
 use crate::local::Local;
+use crate::reloading::{LoadFault, Texts, load};
 use crate::running::Answer;
-use crate::script_line::{Said, is_skipped, is_text, words_in};
+use crate::script_line::{Said, Wish, is_skipped, is_text, words_in};
 use crate::stream::write_out;
 use access_guard::{Guard, write_line};
 use itoa::Buffer;
 use nfs_hub::{Hub, HubFault};
-use std::alloc::Allocator;
+use std::alloc::{Allocator, Global};
 use std::io::{Read, Write};
+use who_book::BookFault;
 
-/// The most bytes that are read at once.
+/// The most bytes of one read.
 const PIECE: usize = 4096;
 
 /// The most reads of a script.
 const MOST_READS: u32 = 1_000_000;
 
-/// What has been read of a script, and how it was answered.
+/// The part of a script that was read, and how it was answered.
 #[derive(Drop)]
 struct Progress<A: Allocator> {
     /// The bytes of the line that isn't whole yet.
     line: Vec<u8, A>,
     /// How many lines were whole.
     lines: u32,
-    /// Whether each line that asked something was answered, or refused by the server.
+    /// Whether each line with a wish got it, or was refused by the server.
     is_good: bool,
 }
 
@@ -46,7 +49,7 @@ fn unconnected(fault: HubFault) -> ToolFault
     }
 }
 
-/// Runs a command by a client and a session of its own. The session is ended behind the command, also where that was refused.
+/// Runs a command by a client and a session of its own. The session is ended behind the command, also where the command was refused.
 fn run_over<S: Read + Write + Drop, A: Allocator + Copy>(
     alloc: A,
     stream: S,
@@ -64,8 +67,8 @@ fn run_over<S: Read + Write + Drop, A: Allocator + Copy>(
     told
 }
 
-/// Runs what the line of this number asks over a connection of its own, at the moment of so many seconds. No verifier is used by two
-/// lines.
+/// Runs the command of the line of this number over a connection of its own, at the moment of so many seconds. No two lines have one
+/// verifier.
 fn run<A: Allocator + Copy>(
     alloc: A,
     hub: &mut Hub<A>,
@@ -83,7 +86,7 @@ fn run<A: Allocator + Copy>(
     told
 }
 
-/// Writes a text, and a newline behind it.
+/// Writes a text and a newline.
 fn put_line<W: Write>(text: &[u8], writer: &mut W) -> Result<(), ToolFault>
     ensures { WritesLine text.now (W.contents writer.old) (W.contents writer.new) result }
 {
@@ -103,7 +106,7 @@ fn tell_fault<W: Write>(fault: ToolFault, writer: &mut W) -> Result<bool, ToolFa
     }
 }
 
-/// Writes what a line is answered. Whether that isn't `failed`.
+/// Writes the answer to a line. Whether the answer isn't `failed`.
 fn tell<A: Allocator, W: Write>(
     told: Result<Answer<A>, ToolFault>,
     writer: &mut W,
@@ -119,7 +122,7 @@ fn tell<A: Allocator, W: Write>(
     }
 }
 
-/// Writes that a line asks no command.
+/// Writes that a line has no wish, or names a book without a text.
 fn tell_bad_line<W: Write>(writer: &mut W) -> Result<bool, ToolFault>
     ensures { Tells bad_line false (W.contents writer.old) (W.contents writer.new) result }
 {
@@ -129,50 +132,111 @@ fn tell_bad_line<W: Write>(writer: &mut W) -> Result<bool, ToolFault>
     }
 }
 
-/// What a line with these words asks.
-fn asked<'a>(line: &[u8], words: &'a [&'a [u8]]) -> Option<Said<'a>>
+/// The number of a book's fault.
+fn book_number(fault: BookFault) -> u32
+    ensures { result ≡ book_number fault }
+{
+    match fault {
+        BookFault::Text => 1,
+        BookFault::Shape => 2,
+        BookFault::Range => 3,
+        BookFault::Twice => 4,
+        BookFault::Memory => 5,
+        BookFault::Member => 6,
+    }
+}
+
+/// Writes the number of a book's fault.
+fn put_book<W: Write>(fault: BookFault, writer: &mut W) -> Result<(), ToolFault>
+    ensures { WritesLine (book_text fault) (W.contents writer.old) (W.contents writer.new) result }
+{
+    match write_out(writer, b"book ") {
+        Ok(()) => put_line(Buffer::new().format(book_number(fault)).as_bytes(), writer),
+        Err(fault) => Err(fault),
+    }
+}
+
+/// Writes that a text is no book.
+fn tell_book<W: Write>(fault: BookFault, writer: &mut W) -> Result<bool, ToolFault>
+    ensures { Tells (book_text fault ++ 10 ∷ []) false (W.contents writer.old) (W.contents writer.new) result }
+{
+    match put_book(fault, writer) {
+        Ok(()) => Ok(false),
+        Err(fault) => Err(fault),
+    }
+}
+
+/// Writes that another book is loaded.
+fn tell_loaded<W: Write>(writer: &mut W) -> Result<bool, ToolFault>
+    ensures { Tells (load_text (Ok tt)) true (W.contents writer.old) (W.contents writer.new) result }
+{
+    match put_line(b"ok", writer) {
+        Ok(()) => Ok(true),
+        Err(fault) => Err(fault),
+    }
+}
+
+/// Writes the outcome of loading another book. Whether it is loaded.
+fn tell_load<W: Write>(told: Result<(), LoadFault>, writer: &mut W) -> Result<bool, ToolFault>
+    ensures { Tells (load_text told) (is_loaded told) (W.contents writer.old) (W.contents writer.new) result }
+{
+    match told {
+        Ok(()) => tell_loaded(writer),
+        Err(LoadFault::NoText) => tell_bad_line(writer),
+        Err(LoadFault::NoBook(fault)) => tell_book(fault, writer),
+        Err(LoadFault::Exhausted) => tell_fault(unconnected(HubFault::Exhausted), writer),
+    }
+}
+
+/// The wish of a line with these words.
+fn wished<'a>(line: &[u8], words: &'a [&'a [u8]]) -> Option<Wish<'a>>
     requires { map (λ w. w.now) words.now ≡ words_in line.now }
-    ensures { option_map said_line result ≡ line_in line.now }
+    ensures { option_map wish_line result ≡ line_in line.now }
 {
     if is_text(line) {
-        Said::read(words)
+        Wish::read(words)
     } else {
         None
     }
 }
 
-/// Answers the line of this number, in which something stands. Whether that is neither `bad line` nor `failed`.
-fn answer_words<A: Allocator + Copy, W: Write>(
+/// Answers the line of this number, which isn't skipped. Whether the answer is neither `bad line` nor `failed` nor `book`.
+fn answer_words<A: Allocator + Copy, T: Texts, W: Write>(
     alloc: A,
+    global: Global,
     hub: &mut Hub<A>,
+    texts: &mut T,
     line: &[u8],
     number: u32,
     writer: &mut W,
 ) -> Result<bool, ToolFault>
     requires { is_skipped line.now ≡ false }
-    ensures { LineWrites A line.now (W.contents writer.old) (W.contents writer.new) result }
+    ensures { LineWrites T.text_gives (lent hub.old texts.old) (lent hub.new texts.new) line.now (W.contents writer.old) (W.contents writer.new) result }
 {
     let words = words_in(alloc, line)?;
-    match asked(line, &words) {
-        Some(said) => tell(run(alloc, hub, said, number), writer),
+    match wished(line, &words) {
+        Some(Wish::Run(said)) => tell(run(alloc, hub, said, number), writer),
+        Some(Wish::Reload(name)) => tell_load(load(global, hub, texts, name), writer),
         None => tell_bad_line(writer),
     }
 }
 
-/// Answers the line of this number. Whether that is neither `bad line` nor `failed`.
-fn answer_line<A: Allocator + Copy, W: Write>(
+/// Answers the line of this number. Whether the answer is neither `bad line` nor `failed` nor `book`.
+fn answer_line<A: Allocator + Copy, T: Texts, W: Write>(
     alloc: A,
+    global: Global,
     hub: &mut Hub<A>,
+    texts: &mut T,
     line: &[u8],
     number: u32,
     writer: &mut W,
 ) -> Result<bool, ToolFault>
-    ensures { LineWrites A line.now (W.contents writer.old) (W.contents writer.new) result }
+    ensures { LineWrites T.text_gives (lent hub.old texts.old) (lent hub.new texts.new) line.now (W.contents writer.old) (W.contents writer.new) result }
 {
     if is_skipped(line) {
         Ok(true)
     } else {
-        answer_words(alloc, hub, line, number, writer)
+        answer_words(alloc, global, hub, texts, line, number, writer)
     }
 }
 
@@ -193,19 +257,21 @@ impl<A: Allocator + Copy> Progress<A> {
         }
     }
 
-    /// Answers what was read of a line as a line. `Read`: there are more lines than so many reads give.
-    fn answer<W: Write>(
+    /// Answers the part of a line that was read, as a line. `Read`: there are more lines than so many reads give.
+    fn answer<T: Texts, W: Write>(
         &mut self,
         alloc: A,
+        global: Global,
         hub: &mut Hub<A>,
+        texts: &mut T,
         writer: &mut W,
     ) -> Result<(), ToolFault>
-        ensures { Answers self.old self.new (W.contents writer.old) (W.contents writer.new) result }
+        ensures { Answers T.text_gives (lent hub.old texts.old) (lent hub.new texts.new) self.old self.new (W.contents writer.old) (W.contents writer.new) result }
     {
         let Some(number) = self.lines.checked_add(1) else {
             return Err(ToolFault::Read);
         };
-        match answer_line(alloc, hub, &self.line, number, writer) {
+        match answer_line(alloc, global, hub, texts, &self.line, number, writer) {
             Ok(is_good) => {
                 self.lines = number;
                 self.is_good = both(self.is_good, is_good);
@@ -216,20 +282,22 @@ impl<A: Allocator + Copy> Progress<A> {
     }
 
     /// Takes a byte of the script, and answers the line that ends with it.
-    fn take_byte<W: Write>(
+    fn take_byte<T: Texts, W: Write>(
         &mut self,
         alloc: A,
+        global: Global,
         hub: &mut Hub<A>,
+        texts: &mut T,
         byte: u8,
         writer: &mut W,
     ) -> Result<(), ToolFault>
-        ensures { GoesOn self.old self.new (byte ∷ []) (W.contents writer.old) (W.contents writer.new) result }
+        ensures { GoesOn T.text_gives (lent hub.old texts.old) (lent hub.new texts.new) self.old self.new (byte ∷ []) (W.contents writer.old) (W.contents writer.new) result }
     {
         if byte != b'\n' {
             self.line.push(byte)?;
             return Ok(());
         }
-        match self.answer(alloc, hub, writer) {
+        match self.answer(alloc, global, hub, texts, writer) {
             Ok(()) => {
                 self.line.clear();
                 Ok(())
@@ -239,17 +307,19 @@ impl<A: Allocator + Copy> Progress<A> {
     }
 
     /// Goes through a piece of the script, and answers each line that ends in it.
-    fn take<W: Write>(
+    fn take<T: Texts, W: Write>(
         &mut self,
         alloc: A,
+        global: Global,
         hub: &mut Hub<A>,
+        texts: &mut T,
         piece: &[u8],
         writer: &mut W,
     ) -> Result<(), ToolFault>
-        ensures { GoesOn self.old self.new piece.now (W.contents writer.old) (W.contents writer.new) result }
+        ensures { GoesOn T.text_gives (lent hub.old texts.old) (lent hub.new texts.new) self.old self.new piece.now (W.contents writer.old) (W.contents writer.new) result }
     {
         for byte in piece {
-            match self.take_byte(alloc, hub, *byte, writer) {
+            match self.take_byte(alloc, global, hub, texts, *byte, writer) {
                 Ok(()) => {}
                 Err(fault) => return Err(fault),
             }
@@ -295,17 +365,19 @@ fn tell_trail<A: Allocator + Copy, W: Write>(hub: &Hub<A>, writer: &mut W) -> Re
     }
 }
 
-/// Answers what is left behind the last newline, and tells the trail.
-fn finish<A: Allocator + Copy, W: Write>(
+/// Answers the line behind the last newline, and writes the trail.
+fn finish<A: Allocator + Copy, T: Texts, W: Write>(
     alloc: A,
+    global: Global,
     hub: &mut Hub<A>,
+    texts: &mut T,
     progress: Progress<A>,
     writer: &mut W,
 ) -> Result<bool, ToolFault>
-    ensures { Finishes progress hub.new (W.contents writer.old) (W.contents writer.new) result }
+    ensures { Finishes T.text_gives (lent hub.old texts.old) (lent hub.new texts.new) progress (W.contents writer.old) (W.contents writer.new) result }
 {
     let mut progress = progress;
-    match progress.answer(alloc, hub, writer) {
+    match progress.answer(alloc, global, hub, texts, writer) {
         Ok(()) => {}
         Err(fault) => return Err(fault),
     }
@@ -315,21 +387,25 @@ fn finish<A: Allocator + Copy, W: Write>(
     }
 }
 
-/// Runs a script: lines `as UID GID COMMAND ..`, whose words stand between spaces. A line of nothing but spaces, or one that begins with `#`,
-/// is skipped. Each other line runs its command over a connection of the hub, with a client and a session of its own, at the moment
-/// of as many seconds as its number among all lines, which begins with 1. Its answer is written: the text of what it tells,
-/// `refused OP STATUS`, or `failed N` for any other fault; `bad line` where it isn't UTF-8 or asks no command. At the end come
-/// `trail TOTAL` and the lines of the trail that are kept.
+/// Runs a script: lines `as UID GID COMMAND ..` and `reload FILE`, with spaces between their words. A line of nothing but spaces, or one
+/// that begins with `#`, is skipped. A line `as` runs its command over a connection of the hub, with a client and a session of its own, at
+/// the moment of as many seconds as its number among all lines, which begins with 1. Its answer is written: the text of the command,
+/// `refused OP STATUS`, or `failed N` for any other fault. A line `reload` reads the text of its name as a book, which becomes the hub's
+/// (`Hub::reload`): `ok`, or `book N` where the text is no book, by the number of its fault, or `failed 5` where no epoch of a book is
+/// left. `bad line` is written where a line isn't UTF-8 or is neither, and where the name has no text. At the end come `trail TOTAL` and
+/// the lines of the trail that are kept.
 ///
-/// True: no line was answered `bad line` or `failed`. `Read`: the reader failed, or did not end within 1,000,000 reads. `Write`:
-/// the writer failed, or took nothing. `Memory`: there is none for a line.
-pub fn script<A: Allocator + Copy, R: Read, W: Write>(
+/// True: no line was answered `bad line`, `failed` or `book`. `Read`: the reader failed, or did not end within 1,000,000 reads. `Write`:
+/// the writer failed, or took no bytes. `Memory`: a line has none. A book takes its memory of `global`.
+pub fn script<A: Allocator + Copy, T: Texts, R: Read, W: Write>(
     alloc: A,
+    global: Global,
     hub: &mut Hub<A>,
+    texts: &mut T,
     reader: &mut R,
     writer: &mut W,
 ) -> Result<bool, ToolFault>
-    ensures { ScriptGives hub.new (R.remaining reader.old) (R.remaining reader.new) (W.contents writer.old) (W.contents writer.new) result }
+    ensures { ScriptGives T.text_gives (lent hub.old texts.old) (lent hub.new texts.new) (R.remaining reader.old) (R.remaining reader.new) (W.contents writer.old) (W.contents writer.new) result }
 {
     let mut progress = Progress::new(alloc);
     for _read in 0..MOST_READS {
@@ -338,9 +414,9 @@ pub fn script<A: Allocator + Copy, R: Read, W: Write>(
             return Err(ToolFault::Read);
         };
         if n == 0 {
-            return finish(alloc, hub, progress, writer);
+            return finish(alloc, global, hub, texts, progress, writer);
         }
-        match progress.take(alloc, hub, &buf[..n], writer) {
+        match progress.take(alloc, global, hub, texts, &buf[..n], writer) {
             Ok(()) => {}
             Err(fault) => return Err(fault),
         }

@@ -21,10 +21,10 @@ use std::alloc::Allocator;
 use std::io::{Read, Write};
 use xdr_wire::{Array, Opaque, Reader, Wire, XdrFault};
 
-/// The client's own name.
+/// The client's own owner id.
 pub(crate) const OWNER: &[u8] = b"nfsc";
 
-/// What calls and replies may carry: 65,536 bytes, 16 operations, one slot.
+/// The limits of calls and replies: 65,536 bytes, 16 operations, one slot.
 const FORE: Channel = Channel {
     padding: 0,
     request_size: 65_536,
@@ -35,7 +35,7 @@ const FORE: Channel = Channel {
     rdma: None,
 };
 
-/// What callbacks might carry, which aren't served.
+/// The limits of callbacks, which aren't served.
 const BACK: Channel = Channel {
     padding: 0,
     request_size: 4096,
@@ -46,16 +46,16 @@ const BACK: Channel = Channel {
     rdma: None,
 };
 
-/// A client's record with the server.
+/// A client's record at the server.
 #[derive(Clone, Copy, Debug)]
 pub(crate) struct Registration {
-    /// Its number.
+    /// The client id.
     client: u64,
-    /// The number of its next CREATE_SESSION.
+    /// The sequence id of the next CREATE_SESSION.
     number: u32,
 }
 
-/// What a result says of a client's record.
+/// The client's record in a result.
 fn registered(found: Option<OpResult<'_>>) -> Option<Registration>
     ensures { option_map record_value result ≡ option_and_then record_of (option_map read_view found.entry) }
 {
@@ -68,7 +68,7 @@ fn registered(found: Option<OpResult<'_>>) -> Option<Registration>
     }
 }
 
-/// What a result says of a session.
+/// The session in a result.
 fn session_told(found: Option<OpResult<'_>>) -> Option<[u8; 16]>
     ensures { option_map session_value result ≡ option_and_then session_of (option_map read_view found.entry) }
 {
@@ -116,7 +116,7 @@ fn no_credentials() -> Result<Array<'static, CallbackSecurity<'static>, 8>, XdrF
     Wire::read(&mut Reader::new(NO_CREDENTIALS))
 }
 
-/// The request that makes the client known.
+/// The request that registers the client.
 fn registering<A: Allocator + Copy>(alloc: A, verifier: [u8; 8]) -> Result<Request<A>, ToolFault>
     ensures asks { IfOk result (λ r. Asks r (exchange_id verifier ∷ [])) }
     ensures memory { PutGives result }
@@ -134,7 +134,7 @@ fn registering<A: Allocator + Copy>(alloc: A, verifier: [u8; 8]) -> Result<Reque
     Ok(request)
 }
 
-/// The request that makes a session.
+/// The request that creates a session.
 fn creating<A: Allocator + Copy>(
     alloc: A,
     registration: Registration,
@@ -158,7 +158,7 @@ fn creating<A: Allocator + Copy>(
     Ok(request)
 }
 
-/// The request that ends a session.
+/// The request that destroys a session.
 fn ending<A: Allocator + Copy>(alloc: A, session: [u8; 16]) -> Result<Request<A>, ToolFault>
     ensures asks { IfOk result (λ r. Asks r (destroy_session session ∷ [])) }
     ensures memory { PutGives result }
@@ -168,7 +168,7 @@ fn ending<A: Allocator + Copy>(alloc: A, session: [u8; 16]) -> Result<Request<A>
     Ok(request)
 }
 
-/// The request that ends a client.
+/// The request that destroys a client.
 fn forgetting<A: Allocator + Copy>(alloc: A, client: u64) -> Result<Request<A>, ToolFault>
     ensures asks { IfOk result (λ r. Asks r (destroy_client client ∷ [])) }
     ensures memory { PutGives result }
@@ -179,7 +179,7 @@ fn forgetting<A: Allocator + Copy>(alloc: A, client: u64) -> Result<Request<A>, 
 }
 
 impl<S: Read + Write, A: Allocator + Copy> Client<S, A> {
-    /// Makes the client known.
+    /// Registers the client.
     fn register(&mut self, verifier: [u8; 8]) -> Result<Registration, ToolFault>
         ensures { MadeKnown S.contents S.remaining verifier self.old self.new result }
     {
@@ -193,7 +193,7 @@ impl<S: Read + Write, A: Allocator + Copy> Client<S, A> {
         told
     }
 
-    /// Makes a session.
+    /// Creates a session.
     fn make_session(&mut self, registration: Registration) -> Result<[u8; 16], ToolFault>
         ensures { SessionMade S.contents S.remaining registration self.old self.new result }
     {
@@ -207,8 +207,8 @@ impl<S: Read + Write, A: Allocator + Copy> Client<S, A> {
         told
     }
 
-    /// A client with a session of its own: EXCHANGE_ID, then CREATE_SESSION. It calls as this user and in this group alone. The
-    /// verifier is another at each start of a client, so that what is left of an earlier start goes.
+    /// A client with a session of its own: EXCHANGE_ID, then CREATE_SESSION. The client calls as this user and in this group alone. The
+    /// verifier is another at each start of a client, so that the state of an earlier start goes.
     pub fn open(
         alloc: A,
         stream: S,
@@ -235,7 +235,7 @@ impl<S: Read + Write, A: Allocator + Copy> Client<S, A> {
         Ok(client)
     }
 
-    /// Ends the client with the server.
+    /// Destroys the client at the server.
     fn forget(&mut self) -> Result<(), ToolFault>
         ensures { Ends S.contents S.remaining (destroy_client self.old.client) self.old self.new result }
     {
@@ -243,7 +243,7 @@ impl<S: Read + Write, A: Allocator + Copy> Client<S, A> {
         self.run(request, false)
     }
 
-    /// Ends the session.
+    /// Destroys the session.
     fn end_session(&mut self) -> Result<(), ToolFault>
         ensures { Ends S.contents S.remaining (destroy_session self.old.session) self.old self.new result }
     {

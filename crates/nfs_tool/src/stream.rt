@@ -1,4 +1,4 @@
-//! What goes over a stream: a call's bytes, and the record of a reply.
+//! Bytes over a stream: a call's bytes, and the record of a reply.
 ghost use Rattle.std.specs.Prelude.{◌≡◌, ◌≤◌, ◌++◌, List, ℕ};
 ghost use Rattle.std.specs.Io.KnownBytes.{Appends};
 ghost use Rattle.rpc_record.specs.Framer.{Stands};
@@ -9,13 +9,13 @@ use rpc_record::{Framer, Step};
 use std::alloc::Allocator;
 use std::io::{Read, Write};
 
-/// The most bytes that are read at once.
+/// The most bytes of one read.
 const PIECE: usize = 4096;
 
 /// The most reads for one reply.
 const MOST_READS: u32 = 200_000;
 
-/// Writes all of the bytes. `Write`: the stream failed, or took nothing.
+/// Writes all of the bytes. `Write`: the stream failed, or took no bytes.
 pub(crate) fn write_out<W: Write>(stream: &mut W, bytes: &[u8]) -> Result<(), ToolFault>
     ensures { WriteGives (W.contents stream.old) (W.contents stream.new) bytes.now result }
 {
@@ -32,8 +32,8 @@ pub(crate) fn write_out<W: Write>(stream: &mut W, bytes: &[u8]) -> Result<(), To
     Ok(())
 }
 
-/// Goes through a piece, and joins what it has of the record. Whether the record ends with it. `Reply`: the record breaks the
-/// stream, or more stands behind it.
+/// Goes through a piece, and joins its part of the record. Whether the record ends with the piece. `Reply`: the record breaks the stream,
+/// or bytes are behind it.
 fn take_piece<A: Allocator>(
     framer: &mut Framer,
     content: &mut Vec<u8, A>,
@@ -61,8 +61,8 @@ fn take_piece<A: Allocator>(
     }
 }
 
-/// Reads a record, in at most 200,000 reads. `Read`: the stream failed or ended, or the record took more reads. `Reply`: the
-/// stream breaks in it, or more stands behind it.
+/// Reads a record, in at most 200,000 reads. `Read`: the stream failed or ended, or the record took more reads. `Reply`: the stream breaks
+/// in the record, or bytes are behind it.
 fn read_record<A: Allocator, R: Read>(alloc: A, stream: &mut R) -> Result<Vec<u8, A>, ToolFault>
     ensures { RecordGives (λ v. v.items) (R.remaining stream.old) (R.remaining stream.new) result }
 {

@@ -1,4 +1,4 @@
-//! What a command takes of the results of its operations.
+//! The results of operations that a command takes.
 ghost use Rattle.std.specs.Prelude.{◌≡◌, option_map};
 ghost use Rattle.nfs_ops.specs.ResultViews.{read_view};
 ghost use Rattle.nfs_tool.specs.CompoundViews.{outcomes};
@@ -15,7 +15,7 @@ pub(crate) fn last<'a, A: Allocator>(results: Vec<OpResult<'a>, A>) -> Option<Op
     results.pop()
 }
 
-/// The last two of the results, in their order.
+/// The last two of the results, in order.
 pub(crate) fn last_two<'a, A: Allocator>(
     results: Vec<OpResult<'a>, A>,
 ) -> Option<(OpResult<'a>, OpResult<'a>)>

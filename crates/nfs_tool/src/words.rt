@@ -1,7 +1,9 @@
 //! A command as words.
 ghost use Rattle.std.specs.Prelude.{◌≡◌, map, option_map};
-ghost use Rattle.nfs_tool.specs.Words.{of_one, of_two, of_more, command_in};
+ghost use Rattle.nfs_tool.specs.Words.{of_one, of_two, of_more, set_by, command_in};
 ghost use Rattle.nfs_tool.specs.WordViews.{command_line};
+
+use crate::list_part::ListPart;
 
 const LS: &[u8] = b"ls";
 
@@ -12,6 +14,10 @@ const MKDIR: &[u8] = b"mkdir";
 const RM: &[u8] = b"rm";
 
 const GETACL: &[u8] = b"getacl";
+
+const GETDACL: &[u8] = b"getdacl";
+
+const GETSACL: &[u8] = b"getsacl";
 
 const ACCESS: &[u8] = b"access";
 
@@ -25,7 +31,11 @@ const CHMOD: &[u8] = b"chmod";
 
 const SETACL: &[u8] = b"setacl";
 
-/// A command, with its words as they stand. What is wrong with a word is told where the command is run.
+const SETDACL: &[u8] = b"setdacl";
+
+const SETSACL: &[u8] = b"setsacl";
+
+/// A command, with its words as given. A wrong word is told where the command is run.
 #[derive(Clone, Copy, Debug)]
 pub enum Command<'a> {
     /// `ls P`: lists a directory.
@@ -44,11 +54,12 @@ pub enum Command<'a> {
     Rm(&'a [u8]),
     /// `chmod OCTAL P`: sets the mode.
     ChMod(&'a [u8], &'a [u8]),
-    /// `getacl P`: the access control list.
-    GetAcl(&'a [u8]),
-    /// `setacl P ENTRY..`: sets the access control list, of one entry at least.
-    SetAcl(&'a [u8], &'a [&'a [u8]]),
-    /// `access P`: which rights the caller has.
+    /// `getacl P`, `getdacl P`, `getsacl P`: the access control list, or a part of it.
+    GetAcl(ListPart, &'a [u8]),
+    /// `setacl P ENTRY..`, `setdacl P ENTRY..`, `setsacl P ENTRY..`: sets the access control list or a part of it, to one entry at
+    /// least.
+    SetAcl(ListPart, &'a [u8], &'a [&'a [u8]]),
+    /// `access P`: the rights of the caller.
     Access(&'a [u8]),
 }
 
@@ -65,7 +76,11 @@ fn of_one<'a>(name: &[u8], path: &'a [u8]) -> Option<Command<'a>>
     } else if name == RM {
         Some(Command::Rm(path))
     } else if name == GETACL {
-        Some(Command::GetAcl(path))
+        Some(Command::GetAcl(ListPart::Acl, path))
+    } else if name == GETDACL {
+        Some(Command::GetAcl(ListPart::Dacl, path))
+    } else if name == GETSACL {
+        Some(Command::GetAcl(ListPart::Sacl, path))
     } else if name == ACCESS {
         Some(Command::Access(path))
     } else {
@@ -90,12 +105,27 @@ fn of_two<'a>(name: &[u8], first: &'a [u8], second: &'a [u8]) -> Option<Command<
     }
 }
 
+/// The list that a command of this name sets, if the command sets a list.
+fn set_by(name: &[u8]) -> Option<ListPart>
+    ensures { result ≡ set_by name.now }
+{
+    if name == SETACL {
+        Some(ListPart::Acl)
+    } else if name == SETDACL {
+        Some(ListPart::Dacl)
+    } else if name == SETSACL {
+        Some(ListPart::Sacl)
+    } else {
+        None
+    }
+}
+
 /// A command of two words or more.
 fn of_more<'a>(name: &[u8], first: &'a [u8], others: &'a [&'a [u8]]) -> Option<Command<'a>>
     ensures { option_map command_line result ≡ of_more name.now first.entry.now (map (λ w. w.now) others.entry.now) }
 {
-    if name == SETACL && !others.is_empty() {
-        return Some(Command::SetAcl(first, others));
+    if let Some(part) = set_by(name) {
+        return (!others.is_empty()).then_some(Command::SetAcl(part, first, others));
     }
     match others {
         [second] => of_two(name, first, second),
@@ -104,7 +134,7 @@ fn of_more<'a>(name: &[u8], first: &'a [u8], others: &'a [&'a [u8]]) -> Option<C
 }
 
 impl<'a> Command<'a> {
-    /// The command that words are. `None`: there is no such command, or it wants another number of words.
+    /// The command of words. `None`: there is no such command, or it has another number of words.
     pub fn read(words: &'a [&'a [u8]]) -> Option<Self>
         ensures { option_map command_line result ≡ command_in (map (λ w. w.now) words.entry.now) }
     {

@@ -5,8 +5,8 @@ use nfs_tool::{Client, ToolFault};
 use std::alloc::{AllocError, Global};
 use std::test::Fail;
 
-/// The call's header and arguments up to the operations behind PUTROOTFH, by uid 1001 and gid 100: a record of so many bytes, and so
-/// many operations.
+/// The call's header and arguments up to the operations behind PUTROOTFH, by uid 1001 and gid 100: a record of so many bytes, and so many
+/// operations.
 fn call(alloc: Global, size: u32, count: u32, last: &[u32]) -> Result<Vec<u8>, AllocError> {
     let mut bytes = bytes_of(
         alloc,
@@ -95,7 +95,7 @@ fn a_list_is_told(rt: HostRuntime) -> Result<(), Fail> {
     Ok(())
 }
 
-/// An entry of another type than the four can't be told.
+/// An entry of a type other than the four can't be written as text.
 #[test]
 fn a_list_that_is_no_text_is_no_reply(rt: HostRuntime) -> Result<(), Fail> {
     let alloc = rt.alloc();
@@ -121,6 +121,68 @@ fn a_list_is_set(rt: HostRuntime) -> Result<(), Fail> {
     Ok(())
 }
 
+/// `U:20:00000001:EVERYONE@`, as a sacl is sent: the flags of the whole, which are zero, and then its entries.
+const SACL: &[u32] = &[0, 1, 2, 0x20, 1, 9, 0x4556_4552, 0x594f_4e45, 0x4000_0000];
+
+/// The flags of the whole aren't printed.
+#[test]
+fn a_part_of_a_list_is_told(rt: HostRuntime) -> Result<(), Fail> {
+    let alloc = rt.alloc();
+    let wants = call(alloc, 128, 3, &[9, 2, 0, 0x0400_0000])?;
+    let mut last = Vec::new(alloc);
+    last.extend_from_slice(&[9, 0, 2, 0, 0x0400_0000, 56, 1])?;
+    last.extend_from_slice(LIST)?;
+    let gives = reply(alloc, 1, 0, 3, BEGUN, &last)?;
+    let mut dacl = client(alloc, &wants, &gives);
+    let text = dacl.getdacl(b"/")?;
+    assert!(rt; text.as_slice() == TEXT);
+    let wants = call(alloc, 128, 3, &[9, 2, 0, 0x0800_0000])?;
+    let mut last = Vec::new(alloc);
+    last.extend_from_slice(&[9, 0, 2, 0, 0x0800_0000, 36])?;
+    last.extend_from_slice(SACL)?;
+    let gives = reply(alloc, 1, 0, 3, BEGUN, &last)?;
+    let mut sacl = client(alloc, &wants, &gives);
+    let text = sacl.getsacl(b"/")?;
+    assert!(rt; text.as_slice() == b"U:20:00000001:EVERYONE@\n".as_slice());
+    Ok(())
+}
+
+/// The whole list where a part was asked, or another part than was asked, is no reply.
+#[test]
+fn another_part_is_no_reply(rt: HostRuntime) -> Result<(), Fail> {
+    let alloc = rt.alloc();
+    let wants = call(alloc, 128, 3, &[9, 2, 0, 0x0400_0000])?;
+    let whole = reply(alloc, 1, 0, 3, BEGUN, &[9, 0, 1, 0x1000, 4, 0])?;
+    let mut given = client(alloc, &wants, &whole);
+    assert!(rt; matches!(given.getdacl(b"/"), Err(ToolFault::Reply)));
+    let other = reply(alloc, 1, 0, 3, BEGUN, &[9, 0, 2, 0, 0x0800_0000, 8, 0, 0])?;
+    let mut given = client(alloc, &wants, &other);
+    assert!(rt; matches!(given.getdacl(b"/"), Err(ToolFault::Reply)));
+    Ok(())
+}
+
+#[test]
+fn a_part_of_a_list_is_set(rt: HostRuntime) -> Result<(), Fail> {
+    let alloc = rt.alloc();
+    let mut last = Vec::new(alloc);
+    last.extend_from_slice(&[34, 0, 0, 0, 0, 2, 0, 0x0400_0000, 56, 0])?;
+    last.extend_from_slice(LIST)?;
+    let wants = call(alloc, 204, 3, &last)?;
+    let gives = reply(alloc, 1, 0, 3, BEGUN, &[34, 0, 2, 0, 0x0400_0000])?;
+    let mut dacl = client(alloc, &wants, &gives);
+    let told = dacl.setdacl(b"/", &[b"A:00:001E0187:OWNER@", b"U:30:00000001:alice"]);
+    assert_eq!(rt; told, Ok(()));
+    let mut last = Vec::new(alloc);
+    last.extend_from_slice(&[34, 0, 0, 0, 0, 2, 0, 0x0800_0000, 36])?;
+    last.extend_from_slice(SACL)?;
+    let wants = call(alloc, 184, 3, &last)?;
+    let gives = reply(alloc, 1, 0, 3, BEGUN, &[34, 0, 2, 0, 0x0800_0000])?;
+    let mut sacl = client(alloc, &wants, &gives);
+    let told = sacl.setsacl(b"/", &[b"U:20:00000001:EVERYONE@"]);
+    assert_eq!(rt; told, Ok(()));
+    Ok(())
+}
+
 #[test]
 fn a_mode_is_set(rt: HostRuntime) -> Result<(), Fail> {
     let alloc = rt.alloc();
@@ -131,7 +193,7 @@ fn a_mode_is_set(rt: HostRuntime) -> Result<(), Fail> {
     Ok(())
 }
 
-/// What is wrong with the words is told from left to right, and nothing is written.
+/// Wrong words are answered from left to right, and no bytes are written.
 #[test]
 fn words_are_read_first(rt: HostRuntime) -> Result<(), Fail> {
     let mut client = client(rt.alloc(), &[], &[]);
@@ -143,7 +205,11 @@ fn words_are_read_first(rt: HostRuntime) -> Result<(), Fail> {
         client.setacl(b"/", &[b"A:00:00000001:1", b"A:00:1:1"]),
         Err(ToolFault::Entry)
     );
+    assert_eq!(rt; client.setdacl(b"f", &[b"X"]), Err(ToolFault::Path));
+    assert_eq!(rt; client.setsacl(b"/", &[b"X"]), Err(ToolFault::Entry));
     assert!(rt; matches!(client.getacl(b"//"), Err(ToolFault::Path)));
+    assert!(rt; matches!(client.getdacl(b"//"), Err(ToolFault::Path)));
+    assert!(rt; matches!(client.getsacl(b"//"), Err(ToolFault::Path)));
     assert!(rt; matches!(client.access(b""), Err(ToolFault::Path)));
     assert_eq!(rt; client.ln(b"f", b"/g"), Err(ToolFault::Path));
     assert_eq!(rt; client.mv(b"/", b"/g"), Err(ToolFault::Path));

@@ -60,7 +60,7 @@ fn begun(number: u32) -> [u32; 15] {
     [53, 0, 0, 0, 0, 1, number, 0, 7, 7, 0, 24, 0, 15, 0]
 }
 
-/// Three pieces: `abc`, nothing, and `de` up to the end.
+/// Three pieces: `abc`, no bytes, and `de` up to the end.
 fn pieces(alloc: Global) -> Result<Vec<u8>, AllocError> {
     let mut gives = reply(alloc, 1, 0, 4, &begun(1), &[25, 0, 0, 3, 0x6162_6300])?;
     gives.extend_from_slice(&reply(alloc, 2, 0, 4, &begun(2), &[25, 0, 0, 0])?)?;

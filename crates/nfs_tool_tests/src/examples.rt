@@ -1,4 +1,4 @@
-//! The examples that the help of the programs gives of each command.
+//! The examples of each command in the help of the programs.
 
 use nfs_tool::Command;
 use nfsc_options::COMMANDS;
@@ -11,7 +11,7 @@ fn is_command(alloc: Global, text: &str) -> Result<bool, AllocError> {
     Ok(Command::read(words.as_slice()).is_some())
 }
 
-/// The example at the end of a line of a command, which stands behind two spaces at least.
+/// The example at the end of a line of a command, behind at least two spaces.
 fn example(line: &str) -> Option<&str> {
     let (_, found) = line.strip_prefix("    ")?.rsplit_once("  ")?;
     Some(found.trim_start())
@@ -30,10 +30,10 @@ fn examples(alloc: Global) -> Result<usize, AllocError> {
     Ok(count)
 }
 
-/// The example of each of the eleven commands is one.
+/// The example of each of the fifteen commands is a command.
 #[test]
 fn examples_are_commands(rt: HostRuntime) -> Result<(), Fail> {
     let count = examples(rt.alloc())?;
-    assert!(rt; count == 11);
+    assert!(rt; count == 15);
     Ok(())
 }

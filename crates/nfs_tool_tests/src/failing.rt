@@ -1,12 +1,11 @@
-//! Streams that fail, or go on for ever: the fault is told, and no command follows it.
+//! Streams that fail, or go on for ever: the fault is answered, and no command follows it.
 use crate::replies::{BEGUN, SESSION, reply};
 use nfs_tool::{Client, ToolFault};
 use std::alloc::Global;
 use std::io::{self, ErrorKind, Read, Write};
 use std::test::Fail;
 
-/// Takes whatever is written, four bytes at a time, and gives these bytes, three at a time. The write or the read of this number
-/// fails.
+/// Takes any bytes, four at a time, and gives these bytes, three at a time. The write or the read of this number fails.
 #[derive(Drop)]
 struct Failing<'a> {
     gives: &'a [u8],
@@ -45,7 +44,7 @@ impl Write for Failing<'_> {
 /// `rm /f` is done by this reply.
 const REMOVED: &[u32] = &[28, 0, 1, 0, 1, 0, 2];
 
-/// What `rm /f` and a command behind it answer.
+/// The answers to `rm /f` and to a command behind it.
 fn removed<S: Read + Write + Drop>(
     alloc: Global,
     stream: S,
@@ -102,7 +101,7 @@ fn no_read_and_no_write_too_many_fail(rt: HostRuntime) -> Result<(), Fail> {
     Ok(())
 }
 
-/// Takes what is written, and gives one zero byte at each read, for ever.
+/// Takes any bytes, and gives one zero byte at each read, for ever.
 #[derive(Drop)]
 struct Zeros;
 
@@ -166,7 +165,7 @@ impl Write for Late<'_> {
     }
 }
 
-/// A reply may take 200,000 reads, and no more. With 199,996 zero bytes it takes 199,997.
+/// A reply may take at most 200,000 reads. With 199,996 zero bytes it takes 199,997.
 #[test]
 fn a_late_reply_is_read(rt: HostRuntime) -> Result<(), Fail> {
     let gives = reply(rt.alloc(), 1, 0, 3, BEGUN, REMOVED)?;

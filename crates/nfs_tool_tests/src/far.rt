@@ -60,7 +60,7 @@ fn letter(i: u8) -> u8 {
     b'A'.wrapping_add(i)
 }
 
-/// The path of so many names, and this behind it. Without names and with nothing behind it is `/`.
+/// The path of so many names, and a text behind it. Without names and with no text behind it the path is `/`.
 fn path(alloc: Global, count: u8, end: &[u8]) -> Result<Vec<u8>, AllocError> {
     let mut text = Vec::new(alloc);
     for i in 0..count {
@@ -121,7 +121,7 @@ impl Talk {
         self.gives.extend_from_slice(&told)
     }
 
-    /// A COMPOUND of these operations, all of which are OK.
+    /// A COMPOUND of these operations, all of them OK.
     fn say(&mut self, alloc: Global, steps: &Steps) -> Result<(), AllocError> {
         self.ask(alloc, steps.count, &steps.asked)?;
         self.give(alloc, 0, steps.count, &steps.given)
@@ -141,7 +141,7 @@ impl Talk {
         self.ask(alloc, steps.count, &steps.asked)
     }
 
-    /// An approach, which tells this filehandle.
+    /// An approach, which gets this filehandle.
     fn approach(
         &mut self,
         alloc: Global,
@@ -156,7 +156,7 @@ impl Talk {
         self.say(alloc, &steps)
     }
 
-    /// Approaches up to each of these names. The last filehandle has the number of its names, and as many hundreds as are told.
+    /// Approaches up to each of these names. The last filehandle has the number of its names, and so many hundreds.
     fn approaches(
         &mut self,
         alloc: Global,
@@ -175,7 +175,7 @@ impl Talk {
     }
 }
 
-// ---- commands over them
+// ---- commands over these calls and replies
 
 fn client(alloc: Global, talk: &Talk) -> Client<Played<'_>> {
     let stream = Played {
@@ -201,7 +201,7 @@ fn words<'a>(
     Ok(words)
 }
 
-/// Whether a command tells this text.
+/// Whether a command answers this text.
 fn answers(client: &mut Client<Played<'_>>, words: &[&[u8]], text: &[u8]) -> bool {
     let Some(command) = Command::read(words) else {
         return false;
@@ -212,7 +212,7 @@ fn answers(client: &mut Client<Played<'_>>, words: &[&[u8]], text: &[u8]) -> boo
     }
 }
 
-/// Whether a command tells this fault. `Write`: it wrote another call than was wanted.
+/// Whether a command answers this fault. `Write`: it wrote another call than the expected one.
 fn faults(client: &mut Client<Played<'_>>, words: &[&[u8]], fault: ToolFault) -> bool {
     let Some(command) = Command::read(words) else {
         return false;
@@ -228,13 +228,13 @@ fn is_usable(client: &mut Client<Played<'_>>) -> bool {
     client.rm(b"/") == Err(ToolFault::Path)
 }
 
-/// Whether a command tells this text over these calls and replies, and another can follow.
+/// Whether a command answers this text over these calls and replies, and another command can follow.
 fn tells(alloc: Global, talk: &Talk, words: &[&[u8]], text: &[u8]) -> bool {
     let mut client = client(alloc, talk);
     answers(&mut client, words, text) && is_usable(&mut client)
 }
 
-/// Whether a command tells this fault over these calls and replies, and whether another can follow is as said.
+/// Whether a command answers this fault over these calls and replies, and whether another command can follow as expected.
 fn fails(alloc: Global, talk: &Talk, words: &[&[u8]], fault: ToolFault, follows: bool) -> bool {
     let mut client = client(alloc, talk);
     faults(&mut client, words, fault) && is_usable(&mut client) == follows
@@ -242,8 +242,8 @@ fn fails(alloc: Global, talk: &Talk, words: &[&[u8]], fault: ToolFault, follows:
 
 // ---- one path
 
-/// A command along a path: its words before the path and behind it, with what the path ends; the operation that it asks there, the result
-/// of it, and the text that is told.
+/// A command along a path: its words before the path and behind it, with the end of the path; its operation there, the result of the
+/// operation, and the text of the answer.
 struct Row {
     before: &'static [u8],
     end: &'static [u8],
@@ -273,6 +273,50 @@ const LIST: &[u32] = &[
     0x4000_0000,
 ];
 
+/// The entry as a dacl, behind flags of the whole.
+const DACL: &[u32] = &[
+    34,
+    0,
+    0,
+    0,
+    0,
+    2,
+    0,
+    0x0400_0000,
+    36,
+    0,
+    1,
+    0,
+    0,
+    1,
+    9,
+    0x4556_4552,
+    0x594f_4e45,
+    0x4000_0000,
+];
+
+/// An entry of the type AUDIT as a sacl.
+const SACL: &[u32] = &[
+    34,
+    0,
+    0,
+    0,
+    0,
+    2,
+    0,
+    0x0800_0000,
+    36,
+    0,
+    1,
+    2,
+    0,
+    1,
+    9,
+    0x4556_4552,
+    0x594f_4e45,
+    0x4000_0000,
+];
+
 const ROWS: &[Row] = &[
     Row {
         before: b"access",
@@ -291,6 +335,22 @@ const ROWS: &[Row] = &[
         text: b"",
     },
     Row {
+        before: b"getdacl",
+        end: b"",
+        behind: &[],
+        asked: &[9, 2, 0, 0x0400_0000],
+        given: &[9, 0, 2, 0, 0x0400_0000, 8, 0, 0],
+        text: b"",
+    },
+    Row {
+        before: b"getsacl",
+        end: b"",
+        behind: &[],
+        asked: &[9, 2, 0, 0x0800_0000],
+        given: &[9, 0, 2, 0, 0x0800_0000, 8, 0, 0],
+        text: b"",
+    },
+    Row {
         before: b"chmod 640",
         end: b"",
         behind: &[],
@@ -304,6 +364,22 @@ const ROWS: &[Row] = &[
         behind: &[b"A:00:00000001:EVERYONE@"],
         asked: LIST,
         given: &[34, 0, 1, 0x1000],
+        text: b"ok\n",
+    },
+    Row {
+        before: b"setdacl",
+        end: b"",
+        behind: &[b"A:00:00000001:EVERYONE@"],
+        asked: DACL,
+        given: &[34, 0, 2, 0, 0x0400_0000],
+        text: b"ok\n",
+    },
+    Row {
+        before: b"setsacl",
+        end: b"",
+        behind: &[b"U:00:00000001:EVERYONE@"],
+        asked: SACL,
+        given: &[34, 0, 2, 0, 0x0800_0000],
         text: b"ok\n",
     },
     Row {
@@ -402,7 +478,7 @@ fn each_piece_of_a_far_file_is_read(rt: HostRuntime) -> Result<(), Fail> {
     Ok(())
 }
 
-/// OPEN of `Z` for writing, made UNCHECKED with size 0.
+/// OPEN of `Z` for writing, created UNCHECKED with size 0.
 const OPEN: &[u32] = &[
     18,
     0,
@@ -466,7 +542,7 @@ fn a_far_file_is_put(rt: HostRuntime) -> Result<(), Fail> {
 
 // ---- two paths
 
-/// A command along two paths: its name, with what each path ends, the operation that it asks, and the result of it.
+/// A command along two paths: its name, with the end of each path, its operation, and the result of the operation.
 struct Both {
     name: &'static [u8],
     old: &'static [u8],
@@ -489,8 +565,8 @@ const BOTH: &[Both] = &[
     },
 ];
 
-/// So many names of an old path and of a new one, and the approaches to the ends of both: none where one COMPOUND walks all, else up to the
-/// end of the old path, and behind that along the new one.
+/// So many names of an old path and of a new path, and the approaches to the ends of both: none where one COMPOUND walks all, else up to
+/// the end of the old path, and then along the new path.
 type Pair = (u8, &'static [u8], u8, &'static [u8]);
 
 const PAIRS: &[Pair] = &[
@@ -539,7 +615,7 @@ fn two_paths_are_walked_to_their_ends(rt: HostRuntime) -> Result<(), Fail> {
 
 // ---- approaches that fail
 
-/// The first approach along 40 names, and the call of the second one with this reply.
+/// The first approach along 40 names, and the call of the second approach with this reply.
 fn second(alloc: Global, status: u32, count: u32, given: &[u32]) -> Result<Talk, AllocError> {
     let mut talk = Talk::new(alloc);
     talk.approach(alloc, 0, 0, 13, 9)?;
@@ -556,7 +632,7 @@ const REFUSALS: &[(Status, u32, &[u32], u32)] = &[
     (Status::Stale, 1, &[22, 70], 22),
 ];
 
-/// Whether a command along 40 names tells a fault, where the second approach has this reply.
+/// Whether a command along 40 names answers a fault, where the second approach has this reply.
 fn stops(
     alloc: Global,
     talk: &Talk,
@@ -606,15 +682,15 @@ fn a_refused_approach_is_told(rt: HostRuntime) -> Result<(), Fail> {
     Ok(())
 }
 
-/// A reply without the filehandle is none, and no command follows it.
+/// A reply without the filehandle is no reply, and no command follows it.
 #[test]
 fn no_command_follows_a_failed_approach(rt: HostRuntime) -> Result<(), Fail> {
     assert!(rt; is_stopped(rt.alloc(), 0, 1, &[22, 0], ToolFault::Reply)?);
     Ok(())
 }
 
-/// Whether `ln` along so many names of an old path and of a new one tells a refused LOOKUP: in an approach from this filehandle along the
-/// names of these numbers, behind these approaches of the old path.
+/// Whether `ln` along so many names of an old path and of a new path answers a refused LOOKUP: in an approach from this filehandle along
+/// the names of these numbers, behind these approaches of the old path.
 fn ln_stops(
     alloc: Global,
     counts: (u8, u8),
@@ -633,7 +709,7 @@ fn ln_stops(
     Ok(fails(alloc, &talk, &[b"ln", &old, &new], none, true))
 }
 
-/// Where one COMPOUND can't walk both paths, nothing of the second is asked before the end of the first is found.
+/// Where one COMPOUND can't walk both paths, no name of the second path is walked before the end of the first.
 #[test]
 fn the_first_path_is_walked_before_the_second(rt: HostRuntime) -> Result<(), Fail> {
     assert!(rt; ln_stops(rt.alloc(), (1, 20), &[], (0, 0, 1))?);

@@ -24,6 +24,8 @@ mod putting;
 #[cfg(test)]
 mod refusals;
 #[cfg(test)]
+mod reloads;
+#[cfg(test)]
 mod removing;
 #[cfg(test)]
 mod replies;

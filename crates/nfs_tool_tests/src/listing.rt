@@ -60,8 +60,8 @@ fn begun(number: u32) -> [u32; 13] {
     [53, 0, 0, 0, 0, 1, number, 0, 7, 7, 0, 24, 0]
 }
 
-/// `notes` behind which the cookie is 3: a file of 2 bytes with mode 640 of `alice` and `100`. `sub` behind which it is 9: a
-/// directory of which no more than that may be known. The directory goes on.
+/// `notes`, whose cookie is 3: a file of 2 bytes with mode 640 of `alice` and `100`. `sub`, whose cookie is 9: a directory of which no
+/// more attributes may be known. The directory goes on.
 const FIRST: &[u32] = &[
     26,
     0,
@@ -101,7 +101,7 @@ const FIRST: &[u32] = &[
     0,
 ];
 
-/// `l` behind which the cookie is 12: a link of 3 bytes with mode 777 of `0` and `0`. The directory ends.
+/// `l`, whose cookie is 12: a link of 3 bytes with mode 777 of `0` and `0`. The directory ends.
 const LAST: &[u32] = &[
     26,
     0,
@@ -149,7 +149,7 @@ fn a_directory_comes_page_by_page(rt: HostRuntime) -> Result<(), Fail> {
     Ok(())
 }
 
-/// What `ls /` tells where this comes behind SEQUENCE and PUTROOTFH, and whether the client is usable then.
+/// The answer of `ls /` to these results behind SEQUENCE and PUTROOTFH, and whether the client is usable then.
 fn listed(
     alloc: Global,
     status: u32,
@@ -209,7 +209,7 @@ fn a_later_page_is_refused(rt: HostRuntime) -> Result<(), Fail> {
     Ok(())
 }
 
-/// Attributes that weren't asked (2, fh_expire_type), or values that don't spell them, can't be told.
+/// Attributes that weren't asked (2, fh_expire_type), or values that don't spell them, can't be printed.
 #[test]
 fn what_cannot_be_told_is_no_reply(rt: HostRuntime) -> Result<(), Fail> {
     let others = [26, 0, 0, 0, 1, 0, 3, 1, 0x6100_0000, 1, 4, 4, 0, 0, 1];

@@ -12,7 +12,7 @@ use who_book::Book;
 /// A call of NULL.
 const NULL: &[u32] = &[0x8000_0028, 1, 0, 2, 100_003, 4, 0, 0, 0, 0, 0];
 
-/// Its reply.
+/// The reply to this call.
 const DONE: &[u32] = &[0x8000_0018, 1, 1, 0, 0, 0, 0];
 
 fn sample(alloc: Global, hasher: RandomState) -> Result<Hub, AllocError> {
@@ -53,12 +53,12 @@ fn behind(bytes: &[u8], count: usize) -> &[u8] {
     &bytes[count.min(bytes.len())..]
 }
 
-/// Sees that these are the bytes.
+/// Sees that two texts have equal bytes.
 fn see(rt: &impl Abort, bytes: &[u8], wanted: &[u8]) {
     assert_eq!(rt; bytes, wanted);
 }
 
-/// Sees what comes of writing bytes to a connection.
+/// Sees the outcome of writing bytes to a connection.
 fn see_written(
     rt: &impl Abort,
     hub: &mut Hub,
@@ -69,7 +69,7 @@ fn see_written(
     assert_eq!(rt; written(hub, conn, bytes), wanted);
 }
 
-/// Sees what comes of reading a connection.
+/// Sees the outcome of reading a connection.
 fn see_read(
     rt: &impl Abort,
     hub: &mut Hub,
@@ -106,7 +106,7 @@ fn a_reply_is_read_in_pieces(rt: HostRuntime) -> Result<(), Fail> {
     Ok(())
 }
 
-/// Sees that the reply to a call that one connection wrote is read of it, and not of another.
+/// Sees that the reply to a call of one connection is read of that connection, and not of another.
 fn see_apart(rt: &impl Abort, hub: &mut Hub, call: &[u8]) -> Result<(), Fail> {
     let first = connect(hub)?;
     let second = connect(hub)?;
@@ -134,7 +134,7 @@ fn see_broken(rt: &impl Abort, hub: &mut Hub, bytes: &[u8]) -> Result<(), Fail> 
     Ok(())
 }
 
-/// A record above 131,072 bytes breaks the connection. What was pending is still read.
+/// A record above 131,072 bytes breaks the connection. The bytes pending before are still read.
 #[test]
 fn a_broken_connection_takes_nothing(rt: HostRuntime) -> Result<(), Fail> {
     let mut bytes = bytes_of(rt.alloc(), NULL)?;
@@ -172,7 +172,7 @@ fn put<S: Read + Write>(client: &mut Client<S>) -> Result<(), ToolFault> {
     }
 }
 
-/// Opens a client at a moment, by which a file is put.
+/// Opens a client at a moment, which puts a file.
 fn put_at(alloc: Global, hub: &mut Hub, conn: ConnId, seconds: i64) -> Result<(), ToolFault> {
     match Client::open(alloc, Local::new(hub, conn, seconds), 0, 0, [1; 8]) {
         Ok(mut client) => put(&mut client),

@@ -1,11 +1,11 @@
-//! Every growth refused: a client on a small heap answers `Memory`, and goes on where nothing was written.
+//! Every growth refused: a client on a small heap answers `Memory`, and goes on where no bytes were written.
 use crate::replies::{BEGUN, SESSION, reply};
 use linked_list_allocator::LocalHeap;
 use nfs_tool::{Client, ToolFault};
 use std::io::{self, Read, Write};
 use std::test::Fail;
 
-/// Takes whatever is written, and gives these bytes.
+/// Takes any bytes, and gives these bytes.
 #[derive(Drop)]
 struct Given<'a> {
     gives: &'a [u8],
@@ -31,7 +31,7 @@ impl Write for Given<'_> {
     }
 }
 
-/// How `getacl /` ends on this heap, and what a command behind it answers.
+/// The end of `getacl /` on this heap, and the answer to a command behind it.
 fn listed(gives: &[u8], heap: &LocalHeap) -> (Option<ToolFault>, Result<(), ToolFault>) {
     let stream = Given { gives };
     let mut client = Client::resume(heap, stream, 1001, 100, 1, SESSION, 1);

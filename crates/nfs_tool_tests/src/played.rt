@@ -1,7 +1,7 @@
 //! A stream in memory that plays a server.
 use std::io::{self, ErrorKind, Read, Write};
 
-/// Takes these bytes and no others, three at a time, and gives these, four at a time: each reply ends with a read.
+/// Takes these bytes and no others, three at a time, and gives the replies, four bytes at a time: each reply ends with a read.
 #[derive(Drop)]
 pub(crate) struct Played<'a> {
     pub(crate) wants: &'a [u8],

@@ -51,7 +51,7 @@ fn call(
     Ok(bytes)
 }
 
-/// PUTROOTFH, OPEN of `f` for writing, made UNCHECKED with size 0, by the owner `nfsc` of client 1, and GETFH.
+/// PUTROOTFH, OPEN of `f` for writing, created UNCHECKED with size 0, by the owner `nfsc` of client 1, and GETFH.
 const OPEN: &[u32] = &[
     24,
     18,
@@ -75,7 +75,7 @@ const OPEN: &[u32] = &[
     10,
 ];
 
-/// Open 1 of the file whose filehandle is that of object 2, which was made with size 0.
+/// Open 1 of the file with the filehandle of object 2, which was created with size 0.
 const OPENED: &[u32] = &[
     18, 0, 1, 0, 0, 1, 1, 0, 1, 0, 2, 0, 1, 0x10, 0, 10, 0, 16, 0, 0, 0, 2,
 ];
@@ -110,7 +110,7 @@ fn join(parts: &mut Vec<u8>, more: Result<Vec<u8>, AllocError>) -> Result<(), Al
     parts.extend_from_slice(&more)
 }
 
-/// What `put /f abc` tells over these calls and replies, and whether the client is usable then.
+/// The answer of `put /f abc` over these calls and replies, and whether the client is usable then.
 fn put(alloc: Global, wants: &[u8], gives: &[u8]) -> (Result<(), ToolFault>, bool) {
     let mut client = Client::resume(alloc, Played { wants, gives }, 1001, 100, 1, SESSION, 1);
     let told = client.put(b"/f", b"abc");
@@ -136,7 +136,7 @@ fn a_text_is_put_as_it_is_taken(rt: HostRuntime) -> Result<(), Fail> {
     Ok(())
 }
 
-/// Nothing is written of an empty text.
+/// No WRITE is sent for an empty text.
 #[test]
 fn an_empty_text_is_put(rt: HostRuntime) -> Result<(), Fail> {
     let alloc = rt.alloc();
@@ -179,7 +179,7 @@ fn a_long_text_is_put_in_pieces(rt: HostRuntime) -> Result<(), Fail> {
     Ok(())
 }
 
-/// What `put /f abc` tells where the first WRITE has this result, and the CLOSE behind it this one.
+/// The answer of `put /f abc` where the first WRITE has this result, and the CLOSE behind it this other result.
 fn written(
     alloc: Global,
     status: u32,
@@ -197,7 +197,7 @@ fn written(
     Ok(put(alloc, &wants, &gives))
 }
 
-/// What a WRITE of three bytes gives.
+/// The result of a WRITE of three bytes.
 const WRITTEN: &[u32] = &[38, 0, 3, 2, 0, 0];
 
 #[test]
@@ -221,7 +221,7 @@ fn a_refused_write_is_told_behind_its_close(rt: HostRuntime) -> Result<(), Fail>
     Ok(())
 }
 
-/// Where no reply comes to the CLOSE behind a refused WRITE, that is told.
+/// Where no reply comes to the CLOSE behind a refused WRITE, the fault of the CLOSE is answered.
 #[test]
 fn a_close_without_a_reply_is_told(rt: HostRuntime) -> Result<(), Fail> {
     let told = written(rt.alloc(), 13, &[38, 13], 0, &[3, 0, 0, 0])?;
@@ -239,7 +239,7 @@ fn a_refused_close_is_told(rt: HostRuntime) -> Result<(), Fail> {
     Ok(())
 }
 
-/// A WRITE that took nothing, or more than was sent, is no reply; and nothing is sent behind it.
+/// A WRITE that took no bytes, or more than were sent, is no reply; and no call is sent behind it.
 #[test]
 fn a_wrong_count_is_no_reply(rt: HostRuntime) -> Result<(), Fail> {
     for count in [0, 4] {
@@ -249,7 +249,7 @@ fn a_wrong_count_is_no_reply(rt: HostRuntime) -> Result<(), Fail> {
     Ok(())
 }
 
-/// What `put /f abc` tells where these results come to the first call.
+/// The answer of `put /f abc` where these results come to the first call.
 fn opened(
     alloc: Global,
     status: u32,

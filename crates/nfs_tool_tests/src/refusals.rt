@@ -1,4 +1,4 @@
-//! Each command against the refusals that it can meet: of SEQUENCE, of the walk and of its own operation.
+//! Each command against its possible refusals: of SEQUENCE, of the walk and of its own operation.
 use crate::replies::{BEGUN, SESSION, reply};
 use nfs_tool::{Client, ToolFault};
 use nfs_types::Status;
@@ -7,7 +7,7 @@ use std::io::{self, Read, Write};
 use std::process::Abort;
 use std::test::Fail;
 
-/// Takes whatever is written, and gives these bytes.
+/// Takes any bytes, and gives these bytes.
 #[derive(Drop)]
 struct Given<'a> {
     gives: &'a [u8],
@@ -33,7 +33,7 @@ impl Write for Given<'_> {
     }
 }
 
-/// A command of one path or two, by name, of which only the fault is told.
+/// A command of one path or two, by name, of which only the fault is seen.
 fn run(client: &mut Client<Given<'_>>, name: &str) -> Result<(), ToolFault> {
     if name == "rm" {
         client.rm(b"/f")
@@ -49,6 +49,14 @@ fn run(client: &mut Client<Given<'_>>, name: &str) -> Result<(), ToolFault> {
         client.setacl(b"/", &[b"A:00:00000001:EVERYONE@"])
     } else if name == "getacl" {
         client.getacl(b"/").map(|_| ())
+    } else if name == "setdacl" {
+        client.setdacl(b"/", &[b"A:00:00000001:EVERYONE@"])
+    } else if name == "getdacl" {
+        client.getdacl(b"/").map(|_| ())
+    } else if name == "setsacl" {
+        client.setsacl(b"/", &[b"U:20:00000001:EVERYONE@"])
+    } else if name == "getsacl" {
+        client.getsacl(b"/").map(|_| ())
     } else if name == "cat" {
         client.cat(b"/").map(|_| ())
     } else if name == "ls" {
@@ -60,7 +68,7 @@ fn run(client: &mut Client<Given<'_>>, name: &str) -> Result<(), ToolFault> {
     }
 }
 
-/// What the command answers where these results come with this status, and whether the client is usable then.
+/// The answer to the command where these results come with this status, and whether the client is usable then.
 fn told(
     alloc: Global,
     name: &str,
@@ -76,7 +84,7 @@ fn told(
     Ok((answer, usable))
 }
 
-/// What follows the PUTROOTFH of each command up to its own operation.
+/// The operations behind the PUTROOTFH of each command up to its own operation.
 fn walked(name: &str) -> &'static [u32] {
     if name == "ln" || name == "mv" {
         &[32, 0, 24, 0]
@@ -164,14 +172,13 @@ fn attributes_are_refused(rt: HostRuntime) -> Result<(), Fail> {
         Status::Delay,
     ];
     see_all(&rt, alloc, "chmod", 34, &set)?;
-    see_all(&rt, alloc, "setacl", 34, &set)?;
-    see_all(
-        &rt,
-        alloc,
-        "getacl",
-        9,
-        &[Status::Access, Status::RepTooBig],
-    )?;
+    let asked = [Status::Access, Status::RepTooBig];
+    for name in &["setacl", "setdacl", "setsacl"] {
+        see_all(&rt, alloc, name, 34, &set)?;
+    }
+    for name in &["getacl", "getdacl", "getsacl"] {
+        see_all(&rt, alloc, name, 9, &asked)?;
+    }
     see_all(
         &rt,
         alloc,
@@ -191,7 +198,8 @@ fn attributes_are_refused(rt: HostRuntime) -> Result<(), Fail> {
 
 /// The commands.
 const NAMES: &[&str] = &[
-    "rm", "mkdir", "ln", "mv", "chmod", "setacl", "getacl", "access", "cat", "ls", "put",
+    "rm", "mkdir", "ln", "mv", "chmod", "setacl", "setdacl", "setsacl", "getacl", "getdacl",
+    "getsacl", "access", "cat", "ls", "put",
 ];
 
 #[test]

@@ -42,7 +42,7 @@ const CALL: &[u32] = &[
     0x6600_0000,
 ];
 
-/// All of it is OK.
+/// All operations are OK.
 const DONE: &[u32] = &[
     0x8000_0074,
     1,

@@ -1,6 +1,6 @@
-//! Scripts over a hub with a root alone, whose owner is user 0 and whose mode is 755, and what they print.
+//! Scripts over a hub with a root alone, whose owner is user 0 and whose mode is 755, and their answers.
 use nfs_hub::Hub;
-use nfs_tool::{ToolFault, script};
+use nfs_tool::{Texts, ToolFault, script};
 use std::alloc::{AllocError, Global};
 use std::hash::RandomState;
 use std::io::{self, ErrorKind, Read, Write};
@@ -8,7 +8,7 @@ use std::process::Abort;
 use std::test::Fail;
 use who_book::Book;
 
-/// Gives its bytes, at most five a read. The read of this number fails.
+/// Gives these bytes, at most five a read. The read of this number fails.
 #[derive(Drop)]
 struct Pieces<'a> {
     bytes: &'a [u8],
@@ -56,21 +56,67 @@ impl Write for Wanted<'_> {
     }
 }
 
+/// Texts by their names.
+#[derive(Drop)]
+pub(crate) struct Held<'a> {
+    pub(crate) alloc: Global,
+    pub(crate) texts: &'a [(&'a str, &'a str)],
+}
+
+impl Texts for Held<'_> {
+    fn text(&mut self, name: &str) -> Option<String> {
+        for (held, text) in self.texts {
+            if *held == name {
+                return String::from_str(self.alloc, text).ok();
+            }
+        }
+        None
+    }
+}
+
+/// No text has a name.
+fn no_texts(alloc: Global) -> Held<'static> {
+    Held { alloc, texts: &[] }
+}
+
 fn root_alone(alloc: Global, hasher: RandomState) -> Result<Hub, AllocError> {
     Hub::new(alloc, Book::default(alloc), hasher)
 }
 
-/// A script, bare of what is proved of it, so that a test's proof doesn't carry it along.
+/// A script, without its contract, so that a test's proof doesn't carry that along.
 fn run_script<R: Read, W: Write>(
-    alloc: Global,
     hub: &mut Hub,
+    texts: &mut Held<'_>,
     reader: &mut R,
     writer: &mut W,
 ) -> Result<bool, ToolFault> {
-    script(alloc, hub, reader, writer)
+    script(texts.alloc, texts.alloc, hub, texts, reader, writer)
 }
 
-/// How a script ends that is to print this, where so many reads and writes don't fail. `Reply`: it printed less.
+/// The end of a script with these texts that has to print this, where so many reads and writes don't fail. `Reply`: it printed less.
+pub(crate) fn played_with(
+    texts: &mut Held<'_>,
+    hasher: RandomState,
+    text: &[u8],
+    wants: &[u8],
+    reads: u32,
+    writes: u32,
+) -> Result<bool, ToolFault> {
+    let mut hub = root_alone(texts.alloc, hasher)?;
+    let mut reader = Pieces { bytes: text, reads };
+    let mut writer = Wanted {
+        bytes: wants,
+        writes,
+    };
+    let told = run_script(&mut hub, texts, &mut reader, &mut writer)?;
+    if writer.bytes.is_empty() {
+        Ok(told)
+    } else {
+        Err(ToolFault::Reply)
+    }
+}
+
+/// The end of a script without texts.
 fn played(
     alloc: Global,
     hasher: RandomState,
@@ -79,22 +125,11 @@ fn played(
     reads: u32,
     writes: u32,
 ) -> Result<bool, ToolFault> {
-    let mut hub = root_alone(alloc, hasher)?;
-    let mut reader = Pieces { bytes: text, reads };
-    let mut writer = Wanted {
-        bytes: wants,
-        writes,
-    };
-    let told = run_script(alloc, &mut hub, &mut reader, &mut writer)?;
-    if writer.bytes.is_empty() {
-        Ok(told)
-    } else {
-        Err(ToolFault::Reply)
-    }
+    played_with(&mut no_texts(alloc), hasher, text, wants, reads, writes)
 }
 
-/// Lines, with a newline behind each.
-fn joined(alloc: Global, lines: &[&str]) -> Result<Vec<u8>, AllocError> {
+/// Lines, with a newline behind each line.
+pub(crate) fn joined(alloc: Global, lines: &[&str]) -> Result<Vec<u8>, AllocError> {
     let mut text = Vec::new(alloc);
     for line in lines {
         text.extend_from_slice(line.as_bytes())?;
@@ -103,7 +138,7 @@ fn joined(alloc: Global, lines: &[&str]) -> Result<Vec<u8>, AllocError> {
     Ok(text)
 }
 
-/// How a script of these lines ends that is to print these.
+/// The end of a script of these lines that has to print these answers.
 fn run(
     alloc: Global,
     hasher: RandomState,
@@ -173,7 +208,7 @@ const EACH: &[&str] = &[
     "as 0 0 ls /",
 ];
 
-/// The listing of `/d`, which is empty, has no line; of `/h` READ_ATTRIBUTES is refused.
+/// The listing of `/d`, which is empty, has no line; for `/h` READ_ATTRIBUTES is refused.
 const DONE: &[&str] = &[
     "ok",
     "ok",
@@ -198,7 +233,118 @@ fn each_command_is_done(rt: HostRuntime) -> Result<(), Fail> {
     Ok(())
 }
 
-/// What is done with a file in a directory, of which `~` is the path, and what is printed of it.
+/// The parts of a list, each read and set by itself. The last line is refused, since no user may set the list by then.
+const PARTS: &[&str] = &[
+    "as 0 0 put /f hi",
+    "as 0 0 setacl /f A:00:00060001:OWNER@ U:20:00000001:EVERYONE@ D:00:00000002:1002",
+    "as 0 0 getdacl /f",
+    "as 0 0 getsacl /f",
+    "as 0 0 setsacl /f L:10:00000002:1001 U:20:00000001:EVERYONE@",
+    "as 0 0 getacl /f",
+    "as 0 0 setsacl /f U:20:00000001:EVERYONE@",
+    "as 0 0 setdacl /f A:00:00020003:EVERYONE@",
+    "as 0 0 getacl /f",
+    "as 0 0 setsacl /f L:10:00000002:1001",
+];
+
+const PARTS_TOLD: &[&str] = &[
+    "ok",
+    "ok",
+    "A:00:00060001:OWNER@",
+    "D:00:00000002:1002",
+    "U:20:00000001:EVERYONE@",
+    "ok",
+    "A:00:00060001:OWNER@",
+    "D:00:00000002:1002",
+    "L:10:00000002:1001",
+    "U:20:00000001:EVERYONE@",
+    "ok",
+    "ok",
+    "A:00:00020003:EVERYONE@",
+    "U:20:00000001:EVERYONE@",
+    "refused SETATTR ACCESS",
+    "trail 1",
+    "DENY uid=0 op=SETATTR obj=2 mask=00040000 missing=00040000",
+];
+
+#[test]
+fn the_parts_of_a_list_are_told_and_set(rt: HostRuntime) -> Result<(), Fail> {
+    let told = run(rt.alloc(), RandomState::new(&rt)?, PARTS, PARTS_TOLD);
+    assert_eq!(rt; told, Ok(true));
+    Ok(())
+}
+
+/// An AUDIT or ALARM entry is in no dacl, and an ALLOW or DENY entry in no sacl.
+#[test]
+fn an_entry_of_the_other_part_is_refused(rt: HostRuntime) -> Result<(), Fail> {
+    let lines = [
+        "as 0 0 put /f hi",
+        "as 0 0 setdacl /f A:00:00000001:1001 U:30:00000001:1001",
+        "as 0 0 setsacl /f L:30:00000001:1001 D:00:00000001:1001",
+        "as 0 0 getsacl /f",
+    ];
+    let wants = [
+        "ok",
+        "refused SETATTR INVAL",
+        "refused SETATTR INVAL",
+        "trail 0",
+    ];
+    let told = run(rt.alloc(), RandomState::new(&rt)?, &lines, &wants);
+    assert_eq!(rt; told, Ok(true));
+    Ok(())
+}
+
+/// How many entries a list has that is set.
+const MOST_SET: u32 = 59;
+
+/// An entry by which the user of this number may read and set the list.
+fn put_named(alloc: Global, text: &mut Vec<u8>, number: u32) -> Result<(), AllocError> {
+    let entry = format!(in alloc; "A:00:00060000:{number}")?;
+    text.extend_from_slice(entry.as_bytes())
+}
+
+/// Sets as many named entries as a list may have, then a mode, and then a part of one entry more.
+fn full_script(alloc: Global) -> Result<Vec<u8>, AllocError> {
+    let mut text = Vec::new(alloc);
+    text.extend_from_slice(b"as 0 0 put /f hi\nas 0 0 setacl /f")?;
+    for number in 0..MOST_SET {
+        text.push(b' ')?;
+        put_named(alloc, &mut text, number)?;
+    }
+    text.extend_from_slice(b"\nas 0 0 chmod 0600 /f\nas 0 0 setsacl /f U:10:00000001:1001\n")?;
+    text.extend_from_slice(b"as 0 0 getacl /f\n")?;
+    Ok(text)
+}
+
+/// The entries of the mode are about the named ones: 64 in all, and no more fit.
+fn full_answers(alloc: Global) -> Result<Vec<u8>, AllocError> {
+    let mut wants = Vec::new(alloc);
+    wants.extend_from_slice(b"ok\nok\nok\nrefused SETATTR NOSPC\n")?;
+    wants.extend_from_slice(b"A:00:001e0187:OWNER@\nD:00:00000020:OWNER@\n")?;
+    for number in 0..MOST_SET {
+        put_named(alloc, &mut wants, number)?;
+        wants.push(b'\n')?;
+    }
+    wants.extend_from_slice(b"A:00:00000000:GROUP@\nD:00:00000027:GROUP@\n")?;
+    wants.extend_from_slice(b"A:00:00120080:EVERYONE@\ntrail 0\n")?;
+    Ok(wants)
+}
+
+fn full_played(alloc: Global, hasher: RandomState) -> Result<bool, ToolFault> {
+    let text = full_script(alloc)?;
+    let wants = full_answers(alloc)?;
+    played(alloc, hasher, &text, &wants, 1000, 1000)
+}
+
+/// A full list takes no part with one entry more, and stays unchanged.
+#[test]
+fn a_full_list_takes_no_more(rt: HostRuntime) -> Result<(), Fail> {
+    let told = full_played(rt.alloc(), RandomState::new(&rt)?);
+    assert_eq!(rt; told, Ok(true));
+    Ok(())
+}
+
+/// Commands on a file in a directory, of which `~` is the path, and their answers.
 const FAR: &[(&str, &str)] = &[
     ("put ~/f hi", "ok"),
     ("cat ~/f", "hi"),
@@ -209,13 +355,14 @@ const FAR: &[(&str, &str)] = &[
     ("chmod 0604 ~/f", "ok"),
     ("setacl ~/f A:00:00020001:EVERYONE@", "ok"),
     ("getacl ~/f", "A:00:00020001:EVERYONE@"),
+    ("getdacl ~/f", "A:00:00020001:EVERYONE@"),
     ("mv ~/f ~/e", "ok"),
     ("rm ~/e", "ok"),
     ("rm ~/e", "refused REMOVE NOENT"),
     ("cat ~/no/d/d/d/d/d/d/d/d/d/d/d/d/d", "refused LOOKUP NOENT"),
 ];
 
-/// How deep the directories lie in which that is done, of forty in one another.
+/// The depths of the directories of these commands, of forty in one another.
 const DEPTHS: &[u32] = &[1, 5, 6, 12, 13, 14, 26, 40];
 
 /// A line of user 0, with the path of a directory so deep for each `~`.
@@ -268,7 +415,7 @@ fn far_played(alloc: Global, hasher: RandomState) -> Result<bool, ToolFault> {
     played(alloc, hasher, &text, &wants, 8000, 4000)
 }
 
-/// Each command finds its end of a path of any number of names.
+/// Each command finds the end of a path of any number of names.
 #[test]
 fn far_paths_are_walked(rt: HostRuntime) -> Result<(), Fail> {
     let told = far_played(rt.alloc(), RandomState::new(&rt)?);
@@ -276,7 +423,7 @@ fn far_paths_are_walked(rt: HostRuntime) -> Result<(), Fail> {
     Ok(())
 }
 
-/// What is skipped prints nothing, and spaces stand between words, however many.
+/// A skipped line prints no text, and any number of spaces may be between words.
 #[test]
 fn comments_and_blank_lines_are_skipped(rt: HostRuntime) -> Result<(), Fail> {
     let text =
@@ -287,7 +434,7 @@ fn comments_and_blank_lines_are_skipped(rt: HostRuntime) -> Result<(), Fail> {
     Ok(())
 }
 
-/// Lines that ask no command.
+/// Lines without a command.
 const BAD: &[&[u8]] = &[
     b"as",
     b"as 0",
@@ -297,6 +444,10 @@ const BAD: &[&[u8]] = &[
     b"as 0 0 put /f",
     b"as 0 0 put /f a b",
     b"as 0 0 setacl /f",
+    b"as 0 0 setdacl /f",
+    b"as 0 0 setsacl /f",
+    b"as 0 0 getdacl",
+    b"as 0 0 getsacl / /",
     b"as 0 0 LS /",
     b"as 0 0 move /f /g",
     b"As 0 0 ls /",
@@ -324,7 +475,7 @@ fn other_lines_are_bad(rt: HostRuntime) -> Result<(), Fail> {
     Ok(())
 }
 
-/// A bad line and a fault are told, and the lines behind them are run.
+/// A bad line and a fault are answered, and the lines behind them are run.
 #[test]
 fn a_script_goes_on_behind_a_fault(rt: HostRuntime) -> Result<(), Fail> {
     let text = b"as 0 0 cat f\nas 0 0 chmod 8 /\nas 0 0 rm /\nls\nas 0 0 put /f a\nas 0 0 cat /f\n";
@@ -341,7 +492,7 @@ fn nothing_has_no_trail(rt: HostRuntime) -> Result<(), Fail> {
     Ok(())
 }
 
-/// A file is put, listed, and refused to another; and behind that stands no command. These are 49 bytes.
+/// A file is put, listed, and refused to another caller; and behind that comes a line without a command. These are 49 bytes.
 const SHORT: &[u8] = b"as 0 0 put /f hi\nas 0 0 ls /\nas 7 7 cat /f\nas ...";
 
 const TOLD: &[&str] = &[
@@ -353,7 +504,7 @@ const TOLD: &[&str] = &[
     "DENY uid=7 op=READ obj=2 mask=00000001 missing=00000001",
 ];
 
-/// Ten reads give the script, and the eleventh its end.
+/// Ten reads give the script, and the eleventh read its end.
 #[test]
 fn each_read_fails(rt: HostRuntime) -> Result<(), Fail> {
     let hasher = RandomState::new(&rt)?;
@@ -367,8 +518,8 @@ fn each_read_fails(rt: HostRuntime) -> Result<(), Fail> {
     Ok(())
 }
 
-/// `ok` is one write. Three are of `- 0600 0 0 2 f`, three and one of the refusal, two and one of `bad line`, one, one and one of the
-/// trail's total, and eight and one of its line.
+/// `ok` is one write. Three writes are of `- 0600 0 0 2 f`, three and one of the refusal, two and one of `bad line`, one, one and one of
+/// the trail's total, and eight and one of its line.
 #[test]
 fn each_write_fails(rt: HostRuntime) -> Result<(), Fail> {
     let hasher = RandomState::new(&rt)?;
@@ -405,7 +556,12 @@ fn an_endless_script_ends(rt: HostRuntime) -> Result<(), Fail> {
         bytes: &[],
         writes: 0,
     };
-    let told = run_script(rt.alloc(), &mut hub, &mut Endless, &mut writer);
+    let told = run_script(
+        &mut hub,
+        &mut no_texts(rt.alloc()),
+        &mut Endless,
+        &mut writer,
+    );
     assert_eq!(rt; told, Err(ToolFault::Read));
     Ok(())
 }
@@ -426,7 +582,7 @@ fn long_text(alloc: Global) -> Result<Vec<u8>, AllocError> {
     Ok(text)
 }
 
-/// What it prints.
+/// The answers to this script.
 fn long_answers(alloc: Global) -> Result<Vec<u8>, AllocError> {
     let mut wants = Vec::new(alloc);
     wants.extend_from_slice(b"ok\n")?;
@@ -437,7 +593,7 @@ fn long_answers(alloc: Global) -> Result<Vec<u8>, AllocError> {
     Ok(wants)
 }
 
-/// Sees that it prints this, and that the file's bytes were changed at the second of its line.
+/// Sees that the script prints this, and that the file's bytes were changed at the second of its line.
 fn see_moment(rt: &impl Abort, alloc: Global, hub: &mut Hub, text: &[u8], wants: &[u8]) {
     let mut reader = Pieces {
         bytes: text,
@@ -447,7 +603,7 @@ fn see_moment(rt: &impl Abort, alloc: Global, hub: &mut Hub, text: &[u8], wants:
         bytes: wants,
         writes: 1000,
     };
-    let told = run_script(alloc, hub, &mut reader, &mut writer);
+    let told = run_script(hub, &mut no_texts(alloc), &mut reader, &mut writer);
     assert_eq!(rt; told, Ok(true));
     assert!(rt; writer.bytes.is_empty());
     assert_eq!(rt; changed_at(hub, 2), Some(3));

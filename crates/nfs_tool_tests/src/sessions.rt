@@ -91,7 +91,7 @@ fn a_session_is_opened_and_ended(rt: HostRuntime) -> Result<(), Fail> {
     Ok(())
 }
 
-/// Whether these replies open a client, or which fault they tell.
+/// Whether these replies open a client, or the fault.
 fn opened(alloc: Global, wants: &[u8], gives: &[u8]) -> Result<(), ToolFault> {
     let stream = Played { wants, gives };
     Client::open(alloc, stream, 1001, 100, [0, 0, 0, 7, 0, 0, 0, 9]).map(|_| ())
@@ -131,7 +131,7 @@ fn a_refused_session_is_told(rt: HostRuntime) -> Result<(), Fail> {
     Ok(())
 }
 
-/// The reply to another transaction opens nothing.
+/// The reply to another transaction opens no client.
 #[test]
 fn another_reply_opens_nothing(rt: HostRuntime) -> Result<(), Fail> {
     let alloc = rt.alloc();
@@ -141,7 +141,7 @@ fn another_reply_opens_nothing(rt: HostRuntime) -> Result<(), Fail> {
     Ok(())
 }
 
-/// A refused end leaves the client usable, and the slot's number as it is.
+/// A refused end leaves the client usable, and the slot's number unchanged.
 #[test]
 fn a_refused_end_is_told(rt: HostRuntime) -> Result<(), Fail> {
     let alloc = rt.alloc();

@@ -1,6 +1,6 @@
 //! Paths, entries, modes, lines and words as text.
 use acl_list::EntryKind;
-use nfs_tool::{Command, EntryText, Listed, Path, ToolFault, mode_text, read_mode};
+use nfs_tool::{Command, EntryText, ListPart, Listed, Path, ToolFault, mode_text, read_mode};
 use nfs_types::Status;
 use std::test::Fail;
 
@@ -116,12 +116,49 @@ fn commands_are_read(rt: HostRuntime) -> Result<(), Fail> {
     let words: [&[u8]; 2] = [b"setacl", b"/f"];
     assert!(rt; Command::read(&words).is_none());
     let words: [&[u8]; 4] = [b"setacl", b"/f", b"x", b"y"];
-    let Some(Command::SetAcl(path, entries)) = Command::read(&words) else {
+    let Some(Command::SetAcl(ListPart::Acl, path, entries)) = Command::read(&words) else {
         return Err(Fail::new("nothing was read"));
     };
     assert!(rt; path == b"/f".as_slice());
     assert_eq!(rt; entries.len(), 2);
     let words: [&[u8]; 3] = [b"ls", b"/f", b"/g"];
+    assert!(rt; Command::read(&words).is_none());
+    Ok(())
+}
+
+#[test]
+fn commands_of_a_part_are_read(rt: HostRuntime) -> Result<(), Fail> {
+    let words: [&[u8]; 2] = [b"getdacl", b"/f"];
+    assert!(rt;
+        matches!(
+            Command::read(&words),
+            Some(Command::GetAcl(ListPart::Dacl, b"/f"))
+        )
+    );
+    let words: [&[u8]; 2] = [b"getsacl", b"/f"];
+    assert!(rt;
+        matches!(
+            Command::read(&words),
+            Some(Command::GetAcl(ListPart::Sacl, b"/f"))
+        )
+    );
+    let words: [&[u8]; 3] = [b"setdacl", b"/f", b"x"];
+    assert!(rt;
+        matches!(
+            Command::read(&words),
+            Some(Command::SetAcl(ListPart::Dacl, b"/f", [b"x"]))
+        )
+    );
+    let words: [&[u8]; 3] = [b"setsacl", b"/f", b"x"];
+    assert!(rt;
+        matches!(
+            Command::read(&words),
+            Some(Command::SetAcl(ListPart::Sacl, b"/f", [b"x"]))
+        )
+    );
+    let words: [&[u8]; 2] = [b"setdacl", b"/f"];
+    assert!(rt; Command::read(&words).is_none());
+    let words: [&[u8]; 3] = [b"getsacl", b"/f", b"/g"];
     assert!(rt; Command::read(&words).is_none());
     Ok(())
 }

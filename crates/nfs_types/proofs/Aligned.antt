@@ -41,7 +41,7 @@ mutual
   arm_aligned (arm n t others) (inr v) = arm_aligned others v
   arm_aligned (otherwise t) v = aligned t v.1
 
--- there is no padding behind what is a multiple of four bytes long
+-- a number of bytes that is a multiple of four has no padding
 pub no_padding : (v : List ℕ) → length v % 4 ≡ 0 → padded v ≡ v
 no_padding v e =
     let none : padding (length v) ≡ 0 = omega (arith, e) in

@@ -1,15 +1,16 @@
 -- Writing items one after the other, each of them short.
-use Rattle.std.proofs.Common.{◌≡◌, ◌∙◌, ℕ, suc, ◌+◌, ◌*◌, ◌<◌, ◌≤◌, true, false, List, [], ◌∷◌, ◌++◌, length, map, take, drop, get_or, drop-cons, Result, Ok, Err, is_err, refl, sym, ap, arith}
-use Rattle.std.specs.Prelude.{OnOk}
+use Rattle.std.proofs.Common.{◌≡◌, ◌∙◌, ℕ, suc, ◌+◌, ◌*◌, ◌<◌, ◌≤◌, Bool, true, false, cond, List, [], ◌∷◌, ◌++◌, length, map, take, drop, get_or, drop-cons, Result, Ok, Err, is_err, refl, sym, ap, append_assoc, arith}
+use Rattle.std.specs.Prelude.{count_by, filter, OnOk}
 use Rattle.std.specs.Int.{w32, to_be_bytes}
 use Rattle.std.specs.List.{flat_map, AllByRecursion}
 use Rattle.std.proofs.lemmas.List.{length-append, length-map}
+use Rattle.std.proofs.lemmas.List.Sums.{length-filter}
 use Rattle.xdr_wire.specs.Xdr.{Value, HasSpelling, spelling}
 use Rattle.xdr_wire.specs.Buffer.{Buffer, Appends, Puts}
 use Rattle.xdr_wire.proofs.Going.{Going, step, cut_back}
 use Rattle.acl_list.specs.declared.entry.Entry.{Entry}
 use Rattle.who_book.specs.Content.{Content}
-use Rattle.nfs_types.specs.Attributes.{ace, acl}
+use Rattle.nfs_types.specs.Attributes.{ace, acl, acl41}
 use Rattle.nfs_types.specs.Given.{ace_of}
 
 abbrev pub entry_bytes : Content → Entry → List ℕ
@@ -62,7 +63,7 @@ list_bytes book entries =
     let count : length (map (ace_of book) entries) ≡ length entries = simp length-map in
     rw (count, mapped (ace_of book) (spelling ace) entries) refl
 
--- ---- the same with any fact of each item
+-- ---- items of which any fact holds
 
 put_ok : {X E : Type 0} (bytes_of : X → List ℕ) (P : X → Type 0) (now then : Buffer) (x : X) (r : Result (Unit {0}) E) → is_err r ≡ false → OnOk r (P x) → Puts now then (bytes_of x) r → P x × Appends now then (bytes_of x)
 put_ok bytes_of P now then x (Ok u) is fits puts = (fits, puts)
@@ -89,3 +90,28 @@ sent_bytes f xs =
 pub all_mapped : {X : Type 0} (f : X → Value ace) (xs : List X) → AllByRecursion (λ x. HasSpelling ace (f x)) xs → AllByRecursion (HasSpelling ace) (map f xs)
 all_mapped f [] h = tt
 all_mapped f (x ∷ xs) h = (h.0, all_mapped f xs h.1)
+
+-- ---- the entries of a part
+
+-- the bytes of an entry: nothing where it doesn't pass the test
+abbrev pub bytes_if : (Entry → Bool) → Content → Entry → List ℕ
+bytes_if test book e = cond (test e) (entry_bytes book e) []
+
+passing : (test : Entry → Bool) (book : Content) (entries : List Entry) → flat_map (entry_bytes book) (filter test entries) ≡ flat_map (bytes_if test book) entries
+passing test book [] = refl
+passing test book (e ∷ entries) = go (test e) (passing test book entries)
+  where
+    go : (b : Bool) → flat_map (entry_bytes book) (filter test entries) ≡ flat_map (bytes_if test book) entries
+        → flat_map (entry_bytes book) (cond b (e ∷ filter test entries) (filter test entries)) ≡ cond b (entry_bytes book e) [] ++ flat_map (bytes_if test book) entries
+    go true more = ap (λ (b : List ℕ). entry_bytes book e ++ b) more
+    go false more = more
+
+-- a part of a list, as its entries are written
+pub part_bytes : (test : Entry → Bool) (book : Content) (entries : List Entry) → spelling acl41 (0, map (ace_of book) (filter test entries))
+    ≡ (to_be_bytes w32 0 ++ to_be_bytes w32 (count_by test entries)) ++ flat_map (bytes_if test book) entries
+part_bytes test book entries =
+    ap (λ (b : List ℕ). to_be_bytes w32 0 ++ b)
+    (list_bytes book (filter test entries)
+    ∙ ap (λ (n : ℕ). to_be_bytes w32 n ++ flat_map (entry_bytes book) (filter test entries)) (length-filter test entries)
+    ∙ ap (λ (b : List ℕ). to_be_bytes w32 (count_by test entries) ++ b) (passing test book entries))
+    ∙ sym (append_assoc (to_be_bytes w32 0) (to_be_bytes w32 (count_by test entries)) (flat_map (bytes_if test book) entries))

@@ -1,4 +1,4 @@
--- Filling places, one after the other, with what items become.
+-- Filling places, one after the other, from items.
 use Rattle.std.proofs.Common.{◌≡◌, ◌∙◌, ℕ, suc, ◌+◌, ◌<◌, ◌≤◌, List, [], ◌∷◌, ◌++◌, length, take, map, set, sym, ap, append_assoc, arith}
 use Rattle.std.proofs.lemmas.List.{take_more_set, length-set, append-nil}
 

@@ -1,13 +1,16 @@
 -- The refusal of a list.
 use Rattle.std.proofs.Common.{◌≡◌, Bool, true, false, cond, List, [], ◌∷◌, Option, Some, None, Result, Err, refl}
 use Rattle.std.specs.Prelude.{slice_get, ◌||◌, nat_lt, is_none, is_some, ◌==◌, not, length}
-use Rattle.std.specs.List.{filter_map, cons_option}
+use Rattle.std.specs.List.{filter_map, cons_option, list_all}
 use Rattle.acl_list.specs.Kinds.{kind_of}
 use Rattle.acl_list.specs.declared.entry.Entry.{Entry}
 use Rattle.acl_list.specs.declared.mask.TheConstants as mask
 use Rattle.acl_list.specs.declared.flag.TheConstants as flag
 use Rattle.acl_shape.specs.Mode.{without}
-use Rattle.acl_shape.specs.Admitted.{fault_of, first_fault}
+use Rattle.acl_list.specs.declared.entry.Kind.{Kind}
+use Rattle.acl_shape.specs.Admitted.{fault_of, first_fault, first_of, part_fault, admitted}
+use Rattle.acl_shape.specs.Parts.{is_of}
+use Rattle.acl_shape.specs.declared.part.Part.{Part}
 use Rattle.acl_shape.specs.declared.request.Raw.{Raw}
 use Rattle.acl_shape.specs.declared.request.AdmitFault.{AdmitFault}
 use Rattle.acl_shape.specs.declared.request.AdmitFault.TheVariants as faults
@@ -21,7 +24,7 @@ chain false true c others h e = absurd cc
 chain false false true others h e = absurd cc
 chain false false false others h e = h e
 
--- what is wrong with an entry is never that there is no memory
+-- no fault of an entry is that there is no memory
 none_is_memory : (raws : List Raw) → slice_get (filter_map fault_of raws) 0 ≡ Some faults.Memory → ⊥
 none_is_memory [] e = absurd cc
 none_is_memory (r ∷ raws) e =
@@ -34,7 +37,7 @@ first false raws e = none_is_memory raws e
 pub not_memory : (raws : List Raw) → first_fault raws ≡ Some faults.Memory → ⊥
 not_memory raws e = first (nat_lt 59 (length raws)) raws e
 
--- a fault that is answered is the first one, or there is no memory for a list without one
+-- a fault that is answered is the first, or there is no memory for a list without a fault
 answers : (found : Option AdmitFault) (list : List Entry) (e : AdmitFault) → (found ≡ Some faults.Memory → ⊥)
     → ((f : AdmitFault) → found ≡ Some f → e ≡ f) → (found ≡ None → e ≡ faults.Memory)
     → Answers {X = Option (List Entry)} (λ l. l) is_some (unless found list) (Err (attrs_fault e))
@@ -52,3 +55,18 @@ pub list_refused : (raws : List Raw) (list : List Entry) (e : AdmitFault)
     → ((f : AdmitFault) → first_fault raws ≡ Some f → (let r : Result (List Entry) AdmitFault = Err e in r) ≡ Err f) → (first_fault raws ≡ None → e ≡ faults.Memory)
     → Answers {X = Option (List Entry)} (λ l. l) is_some (unless (first_fault raws) list) (Err (attrs_fault e))
 list_refused raws list e refused taken = answers (first_fault raws) list e (not_memory raws) (λ f is. err_inj e f (refused f is)) taken
+
+-- ---- the refusal of a part
+
+part_not_memory : (part : Part) (kind : Kind) (raws : List Raw) → part_fault part kind raws ≡ Some faults.Memory → ⊥
+part_not_memory part kind raws e = go (first_fault raws) (list_all (is_of part) (admitted kind raws)) (not_memory raws) e
+  where
+    go : (found : Option AdmitFault) (whole : Bool) → (found ≡ Some faults.Memory → ⊥) → first_of found (cond whole None (Some faults.Inval)) ≡ Some faults.Memory → ⊥
+    go (Some fault) whole never e = never e
+    go None true never e = absurd cc
+    go None false never e = absurd cc
+
+pub part_refused : (part : Part) (kind : Kind) (raws : List Raw) (list : List Entry) (e : AdmitFault)
+    → ((f : AdmitFault) → part_fault part kind raws ≡ Some f → (let r : Result (List Entry) AdmitFault = Err e in r) ≡ Err f) → (part_fault part kind raws ≡ None → e ≡ faults.Memory)
+    → Answers {X = Option (List Entry)} (λ l. l) is_some (unless (part_fault part kind raws) list) (Err (attrs_fault e))
+part_refused part kind raws list e refused taken = answers (part_fault part kind raws) list e (part_not_memory part kind raws) (λ f is. err_inj e f (refused f is)) taken

@@ -1,4 +1,4 @@
--- The words of what two sets share.
+-- The words of the numbers that two sets share.
 use Rattle.std.proofs.Common.{◌≡◌, ◌≢◌, ◌⊎◌, inl, inr, ◌∙◌, ℕ, zero, suc, ◌+◌, ◌<◌, ◌≤◌, List, [], ◌∷◌, length, get_or, set, bit_and, refl, sym, ap, arith}
 use Rattle.std.specs.Int.Bits.{and_zero_l, and_zero_r}
 use Rattle.std.proofs.lemmas.Bool.{cases_eq, cases_lt}
@@ -12,7 +12,7 @@ no_words : (ws : List ℕ) → ((i : ℕ) → get_or ws i 0 ≡ 0) → trimmed w
 no_words [] h = refl
 no_words (w ∷ ws) h = rw (no_words ws (λ i. h (suc i)), h 0) refl
 
--- words that are the same place by place are the same but for the zeros at the end
+-- words that are equal place by place are equal but for the zeros at the end
 pub trimmed_same : (vs ws : List ℕ) → ((i : ℕ) → get_or vs i 0 ≡ get_or ws i 0) → trimmed vs ≡ trimmed ws
 trimmed_same [] ws h = sym (no_words ws (λ i. sym (h i)))
 trimmed_same (v ∷ vs) [] h = no_words (v ∷ vs) h

@@ -1,5 +1,5 @@
 -- The sets of the attributes are those of the table.
-use Rattle.std.proofs.Common.{◌≡◌, ◌⊎◌, inl, inr, ◌∙◌, ℕ, ◌+◌, ◌<◌, ◌≤◌, ◌/◌, ◌%◌, Bool, true, false, not, ◌&&◌, ◌||◌, nat_eq, nat_lt, min, List, [], ◌∷◌, length, get_or, refl, sym, ap, arith}
+use Rattle.std.proofs.Common.{◌≡◌, ◌⊎◌, inl, inr, ◌∙◌, ℕ, ◌<◌, ◌≤◌, ◌/◌, ◌%◌, Bool, true, false, not, ◌&&◌, ◌||◌, nat_eq, nat_lt, min, List, [], ◌∷◌, length, get_or, refl, sym, ap, arith}
 use Rattle.std.specs.Int.{bit_at}
 use Rattle.std.specs.List.{list_all, list_any, range_with_len}
 use Rattle.std.proofs.lemmas.Bool.{cases_Bool, cases_lt, ltb-true, ne_eqb, and_parts}
@@ -13,7 +13,7 @@ use Rattle.nfs_types.specs.Forms.{trimmed}
 use Rattle.nfs_types.proofs.Numbers.{by_word}
 use Rattle.nfs_types.proofs.Shared.{common_at}
 use Rattle.nfs_types.specs.Sets.{has_number}
-use Rattle.nfs_types.specs.Attributes.{Row, row, number_of, all, supported_words, settable_words}
+use Rattle.nfs_types.specs.Attributes.{row, number_of, all, supported_words, settable_words}
 use Rattle.nfs_types.specs.declared.attribute.Attribute.{Attribute}
 
 abbrev same : Bool → Bool → Bool

@@ -73,7 +73,7 @@ filled total count i words bytes word after lt le e h =
           ∙ goes_on (read_at uint) (take i words) count i bytes word after total lt e h.joined;
     }
 
--- what stands in the array then, without the zero words
+-- the words of the array then, without the zero words
 pub all_read : (total : Read (List ℕ)) (count i : ℕ) (words bytes : List ℕ) → count ≤ i → Filling total count i words bytes
     → in_normal_form (Some trimmed) total ≡ Ok (trimmed words, bytes)
 all_read total count i words bytes le h =

@@ -5,7 +5,7 @@ use Rattle.xdr_wire.specs.Xdr.{Xdr, uint, hyper, boolean, opaque, fields, array}
 use Rattle.nfs_types.specs.Forms.{bitmap, handle, time}
 use Rattle.nfs_types.specs.Sets.{has_number}
 use Rattle.nfs_types.specs.declared.attribute.Attribute.{Attribute}
-use Rattle.nfs_types.specs.declared.attribute.Attribute.TheVariants.{SupportedAttrs, ObjectType, FhExpireType, Change, Size, LinkSupport, SymlinkSupport, NamedAttr, Fsid, UniqueHandles, LeaseTime, RdattrError, Acl, AclSupport, FileHandle, FileId, MaxFileSize, MaxName, MaxRead, MaxWrite, Mode, NumLinks, Owner, OwnerGroup, TimeMetadata, TimeModify, MountedOnFileId, SuppattrExclcreat}
+use Rattle.nfs_types.specs.declared.attribute.Attribute.TheVariants.{SupportedAttrs, ObjectType, FhExpireType, Change, Size, LinkSupport, SymlinkSupport, NamedAttr, Fsid, UniqueHandles, LeaseTime, RdattrError, Acl, AclSupport, FileHandle, FileId, MaxFileSize, MaxName, MaxRead, MaxWrite, Mode, NumLinks, Owner, OwnerGroup, TimeMetadata, TimeModify, MountedOnFileId, Dacl, Sacl, SuppattrExclcreat}
 
 -- utf8str_mixed
 abbrev pub text : Xdr
@@ -22,6 +22,10 @@ ace = fields (uint ∷ uint ∷ uint ∷ text ∷ [])
 -- fattr4_acl
 abbrev pub acl : Xdr
 acl = array 0xffff_ffff ace
+
+-- nfsacl41: the flags of the ACL, and its entries
+abbrev pub acl41 : Xdr
+acl41 = fields (uint ∷ acl ∷ [])
 
 pub record Row : Type 0 where
   pub number : ℕ
@@ -62,6 +66,8 @@ row OwnerGroup = settable 37 text
 row TimeMetadata = read_only 52 time
 row TimeModify = read_only 53 time
 row MountedOnFileId = read_only 55 hyper
+row Dacl = settable 58 acl41
+row Sacl = settable 59 acl41
 row SuppattrExclcreat = read_only 75 bitmap
 
 abbrev pub number_of : Attribute → ℕ
@@ -70,25 +76,25 @@ number_of a = (row a).number
 abbrev pub form_of : Attribute → Xdr
 form_of a = (row a).form
 
--- all of them, by rising number
+-- all attributes, by rising number
 abbrev pub all : List Attribute
 all =
     SupportedAttrs ∷ ObjectType ∷ FhExpireType ∷ Change ∷ Size ∷ LinkSupport ∷ SymlinkSupport ∷ NamedAttr ∷ Fsid ∷ UniqueHandles
     ∷ LeaseTime ∷ RdattrError ∷ Acl ∷ AclSupport ∷ FileHandle ∷ FileId ∷ MaxFileSize ∷ MaxName ∷ MaxRead ∷ MaxWrite
-    ∷ Mode ∷ NumLinks ∷ Owner ∷ OwnerGroup ∷ TimeMetadata ∷ TimeModify ∷ MountedOnFileId ∷ SuppattrExclcreat ∷ []
+    ∷ Mode ∷ NumLinks ∷ Owner ∷ OwnerGroup ∷ TimeMetadata ∷ TimeModify ∷ MountedOnFileId ∷ Dacl ∷ Sacl ∷ SuppattrExclcreat ∷ []
 
--- the words of the set of all, and of the set of those that can be set
+-- the words of the set of all attributes, and of the set of those that can be set
 abbrev pub supported_words : List ℕ
-supported_words = 0xe818_3fff ∷ 0x00b0_003a ∷ 0x0000_0800 ∷ []
+supported_words = 0xe818_3fff ∷ 0x0cb0_003a ∷ 0x0000_0800 ∷ []
 
 abbrev pub settable_words : List ℕ
-settable_words = 0x0000_1010 ∷ 0x0000_0032 ∷ []
+settable_words = 0x0000_1010 ∷ 0x0c00_0032 ∷ []
 
 -- the numbers that a bitmap can have
 unfoldable pub numbers : List ℕ
 numbers = range_with_len 0 256
 
--- whether each number of a set is one of the other
+-- whether each number of a set is in the other set
 abbrev pub stays_within : List ℕ → List ℕ → ℕ → Bool
 stays_within set other n = not (has_number set n) || has_number other n
 

@@ -1,4 +1,4 @@
--- What two sets share.
+-- The numbers that two sets share.
 use Rattle.std.specs.Prelude.{ℕ, List, [], ◌∷◌, bit_and}
 
 -- the words of the numbers that two sets share

@@ -1,4 +1,4 @@
--- The XDR types that every operation speaks in (RFC 5662).
+-- The XDR types of all operations (RFC 5662).
 use Rattle.std.specs.Prelude.{ℕ, List, [], ◌∷◌, ◌==◌, if◌then◌else◌}
 use Rattle.xdr_wire.specs.Xdr.{Xdr, Value, uint, signed_hyper, fixed, opaque, array, fields}
 
@@ -22,7 +22,7 @@ bitmap = array 8 uint
 abbrev pub attributes : Xdr
 attributes = fields (bitmap ∷ opaque 0xffff_ffff ∷ [])
 
--- the words of a bitmap without the zero words at its end, which say nothing
+-- the words of a bitmap without the zero words at its end, which mean nothing
 abbrev pub front_word : ℕ → List ℕ → List ℕ
 front_word w [] = if w == 0 then [] else w ∷ []
 front_word w (v ∷ ws) = w ∷ v ∷ ws
@@ -31,6 +31,6 @@ abbrev pub trimmed : List ℕ → List ℕ
 trimmed [] = []
 trimmed (w ∷ ws) = front_word w (trimmed ws)
 
--- attributes with such a bitmap
+-- attributes with a bitmap of words
 abbrev pub trimmed_set : Value attributes → Value attributes
 trimmed_set v = (trimmed v.0, v.1)

@@ -1,4 +1,4 @@
--- What GETATTR and READDIR give of an object (RFC 8881, sections 5.6 to 5.8, 6.2, 18.7 and 18.23).
+-- The attributes that GETATTR and READDIR return of an object (RFC 8881, sections 5.6 to 5.8, 6.2, 18.7 and 18.23).
 use Rattle.std.specs.Prelude.{ℕ, true, false, if◌then◌else◌, List, [], map}
 use Rattle.std.specs.List.{flat_map}
 use Rattle.xdr_wire.specs.Xdr.{Value, spelling}
@@ -6,6 +6,8 @@ use Rattle.acl_list.specs.Kinds.{kind_number}
 use Rattle.acl_list.specs.declared.entry.Entry.{Entry}
 use Rattle.acl_list.specs.declared.entry.Kind.{Kind}
 use Rattle.acl_list.specs.declared.entry.Kind.TheVariants as kind
+use Rattle.acl_shape.specs.Parts.{part_of}
+use Rattle.acl_shape.specs.declared.part.Part.TheVariants as parts
 use Rattle.who_book.specs.Content.{Content}
 use Rattle.who_book.specs.Spelling.{principal_text, who_text}
 use Rattle.who_book.specs.declared.kind.NameKind.TheVariants as name
@@ -18,7 +20,7 @@ use Rattle.nfs_types.specs.MomentView.{moment_value}
 use Rattle.nfs_types.specs.Name.{MAX_NAME}
 use Rattle.nfs_types.specs.Attributes.{ace, number_of, form_of, all, supported_words}
 use Rattle.nfs_types.specs.declared.attribute.Attribute.{Attribute}
-use Rattle.nfs_types.specs.declared.attribute.Attribute.TheVariants.{SupportedAttrs, ObjectType, FhExpireType, Change, Size, LinkSupport, SymlinkSupport, NamedAttr, Fsid, UniqueHandles, LeaseTime, RdattrError, Acl, AclSupport, FileHandle, FileId, MaxFileSize, MaxName, MaxRead, MaxWrite, Mode, NumLinks, Owner, OwnerGroup, TimeMetadata, TimeModify, MountedOnFileId, SuppattrExclcreat}
+use Rattle.nfs_types.specs.declared.attribute.Attribute.TheVariants.{SupportedAttrs, ObjectType, FhExpireType, Change, Size, LinkSupport, SymlinkSupport, NamedAttr, Fsid, UniqueHandles, LeaseTime, RdattrError, Acl, AclSupport, FileHandle, FileId, MaxFileSize, MaxName, MaxRead, MaxWrite, Mode, NumLinks, Owner, OwnerGroup, TimeMetadata, TimeModify, MountedOnFileId, Dacl, Sacl, SuppattrExclcreat}
 use Rattle.nfs_types.specs.declared.facts.ObjectFacts.{ObjectFacts}
 
 -- nfs_ftype4
@@ -60,20 +62,22 @@ value_of book o OwnerGroup = principal_text name.Group book o.group
 value_of book o TimeMetadata = moment_value o.metadata
 value_of book o TimeModify = moment_value o.modify
 value_of book o MountedOnFileId = o.number
+value_of book o Dacl = (0, map (ace_of book) (part_of parts.Dacl o.entries.now))
+value_of book o Sacl = (0, map (ace_of book) (part_of parts.Sacl o.entries.now))
 value_of book o SuppattrExclcreat = []
 
 -- the bytes of an attribute
 abbrev pub attribute_bytes : Content → ObjectFacts → Attribute → List ℕ
 attribute_bytes book o a = spelling (form_of a) (value_of book o a)
 
--- what there is of an attribute among those that are given: nothing unless it is asked
+-- the bytes of an attribute in the values returned: nothing unless it is requested
 abbrev pub part : Content → ObjectFacts → List ℕ → Attribute → List ℕ
 part book o asked a = if has_number asked (number_of a) then attribute_bytes book o a else []
 
--- the values that are given, by rising number
+-- the values that are returned, by rising number
 unfoldable pub given_values : Content → ObjectFacts → List ℕ → List ℕ
 given_values book o asked = flat_map (part book o asked) all
 
--- the set of those that are given: what is asked, and supported
+-- the set of the attributes that are returned: those requested and supported
 abbrev pub given_set : List ℕ → List ℕ
 given_set asked = trimmed (common asked supported_words)

@@ -1,4 +1,4 @@
--- Attributes as a client sees them: those that it asks for, and those that it sets.
+-- Attributes as a client sees them: those that it requests, and those that it sets.
 use Rattle.std.specs.Prelude.{ℕ, ◌+◌, not, if◌then◌else◌, List, [], ◌∷◌, Option, Some, None, is_some, Result, Ok, Err}
 use Rattle.std.specs.List.{flat_map}
 use Rattle.xdr_wire.specs.Xdr.{Xdr, Value, uint, hyper, spelling}
@@ -7,10 +7,10 @@ use Rattle.xdr_wire.specs.declared.fault.XdrFault.{XdrFault}
 use Rattle.xdr_wire.specs.declared.fault.XdrFault.TheVariants.{TooLong, BadChoice}
 use Rattle.nfs_types.specs.Forms.{trimmed}
 use Rattle.nfs_types.specs.Sets.{has_number}
-use Rattle.nfs_types.specs.Attributes.{text, ace, acl, is_within}
+use Rattle.nfs_types.specs.Attributes.{text, ace, acl, acl41, is_within}
 use Rattle.nfs_types.specs.Sent.{chosen_at}
 use Rattle.nfs_types.specs.declared.attribute.Attribute.{Attribute}
-use Rattle.nfs_types.specs.declared.attribute.Attribute.TheVariants.{ObjectType, Size, RdattrError, Acl, Mode, Owner, OwnerGroup}
+use Rattle.nfs_types.specs.declared.attribute.Attribute.TheVariants.{ObjectType, Size, RdattrError, Acl, Mode, Owner, OwnerGroup, Dacl, Sacl}
 
 -- the values, each if it is there
 pub record Seen : Type 0 where
@@ -21,10 +21,12 @@ pub record Seen : Type 0 where
   pub mode : Option ℕ
   pub owner : Option (List ℕ)
   pub group : Option (List ℕ)
+  pub dacl : Option (Value acl41)
+  pub sacl : Option (Value acl41)
 
--- the set of these: 1 type, 4 size, 11 rdattr_error, 12 acl, 33 mode, 36 owner, 37 owner_group
+-- the set of these attributes: 1 type, 4 size, 11 rdattr_error, 12 acl, 33 mode, 36 owner, 37 owner_group, 58 dacl, 59 sacl
 abbrev pub seen_words : List ℕ
-seen_words = 0x0000_1812 ∷ 0x0000_0032 ∷ []
+seen_words = 0x0000_1812 ∷ 0x0c00_0032 ∷ []
 
 -- one value behind the other, by rising number
 abbrev pub seen_at : List ℕ → List ℕ → Read Seen
@@ -36,7 +38,9 @@ seen_at set bytes =
     chosen_at (has_number set 33) uint d.1 >>= λ e.
     chosen_at (has_number set 36) text e.1 >>= λ f.
     chosen_at (has_number set 37) text f.1 >>= λ g.
-    Ok (record { kind = a.0; size = b.0; error = c.0; entries = d.0; mode = e.0; owner = f.0; group = g.0 }, g.1)
+    chosen_at (has_number set 58) acl41 g.1 >>= λ h.
+    chosen_at (has_number set 59) acl41 h.1 >>= λ i.
+    Ok (record { kind = a.0; size = b.0; error = c.0; entries = d.0; mode = e.0; owner = f.0; group = g.0; dacl = h.0; sacl = i.0 }, i.1)
 
 -- nothing stands behind the values
 abbrev pub ended : Read Seen → Result Seen XdrFault
@@ -48,11 +52,11 @@ ended (Err fault) = Err fault
 abbrev pub seen_of : List ℕ → List ℕ → Result Seen XdrFault
 seen_of set bytes = if not (is_within set seen_words) then Err BadChoice else ended (seen_at set bytes)
 
--- ---- the same, as a client writes them
+-- ---- the values, as a client writes them
 
 -- these attributes, by rising number
 abbrev pub seen_all : List Attribute
-seen_all = ObjectType ∷ Size ∷ RdattrError ∷ Acl ∷ Mode ∷ Owner ∷ OwnerGroup ∷ []
+seen_all = ObjectType ∷ Size ∷ RdattrError ∷ Acl ∷ Mode ∷ Owner ∷ OwnerGroup ∷ Dacl ∷ Sacl ∷ []
 
 abbrev pub shown : (t : Xdr) → Option (Value t) → List ℕ
 shown t None = []
@@ -67,6 +71,8 @@ shown_part s Acl = shown acl s.entries
 shown_part s Mode = shown uint s.mode
 shown_part s Owner = shown text s.owner
 shown_part s OwnerGroup = shown text s.group
+shown_part s Dacl = shown acl41 s.dacl
+shown_part s Sacl = shown acl41 s.sacl
 shown_part s _ = []
 
 -- the values, one behind the other
@@ -76,6 +82,8 @@ shown_values s = flat_map (shown_part s) seen_all
 abbrev pub bit_if : {X : Type 0} → Option X → ℕ → ℕ
 bit_if value bit = if is_some value then bit else 0
 
--- the set of those that are there
+-- the set of the attributes that are there
 abbrev pub shown_set : Seen → List ℕ
-shown_set s = trimmed ((bit_if s.kind 0x2 + bit_if s.size 0x10 + bit_if s.error 0x800 + bit_if s.entries 0x1000) ∷ (bit_if s.mode 0x2 + bit_if s.owner 0x10 + bit_if s.group 0x20) ∷ [])
+shown_set s =
+    trimmed ((bit_if s.kind 0x2 + bit_if s.size 0x10 + bit_if s.error 0x800 + bit_if s.entries 0x1000)
+    ∷ (bit_if s.mode 0x2 + bit_if s.owner 0x10 + bit_if s.group 0x20 + bit_if s.dacl 0x400_0000 + bit_if s.sacl 0x800_0000) ∷ [])

@@ -1,10 +1,12 @@
 -- Attributes that an operation sets, as they are sent (RFC 8881, sections 5.8, 5.9 and 6.2).
-use Rattle.std.specs.Prelude.{ℕ, nat_lt, Bool, true, false, not, if◌then◌else◌, List, [], ◌∷◌, map, Option, Some, None, Result, Ok, Err}
+use Rattle.std.specs.Prelude.{ℕ, nat_lt, ◌==◌, Bool, true, false, not, ◌&&◌, ◌||◌, if◌then◌else◌, List, [], ◌∷◌, map, Option, Some, None, is_some, Result, Ok, Err}
 use Rattle.xdr_wire.specs.Xdr.{Xdr, Value, uint, hyper}
 use Rattle.xdr_wire.specs.Reading.{◌>>=◌, Read, read_at}
 use Rattle.acl_list.specs.declared.entry.Entry.{Entry}
 use Rattle.acl_list.specs.declared.entry.Kind.{Kind}
-use Rattle.acl_shape.specs.Admitted.{first_fault, admitted}
+use Rattle.acl_shape.specs.Admitted.{first_fault, admitted, part_fault}
+use Rattle.acl_shape.specs.declared.part.Part.{Part}
+use Rattle.acl_shape.specs.declared.part.Part.TheVariants.{Dacl, Sacl}
 use Rattle.acl_shape.specs.declared.request.Raw.{Raw}
 use Rattle.acl_shape.specs.declared.request.AdmitFault.{AdmitFault}
 use Rattle.acl_shape.specs.declared.request.AdmitFault.TheVariants as faults
@@ -13,7 +15,7 @@ use Rattle.who_book.specs.Spelling.{principal_in, who_in}
 use Rattle.who_book.specs.declared.kind.NameKind.{NameKind}
 use Rattle.who_book.specs.declared.kind.NameKind.TheVariants as kinds
 use Rattle.nfs_types.specs.Sets.{has_number}
-use Rattle.nfs_types.specs.Attributes.{text, ace, acl, supported_words, settable_words, is_within}
+use Rattle.nfs_types.specs.Attributes.{text, ace, acl, acl41, supported_words, settable_words, is_within}
 use Rattle.nfs_types.specs.declared.status.Status.{Status}
 use Rattle.nfs_types.specs.declared.status.Status.TheVariants as status
 
@@ -29,8 +31,10 @@ pub record Sent : Type 0 where
   pub mode : Option ℕ
   pub owner : Option (List ℕ)
   pub group : Option (List ℕ)
+  pub dacl : Option (Value acl41)
+  pub sacl : Option (Value acl41)
 
--- One value behind the other, by rising number: 4 size, 12 acl, 33 mode, 36 owner, 37 owner_group.
+-- One value behind the other, by rising number: 4 size, 12 acl, 33 mode, 36 owner, 37 owner_group, 58 dacl, 59 sacl.
 abbrev pub sent_at : List ℕ → List ℕ → Read Sent
 sent_at set bytes =
     chosen_at (has_number set 4) hyper bytes >>= λ a.
@@ -38,7 +42,9 @@ sent_at set bytes =
     chosen_at (has_number set 33) uint b.1 >>= λ c.
     chosen_at (has_number set 36) text c.1 >>= λ d.
     chosen_at (has_number set 37) text d.1 >>= λ e.
-    Ok (record { size = a.0; entries = b.0; mode = c.0; owner = d.0; group = e.0 }, e.1)
+    chosen_at (has_number set 58) acl41 e.1 >>= λ f.
+    chosen_at (has_number set 59) acl41 f.1 >>= λ g.
+    Ok (record { size = a.0; entries = b.0; mode = c.0; owner = d.0; group = e.0; dacl = f.0; sacl = g.0 }, g.1)
 
 -- the values that the bytes spell, all of the bytes
 abbrev pub whole : Read Sent → Option Sent
@@ -50,23 +56,30 @@ whole (Err fault) = None
 abbrev pub raw_of : Content → Value ace → Raw
 raw_of book e = record { kind = e.0; flags = e.1.0; mask = e.1.1.0; who = who_in e.1.0 book e.1.1.1 }
 
--- what an operation sets
+-- the values that an operation sets
 pub record Wanted : Type 0 where
   pub size : Option ℕ
   pub list : Option (List Entry)
   pub mode : Option ℕ
   pub owner : Option ℕ
   pub group : Option ℕ
+  pub dacl : Option (List Entry)
+  pub sacl : Option (List Entry)
 
-abbrev pub made : Option ℕ → Option (List Entry) → Option ℕ → Option ℕ → Option ℕ → Wanted
-made size list mode owner group = record { size = size; list = list; mode = mode; owner = owner; group = group }
+abbrev pub made : Option ℕ → Option (List Entry) → Option ℕ → Option ℕ → Option ℕ → Option (List Entry) → Option (List Entry) → Wanted
+made size list mode owner group dacl sacl =
+    record { size = size; list = list; mode = mode; owner = owner; group = group; dacl = dacl; sacl = sacl }
+
+-- whether a list is set, or a part of one
+abbrev pub has_list : Wanted → Bool
+has_list wanted = is_some wanted.list || is_some wanted.dacl || is_some wanted.sacl
 
 infixl 10 ◌>>◌
 abbrev pub ◌>>◌ : {A B : Type 0} → Result A Status → (A → Result B Status) → Result B Status
 (Ok x) >> f = f x
 (Err status) >> f = Err status
 
--- the status of a list that isn't taken
+-- the status of a list that is refused
 abbrev pub status_of : AdmitFault → Status
 status_of faults.NoSpc = status.NoSpc
 status_of faults.AttrNotSupp = status.AttrNotSupp
@@ -74,7 +87,7 @@ status_of faults.Inval = status.Inval
 status_of faults.BadOwner = status.BadOwner
 status_of faults.Memory = status.Delay
 
--- each value, or what is wrong with it
+-- each value, or its fault
 abbrev pub unless : Option AdmitFault → List Entry → Result (Option (List Entry)) Status
 unless None list = Ok (Some list)
 unless (Some fault) list = Err (status_of fault)
@@ -104,19 +117,42 @@ abbrev pub taken_plain : Content → Option ℕ → Option (List ℕ) → Option
 taken_plain book mode owner group =
     taken_mode mode >> λ m. taken_name book kinds.User owner >> λ o. taken_name book kinds.Group group >> λ g. Ok (m, (o, g))
 
--- all values, or the first that is wrong, by rising number
-abbrev pub taken : Content → Kind → Sent → Result Wanted Status
-taken book kind sent =
+-- A part of a list: there is no automatic inheritance, so no flag of the ACL is known (section 6.4.3.2); then the fault of its
+-- entries.
+abbrev pub taken_part : Part → Content → Kind → Option (Value acl41) → Result (Option (List Entry)) Status
+taken_part part book kind None = Ok None
+taken_part part book kind (Some sent) =
+    if not (sent.0 == 0) then Err status.AttrNotSupp
+    else unless (part_fault part kind (map (raw_of book) sent.1)) (admitted kind (map (raw_of book) sent.1))
+
+abbrev pub Parts : Type 0
+Parts = Option (List Entry) × Option (List Entry)
+
+abbrev pub taken_parts : Content → Kind → Option (Value acl41) → Option (Value acl41) → Result Parts Status
+taken_parts book kind dacl sacl =
+    taken_part Dacl book kind dacl >> λ d. taken_part Sacl book kind sacl >> λ s. Ok (d, s)
+
+-- all values, or the first fault, by rising number
+abbrev pub taken_each : Content → Kind → Sent → Result Wanted Status
+taken_each book kind sent =
     taken_list book kind sent.entries >> λ list.
     taken_plain book sent.mode sent.owner sent.group >> λ plain.
-    Ok (made sent.size list plain.0 plain.1.0 plain.1.1)
+    taken_parts book kind sent.dacl sent.sacl >> λ parts.
+    Ok (made sent.size list plain.0 plain.1.0 plain.1.1 parts.0 parts.1)
+
+-- whether a list is set, and beside it a part of a list
+abbrev pub is_set_twice : Sent → Bool
+is_set_twice sent = is_some sent.entries && (is_some sent.dacl || is_some sent.sacl)
+
+abbrev pub taken : Content → Kind → Sent → Result Wanted Status
+taken book kind sent = if is_set_twice sent then Err status.Inval else taken_each book kind sent
 
 abbrev pub spelled : Content → Kind → Option Sent → Result Wanted Status
 spelled book kind None = Err status.BadXdr
 spelled book kind (Some sent) = taken book kind sent
 
--- What attributes that were sent set on an object of this kind, or the first fault over the whole set: an attribute that
--- isn't supported; one that can't be set; bytes that aren't exactly the values; then a value.
+-- The values that sent attributes set on an object of this kind, or the first fault over the whole set: an attribute
+-- that isn't supported; one that can't be set; bytes that aren't exactly the values; a list beside a part of one; then a value.
 abbrev pub wanted_of : Content → Kind → List ℕ → List ℕ → Result Wanted Status
 wanted_of book kind set bytes =
     if not (is_within set supported_words) then Err status.AttrNotSupp

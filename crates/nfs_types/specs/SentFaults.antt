@@ -1,4 +1,4 @@
--- How an answer stands to what is wanted, or to the status of a refusal.
+-- An answer, by the values to set or the status of a refusal.
 use Rattle.std.specs.Prelude.{◌≡◌, Bool, true, IsOkAnd, Result, Ok, Err}
 use Rattle.acl_shape.specs.declared.request.AdmitFault.{AdmitFault}
 use Rattle.acl_shape.specs.declared.request.AdmitFault.TheVariants as faults
@@ -14,7 +14,7 @@ attrs_fault faults.Inval = Refused (status_of faults.Inval)
 attrs_fault faults.BadOwner = Refused (status_of faults.BadOwner)
 attrs_fault faults.Memory = Memory
 
--- The answer is what is wanted, or the status of the refusal. There may be no memory only for what isn't refused and has a list.
+-- The answer is the values to set, or the status of the refusal. `Memory` is given only for values with a list, which aren't refused.
 abbrev pub Answers : {X V : Type 0} → (X → V) → (V → Bool) → Result V Status → Result X AttrsFault → Type 0
 Answers view has_list wanted (Ok x) = wanted ≡ Ok (view x)
 Answers view has_list wanted (Err (Refused status)) = wanted ≡ Err status

@@ -12,4 +12,6 @@ sent_value s = record {
   mode = s.mode;
   owner = option_map (λ t. t.bytes.now) s.owner;
   group = option_map (λ t. t.bytes.now) s.group;
+  dacl = option_map (λ a. (a.flags, array_values attributes.ace None a.entries.count a.entries.bytes.now)) s.dacl;
+  sacl = option_map (λ a. (a.flags, array_values attributes.ace None a.entries.count a.entries.bytes.now)) s.sacl;
 }

@@ -13,4 +13,6 @@ shown_value s = record {
   mode = s.mode;
   owner = option_map (λ t. t.bytes.now) s.owner;
   group = option_map (λ t. t.bytes.now) s.group;
+  dacl = option_map (λ a. (a.flags, map ace_value a.entries.entries.now)) s.dacl;
+  sacl = option_map (λ a. (a.flags, map ace_value a.entries.entries.now)) s.sacl;
 }

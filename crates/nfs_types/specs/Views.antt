@@ -1,4 +1,4 @@
--- What a value of each type spells.
+-- The value of each type, as it is spelled.
 use Rattle.xdr_wire.specs.Xdr.{Value}
 use Rattle.nfs_types.specs.Forms.{handle, stateid, bitmap, attributes, trimmed}
 use Rattle.nfs_types.specs.Handles.{object_handle}

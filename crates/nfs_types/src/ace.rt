@@ -4,13 +4,13 @@ use xdr_wire::{Full, Opaque, Reader, Spell, Wire, Writer, XdrFault};
 /// An entry of a list as it is sent, `nfsace4` (RFC 8881, section 6.2.1): any numbers, and the who as text.
 #[derive(Clone, Copy, Debug)]
 pub struct Ace<'a> {
-    /// Its type, `acetype4`.
+    /// The type, `acetype4`.
     pub kind: u32,
-    /// Its flags, `aceflag4`.
+    /// The flags, `aceflag4`.
     pub flags: u32,
-    /// Its mask, `acemask4`.
+    /// The mask, `acemask4`.
     pub mask: u32,
-    /// Whom it is about, as text. It has no bound but the record's.
+    /// The who, as text. It has no bound but the record's.
     pub who: Opaque<'a, 0xffff_ffff>,
 }
 

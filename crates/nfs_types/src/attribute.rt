@@ -3,11 +3,11 @@ ghost use Rattle.std.specs.Prelude.{◌≡◌};
 /// The attributes that are supported (RFC 8881, sections 5.6 to 5.8 and 6.2), each with its number.
 #[derive(Clone, Copy, Debug, PartialEq, Eq)]
 pub enum Attribute {
-    /// supported_attrs: which are supported.
+    /// supported_attrs: the attributes that are supported.
     SupportedAttrs = 0,
     /// type: file, directory or link.
     ObjectType = 1,
-    /// fh_expire_type: filehandles last.
+    /// fh_expire_type: filehandles are persistent.
     FhExpireType = 2,
     /// change: a number that each change makes larger.
     Change = 3,
@@ -29,7 +29,7 @@ pub enum Attribute {
     RdattrError = 11,
     /// acl: the list.
     Acl = 12,
-    /// aclsupport: which types of entries there are.
+    /// aclsupport: the types of entries that are supported.
     AclSupport = 13,
     /// filehandle: the object's own.
     FileHandle = 19,
@@ -51,18 +51,22 @@ pub enum Attribute {
     Owner = 36,
     /// owner_group: the group's name.
     OwnerGroup = 37,
-    /// time_metadata: when anything was changed last.
+    /// time_metadata: the time of the last change.
     TimeMetadata = 52,
-    /// time_modify: when the content was changed last.
+    /// time_modify: the time of the last change of the content.
     TimeModify = 53,
     /// mounted_on_fileid: the object's number, as there is one file system.
     MountedOnFileId = 55,
-    /// suppattr_exclcreat: what an exclusive creation sets: nothing.
+    /// dacl: the part of the list that allows and denies.
+    Dacl = 58,
+    /// sacl: the part of the list that watches.
+    Sacl = 59,
+    /// suppattr_exclcreat: the attributes that an exclusive create sets: none.
     SuppattrExclcreat = 75,
 }
 
-/// All of them, by rising number.
-pub const ALL: [Attribute; 28] = [
+/// All attributes, by rising number.
+pub const ALL: [Attribute; 30] = [
     Attribute::SupportedAttrs,
     Attribute::ObjectType,
     Attribute::FhExpireType,
@@ -90,13 +94,15 @@ pub const ALL: [Attribute; 28] = [
     Attribute::TimeMetadata,
     Attribute::TimeModify,
     Attribute::MountedOnFileId,
+    Attribute::Dacl,
+    Attribute::Sacl,
     Attribute::SuppattrExclcreat,
 ];
 
 impl Attribute {
     ghost use Rattle.nfs_types.specs.Attributes.{number_of};
 
-    /// The number that stands for it in a bitmap.
+    /// The number of the attribute in a bitmap.
     pub fn number(self) -> u32
         ensures { result ≡ number_of self }
     {

@@ -2,13 +2,13 @@ use crate::bitmap::Bitmap;
 use std::alloc::Allocator;
 use xdr_wire::{Full, Opaque, Reader, Spell, Wire, Writer, XdrFault};
 
-/// Attributes as they are sent, `fattr4` (RFC 8881, section 3.3.9): which they are, and the bytes of their values in the
+/// Attributes as they are sent, `fattr4` (RFC 8881, section 3.3.9): their set, and the bytes of their values in the
 /// order of their numbers. The bytes are lent, and have no bound but the record's.
 #[derive(Clone, Copy, Debug)]
 pub struct Attributes<'a> {
-    /// Which attributes they are.
+    /// The set of the attributes.
     pub set: Bitmap,
-    /// Their values, one behind the other.
+    /// The values, one behind the other.
     pub values: Opaque<'a, 0xffff_ffff>,
 }
 

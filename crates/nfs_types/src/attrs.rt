@@ -1,25 +1,26 @@
-//! What CREATE, OPEN and SETATTR set.
-ghost use Rattle.std.specs.Prelude.{◌≡◌, ◌++◌, ◌≤◌, ℕ, length, map, take, Some, None, Ok, Err, MatchResult, IfOk, IfSome, is_some, option_map};
+//! The attributes that CREATE, OPEN and SETATTR set.
+ghost use Rattle.std.specs.Prelude.{◌≡◌, map, Some, None, Ok, Err, MatchResult, IfOk, IfSome, is_some, option_map};
 ghost use Rattle.acl_shape.specs.Admitted.{admitted, first_fault};
 ghost use Rattle.acl_shape.specs.Bounds.{IsBounded};
 ghost use Rattle.acl_shape.specs.declared.request.AdmitFault.{AdmitFault};
 ghost use Rattle.acl_shape.specs.declared.request.AdmitFault.TheVariants as faults;
 ghost use Rattle.xdr_wire.specs.Wire.{array_values};
 ghost use Rattle.nfs_types.specs.Attributes.{ace};
-ghost use Rattle.nfs_types.specs.AceView.{ace_value};
 ghost use Rattle.nfs_types.specs.Sent as specs;
-ghost use Rattle.nfs_types.specs.Sent.{made, taken, taken_list, taken_mode, taken_name, taken_plain, wanted_of};
+ghost use Rattle.nfs_types.specs.Sent.{has_list, made, taken, taken_each, taken_list, taken_mode, taken_name, taken_plain, wanted_of};
 ghost use Rattle.nfs_types.specs.SentFaults.{Answers};
 ghost use Rattle.nfs_types.specs.SentViews.{sent_value};
 ghost use Rattle.nfs_types.specs.Views.{bitmap_value};
 
 use crate::ace::Ace;
+use crate::asked::Asked;
 use crate::attributes::Attributes;
 use crate::bitmap::Bitmap;
+use crate::parts::parts_of;
 use crate::sent::Sent;
 use crate::status::Status;
 use acl_list::{AclList, Kind};
-use acl_shape::{AdmitFault, MAX_KEPT, Raw, admit};
+use acl_shape::{AdmitFault, admit};
 use std::alloc::{Allocator, Global};
 use thiserror::Error;
 use who_book::{Book, NameKind};
@@ -28,12 +29,12 @@ use xdr_wire::{Array, Opaque};
 /// The most bits of a mode.
 const MAX_MODE: u32 = 0o7777;
 
-/// What CREATE, OPEN or SETATTR sets (RFC 8881, sections 5.8.2 and 6.2): each attribute that was sent.
+/// The values that CREATE, OPEN or SETATTR sets (RFC 8881, sections 5.8.2 and 6.2): each attribute that was sent.
 #[derive(Debug, Drop)]
 pub struct Attrs<A: Allocator = Global> {
     /// 4, size: how many bytes the file is to have.
     pub size: Option<u64>,
-    /// 12, acl: the list as it is taken for the kind of object.
+    /// 12, acl: the list as it is set on the kind of object.
     pub list: Option<AclList<A>>,
     /// 33, mode: at most 0o7777.
     pub mode: Option<u32>,
@@ -41,15 +42,19 @@ pub struct Attrs<A: Allocator = Global> {
     pub owner: Option<u32>,
     /// 37, owner_group: the number of the group.
     pub group: Option<u32>,
+    /// 58, dacl: that part of the list, as it is set on the kind of object. None where the list is set.
+    pub dacl: Option<AclList<A>>,
+    /// 59, sacl: likewise.
+    pub sacl: Option<AclList<A>>,
 }
 
-/// Why attributes aren't set.
+/// The fault for which attributes aren't set.
 #[derive(Clone, Copy, Debug, PartialEq, Eq, Error)]
 pub enum AttrsFault {
-    /// What was sent is refused with this status.
+    /// The attributes are refused with this status.
     #[error("the attributes are refused")]
     Refused(Status),
-    /// There is no memory for the list.
+    /// There is no memory for the list or a part of it.
     #[error("out of memory")]
     Memory,
 }
@@ -81,34 +86,7 @@ impl From<Status> for AttrsFault {
     }
 }
 
-/// An entry that was sent, its who looked up.
-fn raw_of(book: &Book, ace: &Ace<'_>) -> Raw
-    ensures { result ≡ specs.raw_of book.now (ace_value ace.now) }
-{
-    Raw {
-        kind: ace.kind,
-        flags: ace.flags,
-        mask: ace.mask,
-        who: book.who(ace.flags, ace.who.bytes),
-    }
-}
-
-/// Puts the entries in, of which there are few enough, and counts them.
-fn fill<'a>(book: &Book, entries: Array<'a, Ace<'a>, 0xffff_ffff>, raws: &mut [Raw]) -> usize
-    requires { length (array_values ace None entries.count entries.bytes.now) ≤ length raws.old }
-    ensures count { result ≤ length raws.new }
-    ensures raws { take result raws.new ≡ map (specs.raw_of book.now) (array_values ace None entries.entry.count entries.entry.bytes.now) }
-{
-    let mut left = entries;
-    let mut count = 0;
-    while let Some(entry) = left.next() {
-        raws[count] = raw_of(book, &entry);
-        count += 1;
-    }
-    count
-}
-
-/// The list that the entries ask for, on an object of this kind. It has as few as it may, before any is looked at.
+/// The list that the entries ask for, on an object of this kind. Their number was checked before any was looked at.
 fn admit_all<'a, A: Allocator>(
     alloc: A,
     book: &Book,
@@ -120,17 +98,10 @@ fn admit_all<'a, A: Allocator>(
         MatchResult result (λ new. new ≡ admitted kind (map (specs.raw_of book.now) (array_values ace None entries.entry.count entries.entry.bytes.now))) (λ fault. fault ≡ faults.Memory) }
     ensures bounded { IfOk result IsBounded }
 {
-    if entries.len() > MAX_KEPT {
+    let Some(asked) = Asked::of(book, entries) else {
         return Err(AdmitFault::NoSpc);
-    }
-    let mut raws = [Raw {
-        kind: 0,
-        flags: 0,
-        mask: 0,
-        who: None,
-    }; MAX_KEPT];
-    let count = fill(book, entries, &mut raws);
-    admit(alloc, &raws[..count], kind)
+    };
+    admit(alloc, asked.as_slice(), kind)
 }
 
 /// The list that was sent, if one was.
@@ -185,7 +156,7 @@ fn number_of(
 /// The mode and the numbers that were sent, in their order.
 type Plain = (Option<u32>, (Option<u32>, Option<u32>));
 
-/// What the values behind the list set.
+/// The values that are set by those behind the list.
 fn plain_of(
     book: &Book,
     mode: Option<u32>,
@@ -200,14 +171,14 @@ fn plain_of(
     Ok((mode, (owner, group)))
 }
 
-/// What values that are spelled set.
-fn attrs_of<'a, A: Allocator>(
+/// The values that are set where no part of a list stands beside a list.
+fn each_of<'a, A: Allocator + Copy>(
     alloc: A,
     book: &Book,
     kind: Kind,
     sent: Sent<'a>,
 ) -> Result<Attrs<A>, AttrsFault>
-    ensures attrs { Answers (λ new. made new.size new.list new.mode new.owner new.group) (λ wanted. is_some wanted.list) (taken book.now kind (sent_value sent.entry)) result }
+    ensures attrs { Answers (λ new. made new.size new.list new.mode new.owner new.group new.dacl new.sacl) has_list (taken_each book.now kind (sent_value sent.entry)) result }
     ensures bounded { IfOk result (λ new. IfSome new.list IsBounded) }
 {
     let Sent {
@@ -216,40 +187,64 @@ fn attrs_of<'a, A: Allocator>(
         mode,
         owner,
         group,
+        dacl,
+        sacl,
     } = sent;
     match list_of(alloc, book, kind, entries) {
         Err(AttrsFault::Refused(status)) => Err(AttrsFault::Refused(status)),
         Err(AttrsFault::Memory) => {
             plain_of(book, mode, owner, group)?;
+            parts_of(alloc, book, kind, dacl, sacl)?;
             Err(AttrsFault::Memory)
         }
         Ok(list) => {
             let (mode, (owner, group)) = plain_of(book, mode, owner, group)?;
+            let (dacl, sacl) = parts_of(alloc, book, kind, dacl, sacl)?;
             Ok(Attrs {
                 size,
                 list,
                 mode,
                 owner,
                 group,
+                dacl,
+                sacl,
             })
         }
     }
 }
 
-/// What attributes that were sent set on an object of this kind, with the list over `alloc` (RFC 8881, sections 5.8, 5.9 and
-/// 6.2): any of 4 size, 12 acl, 33 mode, 36 owner and 37 owner_group.
+/// The values that are set by the bytes.
+fn attrs_of<'a, A: Allocator + Copy>(
+    alloc: A,
+    book: &Book,
+    kind: Kind,
+    sent: Sent<'a>,
+) -> Result<Attrs<A>, AttrsFault>
+    ensures attrs { Answers (λ new. made new.size new.list new.mode new.owner new.group new.dacl new.sacl) has_list (taken book.now kind (sent_value sent.entry)) result }
+    ensures bounded { IfOk result (λ new. IfSome new.list IsBounded) }
+{
+    if sent.sets_twice() {
+        return Err(AttrsFault::Refused(Status::Inval));
+    }
+    each_of(alloc, book, kind, sent)
+}
+
+/// The values that sent attributes set on an object of this kind, with the list over `alloc` (RFC 8881, sections 5.8, 5.9
+/// and 6.2): any of 4 size, 12 acl, 33 mode, 36 owner, 37 owner_group, 58 dacl and 59 sacl.
 ///
 /// They are refused for the first of these over the whole set: an attribute that isn't supported, `AttrNotSupp`; one that
-/// can't be set, `Inval`; bytes that don't spell exactly the values, `BadXdr`; then by rising number: a list as
-/// [`acl_shape::admit`] refuses it; a mode above 0o7777, `Inval`; an owner or a group that the book doesn't know,
-/// `BadOwner`. `Memory` comes only to what isn't refused, and only where a list was sent: nothing else takes memory.
-pub fn read_attrs<A: Allocator>(
+/// can't be set, `Inval`; bytes that don't spell exactly the values, `BadXdr`; a list beside a part of one, `Inval`; then by
+/// rising number: a list as [`acl_shape::admit`] refuses it; a mode above 0o7777, `Inval`; an owner or a group that the book
+/// doesn't know, `BadOwner`; of a part of a list flags other than 0, `AttrNotSupp`, and then its entries as
+/// [`acl_shape::admit_part`] refuses them. `Memory` is given only for values that aren't refused, and only where a list or a
+/// part of one was sent: nothing else takes memory.
+pub fn read_attrs<A: Allocator + Copy>(
     alloc: A,
     book: &Book,
     kind: Kind,
     sent: &Attributes<'_>,
 ) -> Result<Attrs<A>, AttrsFault>
-    ensures attrs { Answers (λ new. made new.size new.list new.mode new.owner new.group) (λ wanted. is_some wanted.list) (wanted_of book.now kind (bitmap_value sent.now.set) sent.now.values.bytes.now) result }
+    ensures attrs { Answers (λ new. made new.size new.list new.mode new.owner new.group new.dacl new.sacl) has_list (wanted_of book.now kind (bitmap_value sent.now.set) sent.now.values.bytes.now) result }
     ensures bounded { IfOk result (λ new. IfSome new.list IsBounded) }
 {
     if !sent.set.is_within(&Bitmap::supported()) {

@@ -5,7 +5,7 @@ use std::alloc::Allocator;
 use xdr_wire::{Full, Reader, Spell, Wire, Writer, XdrFault};
 
 /// A set of attribute numbers below 256, `bitmap4` (RFC 8881, section 3.3.7), by words of 32 bits. Zero words at the end
-/// say nothing: they are read, and not written.
+/// mean nothing: they are read, and not written.
 #[derive(Clone, Copy, Debug, PartialEq, Eq)]
 pub struct Bitmap {
     words: [u32; 8],
@@ -56,7 +56,7 @@ impl Bitmap {
         Bitmap { words }
     }
 
-    /// Whether each number of the set is in the other one.
+    /// Whether each number of the set is in the other set.
     pub fn is_within(&self, other: &Bitmap) -> bool
         ensures { result ≡ specs.is_within (bitmap_value self.now) (bitmap_value other.now) }
     {
@@ -84,7 +84,7 @@ impl Bitmap {
         ensures { bitmap_value result ≡ specs.supported_words }
     {
         Bitmap {
-            words: [0xe818_3fff, 0x00b0_003a, 0x0000_0800, 0, 0, 0, 0, 0],
+            words: [0xe818_3fff, 0x0cb0_003a, 0x0000_0800, 0, 0, 0, 0, 0],
         }
     }
 
@@ -97,12 +97,12 @@ impl Bitmap {
         }
     }
 
-    /// The attributes that a client asks for: 1, 4, 11, 12, 33, 36 and 37.
+    /// The attributes that a client requests: 1, 4, 11, 12, 33, 36, 37, 58 and 59.
     pub fn seen() -> Self
         ensures { bitmap_value result ≡ seen_words }
     {
         Bitmap {
-            words: [0x0000_1812, 0x0000_0032, 0, 0, 0, 0, 0, 0],
+            words: [0x0000_1812, 0x0c00_0032, 0, 0, 0, 0, 0, 0],
         }
     }
 
@@ -111,7 +111,7 @@ impl Bitmap {
         ensures { bitmap_value result ≡ specs.settable_words }
     {
         Bitmap {
-            words: [0x0000_1010, 0x0000_0032, 0, 0, 0, 0, 0, 0],
+            words: [0x0000_1010, 0x0c00_0032, 0, 0, 0, 0, 0, 0],
         }
     }
 }

@@ -4,32 +4,32 @@ use crate::moment::Moment;
 use crate::status::Status;
 use acl_list::{Entry, Kind};
 
-/// What GETATTR and READDIR say of an object, lent.
+/// The facts of an object that GETATTR and READDIR return, lent.
 #[derive(Clone, Copy, Debug)]
 pub struct ObjectFacts<'a> {
-    /// What it is.
+    /// The type of the object.
     pub kind: Kind,
-    /// Its number, which its filehandle and its file ids are made of.
+    /// The number of the object, of which its filehandle and its file ids are made.
     pub number: u64,
     /// A number that each change of the object makes larger.
     pub change: u64,
     /// How many bytes a file or a link text has; 0 of a directory.
     pub size: u64,
-    /// Why READDIR gives less than was asked, else `Ok`.
+    /// Why READDIR returns less than was requested, else `Ok`.
     pub error: Status,
-    /// Its list, of at most 64 entries.
+    /// The list, of at most 64 entries.
     pub entries: &'a [Entry],
-    /// Its mode: its high bits, and what the list stands for.
+    /// The mode: its high bits, and the mode that the list stands for.
     pub mode: u32,
-    /// How many names it has.
+    /// How many names the object has.
     pub links: u32,
-    /// The number of the user it belongs to.
+    /// The number of the owner.
     pub owner: u32,
-    /// The number of the group it belongs to.
+    /// The number of the owner's group.
     pub group: u32,
-    /// When anything about it was changed last.
+    /// The time of the last change.
     pub metadata: Moment,
-    /// When its content was changed last.
+    /// The time of the last change of the content.
     pub modify: Moment,
     ghost few: { length entries.now ≤ 64 },
 }

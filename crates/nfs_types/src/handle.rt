@@ -10,9 +10,9 @@ use xdr_wire::{Full, Opaque, Reader, Spell, Wire, Writer, XdrFault};
 /// A filehandle, `nfs_fh4` (RFC 8881, section 4): at most 128 bytes.
 #[derive(Clone, Copy, Debug)]
 pub enum Handle<'a> {
-    /// One that was sent, of which nothing is known yet.
+    /// A handle that was sent and isn't checked yet.
     Sent(Opaque<'a, 128>),
-    /// This server's own of the object of this number: 8 zero bytes and the number.
+    /// This server's own handle of the object of this number: 8 zero bytes and the number.
     Object(u64),
 }
 
@@ -25,7 +25,7 @@ fn bytes_of(number: u64) -> [u8; 16]
     bytes
 }
 
-/// The number of the object that these bytes name.
+/// The number of the object of a handle of these bytes.
 fn object_in(bytes: &[u8]) -> Result<u64, Status>
     ensures { result ≡ object_of bytes.now }
 {
@@ -42,7 +42,7 @@ fn object_in(bytes: &[u8]) -> Result<u64, Status>
     }
 }
 
-/// The number that this server's own handle of an object names.
+/// The number of the object of this server's own handle.
 fn own(number: u64) -> Result<u64, Status>
     ensures { result ≡ object_of (object_handle number) }
 {
@@ -50,7 +50,7 @@ fn own(number: u64) -> Result<u64, Status>
 }
 
 impl<'a> Handle<'a> {
-    /// The number of the object that the handle names, be there such an object or not. `BadHandle` at one that isn't 16
+    /// The number of the object of the handle, be there such an object or not. `BadHandle` at a handle that isn't 16
     /// bytes long, or doesn't begin with 8 zero bytes.
     pub fn object(&self) -> Result<u64, Status>
         ensures { result ≡ object_of (handle_value self.now) }

@@ -1,4 +1,4 @@
-//! What follows from the definitions alone.
+//! Laws that follow from the definitions alone.
 ghost use Rattle.std.specs.Prelude.{◌≡◌, ◌==◌, ◌&&◌, ℕ, true, List, Ok, map};
 ghost use Rattle.std.specs.List.{list_any};
 ghost use Rattle.nfs_types.specs.Attributes.{all, number_of, row, settable_words, supported_words};
@@ -16,12 +16,12 @@ pub fn sets_are_the_table()
     ensures settable { (n : ℕ) → has_number settable_words n ≡ list_any (λ a. (row a).settable && (number_of a == n)) all }
 {}
 
-/// What is given of an object is what is asked and supported.
+/// The attributes returned of an object are those requested and supported.
 pub fn given_is_asked_and_supported()
     ensures { (asked : List ℕ) (n : ℕ) → has_number (given_set asked) n ≡ has_number asked n && has_number supported_words n }
 {}
 
-/// What a client writes it would read as the same values.
+/// The values that a client writes are read as these values.
 pub fn written_is_seen()
     ensures { (s : Seen) → IsSendable s → seen_of (shown_set s) (shown_values s) ≡ Ok s }
 {}

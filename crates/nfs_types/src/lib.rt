@@ -1,9 +1,11 @@
-//! What every operation of NFS version 4.1 speaks in: statuses, filehandles, stateids, attributes, moments, names
+//! The types of all operations of NFS version 4.1: statuses, filehandles, stateids, attributes, moments, names
 //! (RFC 8881).
 #![tactic(auto)]
 
 mod ace;
 mod aces;
+mod acl41;
+mod asked;
 mod attribute;
 mod attributes;
 mod attrs;
@@ -15,6 +17,7 @@ mod handle;
 mod laws;
 mod moment;
 mod name;
+mod parts;
 mod seen;
 mod sent;
 mod shown;
@@ -23,6 +26,7 @@ mod status;
 
 pub use ace::Ace;
 pub use aces::Aces;
+pub use acl41::Acl41;
 pub use attribute::Attribute;
 pub use attributes::Attributes;
 pub use attrs::{Attrs, AttrsFault, read_attrs};

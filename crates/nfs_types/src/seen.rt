@@ -6,13 +6,14 @@ ghost use Rattle.nfs_types.specs.SeenViews.{seen_value};
 ghost use Rattle.nfs_types.specs.Views.{bitmap_value};
 
 use crate::ace::Ace;
+use crate::acl41::Acl41;
 use crate::attribute::Attribute;
 use crate::attributes::Attributes;
 use crate::bitmap::Bitmap;
 use crate::sent::chosen;
 use xdr_wire::{Array, Opaque, Reader, XdrFault};
 
-/// The attributes that a client asks for, as they were given: each if it is there.
+/// The attributes that a client requests, as the server returns them: each if it is there.
 #[derive(Drop)]
 pub struct SeenAttributes<'a> {
     /// 1, type, `nfs_ftype4`.
@@ -29,6 +30,10 @@ pub struct SeenAttributes<'a> {
     pub owner: Option<Opaque<'a, 0xffff_ffff>>,
     /// 37, owner_group, as text.
     pub group: Option<Opaque<'a, 0xffff_ffff>>,
+    /// 58, dacl.
+    pub dacl: Option<Acl41<Array<'a, Ace<'a>, 0xffff_ffff>>>,
+    /// 59, sacl.
+    pub sacl: Option<Acl41<Array<'a, Ace<'a>, 0xffff_ffff>>>,
 }
 
 /// The values of this set, one behind the other.
@@ -43,6 +48,8 @@ fn values<'a>(set: &Bitmap, reader: &mut Reader<'a>) -> Result<SeenAttributes<'a
     let mode = chosen(set, Attribute::Mode.number(), &mut ahead)?;
     let owner = chosen(set, Attribute::Owner.number(), &mut ahead)?;
     let group = chosen(set, Attribute::OwnerGroup.number(), &mut ahead)?;
+    let dacl = chosen(set, Attribute::Dacl.number(), &mut ahead)?;
+    let sacl = chosen(set, Attribute::Sacl.number(), &mut ahead)?;
     *reader = ahead;
     Ok(SeenAttributes {
         kind,
@@ -52,11 +59,13 @@ fn values<'a>(set: &Bitmap, reader: &mut Reader<'a>) -> Result<SeenAttributes<'a
         mode,
         owner,
         group,
+        dacl,
+        sacl,
     })
 }
 
-/// Reads what a server gave of an object (RFC 8881, sections 3.3.9, 18.7 and 18.23), lent: any of the attributes 1, 4, 11,
-/// 12, 33, 36 and 37. `BadChoice`: another attribute is there. Else the first fault of a value; `TooLong`: there are more
+/// Reads the attributes that a server returns of an object (RFC 8881, sections 3.3.9, 18.7 and 18.23), lent: any of 1, 4, 11,
+/// 12, 33, 36, 37, 58 and 59. `BadChoice`: another attribute is there. Else the first fault of a value; `TooLong`: there are more
 /// bytes than the values take.
 pub fn read_given<'a>(given: &Attributes<'a>) -> Result<SeenAttributes<'a>, XdrFault>
     ensures { MatchResult result (λ seen. seen_of (bitmap_value given.now.set) given.now.values.bytes.now ≡ Ok (seen_value seen)) (λ fault. seen_of (bitmap_value given.now.set) given.now.values.bytes.now ≡ Err fault) }

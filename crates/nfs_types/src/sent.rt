@@ -2,18 +2,19 @@
 ghost use Rattle.std.specs.Prelude.{◌≡◌, Some, None, MatchResult, option_map};
 ghost use Rattle.xdr_wire.specs.Reading.{Gives};
 ghost use Rattle.xdr_wire.specs.Wire.{in_normal_form, within};
-ghost use Rattle.nfs_types.specs.Sent.{chosen_at, sent_at, whole};
+ghost use Rattle.nfs_types.specs.Sent.{chosen_at, is_set_twice, sent_at, whole};
 ghost use Rattle.nfs_types.specs.SentViews.{sent_value};
 ghost use Rattle.nfs_types.specs.Sets.{has_number};
 ghost use Rattle.nfs_types.specs.Views.{bitmap_value};
 
 use crate::ace::Ace;
+use crate::acl41::Acl41;
 use crate::attribute::Attribute;
 use crate::attributes::Attributes;
 use crate::bitmap::Bitmap;
 use xdr_wire::{Array, Opaque, Reader, Wire, XdrFault};
 
-/// The values that were sent, those that can be set.
+/// The values that were sent, of attributes that can be set.
 #[derive(Drop)]
 pub(crate) struct Sent<'a> {
     pub size: Option<u64>,
@@ -21,6 +22,8 @@ pub(crate) struct Sent<'a> {
     pub mode: Option<u32>,
     pub owner: Option<Opaque<'a, 0xffff_ffff>>,
     pub group: Option<Opaque<'a, 0xffff_ffff>>,
+    pub dacl: Option<Acl41<Array<'a, Ace<'a>, 0xffff_ffff>>>,
+    pub sacl: Option<Acl41<Array<'a, Ace<'a>, 0xffff_ffff>>>,
 }
 
 /// The value of an attribute, if it is in the set.
@@ -48,6 +51,8 @@ fn values<'a>(set: &Bitmap, reader: &mut Reader<'a>) -> Result<Sent<'a>, XdrFaul
     let mode = chosen(set, Attribute::Mode.number(), &mut ahead)?;
     let owner = chosen(set, Attribute::Owner.number(), &mut ahead)?;
     let group = chosen(set, Attribute::OwnerGroup.number(), &mut ahead)?;
+    let dacl = chosen(set, Attribute::Dacl.number(), &mut ahead)?;
+    let sacl = chosen(set, Attribute::Sacl.number(), &mut ahead)?;
     *reader = ahead;
     Ok(Sent {
         size,
@@ -55,10 +60,19 @@ fn values<'a>(set: &Bitmap, reader: &mut Reader<'a>) -> Result<Sent<'a>, XdrFaul
         mode,
         owner,
         group,
+        dacl,
+        sacl,
     })
 }
 
 impl<'a> Sent<'a> {
+    /// Whether a list is set, and beside it a part of a list.
+    pub fn sets_twice(&self) -> bool
+        ensures { result ≡ is_set_twice (sent_value self.now) }
+    {
+        self.entries.is_some() && (self.dacl.is_some() || self.sacl.is_some())
+    }
+
     /// The values that the bytes spell, all of the bytes; or none.
     pub fn read(sent: &Attributes<'a>) -> Option<Sent<'a>>
         ensures { option_map sent_value result ≡ whole (sent_at (bitmap_value sent.now.set) sent.now.values.bytes.now) }

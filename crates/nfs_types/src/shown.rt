@@ -6,13 +6,14 @@ ghost use Rattle.nfs_types.specs.ShownViews.{shown_value};
 ghost use Rattle.nfs_types.specs.Views.{bitmap_value};
 
 use crate::aces::Aces;
+use crate::acl41::Acl41;
 use crate::attribute::Attribute;
 use crate::bitmap::Bitmap;
 use std::alloc::Allocator;
 use xdr_wire::{Full, Opaque, Spell, Writer};
 
 /// The attributes that a client writes, by rising number.
-const SHOWN: [Attribute; 7] = [
+const SHOWN: [Attribute; 9] = [
     Attribute::ObjectType,
     Attribute::Size,
     Attribute::RdattrError,
@@ -20,6 +21,8 @@ const SHOWN: [Attribute; 7] = [
     Attribute::Mode,
     Attribute::Owner,
     Attribute::OwnerGroup,
+    Attribute::Dacl,
+    Attribute::Sacl,
 ];
 
 /// The attributes that a client sends: each if it is there.
@@ -39,6 +42,10 @@ pub struct ShownAttributes<'a> {
     pub owner: Option<Opaque<'a, 0xffff_ffff>>,
     /// 37, owner_group, as text.
     pub group: Option<Opaque<'a, 0xffff_ffff>>,
+    /// 58, dacl.
+    pub dacl: Option<Acl41<Aces<'a>>>,
+    /// 59, sacl.
+    pub sacl: Option<Acl41<Aces<'a>>>,
 }
 
 /// The bit of a value that is there.
@@ -63,7 +70,7 @@ fn write_shown<T: Spell, A: Allocator>(value: Option<T>, writer: &mut Writer<A>)
 }
 
 impl<'a> ShownAttributes<'a> {
-    /// Which attributes there are.
+    /// The set of the attributes that are there.
     pub fn set(&self) -> Bitmap
         ensures { bitmap_value result ≡ shown_set (shown_value self.now) }
     {
@@ -73,7 +80,9 @@ impl<'a> ShownAttributes<'a> {
             + bit_if(&self.entries, 0x1000);
         let second = bit_if(&self.mode, 0x2)
             + bit_if(&self.owner, 0x10)
-            + bit_if(&self.group, 0x20);
+            + bit_if(&self.group, 0x20)
+            + bit_if(&self.dacl, 0x400_0000)
+            + bit_if(&self.sacl, 0x800_0000);
         Bitmap::of_words(first, second)
     }
 
@@ -93,6 +102,8 @@ impl<'a> ShownAttributes<'a> {
             Attribute::Mode => write_shown(self.mode, writer),
             Attribute::Owner => write_shown(self.owner, writer),
             Attribute::OwnerGroup => write_shown(self.group, writer),
+            Attribute::Dacl => write_shown(self.dacl, writer),
+            Attribute::Sacl => write_shown(self.sacl, writer),
             _ => Ok(()),
         }
     }

@@ -11,9 +11,9 @@ use xdr_wire::{Full, Reader, Spell, Wire, Writer, XdrFault};
 /// A stateid, `stateid4` (RFC 8881, section 8.2).
 #[derive(Clone, Copy, Debug, PartialEq, Eq)]
 pub struct StateId {
-    /// How often the open was changed. A sent 0 means the newest.
+    /// The seqid: how often the open was changed. A sent 0 means the newest.
     pub seqid: u32,
-    /// What the stateid names.
+    /// The other field, which names the open.
     pub other: [u8; 12],
 }
 
@@ -41,7 +41,7 @@ impl StateId {
         }
     }
 
-    /// The stateid of all ones, by which a READ may pass locks (section 8.2.3).
+    /// The READ bypass stateid, all ones: a READ may bypass locks with it (section 8.2.3).
     pub fn read_bypass() -> Self
         ensures { stateid_value result ≡ specs.read_bypass }
     {
@@ -51,7 +51,7 @@ impl StateId {
         }
     }
 
-    /// What CLOSE answers: a stateid that no operation takes (section 8.2.3).
+    /// The answer to CLOSE: the invalid stateid, which no operation takes (section 8.2.3).
     pub fn closed() -> Self
         ensures { stateid_value result ≡ specs.closed }
     {
@@ -70,7 +70,7 @@ impl StateId {
         StateId { seqid, other }
     }
 
-    /// Whether it is the anonymous one or that of all ones, seqid and all.
+    /// Whether it is the anonymous stateid or the READ bypass stateid, with the seqid.
     pub fn is_special(&self) -> bool
         ensures { result ≡ specs.is_special (stateid_value self.now) }
     {

@@ -81,9 +81,9 @@ pub enum Status {
     BadSession = 10052,
     /// NFS4ERR_BADSLOT: the session has no such slot.
     BadSlot = 10053,
-    /// NFS4ERR_COMPLETE_ALREADY: the client has reclaimed already.
+    /// NFS4ERR_COMPLETE_ALREADY: the client has completed its reclaims already.
     CompleteAlready = 10054,
-    /// NFS4ERR_SEQ_MISORDERED: neither the next number nor the last.
+    /// NFS4ERR_SEQ_MISORDERED: neither the next sequence ID nor the last.
     SeqMisordered = 10063,
     /// NFS4ERR_SEQUENCE_POS: a SEQUENCE that isn't the first operation.
     SequencePos = 10064,
@@ -99,7 +99,7 @@ pub enum Status {
     OpNotInSession = 10071,
     /// NFS4ERR_CLIENTID_BUSY: the client has sessions or opens.
     ClientIdBusy = 10074,
-    /// NFS4ERR_SEQ_FALSE_RETRY: the number of the last call, with another call.
+    /// NFS4ERR_SEQ_FALSE_RETRY: the sequence ID of the last request, with another request.
     SeqFalseRetry = 10076,
     /// NFS4ERR_BAD_HIGH_SLOT: the highest slot isn't one of the session.
     BadHighSlot = 10077,

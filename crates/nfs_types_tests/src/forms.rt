@@ -19,7 +19,7 @@ fn cases_of_handles() -> &'static [(&'static [u32], Result<u64, Status>)] {
     &HANDLES
 }
 
-/// Sees what a handle of these bytes names, and how it is written where it is this server's own.
+/// Checks the object of a handle of these bytes, and how it is written where it is this server's own.
 fn see_handle(
     rt: &impl Abort,
     alloc: Global,
@@ -50,7 +50,7 @@ fn see_long_handle(rt: &impl Abort, alloc: Global) -> Result<(), Fail> {
     Ok(())
 }
 
-/// Handles that are sent name these objects, and this server's own are written.
+/// Handles that are sent are of these objects, and this server's own are written.
 #[test]
 fn handles(rt: HostRuntime) -> Result<(), Fail> {
     for (words, names) in cases_of_handles() {
@@ -88,7 +88,7 @@ fn see_stateid(
     given::see_written(rt, alloc, 16, stateid, &bytes)
 }
 
-/// Which stateids are special, and what open the others name.
+/// The special stateids, and the opens of the others.
 #[test]
 fn stateids(rt: HostRuntime) -> Result<(), Fail> {
     for (words, special, open) in cases_of_stateids() {

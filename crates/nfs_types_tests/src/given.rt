@@ -32,7 +32,7 @@ pub fn written<T: Spell>(
     Ok((writer.into_bytes(), answer))
 }
 
-/// Sees that a value is written as these bytes into a buffer of this room.
+/// Checks that a value is written as these bytes into a buffer of this room.
 pub fn see_written<T: Spell>(
     rt: &impl Abort,
     alloc: Global,
@@ -55,8 +55,8 @@ pub fn only(number: u32) -> Bitmap {
     }
 }
 
-/// The changes that attributes ask which are sent, or the fault. Bytes that are no `fattr4` are `BadXdr` here too.
-pub fn attrs<A: Allocator>(
+/// The values that sent attributes set, or the fault. Bytes that are no `fattr4` are `BadXdr` here too.
+pub fn attrs<A: Allocator + Copy>(
     alloc: A,
     book: &Book,
     kind: Kind,

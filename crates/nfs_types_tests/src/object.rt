@@ -1,4 +1,4 @@
-//! The values that are given of an object, attribute by attribute.
+//! The values that are returned of an object, attribute by attribute.
 use crate::given;
 use acl_list::{Entry, EntryKind, Kind, Who};
 use nfs_types::{Bitmap, GivenAttributes, Moment, ObjectFacts, Status};
@@ -52,8 +52,8 @@ pub fn facts() -> ObjectFacts<'static> {
 }
 
 /// Each attribute with the words of its value.
-static VALUES: [(u32, &[u32]); 28] = [
-    (0, &[3, 0xe818_3fff, 0x00b0_003a, 0x0000_0800]),
+static VALUES: [(u32, &[u32]); 30] = [
+    (0, &[3, 0xe818_3fff, 0x0cb0_003a, 0x0000_0800]),
     (1, &[1]),
     (2, &[0]),
     (3, &[0, 7]),
@@ -96,6 +96,8 @@ static VALUES: [(u32, &[u32]); 28] = [
     (52, &[u32::MAX, u32::MAX, 5]),
     (53, &[0, 1, 999_999_999]),
     (55, &[0, 2]),
+    (58, &[0, 1, 0, 0, 0x1e_0187, 6, 0x4f57_4e45, 0x5240_0000]),
+    (59, &[0, 1, 2, 0x60, 1, 3, 0x3130_3000]),
     (75, &[0]),
 ];
 
@@ -126,7 +128,7 @@ fn see_attribute(
     Ok(())
 }
 
-/// Sees that the bytes are the set of the number, a length and the words of its value.
+/// Checks that the bytes are the set of the number, a length and the words of its value.
 fn see_parts(
     rt: &impl Abort,
     alloc: Global,
@@ -175,7 +177,7 @@ fn add_words(alloc: Global, bytes: &mut Vec<u8>, words: &[u32]) -> Result<(), Fa
     Ok(())
 }
 
-/// The numbers of all attributes, and one that isn't supported.
+/// The numbers of all attributes, and of an unsupported one.
 fn all_numbers() -> Bitmap {
     let mut asked = given::only(14);
     for (number, _) in values() {
@@ -207,11 +209,100 @@ fn see_asked(
 #[test]
 fn all_attributes(rt: HostRuntime) -> Result<(), Fail> {
     let asked = all_numbers();
-    let head = [3, 0xe818_3fff, 0x00b0_003a, 0x0000_0800, 248];
+    let head = [3, 0xe818_3fff, 0x0cb0_003a, 0x0000_0800, 308];
     let want = all_values(rt.alloc(), &head)?;
     see_asked(&rt, rt.alloc(), 1024, asked, &want)?;
     let nothing = given::bytes(rt.alloc(), &[0, 0])?;
     see_asked(&rt, rt.alloc(), 8, given::only(255), &nothing)?;
     assert!(rt; asked.is_within(&asked) && !asked.is_within(&Bitmap::supported()));
     Ok(())
+}
+
+/// `A:00:00060001:OWNER@`, `U:20:00000001:EVERYONE@`, `D:00:00000002:1002`.
+static MIXED: [Entry; 3] = [
+    Entry {
+        kind: EntryKind::Allow,
+        flags: 0,
+        mask: 0x6_0001,
+        who: Who::Owner,
+    },
+    Entry {
+        kind: EntryKind::Audit,
+        flags: 0x20,
+        mask: 1,
+        who: Who::Everyone,
+    },
+    Entry {
+        kind: EntryKind::Deny,
+        flags: 0,
+        mask: 2,
+        who: Who::User(1002),
+    },
+];
+
+fn mixed() -> &'static [Entry; 3] {
+    &MIXED
+}
+
+/// Checks the value of a part of the mixed list.
+fn see_part(rt: &impl Abort, alloc: Global, number: u32, words: &[u32]) -> Result<(), Fail> {
+    let book = Book::default(alloc);
+    let mut facts = facts();
+    facts.entries = mixed();
+    let given = GivenAttributes {
+        book: &book,
+        facts: &facts,
+        asked: given::only(number),
+    };
+    let want = given::bytes(alloc, words)?;
+    given::see_written(rt, alloc, 128, given, &want)
+}
+
+/// A dacl has the ALLOW and DENY entries of the list in their order, a sacl the AUDIT and ALARM entries; neither has flags.
+#[test]
+fn parts_of_a_mixed_list(rt: HostRuntime) -> Result<(), Fail> {
+    see_part(
+        &rt,
+        rt.alloc(),
+        58,
+        &[
+            2,
+            0,
+            0x0400_0000,
+            52,
+            0,
+            2,
+            0,
+            0,
+            0x6_0001,
+            6,
+            0x4f57_4e45,
+            0x5240_0000,
+            1,
+            0,
+            2,
+            4,
+            0x3130_3032,
+        ],
+    )?;
+    see_part(
+        &rt,
+        rt.alloc(),
+        59,
+        &[
+            2,
+            0,
+            0x0800_0000,
+            36,
+            0,
+            1,
+            2,
+            0x20,
+            1,
+            9,
+            0x4556_4552,
+            0x594f_4e45,
+            0x4000_0000,
+        ],
+    )
 }

@@ -6,7 +6,7 @@ use std::alloc::Global;
 use std::net::{Ipv4Addr, Net, SocketAddrV4, TcpStream};
 use std::rt::Clock;
 
-/// Why a command has no answer.
+/// A fault in the place of an answer.
 #[derive(Debug, Drop, thiserror::Error)]
 pub(crate) enum Fault {
     /// The server can't be connected to.
@@ -17,7 +17,7 @@ pub(crate) enum Fault {
     Tool(ToolFault),
 }
 
-/// Runs a command over a stream, with a session that is ended behind it, also where it was refused.
+/// Runs a command over a stream, with a session that is ended behind the command, also where that was refused.
 fn run(
     alloc: Global,
     stream: TcpStream,
@@ -34,7 +34,7 @@ fn run(
     told
 }
 
-/// Connects to the server, and runs a command. A call isn't held back to be sent with the next one.
+/// Connects to the server, and runs a command. A call isn't held back to be sent with the next call.
 pub(crate) fn call<R: Net<Stream = TcpStream> + Clock>(
     rt: &R,
     alloc: Global,

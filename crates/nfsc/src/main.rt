@@ -16,7 +16,7 @@ use std::io::Write;
 use std::process::ExitCode;
 use std::{env, io};
 
-/// Says that words are no command, and which words the command of this name wants.
+/// Tells that words are no command, and the words of the command of this name.
 fn refuse<R: Eprint>(rt: &R, alloc: Global, name: &str) -> Result<ExitCode> {
     rt.eprint(&wrong_command(alloc, name)?)?;
     Ok(ExitCode::from(2))
@@ -30,7 +30,7 @@ fn tell_fault<R: Print>(rt: &R, fault: ToolFault) -> io::Result<()> {
     out.write_all(b"\n")
 }
 
-/// Prints what the command is answered, and says what the program ends with.
+/// Prints the answer to the command. The status with which the program ends.
 fn tell<R: Print + Eprint>(rt: &R, told: Result<Answer, Fault>) -> io::Result<ExitCode> {
     match told {
         Ok(answer) => {

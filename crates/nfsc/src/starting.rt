@@ -2,7 +2,7 @@
 use std::rt::Clock;
 use std::time::{SystemTime, UNIX_EPOCH};
 
-/// The verifier of this start: the system's time in nanoseconds since the epoch, or zero where that can't be read.
+/// The verifier of this start: the system's time in nanoseconds since the epoch, or zero where the time can't be read.
 pub(crate) fn verifier<R: Clock>(rt: &R) -> [u8; 8] {
     let Ok(now) = SystemTime::now(rt) else {
         return [0; 8];

@@ -1,4 +1,4 @@
--- From what the getters of the matches say to what the options hold.
+-- From the values of the matches' getters to the options.
 use Rattle.std.proofs.Common.{◌≡◌, ◌∙◌, ap, ℕ, true, Option, Some, None, is_some, refl, sym}
 use Rattle.std.specs.Prelude.{option_and_then, option_map, pos, unwrap_or, slice_get}
 use Rattle.std.specs.Str.Parse.{signed_digits_value}
@@ -18,14 +18,14 @@ pub read_some : (low high : ℕ) (o : Option Text) (read : Option ℕ) → is_so
 read_some low high None read some reads = cc
 read_some low high (Some t) read some reads = ap is_some (reads t refl).1.1
 
--- and it is the one that the text spells
+-- the number is the number that the text spells
 pub number_held : (low high n : ℕ) (o : Option Text) (read : Option ℕ) → is_some o ≡ true → read ≡ Some n → Reads low high read o → IsNumber low high n o
 number_held low high n None read some is reads = cc
 number_held low high n (Some t) read some is reads =
     let got = reads t refl in
     (got.0, got.1.2 ∙ ap pos (ap (λ (x : Option ℕ). unwrap_or x n) (sym got.1.1 ∙ is)))
 
--- what has a first value has an entry
+-- an id with a first value has an entry
 pub entry_there : (f : Found) (id : Text) → is_some (first_value f id) ≡ true → is_some (matched_of f id) ≡ true
 entry_there f id some = go (matched_of f id) some
   where

@@ -1,4 +1,4 @@
--- What a simple and free argument is: it excludes nothing, belongs to no group, and its values aren't split.
+-- A simple and free argument: it excludes no other, belongs to no group, and its values aren't split.
 use Rattle.std.proofs.Common.{◌≡◌, true, not, Option, Some, None, is_some, refl}
 use Rattle.clap.specs.Built.{IsPlainArg}
 use Rattle.clap.specs.Walk.{is_empty, is_free_arg, is_simple_arg}

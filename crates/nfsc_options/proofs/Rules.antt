@@ -1,4 +1,4 @@
--- The four arguments by their places, and what building keeps of each.
+-- The four arguments by their places, and the rules of each that building keeps.
 use Rattle.std.proofs.Common.{◌≡◌, ◌∙◌, ◌<◌, ◌≤◌, ap, ap₂, ℕ, true, false, List, [], ◌∷◌, length, zero, suc, Option, Some, is_some}
 use Rattle.std.proofs.Common.{refl, sym, subst, inl, inr, arith, codes}
 use Rattle.std.specs.List.{slice_index_or}
@@ -29,7 +29,7 @@ differ a b other same =
     let bad : false ≡ true = sym other ∙ equal in
     cc
 
--- the argument at place k has the rule r, which asks for a value, and an id that nothing else of the command has
+-- the argument at place k has the rule r, which asks for a value, and an id that no other argument of the command has
 pub record StandsAt (k : ℕ) (r : Rule) : Type 0 where
   pub here : k < 4
   pub place : (e : Rule) → slice_index_or nfsc_rules k e ≡ r
@@ -152,7 +152,7 @@ free_rules (suc (suc zero)) e lt = refl
 free_rules (suc (suc (suc zero))) e lt = refl
 free_rules (suc (suc (suc (suc k)))) e lt = absurd (omega arith)
 
--- nothing in the command excludes anything
+-- no argument of the command excludes another
 plain : (c : Command) → app_of c ≡ nfsc → IsPlain c
 plain c is = (
   (λ k d lt.

@@ -1,4 +1,4 @@
--- What the values of the options are: each passed the parser of its option, and is read as that parser says.
+-- The values of the options: each passed the parser of its option, and is read by that parser.
 use Rattle.std.proofs.Common.{◌≡◌, ◌∙◌, ◌<◌, ◌^◌, ap, ℕ, Bool, true, false, List, [], ◌∷◌, length, Option, Some, None, refl, sym, subst, inl, inr, arith}
 use Rattle.std.specs.List.{All}
 use Rattle.std.specs.Str.{bytes_eq}

@@ -1,4 +1,4 @@
--- What the words of the client's programs say: the numbers and the texts that `clap`'s reading gives for them.
+-- The words of the client's programs: the numbers and the texts that `clap`'s reading gives for them.
 use Rattle.std.specs.Prelude.{◌≡◌, ℕ, List, Option, Some, None, codes, map, option_map, pos}
 use Rattle.std.specs.Str.Parse.{signed_digits_value}
 use Rattle.clap.specs.Words.{App, IsSignedIn, Text, all_of, first_of, matches_of}
@@ -15,13 +15,13 @@ abbrev pub IsNumber : ℕ → ℕ → ℕ → Option Text → Type 0
 IsNumber low high n None = ⊥
 IsNumber low high n (Some text) = IsSignedIn (pos low) (pos high) text × (signed_digits_value 10 text ≡ pos n)
 
--- o is what the words of `nfsc` say
+-- o are the options of the words of `nfsc`
 pub record OptionsOf (words : List Text) (o : Options) : Type 0 where
   pub port : IsNumber 1 65535 o.port (given nfsc (codes "port") words)
   pub uid : IsNumber 0 4294967295 o.uid (given nfsc (codes "uid") words)
   pub gid : IsNumber 0 4294967295 o.gid (given nfsc (codes "gid") words)
   pub command : all_of (codes "command") (matches_of nfsc words) ≡ Some (map (λ word. word.now) o.words.items)
 
--- o is what the words of `nfslab` say
+-- o are the options of the words of `nfslab`
 abbrev pub LabOptionsOf : List Text → LabOptions → Type 0
 LabOptionsOf words o = option_map (λ file. file.now) o.book ≡ given nfslab (codes "book") words

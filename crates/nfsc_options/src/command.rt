@@ -7,7 +7,7 @@ use crate::commands::COMMANDS;
 use clap::{Arg, ArgAction, Command, value_parser};
 use std::alloc::{AllocError, Global};
 
-/// What is run, and where.
+/// The command that is run, and the server's address.
 const ABOUT: &str = "\
 Runs one command on the NFS version 4.1 server at 127.0.0.1, as this user in this group, and prints its answer.
 
@@ -66,7 +66,7 @@ fn gid<'a>(alloc: Global) -> Arg<'a>
         .help("The group's number, from 0 to 4294967295")
 }
 
-/// The words of the command. Behind the first of them a hyphen has no meaning.
+/// The words of the command. Behind its first word a hyphen has no meaning.
 fn words<'a>(alloc: Global) -> Arg<'a>
     ensures { (rule_of result ≡ command_rule) × (result.global ≡ false) }
 {

@@ -1,4 +1,4 @@
-//! What the words of `nfslab` say.
+//! The options of the words of `nfslab`.
 ghost use Rattle.std.specs.Prelude.{IfOk, map};
 ghost use Rattle.clap.specs.Words.{FailsBy, fault_of};
 ghost use Rattle.nfsc_options.specs.Simple.{nfslab};
@@ -9,7 +9,7 @@ use clap::Error;
 use std::alloc::Global;
 use std::convert::AsStr;
 
-/// What the words of `nfslab` say.
+/// The options of the words of `nfslab`.
 #[derive(Clone, Copy, Debug, PartialEq, Eq)]
 pub struct LabOptions<'a> {
     /// The file of the book.

@@ -7,18 +7,20 @@ use crate::commands::COMMANDS;
 use clap::{Arg, Command};
 use std::alloc::{AllocError, Global};
 
-/// What is run, on what, and an example.
+/// The script that is run, its server, and an example.
 const ABOUT: &str = "\
 Runs a script of commands on an NFS version 4.1 server in memory, and prints their answers and then the audit trail.
 
-The script is read from standard input, a line a command: 'as UID GID COMMAND ..', with words split at spaces. Blank lines and lines that
-begin with '#' are skipped. The files are an empty root at first, which belongs to whom the book says; the line's number is the time in seconds.
-For example:
+The script is read from standard input, a line a command: 'as UID GID COMMAND ..', with words split at spaces. A line 'reload FILE' takes
+another book: 'ok', 'book N' where the file is no book, by the number of its fault, or 'bad line' where it can't be read. Blank lines and lines
+that begin with '#' are skipped. The files are an empty root at first, which belongs to whom the book says; the line's number is the time in
+seconds. For example:
 
     # a file that only its owner reads
     as 0 0 put /notes hi
     as 1001 100 cat /notes
-    as 0 0 getacl /notes";
+    as 0 0 getacl /notes
+    reload book.toml";
 
 /// The command of `nfslab`, as `clap` reads it.
 pub(crate) fn lab_command<'a>(alloc: Global) -> Result<Command<'a>, AllocError>

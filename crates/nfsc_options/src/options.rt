@@ -1,4 +1,4 @@
-//! What the words of `nfsc` say.
+//! The options of the words of `nfsc`.
 ghost use Rattle.std.specs.Prelude.{IfOk, map};
 ghost use Rattle.clap.specs.Words.{FailsBy, fault_of};
 ghost use Rattle.nfsc_options.specs.Simple.{nfsc};
@@ -9,7 +9,7 @@ use clap::Error;
 use std::alloc::Global;
 use std::convert::AsStr;
 
-/// What the words of `nfsc` say.
+/// The options of the words of `nfsc`.
 #[derive(Debug, Drop)]
 pub struct Options<'a> {
     /// The port of the server, 1 to 65535.
@@ -23,7 +23,7 @@ pub struct Options<'a> {
 }
 
 impl<'a> Options<'a> {
-    /// Reads the words, of which the first is the program's name, as in `env::args`. Which words make a command isn't looked at.
+    /// Reads the words, of which the first is the program's name, as in `env::args`. Whether the words make a command isn't looked at.
     ///
     /// An error is `clap`'s own: a mistake in the words, a call for help, or want of memory. Its `Display` is the text for the user.
     pub fn read<S: AsStr>(alloc: Global, words: &'a [S]) -> Result<Options<'a>, Error>

@@ -1,4 +1,4 @@
-//! The error of words that are no command.
+//! The error of words that aren't a command.
 ghost use Rattle.std.specs.Prelude.{◌≡◌, IfOk};
 ghost use Rattle.clap.specs.Values.{kind_of};
 ghost use Rattle.clap.specs.declared.error.kind.ErrorKind.TheVariants as kind;
@@ -9,8 +9,8 @@ use clap::Error;
 use clap::error::ErrorKind;
 use std::alloc::{AllocError, Global};
 
-/// `clap`'s error for words that are no command: it names the words that the command of this name wants, or tells that there is none of this
-/// name.
+/// `clap`'s error for words that aren't a command: it names the words of the command of this name, or tells that there is no command of
+/// this name.
 pub fn wrong_command(alloc: Global, name: &str) -> Result<Error, AllocError>
     ensures { IfOk result (λ e. kind_of e ≡ kind.InvalidSubcommand) }
 {

@@ -3,7 +3,7 @@ use nfsc_options::{COMMANDS, LabOptions, Options};
 use std::alloc::{AllocError, Global};
 use std::test::Fail;
 
-/// The text that stands for `nfsc --help`.
+/// The text for `nfsc --help`.
 fn help(alloc: Global) -> Result<String, AllocError> {
     let words = ["nfsc", "--help"];
     match Options::read(alloc, words.as_slice()) {
@@ -12,7 +12,7 @@ fn help(alloc: Global) -> Result<String, AllocError> {
     }
 }
 
-/// The text that stands for `nfslab --help`.
+/// The text for `nfslab --help`.
 fn lab_help(alloc: Global) -> Result<String, AllocError> {
     let words = ["nfslab", "--help"];
     match LabOptions::read(alloc, words.as_slice()) {
@@ -21,7 +21,7 @@ fn lab_help(alloc: Global) -> Result<String, AllocError> {
     }
 }
 
-/// Texts of the help of `nfsc`: what is run, where, the options with their ranges, and an example.
+/// Texts of the help of `nfsc`: the command that is run, the address, the options with their ranges, and an example.
 static TEXTS: [&str; 10] = [
     "NFS version 4.1",
     "127.0.0.1",
@@ -35,7 +35,7 @@ static TEXTS: [&str; 10] = [
     "    nfsc --port 2049 --uid 0 --gid 0 put /notes hi\n",
 ];
 
-/// Texts of the help of `nfslab`: what is run, the form of a line, the option, and an example.
+/// Texts of the help of `nfslab`: the script that is run, the form of a line, the option, and an example.
 static LAB_TEXTS: [&str; 7] = [
     "NFS version 4.1",
     "standard input",

@@ -1,4 +1,4 @@
-//! Lines for `nfslab`: those that are taken, with the file that they say, and those that are refused, with the kind of `clap`'s error.
+//! Lines for `nfslab`: lines that are taken, with their file, and lines that are refused, with the kind of `clap`'s error.
 use clap::error::ErrorKind;
 use nfsc_options::LabOptions;
 use std::alloc::{AllocError, Global};
@@ -30,7 +30,7 @@ fn refused() -> &'static [(&'static str, ErrorKind)] {
     &REFUSED
 }
 
-/// Whether the words of a line, split at spaces, say this file.
+/// Whether the words of a line, split at spaces, name this file.
 fn says(alloc: Global, line: &str, book: Option<&str>) -> Result<bool, AllocError> {
     let words: Vec<&str> = line.split(' ').collect(alloc)?;
     match LabOptions::read(alloc, words.as_slice()) {

@@ -1,5 +1,5 @@
-//! The words of `nfsc` and of `nfslab`: which are taken, and as what; which are refused, and how; what help says; and what is said of words
-//! that are no command.
+//! The words of `nfsc` and of `nfslab`: words that are taken, with their options; words that are refused, with the error; the texts of
+//! help; and the error of words that aren't a command.
 #![tactic(auto)]
 
 #[cfg(test)]

@@ -1,9 +1,9 @@
-//! Lines that are taken, with what their words say.
+//! Lines that are taken, with the options of their words.
 use nfsc_options::Options;
 use std::alloc::{AllocError, Global};
 use std::test::Fail;
 
-/// A line, and the port, the user, the group and the words of the command that it says, split at spaces.
+/// A line, and its port, its user, its group and the words of its command, split at spaces.
 type Row = (&'static str, u16, u32, u32, &'static str);
 
 static ROWS: [Row; 15] = [
@@ -94,7 +94,7 @@ fn rows() -> &'static [Row] {
     &ROWS
 }
 
-/// Whether the words of a line, split at spaces, say this.
+/// Whether the words of a line, split at spaces, have these options.
 fn says(alloc: Global, row: &Row) -> Result<bool, AllocError> {
     let (line, port, uid, gid, command) = *row;
     let words: Vec<&str> = line.split(' ').collect(alloc)?;

@@ -1,11 +1,11 @@
-//! The answers to words that are no command.
+//! The answers to words that aren't a command.
 use clap::error::ErrorKind;
 use nfsc_options::wrong_command;
 use std::alloc::Global;
 use std::test::Fail;
 
-/// The commands by their names, with the words that each wants.
-static USAGES: [(&str, &str); 11] = [
+/// The commands by their names, with the words of each.
+static USAGES: [(&str, &str); 15] = [
     ("ls", "ls P"),
     ("cat", "cat P"),
     ("put", "put P TEXT"),
@@ -16,6 +16,10 @@ static USAGES: [(&str, &str); 11] = [
     ("chmod", "chmod OCTAL P"),
     ("getacl", "getacl P"),
     ("setacl", "setacl P ENTRY.."),
+    ("getdacl", "getdacl P"),
+    ("setdacl", "setdacl P ENTRY.."),
+    ("getsacl", "getsacl P"),
+    ("setsacl", "setsacl P ENTRY.."),
     ("access", "access P"),
 ];
 
@@ -30,7 +34,7 @@ fn no_names() -> &'static [&'static str] {
     &NO_NAMES
 }
 
-/// Whether the error for words with this name in front is one that tells this, and how `nfsc` is called.
+/// Whether the error for words with this name in front tells this, and the usage of `nfsc`.
 fn tells(alloc: Global, name: &str, text: &str) -> Result<bool, Fail> {
     let error = wrong_command(alloc, name)?;
     let told = error.to_string(alloc)?;

@@ -1,6 +1,7 @@
-//! The listening server, in one process: streams connect over loopback, write their calls and end their writing sides; the server accepts and
-//! serves them, one after the other on one hub; and they read their replies.
+//! The listening server, in one process: streams connect over loopback, write their calls and end their writing sides; the server accepts
+//! and serves them, one after the other on one hub; and the streams read their replies.
 
+use crate::book_file::BookFile;
 use crate::clock::SystemClock;
 use crate::listening::serve_streams;
 use nfs_hub::Hub;
@@ -9,7 +10,7 @@ use std::hash::RandomState;
 use std::io::{Read, Write};
 use std::net::{Ipv4Addr, Net, Shutdown, SocketAddr, SocketAddrV4, TcpListener, TcpStream};
 use std::process::Abort;
-use std::rt::Clock;
+use std::rt::{Clock, Files};
 use std::test::Fail;
 use who_book::Book;
 
@@ -55,7 +56,7 @@ static CALLS: [u32; 38] = [
     0,
 ];
 
-/// Their replies: the client has the number 1.
+/// The replies to these calls: the client has the number 1.
 static REPLIES: [u32; 35] = [
     0x8000_0018,
     1,
@@ -94,7 +95,7 @@ static REPLIES: [u32; 35] = [
     0,
 ];
 
-/// Where the number of the client stands in the replies.
+/// The place of the client's number in the replies.
 const CLIENT: usize = 20;
 
 fn bytes_of(alloc: Global, words: &[u32]) -> Result<Vec<u8>, Fail> {
@@ -121,7 +122,7 @@ fn send(alloc: Global, stream: &TcpStream) -> Result<(), Fail> {
     Ok(())
 }
 
-/// Sees that these are the replies, where the client has this number, and that then the stream ends.
+/// Sees that these are the replies, where the client has this number, and that the stream ends behind them.
 fn see_replies(
     rt: &impl Abort,
     alloc: Global,
@@ -148,26 +149,32 @@ fn connected<R: Net<Stream = TcpStream>>(
 }
 
 /// Serves two streams of a listener, and says whether each ended behind a whole record.
-fn serve<R: Eprint + Clock>(rt: &R, hub: &mut Hub, listener: &TcpListener) -> Result<bool, Fail> {
+fn serve<R: Files + Alloc + Eprint + Clock>(
+    rt: &R,
+    alloc: Global,
+    hub: &mut Hub,
+    listener: &TcpListener,
+) -> Result<bool, Fail> {
     let clock = SystemClock::new(rt);
-    Ok(serve_streams(rt, hub, &clock, listener, 2)??)
+    let mut book = BookFile::new(rt, alloc, None);
+    Ok(serve_streams(rt, hub, &clock, listener, 2, &mut book)??)
 }
 
 /// Serves two streams that wait in the listener's backlog, and sees their replies.
-fn see_streams<R: Eprint + Clock + Abort>(
+fn see_streams<R: Files + Alloc + Eprint + Clock + Abort>(
     rt: &R,
     alloc: Global,
     hub: &mut Hub,
     listener: &TcpListener,
     (first, second): (&TcpStream, &TcpStream),
 ) -> Result<(), Fail> {
-    let are_whole = serve(rt, hub, listener)?;
+    let are_whole = serve(rt, alloc, hub, listener)?;
     assert!(rt; are_whole);
     see_replies(rt, alloc, first, 1)?;
     see_replies(rt, alloc, second, 2)
 }
 
-fn see_served<R: Eprint + Clock + Abort>(
+fn see_served<R: Files + Alloc + Eprint + Clock + Abort>(
     rt: &R,
     alloc: Global,
     hasher: RandomState,
@@ -179,7 +186,7 @@ fn see_served<R: Eprint + Clock + Abort>(
 }
 
 /// Two streams connect, and are served by a new hub.
-fn see_listener<R: Net<Stream = TcpStream> + Eprint + Clock + Abort>(
+fn see_listener<R: Net<Stream = TcpStream> + Files + Alloc + Eprint + Clock + Abort>(
     rt: &R,
     alloc: Global,
     hasher: RandomState,

@@ -1,10 +1,11 @@
 //! `nfsd`: a file server over NFS version 4.1 (RFC 8881) that means what its access lists say.
 //!
-//! It listens on 127.0.0.1 and serves its connections, one after the other or several at a time; with `--bare` it serves one connection of the
-//! sample tree, without sessions, from standard input to standard output. The status is 0; 2 where the words aren't understood, with `clap`'s text
-//! on standard error; and else 1, with what went wrong on standard error.
+//! `nfsd` listens on 127.0.0.1 and serves its connections, one after the other or several at a time; with `--bare` it serves one
+//! connection of the sample tree, without sessions, from standard input to standard output. The status is 0; 2 where the words aren't
+//! understood, with `clap`'s text on standard error; and else 1, with the fault on standard error.
 #![tactic(auto)]
 
+mod book_file;
 mod clock;
 mod listening;
 #[cfg(test)]
@@ -13,6 +14,7 @@ mod sockets;
 mod together;
 
 use anyhow::Result;
+use book_file::BookFile;
 use clock::SystemClock;
 use nfs_hub::{Hub, HubFault, ServeEnd, serve};
 use nfsd_options::Options;
@@ -20,13 +22,13 @@ use std::alloc::Global;
 use std::hash::RandomState;
 use std::process::ExitCode;
 use std::rt::Files;
-use std::{env, fs, io};
-use who_book::{Book, BookFault};
+use std::{env, io};
 
-/// The most turns of a connection that is served alone: in each at most 4,096 bytes are read.
+/// The most turns of a connection that is served alone: each turn reads at most 4,096 bytes.
 const TURNS: u64 = 1_000_000;
 
-/// What keeps `nfsd` from serving, in the order in which it is found.
+/// The faults that keep `nfsd` from serving, in the order in which they are found. While it serves, the first two keep a book from
+/// loading.
 #[derive(Debug, Drop, thiserror::Error)]
 enum Fault {
     /// The book's file can't be read, or isn't UTF-8.
@@ -41,38 +43,27 @@ enum Fault {
     /// The trail's file can't be opened, or can't be written.
     #[error("trail")]
     Trail,
-    /// The socket can't be listened on, or gives no connection; or it can't be waited for the streams.
+    /// The socket can't be listened on, or gives no connection; or waiting for the streams failed.
     #[error("socket")]
     Socket,
 }
 
-/// The book of a file, or the one without names.
-fn book<R: Files + Alloc>(rt: &R, alloc: Global, file: Option<&str>) -> Result<Book, Fault> {
-    let Some(file) = file else {
-        return Ok(Book::default(alloc));
-    };
-    let Ok(text) = fs::read_to_string(rt, file) else {
-        return Err(Fault::File);
-    };
-    Book::read(alloc, text.as_str()).map_err(|fault: BookFault| Fault::Book(fault as u8))
-}
-
-/// The hub that the options ask for: of the sample tree without sessions, or of a root alone that belongs to whom the book says.
-fn hub<R: Files + Alloc>(
-    rt: &R,
+/// The hub by the options: of the sample tree without sessions, or of a root alone, with the owner and the group of the book.
+fn hub<R: Files + Alloc + Eprint>(
     alloc: Global,
     options: &Options<'_>,
+    book: &mut BookFile<'_, R>,
     hasher: RandomState,
 ) -> Result<Hub, Fault> {
     let made = if options.bare {
         Hub::bare(alloc, alloc, hasher)
     } else {
-        Hub::new(alloc, book(rt, alloc, options.book)?, hasher)
+        Hub::new(alloc, book.read()?, hasher)
     };
     made.map_err(|_| Fault::Hub(HubFault::Memory as u8))
 }
 
-/// Says how a connection ended that didn't end behind a whole record, and whether it did.
+/// Tells the end of a connection that didn't end behind a whole record. Whether it ended behind one.
 fn ended<R: Eprint>(rt: &R, end: ServeEnd) -> io::Result<bool> {
     if end == ServeEnd::Ended {
         return Ok(true);
@@ -92,7 +83,8 @@ fn main(rt: HostRuntime) -> Result<ExitCode> {
         }
     };
     let clock = SystemClock::new(&rt);
-    let served = match hub(&rt, alloc, &options, RandomState::new(&rt)?) {
+    let mut book = BookFile::new(&rt, alloc, options.book);
+    let served = match hub(alloc, &options, &mut book, RandomState::new(&rt)?) {
         Ok(mut hub) => {
             if options.bare {
                 let end = serve(
@@ -104,7 +96,7 @@ fn main(rt: HostRuntime) -> Result<ExitCode> {
                 );
                 Ok(ended(&rt, end)?)
             } else {
-                listening::serve_options(&rt, alloc, &mut hub, &clock, &options)?
+                listening::serve_options(&rt, alloc, &mut hub, &clock, &options, book)?
             }
         }
         Err(fault) => Err(fault),

@@ -1,6 +1,7 @@
-//! Sockets on 127.0.0.1, of which the system says which are ready, and the file in which the trail is kept.
+//! Sockets on 127.0.0.1, with the system's word which of them are ready, the file in which the trail is kept, and the file of the book.
 ghost use Rattle.nfs_streams.specs.Acts.{IsWithin};
 
+use crate::book_file::BookFile;
 use compound_run::Server;
 use mio::event::Event;
 use mio::net::{TcpListener, TcpStream};
@@ -11,16 +12,18 @@ use std::alloc::Global;
 use std::io;
 use std::io::{ErrorKind, Read, Write};
 use std::net::{Ipv4Addr, Net, SocketAddr, SocketAddrV4};
+use std::rt::Files;
 use std::time::Duration;
 use trail_keeper::TrailKeeper;
+use who_book::Book;
 
-/// The listener's token: no place has this number.
+/// The listener's token: a number that no place has.
 const LISTENER: usize = MAX_CONNECTIONS;
 
-/// The most events that one wait tells of: one of the listener and of each stream.
+/// The most events of one wait: one of the listener and of each stream.
 const EVENTS: usize = MAX_CONNECTIONS + 1;
 
-/// A stream, and whether it may go on: once an event has told that it may, it may until it would block.
+/// A stream, and whether it may go on: from the event that says so until the stream would block.
 #[derive(Drop)]
 struct Socket {
     stream: TcpStream,
@@ -29,7 +32,7 @@ struct Socket {
 }
 
 impl Socket {
-    /// Notes what an event tells. A stream that failed or was closed tells so at the next read or write.
+    /// Notes an event. A stream that failed or was closed tells so at the next read or write.
     fn note(&mut self, event: &Event) {
         let is_over = event.is_error() || event.is_read_closed() || event.is_write_closed();
         self.readable = self.readable || is_over || event.is_readable();
@@ -37,9 +40,9 @@ impl Socket {
     }
 }
 
-/// A listener, the streams that were accepted of it, each at its place, and the keeper of the trail, if it is kept.
+/// A listener, its accepted streams, each at its place, the keeper of the trail, if the trail is kept, and the file of the book.
 #[derive(Drop)]
-pub(crate) struct Sockets<W> {
+pub(crate) struct Sockets<'a, R, W> {
     poll: Poll,
     events: Events<Global>,
     listener: TcpListener,
@@ -49,9 +52,10 @@ pub(crate) struct Sockets<W> {
     accepted: Option<TcpStream>,
     places: Vec<Option<Socket>>,
     trail: Option<TrailKeeper<W>>,
+    book: BookFile<'a, R>,
 }
 
-/// What a read or a write came to that gave this. `ready` is unset where it would block.
+/// The outcome of a read or a write with this result. `ready` is unset where the stream would block.
 fn moved(gave: io::Result<usize>, most: usize, ready: &mut bool) -> Moved
     ensures { IsWithin result most }
 {
@@ -69,7 +73,7 @@ fn moved(gave: io::Result<usize>, most: usize, ready: &mut bool) -> Moved
     }
 }
 
-/// As many places as connections may be open at once, all of them free.
+/// Free places, as many as connections may be open at once.
 fn free_places(alloc: Global) -> io::Result<Vec<Option<Socket>>> {
     let mut places = Vec::new(alloc);
     for _place in 0..MAX_CONNECTIONS {
@@ -78,13 +82,14 @@ fn free_places(alloc: Global) -> io::Result<Vec<Option<Socket>>> {
     Ok(places)
 }
 
-impl<W: Write + Drop> Sockets<W> {
-    /// Listens on a port of 127.0.0.1; on any free one, where it is 0.
+impl<'a, R: Files + Alloc + Eprint, W: Write + Drop> Sockets<'a, R, W> {
+    /// Listens on a port of 127.0.0.1; on any free port, where the number is 0.
     pub(crate) fn listen(
         net: &impl Net,
         alloc: Global,
         port: u16,
         trail: Option<TrailKeeper<W>>,
+        book: BookFile<'a, R>,
     ) -> io::Result<Self> {
         let address = SocketAddr::V4(SocketAddrV4::new(Ipv4Addr::LOCALHOST, port));
         let poll = Poll::new(net)?;
@@ -99,6 +104,7 @@ impl<W: Write + Drop> Sockets<W> {
             accepted: None,
             places: free_places(alloc)?,
             trail,
+            book,
         })
     }
 
@@ -107,7 +113,7 @@ impl<W: Write + Drop> Sockets<W> {
         self.places.get_mut(place)?.as_mut()
     }
 
-    /// Notes what the last wait told.
+    /// Notes the events of the last wait.
     fn note(&mut self) {
         for event in &self.events {
             let place = event.token().0;
@@ -119,7 +125,7 @@ impl<W: Write + Drop> Sockets<W> {
         }
     }
 
-    /// Has the system tell of a stream as the one of a place. Whether it does.
+    /// Has the system tell of a stream as the stream of a place. Whether the system does so.
     fn is_watched(&self, stream: &mut TcpStream, place: usize) -> bool {
         let both = Interest::READABLE | Interest::WRITABLE;
         self.poll
@@ -129,7 +135,7 @@ impl<W: Write + Drop> Sockets<W> {
     }
 }
 
-impl<W: Write + Drop> Streams<Global> for Sockets<W> {
+impl<R: Files + Alloc + Eprint, W: Write + Drop> Streams<Global> for Sockets<'_, R, W> {
     fn wait(&mut self, how: Wait) -> bool {
         let most = match how {
             Wait::No => Some(Duration::ZERO),
@@ -141,6 +147,10 @@ impl<W: Write + Drop> Streams<Global> for Sockets<W> {
         }
         self.note();
         true
+    }
+
+    fn book(&mut self) -> Option<Book> {
+        self.book.changed()
     }
 
     fn knocks(&mut self) -> bool {

@@ -1,4 +1,5 @@
-//! Serving over streams of which some are ready, several at a time or one after the other, while their trail is kept.
+//! Serving over streams of which some are ready, several at a time or one after the other, while the trail is kept.
+use crate::book_file::BookFile;
 use crate::sockets::Sockets;
 use crate::{Fault, TURNS, ended};
 use nfs_hub::{Clock, Hub, MAX_CONNECTIONS, ServeEnd};
@@ -8,9 +9,10 @@ use std::alloc::Global;
 use std::io;
 use std::io::Write;
 use std::net::Net;
+use std::rt::Files;
 use trail_keeper::TrailKeeper;
 
-/// Says how serving ended, unless all were served. The value is whether they were; `Err`: nothing more can be served.
+/// Tells the end of serving, unless all were served. The value is whether all were; `Err`: no more connections can be served.
 fn all_ended<R: Eprint>(rt: &R, end: AllEnd) -> io::Result<Result<bool, Fault>> {
     match end {
         AllEnd::Served => Ok(Ok(true)),
@@ -59,18 +61,19 @@ pub(crate) fn serve_in_turn<R: Eprint, S: Streams<Global>, C: Clock>(
     Ok(Ok(are_served))
 }
 
-/// Listens, and serves as many connections as the options ask for, while the trail is kept by a keeper, if there is one. `Err` of the
-/// outer result: it can't be told.
-pub(crate) fn serve_kept<R: Net + Print + Eprint, C: Clock, W: Write + Drop>(
+/// Listens, and serves as many connections as the options say, while the trail is kept by a keeper, if there is one, and the book is
+/// loaded anew where its file changes. `Err` of the outer result: standard output or standard error can't be written.
+pub(crate) fn serve_kept<R: Net + Files + Alloc + Print + Eprint, C: Clock, W: Write + Drop>(
     rt: &R,
     alloc: Global,
     hub: &mut Hub,
     clock: &C,
-    trail: Option<TrailKeeper<W>>,
     options: &Options<'_>,
+    trail: Option<TrailKeeper<W>>,
+    book: BookFile<'_, R>,
 ) -> io::Result<Result<bool, Fault>> {
     let port = options.port;
-    let Ok(mut sockets) = Sockets::listen(rt, alloc, port, trail) else {
+    let Ok(mut sockets) = Sockets::listen(rt, alloc, port, trail, book) else {
         return Ok(Err(Fault::Socket));
     };
     println!(rt; "listening on 127.0.0.1:{port}")?;

@@ -1,4 +1,4 @@
--- From what the getters of the matches say to what the options hold, and from the kinds of errors to those of the words.
+-- From the values of the matches' getters to the options, and from the kinds of errors to those of the words.
 use Rattle.std.proofs.Common.{◌≡◌, ◌||◌, ◌∙◌, ap, ℕ, Bool, true, false, [], ◌∷◌, Option, Some, None, refl, sym, inl, inr, codes}
 use Rattle.std.specs.Prelude.{pos, unwrap_or}
 use Rattle.std.specs.Str.{bytes_eq}
@@ -24,7 +24,7 @@ flag_held b (Some t) none some = go (bytes_eq t (codes "true")) refl
         let other : bytes_eq t (codes "false") ≡ true = sym (ap (λ (w : Bool). w || bytes_eq t (codes "false")) e) ∙ (some t refl).0 in
         (some t refl).1.1 ((bytes_eq-Decides t (codes "false")).0 other) ∙ sym e
 
--- the number is the one that the text spells, or the default where none is given
+-- the number is the number that the text spells, or the default where no text is given
 pub number_held : (default low high : ℕ) (o : Option Text) (r : Option ℕ) → (o ≡ None → r ≡ None)
     → ((t : Text) → o ≡ Some t → IsSignedIn (pos low) (pos high) t × ((n : ℕ) × (r ≡ Some n) × (signed_digits_value 10 t ≡ pos n)))
     → IsNumber default low high o (unwrap_or r default)

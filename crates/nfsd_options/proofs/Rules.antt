@@ -1,4 +1,4 @@
--- The six options by their places, and what building keeps of each.
+-- The six options by their places, and the rules of each that building keeps.
 use Rattle.std.proofs.Common.{◌≡◌, ◌∙◌, ◌<◌, ap, ap₂, ℕ, true, false, List, [], length, zero, suc, Some, refl, sym, inl, inr, arith, codes}
 use Rattle.std.specs.List.{slice_index_or}
 use Rattle.std.specs.Str.{bytes_eq}
@@ -25,7 +25,7 @@ differ a b other same =
     let bad : false ≡ true = sym other ∙ equal in
     cc
 
--- the option at place k has the rule r and the parser q, and an id that nothing else of the command has
+-- the option at place k has the rule r and the parser q, and an id that no other argument of the command has
 pub record StandsAt (k : ℕ) (r : Rule) (q : ValueParser) : Type 0 where
   pub here : k < 6
   pub place : (e : Rule) → slice_index_or nfsd_rules k e ≡ r

@@ -1,4 +1,4 @@
--- What the options hold of the words that a command was matched with, and which errors the words have.
+-- The options by the words that a command was matched with, and the errors of the words.
 use Rattle.std.proofs.Common.{◌≡◌, ◌∙◌, ◌<◌, ◌^◌, ◌&&◌, ap, ap₂, ℕ, Bool, true, false, List, [], ◌∷◌, Option, Some, None, is_some, refl, sym, subst, inl, inr, codes, unwrap_or}
 use Rattle.std.specs.Prelude.{Err, Result, option_map, pos, if◌then◌else◌}
 use Rattle.std.specs.Str.Parse.{ParsesUnsigned}
@@ -46,7 +46,7 @@ module _ (old : Command) (m : ArgMatches) (parsed : IsParsedFrom old m) (is : ap
       let taken = value_taken old m parsed is k r (vp.Signed (pos low) (pos high)) stands t (text_said r.id ∙ e) in
       (taken.0, number_read _ G bits low high t o (reads (without_minus t) taken.1) only fits taken.0))
 
-  -- whether the words ask for both, by what the getters give
+  -- whether the words have both options, by the values of the getters
   pub both_said : {X : Type 0} (b : Bool) (f : X → Text) (o : Option X)
       → (one_text (found_of m) (codes "bare") ≡ None → b ≡ false) → (one_text (found_of m) (codes "bare") ≡ Some (codes "true") → b ≡ true)
       → (one_text (found_of m) (codes "bare") ≡ Some (codes "false") → b ≡ false) → option_map f o ≡ first_value (found_of m) (codes "trail")
@@ -58,21 +58,21 @@ module _ (old : Command) (m : ArgMatches) (parsed : IsParsedFrom old m) (is : ap
       some None = refl
       some (Some x) = refl
 
--- of words that have a reading, the kinds are that of the conflict or none
+-- where the words have a reading, the kinds are the kind of the conflict or none
 pub kinds_said : (words : List Text) (both : Bool) → fault_of nfsd words ≡ [] → asks_for_both words ≡ both
     → kinds_of words ≡ (if both then ArgumentConflict ∷ [] else [])
 kinds_said words both none is =
     or_else-empty (fault_of nfsd words) (if asks_for_both words then ArgumentConflict ∷ [] else []) none
     ∙ ap (λ (b : Bool). if b then ArgumentConflict ∷ [] else []) is
 
--- an error of `clap`'s reading is one of the words
+-- an error of `clap`'s reading is an error of the words
 pub fails_so : {T : Type 0} (words : List Text) (r : Result T Error) (e : Error) → r ≡ Err e → HasKind (fault_of nfsd words) e
     → FailsBy (kinds_of words) r
 fails_so {T = T} words r e is has =
     subst (λ (x : Result T Error). FailsBy (kinds_of words) x) (sym is)
     (or_else-first (fault_of nfsd words) (if asks_for_both words then ArgumentConflict ∷ [] else []) e has)
 
--- and so is that of the conflict
+-- the error of the conflict is an error of the words
 pub conflicts_so : (words : List Text) (e : Error) → kinds_of words ≡ ArgumentConflict ∷ [] → kind_of e ≡ ArgumentConflict
     → HasKind (kinds_of words) e
 conflicts_so words e are is = subst (λ kinds. HasKind kinds e) (sym are) (inr (inl is))

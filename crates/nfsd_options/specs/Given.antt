@@ -1,4 +1,4 @@
--- What the words of `nfsd` say: the files, the flags and the numbers that `clap`'s reading gives for them.
+-- The words of `nfsd`: the files, the flags and the numbers that `clap`'s reading gives for them.
 use Rattle.std.specs.Prelude.{◌≡◌, ◌&&◌, ℕ, Bool, false, List, [], ◌∷◌, Option, Some, None, codes, if◌then◌else◌, is_some, option_map, pos}
 use Rattle.std.specs.Str.{bytes_eq}
 use Rattle.std.specs.Str.Parse.{signed_digits_value}
@@ -8,7 +8,7 @@ use Rattle.clap.specs.declared.error.kind.ErrorKind.TheVariants.{ArgumentConflic
 use Rattle.nfsd_options.specs.Simple.{nfsd}
 use Rattle.nfsd_options.specs.declared.options.Options.{Options}
 
--- the text that `clap`'s reading of the words gives for an option; of a flag it is `true` or `false`
+-- the text that `clap`'s reading of the words gives for an option; the text of a flag is `true` or `false`
 abbrev pub given : Text → List Text → Option Text
 given option words = first_of option (matches_of nfsd words)
 
@@ -22,11 +22,11 @@ abbrev pub IsNumber : ℕ → ℕ → ℕ → Option Text → ℕ → Type 0
 IsNumber default low high None n = n ≡ default
 IsNumber default low high (Some text) n = IsSignedIn (pos low) (pos high) text × (signed_digits_value 10 text ≡ pos n)
 
--- how many connections are served where the words don't say it
+-- how many connections are served where the words have no number
 abbrev pub connections_unsaid : Bool → ℕ
 connections_unsaid concurrent = if concurrent then 4294967295 else 1
 
--- o is what the words say
+-- o are the options of the words
 pub record OptionsOf (words : List Text) (o : Options) : Type 0 where
   pub book : option_map (λ file. file.now) o.book ≡ given (codes "book") words
   pub bare : o.bare ≡ is_set (given (codes "bare") words)
@@ -35,10 +35,10 @@ pub record OptionsOf (words : List Text) (o : Options) : Type 0 where
   pub concurrent : o.concurrent ≡ is_set (given (codes "concurrent") words)
   pub trail : option_map (λ file. file.now) o.trail ≡ given (codes "trail") words
 
--- the sample tree is asked for, which keeps no file of its trail, and such a file
+-- both options: the sample tree, whose trail goes to no file, and a file of the trail
 abbrev pub asks_for_both : List Text → Bool
 asks_for_both words = is_set (given (codes "bare") words) && is_some (given (codes "trail") words)
 
--- the kinds of the errors that the words may have: those of `clap`'s reading, and else that two options are in conflict
+-- the kinds of the errors that the words may have: those of `clap`'s reading, and else the kind of a conflict of two options
 abbrev pub kinds_of : List Text → Kinds
 kinds_of words = or_else (fault_of nfsd words) (if asks_for_both words then ArgumentConflict ∷ [] else [])

@@ -6,16 +6,17 @@ ghost use Rattle.nfsd_options.specs.Simple.{bare_rule, book_rule, concurrent_rul
 use clap::{Arg, ArgAction, Command, value_parser};
 use std::alloc::{AllocError, Global};
 
-/// What is served, and where.
+/// The files that are served, and the address.
 const ABOUT: &str = "\
 Serves files over NFS version 4.1, and means what their access control lists say.
 
 It listens on 127.0.0.1, prints 'listening on 127.0.0.1:PORT', serves its connections, one after the other unless told else, and ends.
 The files are kept in memory: an empty root at first, which belongs to whom the book says.";
 
-/// What a book is, with an example.
+/// The form of a book, with an example.
 const BOOK: &str = "\
-A book gives users and groups their names. It is a file in TOML with these six keys and no others:
+A book gives users and groups their names, and may say which users are in which groups. It is a file in TOML with these seven keys,
+of which 'members' may be missing, and no others:
 
     domain = \"example.org\"
     root_owner = 0
@@ -23,8 +24,14 @@ A book gives users and groups their names. It is a file in TOML with these six k
     root_mode = 0o755
     users = { root = 0, alice = 1001 }
     groups = { wheel = 0, staff = 100 }
+    members = { wheel = [\"root\"], staff = [\"alice\"] }
 
 Without a book there are no names, the domain is 'localdomain', and the root belongs to user 0 and group 0, with mode 0o755.
+
+With 'members' a user is in the groups whose array names it, at most 17, and in no others; without it, in those that its calls say.
+
+Where the file of the book changes, it is loaded anew: before the next call with --concurrent or --trail, else before the next connection.
+Where it can't be read or isn't a book then, a line on standard error says so, and the book before stays.
 
 For example, two connections on port 12049:
 

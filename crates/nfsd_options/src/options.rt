@@ -1,4 +1,4 @@
-//! What the words of `nfsd` say.
+//! The options of the words of `nfsd`.
 ghost use Rattle.std.specs.Prelude.{◌≡◌, ◌&&◌, IfOk, is_some, map};
 ghost use Rattle.clap.specs.Words.{FailsBy, kind_of};
 ghost use Rattle.clap.specs.declared.error.kind.ErrorKind.TheVariants.{ArgumentConflict};
@@ -10,20 +10,20 @@ use clap::error::ErrorKind;
 use std::alloc::{AllocError, Global};
 use std::convert::AsStr;
 
-/// The port that is listened on where the words name none.
+/// The port, where the words name none.
 const PORT: u16 = 2049;
 
-/// How many connections are served where the words don't say it, one after the other.
+/// How many connections are served where the words have no number, one after the other.
 const CONNECTIONS: u32 = 1;
 
-/// How many are served where the words don't say it, several at a time.
+/// How many connections are served where the words have no number, several at a time.
 const CONCURRENT_CONNECTIONS: u32 = 4_294_967_295;
 
-/// What is wrong with `--bare` and `--trail` together.
+/// The text for the conflict of `--bare` and `--trail`.
 const CONFLICT: &str =
     "the argument '--trail <FILE>' cannot be used with '--bare', whose trail goes to no file";
 
-/// What the words of `nfsd` say.
+/// The options of the words of `nfsd`.
 #[derive(Clone, Copy, Debug, PartialEq, Eq)]
 pub struct Options<'a> {
     /// The file of the book.
@@ -34,13 +34,13 @@ pub struct Options<'a> {
     pub port: u16,
     /// How many connections are served in all.
     pub connections: u32,
-    /// Whether several are served at the same time.
+    /// Whether several connections are served at the same time.
     pub concurrent: bool,
     /// The file to which the lines of the trail are appended.
     pub trail: Option<&'a str>,
 }
 
-/// How many connections are served where the words don't say it.
+/// How many connections are served where the words have no number.
 fn connections_of(concurrent: bool) -> u32
     ensures { result ≡ connections_unsaid concurrent }
 {

@@ -12,20 +12,20 @@ fn told(alloc: Global, words: &[&str]) -> Result<String, AllocError> {
     }
 }
 
-/// The text that stands for `nfsd --help`.
+/// The text for `nfsd --help`.
 fn help(alloc: Global) -> Result<String, AllocError> {
     told(alloc, ["nfsd", "--help"].as_slice())
 }
 
-/// The part of a text between two texts, where both stand in it.
+/// The part of a text between two other texts, where both are in it.
 fn between<'a>(text: &'a str, front: &str, back: &str) -> Option<&'a str> {
     let (_, behind) = text.split_once(front)?;
     let (found, _) = behind.split_once(back)?;
     Some(found)
 }
 
-/// Texts of help: what is served, where, the options with their ranges and defaults, and an example.
-static TEXTS: [&str; 18] = [
+/// Texts of help: the files that are served, the address, the options with their ranges and defaults, and an example.
+static TEXTS: [&str; 21] = [
     "NFS version 4.1",
     "access control lists",
     "127.0.0.1",
@@ -41,7 +41,10 @@ static TEXTS: [&str; 18] = [
     "--trail <FILE>",
     "before the replies go out; not with --bare",
     "-h, --help",
-    "a file in TOML with these six keys and no others",
+    "a file in TOML with these seven keys,\nof which 'members' may be missing, and no others:",
+    "in the groups whose array names it, at most 17, and in no others",
+    "Where the file of the book changes, it is loaded anew",
+    "and the book before stays",
     "nfsd --book names.toml --port 12049 --connections 2\n",
     "nfsd --concurrent --trail trail.txt\n",
 ];
@@ -59,7 +62,7 @@ fn help_tells(rt: HostRuntime) -> Result<(), Fail> {
     Ok(())
 }
 
-/// The example of a book is one.
+/// The example of a book is a book.
 #[test]
 fn help_has_a_book(rt: HostRuntime) -> Result<(), Fail> {
     let told = help(rt.alloc())?;

@@ -1,4 +1,4 @@
-//! The words of `nfsd`: which are taken, and as what; which are refused, and how; and what help says.
+//! The words of `nfsd`: words that are taken, with their options; words that are refused, with the error; and the text of help.
 #![tactic(auto)]
 
 #[cfg(test)]

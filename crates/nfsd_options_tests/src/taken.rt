@@ -1,9 +1,9 @@
-//! Lines that are taken, with what their words say.
+//! Lines that are taken, with the options of their words.
 use nfsd_options::Options;
 use std::alloc::{AllocError, Global};
 use std::test::Fail;
 
-/// A line, and the file, the flag, the port and the connections that its words say.
+/// A line, and the file, the flag, the port and the connections of its words.
 type Row = (&'static str, Option<&'static str>, bool, u16, u32);
 
 static ROWS: [Row; 17] = [
@@ -54,7 +54,7 @@ fn rows() -> &'static [Row] {
     &ROWS
 }
 
-/// Whether the words of a line, split at spaces, say this.
+/// Whether the words of a line, split at spaces, have these options.
 fn says(alloc: Global, line: &str, want: &Options) -> Result<bool, AllocError> {
     let words: Vec<&str> = line.split(' ').collect(alloc)?;
     match Options::read(alloc, words.as_slice()) {
@@ -81,8 +81,8 @@ fn lines_are_taken(rt: HostRuntime) -> Result<(), Fail> {
     Ok(())
 }
 
-/// A line of the later options, and the flag of the sample tree, the number of connections, whether several are served at the same time, and
-/// the trail's file that its words say.
+/// A line of the later options, and the flag of the sample tree, the number of connections, whether several are served at the same time,
+/// and the trail's file of its words.
 type LaterRow = (&'static str, bool, u32, bool, Option<&'static str>);
 
 static LATER_ROWS: [LaterRow; 9] = [
@@ -125,7 +125,7 @@ fn lines_of_later_options_are_taken(rt: HostRuntime) -> Result<(), Fail> {
     Ok(())
 }
 
-/// Where there is no word at all, also no name, the defaults hold.
+/// Where there is no word at all, not even a name, the defaults hold.
 #[test]
 fn no_word_is_needed(rt: HostRuntime) {
     let words: [&str; 0] = [];

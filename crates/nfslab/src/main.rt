@@ -1,12 +1,12 @@
 //! `nfslab`: runs a script of commands on an NFS version 4.1 server (RFC 8881) in memory, from standard input to standard output.
 //!
 //! The status is 0; 2 where the words aren't understood, with `clap`'s text on standard error; and else 1: after a line that was answered
-//! `bad line` or `failed N`, and after a fault of the whole, which is told on standard error.
+//! `bad line`, `failed N` or `book N`, and after a fault of the whole, which is told on standard error.
 #![tactic(auto)]
 
 use anyhow::Result;
 use nfs_hub::{Hub, HubFault};
-use nfs_tool::{ToolFault, script};
+use nfs_tool::{Texts, ToolFault, script};
 use nfsc_options::LabOptions;
 use std::alloc::Global;
 use std::hash::RandomState;
@@ -32,7 +32,19 @@ enum Fault {
     Failed(u32),
 }
 
-/// The book of a file, or the one without names.
+/// The texts of files, by the files' names.
+#[derive(Drop)]
+struct FileTexts<'r, R> {
+    rt: &'r R,
+}
+
+impl<R: Files + AllocGlobal> Texts for FileTexts<'_, R> {
+    fn text(&mut self, name: &str) -> Option<String> {
+        fs::read_to_string(self.rt, name).ok()
+    }
+}
+
+/// The book of a file, or the book without names.
 fn book<R: Files + Alloc>(rt: &R, alloc: Global, file: Option<&str>) -> Result<Book, Fault> {
     let Some(file) = file else {
         return Ok(Book::default(alloc));
@@ -43,7 +55,7 @@ fn book<R: Files + Alloc>(rt: &R, alloc: Global, file: Option<&str>) -> Result<B
     Book::read(alloc, text.as_str()).map_err(|fault: BookFault| Fault::Book(fault as u8))
 }
 
-/// The hub of a root alone, which belongs to whom the book says.
+/// The hub of a root alone, with the owner and the group of the book.
 fn hub<R: Files + Alloc>(
     rt: &R,
     alloc: Global,
@@ -54,17 +66,24 @@ fn hub<R: Files + Alloc>(
     Hub::new(alloc, book, hasher).map_err(|_| Fault::Hub(HubFault::Memory as u8))
 }
 
-/// Runs the script on standard input. Whether no line was answered `bad line` or `failed N`.
-fn run<R: Files + Alloc + Input + Print>(
+/// Runs the script on standard input. Whether no line was answered `bad line`, `failed N` or `book N`.
+fn run<R: Files + AllocGlobal + Input + Print>(
     rt: &R,
     alloc: Global,
     options: &LabOptions<'_>,
     hasher: RandomState,
 ) -> Result<bool, Fault> {
     let mut hub = hub(rt, alloc, options, hasher)?;
-    script(alloc, &mut hub, &mut rt.reader(), &mut io::writer(rt)).map_err(
-        |fault: ToolFault| Fault::Failed(fault.number()),
+    let mut texts = FileTexts { rt };
+    script(
+        alloc,
+        alloc,
+        &mut hub,
+        &mut texts,
+        &mut rt.reader(),
+        &mut io::writer(rt),
     )
+    .map_err(|fault: ToolFault| Fault::Failed(fault.number()))
 }
 
 fn main(rt: HostRuntime) -> Result<ExitCode> {

@@ -1,4 +1,4 @@
--- A sound world stays sound where an object gets a name: a new object, or one that is no directory.
+-- A sound world stays sound where an object gets a name: a new object, or an object that is no directory.
 use Rattle.std.proofs.Common.{◌≡◌, ◌≢◌, ℕ, ◌+◌, ◌<◌, ◌≤◌, ◌^◌, Bool, true, false, cond, List, length, refl, ap, sym, ◌∙◌, subst, arith, Some, None}
 use Rattle.std.specs.Prelude.{Option, IsSome, is_some, ◌==◌, ◌&&◌, not, nat_lt}
 use Rattle.std.specs.Ordering.{nat_cmp}
@@ -124,7 +124,7 @@ KeepsJudged-with_link w directory name number at = record {
   same = λ k j is _. sym (read_linked judged directory number at w.objects (λ o. refl) (λ o. refl) k) ∙ is;
 }
 
--- ---- what no refusal says
+-- ---- where no change is refused
 
 absent : {X : Type 0} (o : Option X) → is_some o ≡ false → o ≡ None
 absent None h = refl
@@ -137,7 +137,7 @@ both false b h = cc
 below : (a b : ℕ) → nat_lt a b ≡ true → a < b
 below a b is = (Decides-ltb a b).0 is
 
--- the last question was answered
+-- the last test passed
 passed : (may : Bool) → None ≡ cond may None (Some NoSpc) → may ≡ true
 passed true h = refl
 passed false h = cc

@@ -1,4 +1,4 @@
--- In a sound world the walk up tells what lies below a directory: no way up is longer than there are numbers.
+-- In a sound world the walk up finds each directory above an object: no way up is longer than there are numbers.
 use Rattle.std.proofs.Common.{◌≡◌, ℕ, zero, suc, ◌<◌, ◌≤◌, Bool, true, false, ◌||◌, List, [], ◌∷◌, length, refl, ap, sym, ◌∙◌, subst, arith, Some, None, nat_eq, true≢false}
 use Rattle.std.specs.Prelude.{Option, find, ◌==◌}
 use Rattle.std.specs.List.{list_any, IsDistinct, AllByRecursion}
@@ -29,7 +29,7 @@ module _ (kinds : ℕ → Option Kind) (names : List Name) (rooted : IsRooted ki
       let one : n ≡ m = rooted.one_parent n m stands stands' (at ∙ sym at') (ap kinds at' ∙ is) in
       ap suc (unique s t n.directory (rooted.ends n stands).0 up (subst (λ (x : Name). Climbs names t x.directory) (sym one) up'))
 
-  -- the directories on it
+  -- the directories on the way
   abbrev way : (s k : ℕ) → Climbs names s k → List ℕ
   way zero k climbs = k ∷ []
   way (suc s) k (n, stands, at, up) = k ∷ way s n.directory up
@@ -38,7 +38,7 @@ module _ (kinds : ℕ → Option Kind) (names : List Name) (rooted : IsRooted ki
   length-way zero k climbs = refl
   length-way (suc s) k (n, stands, at, up) = ap suc (length-way s n.directory up)
 
-  -- one of them, from which less of the way is left
+  -- a directory on the way, from which less of the way is left
   record OnTheWay (s q : ℕ) : Type 0 where
     left : ℕ
     less : left ≤ s
@@ -100,7 +100,7 @@ module _ (kinds : ℕ → Option Kind) (names : List Name) (rooted : IsRooted ki
             let one : f.name ≡ n = rooted.one_parent f.name n f.stands stands ((Decides-eqb f.name.child k).0 f.passes ∙ sym at) (ap kinds at ∙ is) in
             ap Some (sym f.leads ∙ ap (λ (n : Name). n.directory) one)
 
-    -- what lies below is met, however far it is
+    -- the walk from an object below the directory meets it, however long it is
     met : (k : ℕ) → LiesWithin names directory k → kinds k ≡ Some Directory → (fuel : ℕ) → is_met parents fuel directory k ≡ true
     unfolding is_met
     met k lies is zero = refl
@@ -119,7 +119,7 @@ module _ (kinds : ℕ → Option Kind) (names : List Name) (rooted : IsRooted ki
             let f = found (λ n. n.directory) (λ n. n.child == ROOT) names m.directory (ap (option_map (λ (n : Name). n.directory)) it) in
             absurd (rooted.root_has_no_name f.name f.stands ((Decides-eqb f.name.child ROOT).0 f.passes))
 
-    -- what is met lies below, where the steps suffice
+    -- the walk meets the directory from an object below it alone, where the steps suffice
     lies_below : (s k : ℕ) → Climbs names s k → kinds k ≡ Some Directory → (fuel : ℕ) → s < fuel → is_met parents fuel directory k ≡ true → LiesWithin names directory k
     lies_below zero k climbs is zero less h = absurd (omega (arith, less))
     lies_below zero k climbs is (suc fuel) less h = by_number k directory

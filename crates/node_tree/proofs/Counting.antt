@@ -1,4 +1,4 @@
--- How many names there are of a kind, after a change of the names.
+-- The number of names of a kind, after a change of the names.
 use Rattle.std.proofs.Common.{◌≡◌, ℕ, ◌+◌, ◌<◌, ◌≤◌, Bool, true, false, not, cond, List, [], ◌∷◌, ◌++◌, refl, ap, ◌∙◌, subst, arith, Some, None, add_comm}
 use Rattle.std.specs.Prelude.{find, filter, count_by, nat_lt, ◌||◌}
 use Rattle.std.specs.List.{list_any}
@@ -20,7 +20,7 @@ counted_push q (m ∷ names) n =
     let more : count_by q (m ∷ (names ++ n ∷ [])) ≡ cond (q m) 1 0 + count_by q (names ++ n ∷ []) = step q m (names ++ n ∷ []) in
     let goal : count_by q (m ∷ (names ++ n ∷ [])) ≡ count_by q (m ∷ names) + cond (q n) 1 0 = omega arith in goal
 
--- nothing passes where none is counted
+-- no name passes where none is counted
 pub stays : (p : Name → Bool) (names : List Name) → count_by p names ≡ 0 → filter (λ n. not (p n)) names ≡ names
 stays p [] none = refl
 stays p (m ∷ names) none =
@@ -64,7 +64,7 @@ one_push names n d t none one =
       | false ↦ λ is e. omega (arith, e, one)
     ] refl (counted_push (is_named d t) names n)
 
--- whether any is counted
+-- whether any name is counted
 pub any_counted : (q : Name → Bool) (names : List Name) → nat_lt 0 (count_by q names) ≡ list_any q names
 any_counted q [] = refl
 any_counted q (m ∷ names) =

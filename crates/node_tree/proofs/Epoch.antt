@@ -1,10 +1,10 @@
--- The moment of what was there from the start.
+-- The moment of the objects that were there from the start.
 use Rattle.std.proofs.Common.{◌≡◌, ◌<◌, ap, lit<}
 use Rattle.std.specs.Prelude.{pos}
 use Rattle.std.proofs.Math.Bridge.{le_prop}
 use Rattle.nfs_types.specs.declared.moment.Moment.{Moment}
 use Rattle.node_tree.specs.Changes.{epoch}
 
--- however its nanoseconds are shown to be few
+-- the epoch, with any proof that its nanoseconds are in range
 pub epoch_is : (few : 0 < 1000000000) → (let m : Moment = record { seconds = pos 0; nanoseconds = 0; is_fraction = few } in m ≡ epoch)
 epoch_is few = ap (λ (p : 0 < 1000000000). let m : Moment = record { seconds = pos 0; nanoseconds = 0; is_fraction = p } in m) (le_prop few (lit< tt))

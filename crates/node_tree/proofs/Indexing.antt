@@ -11,7 +11,7 @@ use Rattle.node_tree.specs.Changes.{other_names}
 abbrev pub cookie : List Name → ℕ → List ℕ → Option ℕ
 cookie names d t = option_map (λ (n : Name). n.cookie) (find (is_named d t) names)
 
--- whether two names are one
+-- whether two names are the same
 abbrev pub hit : ℕ → List ℕ → ℕ → List ℕ → Bool
 hit d t directory name = (d == directory) && pointwise nat_eq t name
 
@@ -25,7 +25,7 @@ hit_is d e t s h = let b = both (d == e) (pointwise nat_eq t s) h in ((Decides-e
 pub is_hit : (d e : ℕ) (t s : List ℕ) → d ≡ e → t ≡ s → hit d t e s ≡ true
 is_hit d e t s a b = rw ((Decides-eqb d e).1 a) ((bytes_decides t s).1 b)
 
--- a name is the other one's, or isn't
+-- whether two names are the same doesn't depend on their order
 pub turned : (d e : ℕ) (t s : List ℕ) → hit d t e s ≡ hit e s d t
 turned d e t s = elim (hit d t e s) as (λ b. hit d t e s ≡ b → b ≡ hit e s d t) [
   | true ↦ λ h. let p = hit_is d e t s h in sym (is_hit e d s t (sym p.0) (sym p.1))
@@ -35,7 +35,7 @@ turned d e t s = elim (hit d t e s) as (λ b. hit d t e s ≡ b → b ≡ hit e 
   ] refl
 ] refl
 
--- without a name
+-- the cookies without a name
 pub cookie-others : (directory : ℕ) (name : List ℕ) (names : List Name) (d : ℕ) (t : List ℕ) → cookie (other_names directory name names) d t ≡ cond (hit d t directory name) None (cookie names d t)
 cookie-others directory name [] d t = elim (hit d t directory name) as (λ b. None ≡ cond {A = Option ℕ} b None None) [ true ↦ refl | false ↦ refl ]
 cookie-others directory name (n ∷ names) d t =
@@ -47,7 +47,7 @@ cookie-others directory name (n ∷ names) d t =
       ] refl
     ] refl
   where
-    -- the name that goes is no other one
+    -- the name that goes is no other name
     gone : is_named directory name n ≡ true → cond (hit d t directory name) None (cookie names d t) ≡ cond (hit d t directory name) None (option_map (λ (n : Name). n.cookie) (cond (is_named d t n) (Some n) (find (is_named d t) names)))
     gone is = elim (hit d t directory name) as (λ b. hit d t directory name ≡ b → cond b None (cookie names d t) ≡ cond b None (option_map (λ (n : Name). n.cookie) (cond (is_named d t n) (Some n) (find (is_named d t) names)))) [
       | true ↦ λ _. refl
@@ -60,7 +60,7 @@ cookie-others directory name (n ∷ names) d t =
     unlike is it = let p = hit_is n.directory d n.name t it in
         subst (λ (s : List ℕ). hit d s directory name ≡ false) p.1 (subst (λ (e : ℕ). hit e n.name directory name ≡ false) p.0 is)
 
--- with a name more that isn't there
+-- the cookies with one more name, which isn't there
 pub cookie-push : (names : List Name) (n : Name) (d : ℕ) (t : List ℕ) → cookie names n.directory n.name ≡ None → cookie (names ++ n ∷ []) d t ≡ cond (hit d t n.directory n.name) (Some n.cookie) (cookie names d t)
 cookie-push [] n d t none = ap (λ b. option_map (λ (n : Name). n.cookie) (cond b (Some n) None)) (turned n.directory d n.name t) ∙ same (hit d t n.directory n.name)
   where
@@ -79,18 +79,18 @@ cookie-push (m ∷ names) n d t none =
     apart : is_named n.directory n.name m ≡ false → is_named d t m ≡ true → hit d t n.directory n.name ≡ false
     apart other it = let p = hit_is m.directory d m.name t it in subst (λ (s : List ℕ). hit d s n.directory n.name ≡ false) p.1 (subst (λ (e : ℕ). hit e m.name n.directory n.name ≡ false) p.0 other)
 
--- an index is told of a name more
+-- an index with one more name
 pub indexed_push : (before after : ℕ → List ℕ → Option ℕ) (names now : List Name) (n : Name) (key : List ℕ) → now ≡ names ++ n ∷ [] → key ≡ n.name
     → ((d : ℕ) (t : List ℕ) → before d t ≡ cookie names d t) → cookie names n.directory n.name ≡ None
     → ((d : ℕ) (t : List ℕ) → after d t ≡ cond (hit d t n.directory key) (Some n.cookie) (before d t)) → (d : ℕ) (t : List ℕ) → after d t ≡ cookie now d t
 indexed_push before after names now n key is same was none put d t = put d t ∙ ap (λ (s : List ℕ). cond (hit d t n.directory s) (Some n.cookie) (before d t)) same ∙ ap (cond (hit d t n.directory n.name) (Some n.cookie)) (was d t) ∙ sym (cookie-push names n d t none) ∙ ap (λ (names : List Name). cookie names d t) (sym is)
 
--- of a name less
+-- an index with one name less
 pub indexed_remove : (before after : ℕ → List ℕ → Option ℕ) (names : List Name) (directory : ℕ) (name : List ℕ)
     → ((d : ℕ) (t : List ℕ) → before d t ≡ cookie names d t) → ((d : ℕ) (t : List ℕ) → after d t ≡ cond (hit d t directory name) None (before d t)) → (d : ℕ) (t : List ℕ) → after d t ≡ cookie (other_names directory name names) d t
 indexed_remove before after names directory name was took d t = took d t ∙ ap (cond (hit d t directory name) None) (was d t) ∙ sym (cookie-others directory name names d t)
 
--- of another name in place of two
+-- an index with another name in place of two
 pub indexed_replace : (before put after : ℕ → List ℕ → Option ℕ) (names now : List Name) (from : ℕ) (old : List ℕ) (n : Name) (key : List ℕ) → now ≡ other_names n.directory n.name (other_names from old names) ++ n ∷ [] → key ≡ n.name
     → ((d : ℕ) (t : List ℕ) → before d t ≡ cookie names d t) → ((d : ℕ) (t : List ℕ) → put d t ≡ cond (hit d t n.directory key) (Some n.cookie) (before d t))
     → ((d : ℕ) (t : List ℕ) → after d t ≡ cond (hit d t from old && not (hit d t n.directory n.name)) None (put d t)) → (d : ℕ) (t : List ℕ) → after d t ≡ cookie now d t
@@ -119,7 +119,7 @@ passed_by (m ∷ names) d t none =
       | false ↦ λ h. ap (λ l. m ∷ l) (passed_by names d t h)
     ] none
 
--- a name that came last is taken back
+-- the last name is taken back
 pub taken_back : (names now : List Name) (n : Name) (d : ℕ) (t : List ℕ) → n.directory ≡ d → n.name ≡ t → cookie names d t ≡ None → now ≡ names ++ n ∷ [] → other_names d t now ≡ names
 taken_back names now n d t here same none is = ap (other_names d t) is ∙ back names ∙ passed_by names d t none
   where

@@ -14,7 +14,7 @@ use Rattle.node_tree.proofs.Indexing.{cookie, cookie-others, hit, hit_is, is_hit
 use Rattle.node_tree.proofs.Counting.{absent_stays, one_out, one_push, step, stays}
 use Rattle.node_tree.proofs.Listed.{but, apart, all_later, cookie_above, rises-push}
 
--- ---- a name that goes by its cookie
+-- ---- the name of a cookie goes
 
 cookie_below : (p : Name → Bool) (low high : ℕ) (names : List Name) (k : ℕ) → Rises (λ n. n.cookie) low names high → option_map (λ (n : Name). n.cookie) (find p names) ≡ Some k → k < high
 cookie_below p low high [] k rises is = cc
@@ -38,16 +38,16 @@ but_named low high (m ∷ names) d t k rises one is =
           ap (λ b. cond (not b) (m ∷ but k names) (but k names)) (apart m.cookie k (omega arith)) ∙ ap (λ l. m ∷ l) (but_named (m.cookie + 1) high names d t k rises.1 (omega (arith, e, one)) h)
     ] (step (is_named d t) m names) is
 
--- the names without the one of a cookie that may be there
+-- the names without the name of a cookie that may be there
 abbrev pub dropped : Option ℕ → List Name → List Name
 dropped k names = option_map_or (λ k. but k names) k names
 
--- a name less
+-- one name less
 pub dropped_named : (low high : ℕ) (names : List Name) (d : ℕ) (t : List ℕ) (k : Option ℕ) → Rises (λ n. n.cookie) low names high → count_by (is_named d t) names ≤ 1 → k ≡ cookie names d t → dropped k names ≡ other_names d t names
 dropped_named low high names d t None rises one is = sym (absent_stays names d t (sym is))
 dropped_named low high names d t (Some k) rises one is = but_named low high names d t k rises one (sym is)
 
--- and a name more behind
+-- one name less, and one more behind
 dropped_push : (low : ℕ) (names : List Name) (n : Name) (d : ℕ) (t : List ℕ) (k : Option ℕ) → Rises (λ n. n.cookie) low names n.cookie → count_by (is_named d t) names ≤ 1 → k ≡ cookie names d t
     → dropped k (names ++ n ∷ []) ≡ other_names d t names ++ n ∷ []
 dropped_push low names n d t None rises one is = ap (λ l. l ++ n ∷ []) (sym (absent_stays names d t (sym is)))
@@ -79,7 +79,7 @@ dropped_both names n from old moved target rises once was there =
 
 -- ---- the table
 
--- what a refusal leaves
+-- a refusal leaves the table as it was
 pub kept_as_it_was : {A : Type 0} (index again : BTreeMap ℕ (BTreeMap (Vec ℕ A) ℕ A) A) (names now : List Name) → IsKept index names → now ≡ names → ((d : ℕ) (t : List ℕ) → cookie_at again d t ≡ cookie_at index d t) → IsKept again now
 kept_as_it_was {A} index again names now kept is found = subst (IsKept again) (sym is) (record { next = kept.next; rises = kept.rises; found = λ d t. found d t ∙ kept.found d t; once = kept.once })
 

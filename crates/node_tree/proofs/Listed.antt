@@ -18,7 +18,7 @@ use Rattle.node_tree.specs.Sound.{Rises}
 use Rattle.node_tree.specs.Groups.{cookies_at, cookies_of, keyed, IsListed}
 use Rattle.node_tree.proofs.Rising.{Rises-filter}
 
--- ---- the cookies behind another
+-- ---- the cookies behind a cookie
 
 behind : (c k : ℕ) → is_lt (nat_cmp c k) ≡ nat_lt c k
 behind c k = elim (nat_lt c k) as (λ b. is_lt (cond b Less (cond (c == k) Equal Greater)) ≡ b) [
@@ -26,7 +26,7 @@ behind c k = elim (nat_lt c k) as (λ b. is_lt (cond b Less (cond (c == k) Equal
   | false ↦ elim (c == k) as (λ b. is_lt (cond b Equal Greater) ≡ false) [ true ↦ refl | false ↦ refl ]
 ]
 
--- the first of a range is the first behind
+-- the first cookie of a range is the first behind its beginning
 pub first_behind : (c : ℕ) (keys : List ℕ) → slice_get (filter (range_contains nat_cmp (Excluded c) Unbounded) keys) 0 ≡ find (nat_lt c) keys
 first_behind c [] = refl
 first_behind c (k ∷ keys) =
@@ -74,7 +74,7 @@ cookie_above p low high (m ∷ names) k rises is =
       | false ↦ λ h. let a : m.cookie + 1 ≤ k = cookie_above p (m.cookie + 1) high names k rises.1 h in let b : low ≤ m.cookie = rises.0 in omega arith
     ] is
 
--- the name of the cookie that a name was found to have
+-- the name of the cookie of a name that was found
 pub found_by : (p : Name → Bool) (low high : ℕ) (names : List Name) (k : ℕ) → Rises (λ n. n.cookie) low names high → option_map (λ (n : Name). n.cookie) (find p names) ≡ Some k → find (λ n. n.cookie == k) names ≡ find p names
 found_by p low high [] k rises is = refl
 found_by p low high (m ∷ names) k rises is =
@@ -109,7 +109,7 @@ as_many p (m ∷ names) = elim (p m) as (λ b. length (map (λ n. n.cookie) (con
   | false ↦ as_many p names
 ]
 
--- ---- a name more
+-- ---- one more name
 
 top : (low high : ℕ) (names : List Name) → Rises (λ n. n.cookie) low names high → low ≤ high
 top low high [] rises = rises
@@ -135,7 +135,7 @@ insert_last k p low (m ∷ names) rises =
       | false ↦ insert_last k p (m.cookie + 1) names rises.1
     ]
 
--- and is taken from there
+-- the highest cookie is taken from the end
 remove_last : (k : ℕ) (p : Name → Bool) (low : ℕ) (names : List Name) → Rises (λ n. n.cookie) low names k → remove_key (is_at (nat_cmp k)) (cookies_of p names ++ k ∷ []) ≡ cookies_of p names
 remove_last k p low [] rises = ap (λ b. cond {A = List ℕ} b [] (k ∷ [])) (tied k k ∙ itself k)
 remove_last k p low (m ∷ names) rises =
@@ -153,7 +153,7 @@ cookies_of-push p (m ∷ names) n =
       | false ↦ cookies_of-push p names n
     ]
 
--- a set of cookies is told of a name more
+-- a set of cookies with one more name
 pub grouped_push : (read : Name → ℕ) (names : List Name) (n : Name) (before after : List ℕ) (q low : ℕ) → Rises (λ n. n.cookie) low names n.cookie → before ≡ cookies_of (λ n. read n == q) names
     → after ≡ cond (q == read n) (insert_key nat_cmp before n.cookie) before → after ≡ cookies_of (λ n. read n == q) (names ++ n ∷ [])
 grouped_push read names n before after q low rises was put =
@@ -162,7 +162,7 @@ grouped_push read names n before after q low rises was put =
     ∙ ap (λ b. cond b (cookies_of (λ n. read n == q) names ++ n.cookie ∷ []) (cookies_of (λ n. read n == q) names)) (eq_turned q (read n))
     ∙ sym (cookies_of-push (λ n. read n == q) names n)
 
--- and has it taken back
+-- a set of cookies from which the last name is taken back
 pub grouped_back : (p : Name → Bool) (names : List Name) (k q d low : ℕ) (before between after : List ℕ) → Rises (λ n. n.cookie) low names k → before ≡ cookies_of p names
     → between ≡ cond (q == d) (insert_key nat_cmp before k) before → after ≡ cond (q == d) (remove_key (is_at (nat_cmp k)) between) between → after ≡ cookies_of p names
 grouped_back p names k q d low before between after rises was put took =
@@ -186,7 +186,7 @@ pub rises-push : (low : ℕ) (names : List Name) (n : Name) → Rises (λ n. n.c
 rises-push low [] n rises = (rises, let goal : n.cookie + 1 ≤ n.cookie + 1 = omega arith in goal)
 rises-push low (m ∷ names) n rises = (rises.0, rises-push (m.cookie + 1) names n rises.1)
 
--- ---- a name less
+-- ---- one name less
 
 abbrev pub but : ℕ → List Name → List Name
 but k names = filter (λ n. not (n.cookie == k)) names
@@ -221,7 +221,7 @@ keyed-but k low high (m ∷ names) rises =
       | false ↦ λ is. ap (λ l. (m.cookie, m) ∷ l) (keyed-but k (m.cookie + 1) high names rises.1)
     ] refl
 
--- a set of cookies is told of a name less
+-- a set of cookies with one name less
 pub grouped_but : (read : Name → ℕ) (k q low high : ℕ) (names : List Name) (n : Name) → Rises (λ n. n.cookie) low names high → find (λ n. n.cookie == k) names ≡ Some n
     → cond (q == read n) (remove_key (is_at (nat_cmp k)) (cookies_of (λ n. read n == q) names)) (cookies_of (λ n. read n == q) names) ≡ cookies_of (λ n. read n == q) (but k names)
 grouped_but read k q low high [] n rises is = cc

@@ -9,7 +9,7 @@ use Rattle.node_tree.specs.World.{World, Name, kind_of, is_directory_at, name_af
 use Rattle.node_tree.specs.Sound.{IsIn, IsSound, Rises, IsNextName}
 use Rattle.node_tree.proofs.Names.{found}
 
--- the first that passes
+-- the first name that passes
 record First (p : Name → Bool) (names : List Name) (n : Name) : Type 0 where
   stands : IsIn n names
   passes : p n ≡ true
@@ -56,7 +56,7 @@ next_name w sound directory cookie (Some n) is =
       child = (sound.rooted.ends n f.stands).1;
     }
 
--- the parent of a directory is one
+-- the parent of a directory is a directory
 pub live_parent : (w : World) → IsSound w → (number : ℕ) (parent : Option ℕ) → parent ≡ parent_of w number → IfSome parent (λ parent. kind_of w parent ≡ Some Directory)
 live_parent w sound number None is = tt
 live_parent w sound number (Some parent) is =

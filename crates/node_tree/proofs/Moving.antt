@@ -1,4 +1,4 @@
--- A sound world stays sound where a child comes under another name.
+-- A sound world stays sound where a child gets another name.
 use Rattle.std.proofs.Common.{◌≡◌, ◌≢◌, ℕ, ◌+◌, ◌<◌, ◌≤◌, ◌^◌, Bool, true, false, not, ◌&&◌, ◌||◌, cond, List, length, refl, ap, sym, ◌∙◌, subst, arith, Some, None}
 use Rattle.std.specs.Prelude.{Option, IsSome, IfSome, is_some, find, ◌==◌, nat_eq}
 use Rattle.std.specs.Ordering.{nat_cmp}
@@ -62,7 +62,7 @@ module _ (kinds : ℕ → Option Kind) (names : List Name) (rooted : IsRooted ki
       let named_so : is_named to new n ≡ true = named_at to new n d s in
       let out : free n ≡ false = ap not named_so in cc
 
-  -- a name of something else that doesn't have the new place stays
+  -- the name of another object that isn't the new name stays
   stays_there : (n : Name) → IsIn n names → child ≢ n.child → free n ≡ true → IsIn n rest
   stays_there n h apart is = in_filter free n (filter other names)
       (in_filter other n names h (elim (other n) as (λ b. other n ≡ b → b ≡ true) [
@@ -70,7 +70,7 @@ module _ (kinds : ℕ → Option Kind) (names : List Name) (rooted : IsRooted ki
         | false ↦ λ out. absurd (apart (sym (its_child kinds names rooted from old child leads n h out)))
       ] refl)) is
 
-  -- nothing goes: what has the new place, if anything, has another name
+  -- no object goes: the object that had the new name, if any, has another name
   moves_all : IsSome (kinds child) → ((n : Name) → IsIn n names → free n ≡ false → (m : Name) × IsIn m rest × (m.child ≡ n.child)) → Moves kinds kinds names rest child to new
   moves_all there again = record {
     was = λ k h. refl;
@@ -93,7 +93,7 @@ module _ (kinds : ℕ → Option Kind) (names : List Name) (rooted : IsRooted ki
     ] refl;
   }
 
-  -- what has the new place goes
+  -- the object that had the new name goes
   moves_but : (target : ℕ) → option_map (λ (n : Name). n.child) (find (is_named to new) names) ≡ Some target → child ≢ target → IsSome (kinds child)
       → ((n : Name) → IsIn n names → n.directory ≡ target → ⊥) → has_name rest target ≡ false → Moves kinds (after false kinds target) names rest child to new
   moves_but target taken apart there empty none =
@@ -122,7 +122,7 @@ module _ (kinds : ℕ → Option Kind) (names : List Name) (rooted : IsRooted ki
         ] refl;
       }
 
-  -- the moves of each case
+  -- the names of each case
   pub moves : (target : Option ℕ) → option_map (λ (n : Name). n.child) (find (is_named to new) names) ≡ target → IfSome target (λ t. child ≢ t) → IfSome target (λ t. (n : Name) → IsIn n names → n.directory ≡ t → ⊥)
       → Moves kinds (λ k. option_map_or (λ t. after (has_name rest t) kinds t k) target (kinds k)) names rest child to new
   moves None taken apart empty = moves_all (there_is it.name it.stands it.leads) (λ n h out. absurd (not_found (λ n. n.child) (is_named to new) names taken n h (flipped _ out)))
@@ -142,11 +142,11 @@ module _ (kinds : ℕ → Option Kind) (names : List Name) (rooted : IsRooted ki
 
 -- ---- the objects
 
--- what a target that loses its name leaves of them
+-- the objects once a target has lost its name
 abbrev left_of : List Name → Option ℕ → At → List (ℕ × Object) → List (ℕ × Object)
 left_of names target at es = option_map_or (λ t. released names t at es) target es
 
--- what is read of the objects after the change
+-- a value of each object after the change
 read_moved : {X : Type 0} (read : Object → X) (from to child : ℕ) (names : List Name) (target : Option ℕ) (at : At) (es : List (ℕ × Object))
     → ((o : Object) → read (touched at o) ≡ read o) → ((o : Object) → read (retold at o) ≡ read o)
     → (k : ℕ) → option_map read (lookup (is_at (nat_cmp k)) (changed to (touched at) (changed from (touched at) (changed child (retold at) (left_of names target at es)))))
@@ -265,7 +265,7 @@ KeepsJudged-with_move w from old to new child target at = record {
   same = λ k j is _. moved_some (other_names to new (other_names from old w.names)) target (judged_of w) k j (sym (read_moved judged from to child (other_names to new (other_names from old w.names)) target at w.objects (λ o. refl) (λ o. refl) k) ∙ is);
 }
 
--- ---- what no refusal says
+-- ---- where no change is refused
 
 pub record MayMove (w : World) (from to child : ℕ) (target : Option ℕ) : Type 0 where
   pub clear : kind_of w child ≡ Some Directory → is_within w child to ≡ false
@@ -309,7 +309,7 @@ emptied w sound child (Some target) may = λ n stands at.
       | false ↦ λ h. let f : not (is_directory_at w target) ≡ false = ap not is_directory in cc
     ] may
 
--- what is left to ask of a move that goes nowhere below itself
+-- the tests that are left for a move that isn't below itself
 abbrev behind_it : Bool → Bool → Option TreeFault
 behind_it may space = cond (not may) (Some Exist) (cond space None (Some NoSpc))
 
@@ -352,6 +352,6 @@ IsSound-unrefused_move w sound from old to new child target at tick live short l
     let may = unrefused_move w sound from to child target (not_one child target apart) (sym none) in
     IsSound-with_move w sound from old to new child target at tick live leads taken (target_apart child target apart) may.empty may.clear short may.room may.cookie
 
--- what the move takes
+-- the counters that the move needs
 pub has_cookie : (w : World) → IsSound w → (from to child : ℕ) (target : Option ℕ) → (target ≡ Some child → ⊥) → None ≡ move_refusal w from to child target → w.next_cookie < 2 ^ 63
 has_cookie w sound from to child target apart none = (unrefused_move w sound from to child target (not_one child target apart) (sym none)).cookie

@@ -1,4 +1,4 @@
--- Names: which are there after a filter or a push, and how many.
+-- Names after a filter or a push: which are there, and how many.
 use Rattle.std.proofs.Common.{◌≡◌, ℕ, ◌+◌, ◌<◌, ◌≤◌, Bool, true, false, not, ◌&&◌, ◌||◌, cond, List, [], ◌∷◌, ◌++◌, length, refl, ap, sym, ◌∙◌, subst, arith, Some, None, inl, inr, add_comm}
 use Rattle.std.specs.Prelude.{◌⊎◌, find, ◌==◌, count_by, nat_eq}
 use Rattle.std.specs.List.{filter, list_any}
@@ -21,7 +21,7 @@ in_filter p n (m ∷ names) stands passes =
       | false ↦ λ is. ⊎_elim (λ same. let t : p m ≡ true = subst (λ x. p x ≡ true) same passes in cc) (λ later. in_filter p n names later passes)
     ] refl stands
 
--- what a filter keeps
+-- the names that a filter keeps
 pub record Stays (p : Name → Bool) (n : Name) (names : List Name) : Type 0 where
   pub stood : IsIn n names
   pub passes : p n ≡ true
@@ -57,7 +57,7 @@ none_passes p (m ∷ names) none n stands passes =
       | false ↦ λ is h. ⊎_elim (λ same. let t : p m ≡ true = subst (λ x. p x ≡ true) same passes in cc) (λ later. none_passes p names h n later passes)
     ] refl none stands
 
--- what a search for a name found
+-- the name that a search found
 pub record Found {X : Type 0} (read : Name → X) (p : Name → Bool) (names : List Name) (x : X) : Type 0 where
   pub name : Name
   pub stands : IsIn name names
@@ -208,7 +208,7 @@ one_more q names n k most before room =
       | false ↦ λ is e. omega arith
     ] refl more
 
--- a name more in a directory that has room
+-- one more name in a directory that has room
 name_more : (names : List Name) (n : Name) (k : ℕ) → name_count names k ≤ MAX_NAMES → name_count names n.directory < MAX_NAMES → name_count (names ++ n ∷ []) k ≤ MAX_NAMES
 name_more names n k before room =
     let counted : count_by (λ n. n.directory == k) names ≤ MAX_NAMES = omega (arith, names_counted names k, before) in

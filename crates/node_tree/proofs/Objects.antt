@@ -27,7 +27,7 @@ is_at-apart j k apart = elim (is_at (nat_cmp j) k) as (λ b. is_at (nat_cmp j) k
 pub is_at-unlike : (j k : ℕ) → is_at (nat_cmp j) k ≡ false → j ≢ k
 is_at-unlike j k at same = let t : is_at (nat_cmp j) k ≡ true = subst (λ k. is_at (nat_cmp j) k ≡ true) same (is_at-same j) in cc
 
--- two numbers are one, or apart
+-- two numbers are equal or different
 pub by_number : {P : Type 0} (j k : ℕ) → (j ≡ k → P) → (j ≢ k → P) → P
 by_number {P} j k same apart = elim (is_at (nat_cmp j) k) as (λ b. is_at (nat_cmp j) k ≡ b → P) [
   | true ↦ λ at. same (is_same j k at)
@@ -40,7 +40,7 @@ turned : {X : Type 0} (b : Bool) (x : Option X) → cond (not b) x None ≡ cond
 turned true x = refl
 turned false x = refl
 
--- what there is at a number without another
+-- the object of a number without the object of another
 pub lookup-without : (number q : ℕ) (es : List (ℕ × Object)) → lookup (is_at (nat_cmp q)) (without number es) ≡ cond (is_at (nat_cmp number) q) None (lookup (is_at (nat_cmp q)) es)
 lookup-without number q es =
     lookup-filter-keys (is_at (nat_cmp q)) (λ k. not (is_at (nat_cmp number) k)) (not (is_at (nat_cmp number) q)) (λ k h. ap (λ n. not (is_at (nat_cmp number) n)) (sym (is_same q k h))) es ∙ turned (is_at (nat_cmp number) q) _
@@ -61,7 +61,7 @@ removed number (e ∷ es) sorted =
       | false ↦ λ at. ap (λ l. e ∷ l) (removed number es (sorted_tail nat_cmp _ _ sorted))
     ] refl
 
--- what there is at a number after a change of one
+-- the object of a number after a change of one object
 pub lookup-changed : (number q : ℕ) (f : Object → Object) (es : List (ℕ × Object))
     → lookup (is_at (nat_cmp q)) (changed number f es) ≡ cond (is_at (nat_cmp number) q) (option_map f (lookup (is_at (nat_cmp number)) es)) (lookup (is_at (nat_cmp q)) es)
 lookup-changed number q f es =
@@ -73,7 +73,7 @@ lookup-changed number q f es =
       ] refl
     ] refl
 
--- what there is at a number after one is put in its place
+-- the object of a number after an object is put in its place
 pub lookup-inserted : (k q : ℕ) (v : Object) (es : List (ℕ × Object)) → lookup (is_at (nat_cmp q)) (insert_entry nat_cmp es k v) ≡ cond (is_at (nat_cmp q) k) (Some v) (lookup (is_at (nat_cmp q)) es)
 lookup-inserted k q v [] = refl
 lookup-inserted k q v (e ∷ es) =
@@ -98,9 +98,9 @@ lookup-inserted k q v (e ∷ es) =
     apart : nat_cmp k e.0 ≡ Greater → q ≡ k → q ≡ e.0 → ⊥
     apart is a b = let t : is_eq (nat_cmp k e.0) ≡ true = subst (λ n. is_at (nat_cmp k) n ≡ true) (sym a ∙ b) (is_at-same k) in let f : is_eq (nat_cmp k e.0) ≡ false = ap is_eq is in cc
 
--- ---- what is read of each object
+-- ---- a value of each object
 
--- a change of one object keeps what it keeps
+-- a change of one object that keeps a value of it keeps that value of each object
 pub option_map-changed : {X : Type 0} (read : Object → X) (number : ℕ) (f : Object → Object) (es : List (ℕ × Object)) → ((o : Object) → read (f o) ≡ read o)
     → (k : ℕ) → option_map read (lookup (is_at (nat_cmp k)) (changed number f es)) ≡ option_map read (lookup (is_at (nat_cmp k)) es)
 option_map-changed read number f es keeps k =
@@ -114,7 +114,7 @@ option_map-changed read number f es keeps k =
     kept None = refl
     kept (Some o) = ap Some (keeps o)
 
--- what stands at a number after a change stood there, or is the change of what stood there
+-- the object of a number after a change is as it was, or is the change of the object that was there
 pub record Changed (number : ℕ) (f : Object → Object) (es : List (ℕ × Object)) (k : ℕ) (a : Object) : Type 0 where
   pub old : Object
   pub stood : lookup (is_at (nat_cmp k)) es ≡ Some old
@@ -137,7 +137,7 @@ changed_cases number f es k a is =
     at_it same None stood h = cc
     at_it same (Some o) stood h = record { old = o; stood = subst (λ n. lookup (is_at (nat_cmp n)) es ≡ Some o) same stood; new = cc; here = same }
 
--- what a value was read off
+-- the object of a value
 pub record ReadOff {X Y : Type 0} (read : X → Y) (o : Option X) (y : Y) : Type 0 where
   pub value : X
   pub is : o ≡ Some value
@@ -147,7 +147,7 @@ pub read_off : {X Y : Type 0} (read : X → Y) (o : Option X) (y : Y) → option
 read_off read None y is = cc
 read_off read (Some x) y is = record { value = x; is = refl; gives = cc }
 
--- how many there are
+-- how many objects there are
 pub length-changed : (number : ℕ) (f : Object → Object) (es : List (ℕ × Object)) → length (changed number f es) ≡ length es
 length-changed number f es =
     elim (lookup (is_at (nat_cmp number)) es) as (λ found. length (option_map_or (λ o. set_value (is_at (nat_cmp number)) es (f o)) found es) ≡ length es) [

@@ -43,7 +43,7 @@ later k q e es rises is =
 first : (e : ℕ × ℕ) (es : List (ℕ × ℕ)) → at e.0 (e ∷ es) ≡ Some e.1
 first e es = ap (λ b. cond b (Some e.1) (at e.0 es)) (is_at-same e.0)
 
--- ---- what stands at numbers
+-- ---- the objects of numbers
 
 -- how many objects there are
 pub length-placed : (nodes : Slab Object) (places : List (ℕ × ℕ)) → length (placed nodes places) ≡ length places
@@ -68,7 +68,7 @@ not_found nodes places k none = placed_at nodes places k ∙ ap (option_map (in_
 pub no_place : (nodes : Slab Object) (places : List (ℕ × ℕ)) (k : ℕ) → lookup (is_at (nat_cmp k)) (placed nodes places) ≡ None → at k places ≡ None
 no_place nodes places k none = elim (at k places) as (λ o. option_map (in_place nodes) o ≡ None → o ≡ None) [ Some p ↦ λ h. cc | None ↦ λ _. refl ] (sym (placed_at nodes places k) ∙ none)
 
--- places that hold the same show the same
+-- places with the same objects show the same objects
 same : (old new : Slab Object) (es : List (ℕ × ℕ)) → IsStrictlySortedBy nat_cmp (keys_of es) → ((k q : ℕ) → at k es ≡ Some q → in_place new q ≡ in_place old q) → placed new es ≡ placed old es
 same old new [] rises alike = refl
 same old new (e ∷ es) rises alike =
@@ -107,7 +107,7 @@ module _ (nodes : Slab Object) (places : List (ℕ × ℕ)) (is : IsPlaced nodes
   elsewhere : (k q : ℕ) → at k places ≡ Some q → k ≢ number → q ≢ place
   elsewhere k q found other one = other (is.apart k number place (found ∙ ap Some one) there)
 
-  -- what is written into a place is the object of its number
+  -- the object that is written into a place is the object of its number
   pub placed_written : placed (with_value nodes place w) places ≡ set_value (is_at (nat_cmp number)) (placed nodes places) w
   placed_written = changed nodes (with_value nodes place w) number place w places is.ordered there
       (ap shown written)
@@ -129,12 +129,12 @@ module _ (nodes : Slab Object) (places : List (ℕ × ℕ)) (is : IsPlaced nodes
         let before : slab_len nodes ≡ length places = is.counted in omega arith;
   }
 
--- ---- an object less
+-- ---- one object less
 
 lookup_less : (number k : ℕ) (places : List (ℕ × ℕ)) → IsStrictlySortedBy nat_cmp (keys_of places) → at k (remove_entry (is_at (nat_cmp number)) places) ≡ cond (is_at (nat_cmp number) k) None (at k places)
 lookup_less number k places rises = lookup-remove_entry (eq_by_cmp_equiv nat_cmp_total) (is_at (nat_cmp number)) (λ x y h. (eq_by_cmp_equiv nat_cmp_total).congr number x y h) k places (IsDistinct-from_sorted nat_cmp _ rises)
 
--- what still has a place is another number, and had it
+-- a number that still has a place is another number, and had the place
 record Stays (number k q : ℕ) (places : List (ℕ × ℕ)) : Type 0 where
   had : at k places ≡ Some q
   other : k ≢ number
@@ -158,7 +158,7 @@ placed_without : (nodes : Slab Object) (number : ℕ) (places : List (ℕ × ℕ
 placed_without nodes number places rises =
     removed_placed nodes number places ∙ removed number (placed nodes places) (subst (IsStrictlySortedBy nat_cmp) (sym (keys_of-map_values (in_place nodes) places)) rises)
 
--- nothing goes where there is nothing
+-- no object goes where there is none
 pub placed_as_before : (nodes : Slab Object) (now places : List (ℕ × ℕ)) (number : ℕ) → at number places ≡ None → now ≡ places → placed nodes now ≡ without number (placed nodes places)
 placed_as_before nodes now places number none is = ap (placed nodes) is ∙ sym (without_none number (placed nodes places) (not_found nodes places number none))
 
@@ -180,7 +180,7 @@ module _ (nodes new : Slab Object) (places now : List (ℕ × ℕ)) (is : IsPlac
     counted = let before : slab_len nodes ≡ length places = is.counted in omega arith;
   }
 
--- ---- an object more
+-- ---- one more object
 
 lookup_more : (number place k : ℕ) (places : List (ℕ × ℕ)) → at k (insert_entry nat_cmp places number place) ≡ cond (is_at (nat_cmp k) number) (Some place) (at k places)
 lookup_more number place k [] = refl
@@ -215,7 +215,7 @@ inserted_placed nodes number place (e ∷ es) =
       | Greater ↦ ap (λ l. (e.0, in_place nodes e.1) ∷ l) (inserted_placed nodes number place es)
     ]
 
--- what has a place is the new number, or had it before
+-- a number that has a place is the new number, or had the place before
 record New (number place k q : ℕ) : Type 0 where
   here : k ≡ number
   in_it : q ≡ place
@@ -253,11 +253,11 @@ module _ (nodes new : Slab Object) (places now : List (ℕ × ℕ)) (is : IsPlac
 pub roomier : (nodes new : Slab Object) (places : List (ℕ × ℕ)) → new ≡ record nodes { capacity = new.capacity } → IsPlaced nodes places → IsPlaced new places
 roomier nodes new places same is = subst (λ n. IsPlaced n places) (sym same) (record { ordered = is.ordered; held = is.held; apart = is.apart; counted = is.counted })
 
--- where there was none there is one more
+-- where there was no object there is one more
 pub as_long : (places now : List (ℕ × ℕ)) (old : Option ℕ) → old ≡ None → length now ≡ length places + cond (is_some old) 0 1 → length now ≡ length places + 1
 as_long places now old none len = len ∙ ap (λ (o : Option ℕ). length places + cond (is_some o) 0 1) none
 
--- where there is one there is one less
+-- where there is an object there is one less
 pub shorter : (places now : List (ℕ × ℕ)) (old : Option ℕ) (place : ℕ) → old ≡ Some place → length now + cond (is_some old) 1 0 ≡ length places → length now + 1 ≡ length places
 shorter places now old place there len = ap (λ (o : Option ℕ). length now + cond (is_some o) 1 0) (sym there) ∙ len
 

@@ -14,7 +14,7 @@ use Rattle.node_tree.specs.Changes.{written, resized}
 pub part_reads : (xs : List ℕ) (start n k : ℕ) → k < n → get_or (take n (drop start xs)) k 0 ≡ get_or xs (start + k) 0
 part_reads xs start n k h = grind (arith, common_steps)
 
--- what is read of a list that is made place by place
+-- a byte of a list that is made place by place
 reads : (f : ℕ → ℕ) (n k : ℕ) → get_or (map f (range_with_len 0 n)) k 0 ≡ cond (nat_lt k n) (f k) 0
 reads f n k = grind (arith, common_steps, nat_tests, length-map-range_with_len, get_or-map-range_with_len, get_or_past)
 
@@ -57,7 +57,7 @@ written_is f g n size offset more is zeros new =
         by_cases : (k : ℕ) → f k ≡ cond {A = ℕ} (nat_lt k n) (f k) 0
         by_cases k = grind (arith, nat_tests, zeros k)
 
--- data are written where nothing stood
+-- data are written where no bytes were
 pub written_all : (bytes more : List ℕ) → bytes ≡ [] → written bytes 0 more ≡ more
 written_all bytes more none = ap (λ (old : List ℕ). written old 0 more) none ∙ sym (fill_by_all place more (max 0 (0 + length more)) 0 (let l : length more ≡ max 0 (0 + length more) = omega arith in l) same)
   where

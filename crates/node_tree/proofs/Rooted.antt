@@ -1,4 +1,4 @@
--- One tree of directories stays one, where a name comes, goes or moves.
+-- One tree of directories stays one tree, where a name comes, goes or moves.
 use Rattle.std.proofs.Common.{◌≡◌, ◌≢◌, ℕ, zero, suc, Bool, true, false, ◌||◌, List, [], ◌∷◌, ◌++◌, refl, ap, sym, ◌∙◌, subst, Some, None}
 use Rattle.std.specs.Prelude.{Option, IsSome, is_some, find, ◌==◌}
 use Rattle.std.specs.List.{filter}
@@ -83,7 +83,7 @@ IsRooted-linked kinds names number cookie directory name rooted live there plain
 
 -- ---- a tree without one name
 
--- The names that pass are kept. What is alive is what it was, and it has a name or is the root.
+-- The names that pass are kept. An object that is alive is as it was, and has a name or is the root.
 pub record Prunes (kinds alive : ℕ → Option Kind) (p : Name → Bool) (names : List Name) : Type 0 where
   pub was : (k : ℕ) → IsSome (alive k) → alive k ≡ kinds k
   pub root : alive ROOT ≡ kinds ROOT
@@ -115,7 +115,7 @@ IsRooted-pruned kinds alive p names rooted prunes =
 
 -- ---- a tree in which a child has moved
 
--- Of the names the rest is there, and one more for the child. What is alive is what it was.
+-- The rest of the names is there, and one more name for the child. An object that is alive is as it was.
 pub record Moves (kinds alive : ℕ → Option Kind) (names rest : List Name) (child to : ℕ) (new : List ℕ) : Type 0 where
   pub was : (k : ℕ) → IsSome (alive k) → alive k ≡ kinds k
   pub root : alive ROOT ≡ kinds ROOT
@@ -124,7 +124,7 @@ pub record Moves (kinds alive : ℕ → Option Kind) (names rest : List Name) (c
   pub live : alive to ≡ Some Directory
   pub there : IsSome (alive child)
   pub below_root : child ≢ ROOT
-  -- no other name has the new name's place, and a directory no other name
+  -- no other name is the new name, and the child has no other name if it is a directory
   pub free : (n : Name) → IsIn n rest → n.directory ≡ to → n.name ≡ new → ⊥
   pub once : alive child ≡ Some Directory → (n : Name) → IsIn n rest → n.child ≡ child → ⊥
   pub held : (k : ℕ) → IsSome (alive k) → k ≢ ROOT → child ≢ k → (n : Name) × IsIn n rest × (n.child ≡ k)

@@ -1,4 +1,4 @@
--- The sample tree is sound: it is what two additions make of a root, but for the root's last change.
+-- The sample tree is sound: it is a root after two additions, but for the root's last change.
 use Rattle.std.proofs.Common.{◌≡◌, ℕ, ◌<◌, List, [], refl, sym, subst, lit<, lit≤}
 use Rattle.std.specs.Prelude.{codes}
 use Rattle.acl_list.specs.declared.entry.Entry.{Entry}
@@ -17,7 +17,7 @@ use Rattle.node_tree.proofs.Adding.{IsSound-with_new}
 use Rattle.node_tree.proofs.Starting.{IsSound-alone}
 use mathlib.Core.Path.{fun_ext}
 
--- another last change
+-- a world with another last change of an object
 abbrev with_change : World → ℕ → ℕ → World
 with_change w number tick = record w { objects = changed number (λ o. record o { change = tick }) w.objects }
 
@@ -38,7 +38,7 @@ IsSound-with_change w number tick sound due =
       counted = record { numbers = sound.counted.numbers; ticks = sound.counted.ticks; stamps = sound.counted.stamps; cookies = sound.counted.cookies };
     }
 
--- for any lists, so that none is computed
+-- the sample of any lists, so that none is computed
 module _ (of_root of_notes of_pub : List Entry) (root_bounded : IsBounded of_root) (notes_bounded : IsBounded of_notes) (pub_bounded : IsBounded of_pub) where
   abbrev thing : ℕ → Kind → List ℕ → ℕ → ℕ → List Entry → Object
   thing number kind bytes owner group list = record { kind = kind; bytes = bytes; owner = owner; group = group; list = list; high = 0; change = number; time_modify = epoch; time_metadata = epoch; stamp = number }

@@ -89,9 +89,9 @@ IsSound-with_size w file size at sound tick is_file short = IsSound-with_new_byt
 pub KeepsJudged-with_size : (w : World) (file size : ℕ) (at : At) → KeepsJudged w (with_size w file size at)
 KeepsJudged-with_size w file size at = KeepsJudged-with_new_bytes w file (λ old. resized old size) at
 
--- ---- what an object is judged by
+-- ---- the list, owner and group of an object
 
--- what an object is judged by is set, and it takes the next stamp
+-- the list, the owner or the group of an object is set, and it takes the next stamp
 abbrev with_new_stamp : World → ℕ → (Object → Object) → At → World
 with_new_stamp w number f at = record w { objects = changed number f w.objects; next_tick = at.tick + 1; next_stamp = w.next_stamp + 1 }
 

@@ -12,7 +12,7 @@ use Rattle.node_tree.specs.Changes.{alone}
 use Rattle.node_tree.specs.Sound.{IsFit, IsSound}
 use Rattle.node_tree.proofs.Objects.{is_same}
 
--- what there is in it is the root
+-- the root is the only object
 only : {X : Type 0} (read : Object → X) (o : Object) (k : ℕ) (x : X) → option_map read (object (alone o) k) ≡ Some x → (k ≡ 1) × (read o ≡ x)
 only {X} read o k x is = elim (is_at (nat_cmp k) 1) as (λ b. is_at (nat_cmp k) 1 ≡ b → option_map read (cond b (Some o) None) ≡ Some x → (k ≡ 1) × (read o ≡ x)) [
   | true ↦ λ at h. (is_same k 1 at, cc)

@@ -23,7 +23,7 @@ use Rattle.node_tree.proofs.Rooted.{Prunes, IsRooted-pruned}
 use Rattle.node_tree.proofs.Setting.{held_in}
 use mathlib.Core.Path.{fun_ext}
 
--- what is read of each object once one has gone, where it went
+-- a value of each object once one object has gone, if it went
 unfoldable pub after : {X : Type 0} → Bool → (ℕ → Option X) → ℕ → ℕ → Option X
 after stays old child k = cond stays (old k) (cond (is_at (nat_cmp child) k) None (old k))
 
@@ -54,7 +54,7 @@ after_some stays old child k x is = sym (after_was stays old child k (ap is_some
 pub lost : {o : Option Kind} → o ≡ None → IsSome o → ⊥
 lost e h = let k : is_some {T = Kind} None ≡ true = subst (λ o. is_some o ≡ true) e h in cc
 
--- what is read of the objects once one has lost a name
+-- a value of each object once one has lost a name
 pub read_released : {X : Type 0} (read : Object → X) (names : List Name) (child : ℕ) (at : At) (es : List (ℕ × Object)) → ((o : Object) → read (retold at o) ≡ read o)
     → (k : ℕ) → option_map read (lookup (is_at (nat_cmp k)) (released names child at es)) ≡ after (has_name names child) (λ k. option_map read (lookup (is_at (nat_cmp k)) es)) child k
 unfolding after
@@ -73,7 +73,7 @@ module _ (kinds : ℕ → Option Kind) (names : List Name) (rooted : IsRooted ki
   pub goes : Found (λ n. n.child) (is_named directory name) names child
   goes = found (λ n. n.child) (is_named directory name) names child leads
 
-  -- no other name is named so
+  -- no other name is this name
   pub is_goes : (n : Name) → IsIn n names → kept n ≡ false → n ≡ goes.name
   is_goes n stands out =
       let named : is_named directory name n ≡ true = flipped _ out in
@@ -134,7 +134,7 @@ module _ (kinds : ℕ → Option Kind) (names : List Name) (rooted : IsRooted ki
     | false ↦ λ has. IsRooted-pruned _ _ _ _ rooted (prunes_child empty has)
   ] refl
 
--- what is read of the objects after the change
+-- a value of each object after the change
 read_without : {X : Type 0} (read : Object → X) (directory : ℕ) (names : List Name) (child : ℕ) (at : At) (es : List (ℕ × Object))
     → ((o : Object) → read (touched at o) ≡ read o) → ((o : Object) → read (retold at o) ≡ read o)
     → (k : ℕ) → option_map read (lookup (is_at (nat_cmp k)) (changed directory (touched at) (released names child at es))) ≡ after (has_name names child) (λ k. option_map read (lookup (is_at (nat_cmp k)) es)) child k
@@ -167,7 +167,7 @@ KeepsJudged-without_name w directory name child at = record {
   same = λ k j is _. after_some (has_name (other_names directory name w.names) child) _ child k j (sym (read_without judged directory (other_names directory name w.names) child at w.objects (λ o. refl) (λ o. refl) k) ∙ is);
 }
 
--- what a name leads to is there
+-- the child of a name is there
 pub live_child : (w : World) → IsSound w → (directory : ℕ) (name : List ℕ) (child : Option ℕ) → child ≡ child_named w directory name → IfSome child (λ child. IsSome (object w child))
 live_child w sound directory name None is = tt
 live_child w sound directory name (Some child) is =

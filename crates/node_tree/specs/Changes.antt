@@ -1,5 +1,5 @@
--- What each change makes of the world (RFC 8881, sections 5.8, 18.4, 18.9, 18.25, 18.26, 18.30 and 18.32). A change takes a tick,
--- and each object that it changes gets it; the changes of one operation share it.
+-- The changes of the world (RFC 8881, sections 5.8, 18.4, 18.9, 18.25, 18.26, 18.30 and 18.32). A change takes a tick, and each
+-- object that it changes gets the tick; the changes of one operation share it.
 use Rattle.std.specs.Prelude.{ℕ, pos, ◌+◌, ◌-◌, not, ◌&&◌, nat_le, nat_lt, if◌then◌else◌, max, List, [], ◌∷◌, ◌++◌, length, map, filter, take, replicate, slice_index, Option}
 use Rattle.std.proofs.Common.{lit<}
 use Rattle.std.specs.List.{range_with_len}
@@ -17,7 +17,7 @@ use Rattle.node_tree.specs.World.{World, Object, Name, child_named, is_one, is_n
 
 -- ---- objects
 
--- with f of the object of a number
+-- the objects after a change f of the object of a number
 abbrev pub changed : ℕ → (Object → Object) → List (ℕ × Object) → List (ℕ × Object)
 changed number f objects = option_map_or (λ o. set_value (is_at (nat_cmp number)) objects (f o)) (lookup (is_at (nat_cmp number)) objects) objects
 
@@ -33,7 +33,7 @@ touched at o = record o { change = at.tick; time_modify = at.moment; time_metada
 abbrev pub retold : At → Object → Object
 retold at o = record o { change = at.tick; time_metadata = at.moment }
 
--- an object as it is made, of its kind, bytes, owner, group, list and the high bits of its mode
+-- a new object, of this kind, bytes, owner, group, list and high bits of the mode
 abbrev pub new_object : Kind → List ℕ → ℕ → ℕ → List Entry → ℕ → ℕ → At → Object
 new_object kind bytes owner group list high stamp at = record {
   kind = kind;
@@ -53,33 +53,33 @@ made new stamp at = new_object new.kind new.bytes.items new.owner new.group new.
 
 -- ---- a new tree
 
--- the moment of what was there from the start
+-- the moment of the objects that were there from the start
 abbrev pub epoch : Moment
 epoch = record { seconds = pos 0; nanoseconds = 0; is_fraction = lit< tt }
 
--- what was there from the start was made at the epoch
+-- the time of the objects that were there from the start is the epoch
 abbrev pub from_start : ℕ → At
 from_start tick = record { tick = tick; moment = epoch }
 
--- a root as it is made
+-- a new root
 abbrev pub root_of : ℕ → ℕ → List Entry → ℕ → Object
 root_of owner group list high = new_object Directory [] owner group list high 1 (from_start 1)
 
--- a root and nothing else
+-- a root and no other object
 abbrev pub alone : Object → World
 alone root = record { objects = (1, root) ∷ []; names = []; next_number = 2; next_tick = 2; next_stamp = 2; next_cookie = 3 }
 
 -- ---- names
 
--- with a name more, by the next cookie
+-- the names with one more name, by the next cookie
 abbrev pub named : World → ℕ → List ℕ → ℕ → List Name → List Name
 named w directory name child names = names ++ record { cookie = w.next_cookie; directory = directory; name = name; child = child } ∷ []
 
--- the names but one
+-- the names without this name
 abbrev pub other_names : ℕ → List ℕ → List Name → List Name
 other_names directory name names = filter (λ n. not (is_named directory name n)) names
 
--- An object that has lost a name. One that has lost its last goes.
+-- An object that has lost a name. An object that has lost its last name goes.
 abbrev pub released : List Name → ℕ → At → List (ℕ × Object) → List (ℕ × Object)
 released names number at objects = if has_name names number then changed number (retold at) objects else without number objects
 
@@ -94,7 +94,7 @@ with_new w directory name o at = record w {
   next_cookie = w.next_cookie + 1;
 }
 
--- one name more for an object (LINK)
+-- one more name for an object (LINK)
 abbrev pub with_link : World → ℕ → List ℕ → ℕ → At → World
 with_link w directory name number at = record w {
   objects = changed directory (touched at) (changed number (retold at) w.objects);
@@ -103,7 +103,7 @@ with_link w directory name number at = record w {
   next_cookie = w.next_cookie + 1;
 }
 
--- without the name of a child, and without the child if that was its last (REMOVE)
+-- without the name of a child, and without the child if that was its last name (REMOVE)
 abbrev pub without_name : World → ℕ → List ℕ → ℕ → At → World
 without_name w directory name child at =
     let names = other_names directory name w.names in
@@ -116,7 +116,7 @@ without_name w directory name child at =
 abbrev pub unlinked : World → ℕ → List ℕ → At → World
 unlinked w directory name at = option_map_or (λ child. without_name w directory name child at) (child_named w directory name) w
 
--- with another name for a child; what had that name loses it (RENAME)
+-- with another name for a child; a target of that name loses it (RENAME)
 abbrev pub with_move : World → ℕ → List ℕ → ℕ → List ℕ → ℕ → Option ℕ → At → World
 with_move w from old to new child target at =
     let names = other_names to new (other_names from old w.names) in
@@ -157,14 +157,14 @@ with_write w file offset (byte ∷ more) at = with_bytes w file offset (byte ∷
 abbrev pub resized : List ℕ → ℕ → List ℕ
 resized bytes size = take size bytes ++ replicate (size - length bytes) 0
 
--- a size is set, also the one that the file has (SETATTR, OPEN)
+-- a size is set, also to the file's own size (SETATTR, OPEN)
 abbrev pub with_size : World → ℕ → ℕ → At → World
 with_size w file size at = record w {
   objects = changed file (λ o. touched at (record o { bytes = resized o.bytes size })) w.objects;
   next_tick = at.tick + 1;
 }
 
--- ---- what an object is judged by
+-- ---- the list, owner and group of an object
 
 -- a list is set, with the high bits of the mode (SETATTR)
 abbrev pub with_list : World → ℕ → List Entry → ℕ → At → World

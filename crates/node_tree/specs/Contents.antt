@@ -1,4 +1,4 @@
--- What an object holds, by its kind: the kind, and the bytes of a file or the text of a link.
+-- The content of an object, by its kind: the kind, and the bytes of a file or the text of a link.
 use Rattle.std.specs.Prelude.{ℕ, List, []}
 use Rattle.acl_list.specs.declared.entry.Kind.{Kind}
 use Rattle.acl_list.specs.declared.entry.Kind.TheVariants as kinds

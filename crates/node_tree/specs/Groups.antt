@@ -8,7 +8,7 @@ use Rattle.std.specs.Ordering.{nat_cmp}
 use Rattle.node_tree.specs.World.{Name}
 use Rattle.node_tree.specs.Sound.{Rises}
 
--- the cookies that a number has
+-- the cookies of a number
 abbrev pub cookies_at : BTreeMap ℕ (BTreeSet ℕ) → ℕ → List ℕ
 cookies_at groups number = option_map_or (λ cookies. cookies.keys) (lookup (is_at (nat_cmp number)) groups.entries) []
 
@@ -20,7 +20,7 @@ cookies_of passes names = map (λ n. n.cookie) (filter passes names)
 abbrev pub keyed : List Name → List (ℕ × Name)
 keyed names = map (λ n. (n.cookie, n)) names
 
--- Names stand under their cookies, which rise from 3 on. A directory has the cookies of the names in it, and a child those of its names.
+-- Names are kept by their cookies, which rise from 3 on. A directory has the cookies of the names in it, and a child those of its names.
 pub record IsListed (entries : List (ℕ × Name)) (by_directory by_child : BTreeMap ℕ (BTreeSet ℕ)) (names : List Name) : Type 0 where
   pub next : ℕ
   pub keyed_so : entries ≡ keyed names

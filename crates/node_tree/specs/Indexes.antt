@@ -21,7 +21,7 @@ cookie_at index directory name = option_map_or (λ names. cookie_of names name) 
 abbrev pub IsIndexed : {A : Type 0} → BTreeMap ℕ (BTreeMap (Vec ℕ A) ℕ A) A → List Name → Type 0
 IsIndexed index names = (directory : ℕ) (name : List ℕ) → cookie_at index directory name ≡ option_map (λ n. n.cookie) (find (is_named directory name) names)
 
--- The names are found, their cookies rise from 3 on, and no name stands twice.
+-- The names are found, their cookies rise from 3 on, and no name is there twice.
 pub record IsKept {A : Type 0} (index : BTreeMap ℕ (BTreeMap (Vec ℕ A) ℕ A) A) (names : List Name) : Type 0 where
   pub next : ℕ
   pub rises : Rises (λ n. n.cookie) 3 names next

@@ -1,4 +1,4 @@
--- What an object is judged by, and what a stamp stands for.
+-- The attributes of an object that decide access, and the stamp that stands for them.
 use Rattle.std.specs.Prelude.{ℕ, ◌≡◌, ◌<◌, ◌≤◌, List, Option, Some}
 use Rattle.std.specs.Option.{option_map}
 use Rattle.acl_list.specs.declared.entry.Entry.{Entry}
@@ -13,12 +13,12 @@ pub record Judged : Type 0 where
 abbrev pub judged : Object → Judged
 judged o = record { stamp = o.stamp; owner = o.owner; group = o.group; list = o.list }
 
--- what the object of a number is judged by
+-- the access attributes of the object of a number
 abbrev pub judged_of : World → ℕ → Option Judged
 judged_of w number = option_map judged (object w number)
 
--- Each object that has a stamp of before has it since before, with the list, owner and group that it had. So what was judged by
--- a stamp is as it was.
+-- An object that has a stamp of before has had it since before, with the same list, owner and group. So access that was
+-- decided by a stamp is decided as before.
 pub record KeepsJudged (old new : World) : Type 0 where
   pub stamps_rise : old.next_stamp ≤ new.next_stamp
   pub same : (number : ℕ) (j : Judged) → judged_of new number ≡ Some j → j.stamp < old.next_stamp → judged_of old number ≡ Some j

@@ -1,4 +1,4 @@
--- What the objects end as, where a reference to one of them is lent.
+-- The objects after a borrow, where a reference to one of them is lent.
 use Rattle.std.specs.Prelude.{ℕ, List, Option}
 use Rattle.std.specs.Borrow.{LendsIf, Fml, RattleType, MutBor}
 use Rattle.std.specs.declared.alloc.Allocator.{Ghosts}

@@ -1,4 +1,4 @@
--- How much of each there may be.
+-- The limits of a tree.
 use Rattle.std.specs.Prelude.{ℕ}
 
 -- the number of the root

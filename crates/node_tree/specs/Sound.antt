@@ -1,4 +1,4 @@
--- Which worlds are a tree of directories, within the limits.
+-- A sound world is a tree of directories, within the limits.
 use Rattle.std.specs.Prelude.{ℕ, zero, suc, ◌+◌, ◌^◌, ◌<◌, ◌≤◌, ◌≡◌, ◌≢◌, ◌⊎◌, List, [], ◌∷◌, length, Option, Some, IsSome}
 use Rattle.std.specs.Option.{option_map}
 use Rattle.acl_list.specs.declared.entry.Kind.{Kind}
@@ -7,7 +7,7 @@ use Rattle.acl_shape.specs.Bounds.{IsBounded}
 use Rattle.node_tree.specs.Limits.{ROOT, MAX_BYTES, MAX_TEXT, MAX_NAME, MAX_NAMES, MAX_OBJECTS, MAX_LINKS}
 use Rattle.node_tree.specs.World.{World, Object, Name, object, kind_of, name_count, link_count}
 
--- the name is one of these
+-- the name is in this list
 abbrev pub IsIn : Name → List Name → Type 0
 IsIn n [] = ⊥
 IsIn n (m ∷ names) = (n ≡ m) ⊎ IsIn n names

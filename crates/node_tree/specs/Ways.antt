@@ -1,11 +1,11 @@
--- The way from a directory up to the root. It asks the parents of directories alone.
+-- The way from a directory up to the root, by the parents of directories alone.
 use Rattle.std.specs.Prelude.{ℕ, zero, suc, Bool, true, false, ◌==◌, ◌||◌, Option, List}
 use Rattle.std.specs.Option.{option_map_or}
 use Rattle.node_tree.specs.World.{World, Name, parent_of}
 use Rattle.node_tree.specs.Sound.{IsIn}
 
--- Whether a directory is met on the way up from another, both ends among them. A way that takes more steps than these is as
--- good as one that never ends.
+-- Whether a directory is met on the way up from another, both ends included. A way of more steps than these counts as
+-- endless.
 unfoldable pub is_met : (ℕ → Option ℕ) → ℕ → ℕ → ℕ → Bool
 is_met parents zero directory from = true
 is_met parents (suc steps) directory from = (from == directory) || option_map_or (λ parent. is_met parents steps directory parent) (parents from) false
@@ -14,7 +14,7 @@ is_met parents (suc steps) directory from = (from == directory) || option_map_or
 abbrev pub is_within : World → ℕ → ℕ → Bool
 is_within w directory number = is_met (parent_of w) w.next_number directory number
 
--- The same by names: an object lies in itself, and whatever has a name in what lies there lies there too.
+-- An object lies within itself, and the child of a name in an object that lies within a directory lies within it too.
 pub data LiesWithin (names : List Name) (directory : ℕ) : ℕ → Type 0 where
   itself : LiesWithin names directory directory
   below : (n : Name) → IsIn n names → LiesWithin names directory n.directory → LiesWithin names directory n.child

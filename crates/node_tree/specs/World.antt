@@ -1,5 +1,5 @@
 -- The world of a file server: objects by number, names by cookie, and the counters (RFC 8881, sections 4.2, 5.8 and 18.23).
--- An object has no path. A directory holds no names itself: they stand beside the objects.
+-- An object has no path. A directory holds no names itself: they are kept beside the objects.
 use Rattle.std.specs.Prelude.{ℕ, Bool, false, ◌==◌, ◌&&◌, nat_lt, nat_eq, if◌then◌else◌, List, [], length, count_by, filter, find, take, drop, Option, Some, None}
 use Rattle.std.specs.List.{list_any}
 use Rattle.std.specs.Option.{option_map, option_map_or}
@@ -25,7 +25,7 @@ pub record Object : Type 0 where
   pub change : ℕ
   pub time_modify : Moment
   pub time_metadata : Moment
-  -- it is another one whenever the list, the owner or the group is set
+  -- the stamp, which changes whenever the list, the owner or the group is set
   pub stamp : ℕ
 
 -- a child under a name in a directory
@@ -35,7 +35,7 @@ pub record Name : Type 0 where
   pub name : List ℕ
   pub child : ℕ
 
--- objects stand by rising number, and names by rising cookie
+-- objects by rising number, and names by rising cookie
 pub record World : Type 0 where
   pub objects : List (ℕ × Object)
   pub names : List Name
@@ -64,7 +64,7 @@ is_directory_at w number = is_directory_in (kind_of w) number
 abbrev pub bytes_of : World → ℕ → List ℕ
 bytes_of w number = option_map_or (λ o. o.bytes) (object w number) []
 
--- what there is to be read at an offset
+-- the bytes at an offset
 abbrev pub bytes_at : World → ℕ → ℕ → ℕ → List ℕ
 bytes_at w number offset count = take count (drop offset (bytes_of w number))
 
@@ -74,11 +74,11 @@ bytes_at w number offset count = take count (drop offset (bytes_of w number))
 abbrev pub is_named : ℕ → List ℕ → Name → Bool
 is_named directory name n = (n.directory == directory) && pointwise nat_eq n.name name
 
--- the names that stand in a directory, by rising cookie
+-- the names in a directory, by rising cookie
 abbrev pub names_in : List Name → ℕ → List Name
 names_in names directory = filter (λ n. n.directory == directory) names
 
--- the child of a name, by the names that stand in a directory
+-- the child of a name, by the names in a directory
 abbrev pub child_in : List Name → List ℕ → Option ℕ
 child_in names name = option_map (λ n. n.child) (find (λ n. pointwise nat_eq n.name name) names)
 
@@ -112,6 +112,6 @@ link_count names number = count_by (λ n. n.child == number) names
 abbrev pub has_name : List Name → ℕ → Bool
 has_name names number = list_any (λ n. n.child == number) names
 
--- the directory that a directory has its name in
+-- the parent of a directory
 abbrev pub parent_of : World → ℕ → Option ℕ
 parent_of w number = if is_directory_at w number then option_map (λ n. n.directory) (find (λ n. n.child == number) w.names) else None

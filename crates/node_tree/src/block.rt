@@ -33,7 +33,7 @@ impl<A: Allocator> Block<A> {
         Ok(Block { bytes })
     }
 
-    /// Writes what of some data falls into the block. The block begins at `first`, and the data at `offset`.
+    /// Writes the part of some data that falls into the block. The block begins at `first`, and the data at `offset`.
     pub fn write(&mut self, first: usize, offset: usize, more: &[u8])
         requires few { offset + length more.now < 2 ^ 32 }
         requires behind { first < offset + length more.now }
@@ -43,7 +43,7 @@ impl<A: Allocator> Block<A> {
         write_part(&mut self.bytes, first, offset, more);
     }
 
-    /// Sets what stands from a place on to zeros.
+    /// Sets the bytes from a place on to zeros.
     pub fn clear_from(&mut self, at: usize)
         requires { at ≤ 4096 }
         ensures { (k : ℕ) → slice_index self.new k ≡ (if nat_lt k at then slice_index self.old k else 0) }
@@ -51,7 +51,7 @@ impl<A: Allocator> Block<A> {
         clear(&mut self.bytes, at, BLOCK);
     }
 
-    /// Copies what of the block falls into a stretch. The block begins at `first`, and the stretch at `offset`.
+    /// Copies the part of the block that falls into a stretch. The block begins at `first`, and the stretch at `offset`.
     pub fn read(&self, first: usize, offset: usize, buffer: &mut [u8])
         requires fits { offset + length buffer.old < 2 ^ 64 }
         requires behind { first < offset + length buffer.old }
@@ -66,7 +66,7 @@ impl<A: Allocator> Block<A> {
     }
 }
 
-/// Sets what of a block that isn't there falls into a stretch to zeros.
+/// Sets the part of an absent block that falls into a stretch to zeros.
 pub fn read_absent(first: usize, offset: usize, buffer: &mut [u8])
     requires fits { offset + length buffer.old < 2 ^ 64 }
     requires behind { first < offset + length buffer.old }
@@ -80,7 +80,7 @@ pub fn read_absent(first: usize, offset: usize, buffer: &mut [u8])
     clear(buffer, from, from + (end - start));
 }
 
-/// Writes data over what stands at a place.
+/// Writes data over the bytes at a place.
 fn overwrite(bytes: &mut [u8], offset: usize, more: &[u8])
     requires { offset + length more.now ≤ length bytes.old }
     ensures len { length bytes.new ≡ length bytes.old }
@@ -89,7 +89,7 @@ fn overwrite(bytes: &mut [u8], offset: usize, more: &[u8])
     bytes[offset..offset + more.len()].copy_from_slice(more);
 }
 
-/// Sets what stands from a place on, up to another one, to zeros.
+/// Sets the bytes from a place on, up to another place, to zeros.
 fn clear(bytes: &mut [u8], start: usize, end: usize)
     requires order { start ≤ end }
     requires inside { end ≤ length bytes.old }
@@ -99,7 +99,7 @@ fn clear(bytes: &mut [u8], start: usize, end: usize)
     bytes[start..end].fill(0);
 }
 
-/// What stands from a place on, up to another one.
+/// The bytes from a place on, up to another place.
 #[tactic(auto, using(crate::proofs::Placing::part_reads))]
 fn part(bytes: &[u8], start: usize, end: usize) -> &[u8]
     requires order { start ≤ end }
@@ -110,7 +110,7 @@ fn part(bytes: &[u8], start: usize, end: usize) -> &[u8]
     &bytes[start..end]
 }
 
-/// Writes what of some data falls into a block. The block begins at `first`, and the data at `offset`.
+/// Writes the part of some data that falls into a block. The block begins at `first`, and the data at `offset`.
 fn write_part(bytes: &mut [u8], first: usize, offset: usize, more: &[u8])
     requires whole { length bytes.old ≡ 4096 }
     requires few { offset + length more.now < 2 ^ 32 }

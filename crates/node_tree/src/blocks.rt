@@ -71,7 +71,7 @@ fn remove_all<A: Allocator>(blocks: &mut BTreeMap<usize, Block<A>, A>, from: usi
     }
 }
 
-/// Sets what a block has from a place of the file on to zeros.
+/// Sets the bytes of a block from a place of the file on to zeros.
 fn clear_behind<A: Allocator>(blocks: &mut BTreeMap<usize, Block<A>, A>, at: usize)
     ensures { (i : ℕ) → byte_at blocks.new.entries i ≡ (if (i / 4096 == at / 4096) && nat_le at i then 0 else byte_at blocks.old.entries i) }
 {
@@ -80,7 +80,7 @@ fn clear_behind<A: Allocator>(blocks: &mut BTreeMap<usize, Block<A>, A>, at: usi
     }
 }
 
-/// Takes away what stands from a size on, up to another one: whole blocks go, and the rest of the last one becomes zeros.
+/// Takes away the bytes from a size on, up to another size: whole blocks go, and the rest of the last one becomes zeros.
 fn cut<A: Allocator>(blocks: &mut BTreeMap<usize, Block<A>, A>, held: usize, size: usize)
     requires { (i : ℕ) → held ≤ i → byte_at blocks.old.entries i ≡ 0 }
     ensures { (i : ℕ) → byte_at blocks.new.entries i ≡ (if nat_lt i size then byte_at blocks.old.entries i else 0) }
@@ -92,7 +92,7 @@ fn cut<A: Allocator>(blocks: &mut BTreeMap<usize, Block<A>, A>, held: usize, siz
     clear_behind(blocks, size);
 }
 
-/// Writes what of some data falls into a block that is there.
+/// Writes the part of some data that falls into a block that is there.
 fn write_block<A: Allocator>(
     blocks: &mut BTreeMap<usize, Block<A>, A>,
     number: usize,
@@ -131,7 +131,7 @@ fn write_blocks<A: Allocator>(
     }
 }
 
-/// Copies what of a block falls into a stretch of the file that a buffer stands for.
+/// Copies the part of a block that falls into the stretch of the file that a buffer stands for.
 fn read_block<A: Allocator>(
     blocks: &BTreeMap<usize, Block<A>, A>,
     number: usize,
@@ -181,7 +181,7 @@ impl<A: Allocator> Blocks<A> {
         self.size = size;
     }
 
-    /// Copies what stands at an offset into a buffer, as far as both go, and answers how many bytes that are.
+    /// Copies the bytes at an offset into a buffer, as far as both go, and answers how many.
     pub fn read(&self, offset: usize, buffer: &mut [u8]) -> usize
         ensures count { result ≡ length (take (length buffer.old) (drop offset self.now)) }
         ensures copied { buffer.new ≡ take (length buffer.old) (drop offset self.now) ++ drop result buffer.old }

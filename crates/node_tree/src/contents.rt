@@ -1,4 +1,4 @@
-//! What an object holds.
+//! The content of an object.
 ghost use Rattle.std.specs.Prelude.{◌≡◌, ◌+◌, ◌<◌, ◌≤◌, ◌^◌, ◌++◌, length, take, drop, OnOk, OnErr, IfOk};
 ghost use Rattle.acl_list.specs.declared.entry.Kind.TheVariants as kinds;
 ghost use Rattle.node_tree.specs.Sound.{most_bytes};
@@ -9,7 +9,7 @@ use crate::blocks::Blocks;
 use acl_list::Kind;
 use std::alloc::{AllocError, Allocator, Global};
 
-/// What an object holds, by its kind.
+/// The content of an object, by its kind.
 #[derive(Debug, Drop)]
 pub enum Contents<A: Allocator = Global> {
     /// The bytes of a file.
@@ -20,7 +20,7 @@ pub enum Contents<A: Allocator = Global> {
     Link(Vec<u8, A>),
 }
 
-/// Copies what stands at an offset into a buffer, as far as both go, and answers how many bytes that are.
+/// Copies the bytes at an offset into a buffer, as far as both go, and answers how many.
 fn read_text(text: &[u8], offset: usize, buffer: &mut [u8]) -> usize
     ensures count { result ≡ length (take (length buffer.old) (drop offset text.now)) }
     ensures copied { buffer.new ≡ take (length buffer.old) (drop offset text.now) ++ drop result buffer.old }
@@ -81,7 +81,7 @@ impl<A: Allocator> Contents<A> {
 }
 
 impl<A: Allocator + Copy> Contents<A> {
-    /// What an object of a kind is made with. `Err`: there is no memory for the bytes of a file.
+    /// The content of a new object of a kind. `Err`: there is no memory for the bytes of a file.
     pub fn made(alloc: A, kind: Kind, bytes: Vec<u8, A>) -> Result<Self, AllocError>
         requires { length bytes.items ≤ most_bytes kind }
         ensures kind { IfOk result (λ contents. kind_held contents ≡ kind) }

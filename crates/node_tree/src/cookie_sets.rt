@@ -33,7 +33,7 @@ fn least<A: Allocator>(cookies: &BTreeSet<u64, A>) -> Option<u64>
     cookies.first().copied()
 }
 
-/// The least cookie of a number that is above another.
+/// The least cookie of a number above another cookie.
 pub fn next_after<A: Allocator>(
     groups: &BTreeMap<u64, BTreeSet<u64, A>, A>,
     number: u64,
@@ -73,7 +73,7 @@ fn take_cookie<A: Allocator>(cookies: &mut BTreeSet<u64, A>, cookie: u64)
     cookies.remove(&cookie);
 }
 
-/// A cookie more for a number. `Err`: there is no memory for it, and nothing has changed.
+/// One more cookie for a number. `Err`: there is no memory for it, and nothing has changed.
 pub fn put<A: Allocator + Copy>(
     groups: &mut BTreeMap<u64, BTreeSet<u64, A>, A>,
     alloc: A,
@@ -92,7 +92,7 @@ pub fn put<A: Allocator + Copy>(
     Ok(())
 }
 
-/// A cookie less for a number, and the set of the number with its last cookie.
+/// One cookie less for a number. The set of the number goes with its last cookie.
 pub fn take<A: Allocator>(groups: &mut BTreeMap<u64, BTreeSet<u64, A>, A>, number: u64, cookie: u64)
     ensures { (q : ℕ) → cookies_at groups.new q ≡ (if q == number then remove_key (is_at (nat_cmp cookie)) (cookies_at groups.old q) else cookies_at groups.old q) }
 {

@@ -29,7 +29,7 @@ pub fn retell<A: Allocator>(objects: &mut NodeTable<A>, number: u64, at: At)
     }
 }
 
-/// An object has lost a name. It stays by another one, or goes.
+/// An object has lost a name. It stays if it has another name, or goes.
 #[tactic(auto, using(crate::proofs::Objects::removed, crate::proofs::Objects::without_none, std::proofs::lemmas::Map::Steps::set_value_same))]
 pub fn release<A: Allocator>(objects: &mut NodeTable<A>, number: u64, stays: bool, at: At)
     ensures { objects.new ≡ (if stays then changed number (retold at) objects.old else without number objects.old) }
@@ -44,7 +44,7 @@ pub fn release<A: Allocator>(objects: &mut NodeTable<A>, number: u64, stays: boo
     }
 }
 
-/// A child has another name, and a target that had that name has lost it. The target stays by another name, or goes.
+/// A child has another name, and a target of that name has lost it. The target stays if it has another name, or goes.
 pub fn move_child<A: Allocator>(
     objects: &mut NodeTable<A>,
     from: u64,

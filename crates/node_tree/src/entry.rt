@@ -35,7 +35,7 @@ impl<A: Allocator> DirEntry<A> {
         }
     }
 
-    /// What it is listed by: no other name ever has it, and later ones have higher ones.
+    /// The cookie: no other name ever has it, and later names have higher ones.
     pub fn cookie(&self) -> u64
         ensures { result ≡ self.now.cookie }
     {
@@ -63,7 +63,7 @@ impl<A: Allocator> DirEntry<A> {
         self.child
     }
 
-    /// Whether it is this name in the directory.
+    /// Whether this is the name in the directory.
     pub(crate) fn is_named(&self, directory: u64, name: &[u8]) -> bool
         ensures { result ≡ is_named directory name.now self.now }
     {

@@ -8,7 +8,7 @@ use thiserror::Error;
 /// Why a change was refused. The tree is then as it was.
 #[derive(Clone, Copy, Debug, PartialEq, Eq, Error)]
 pub enum TreeFault {
-    /// NFS4ERR_EXIST: the name is taken, in `rename` by what the object may not replace.
+    /// NFS4ERR_EXIST: the name is taken, in `rename` by an object that can't be replaced.
     #[error("the name is taken")]
     Exist,
     /// NFS4ERR_NOENT: there is no such name.

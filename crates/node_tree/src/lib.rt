@@ -1,6 +1,6 @@
 //! The objects and names of a file server, as one tree of directories (RFC 8881, sections 4, 5.8 and 18).
 //!
-//! [`Tree`] refuses what would break the tree or pass a limit, and then leaves all as it was. It knows nothing of who asks.
+//! [`Tree`] refuses a change that would break the tree or pass a limit, and stays as it was. It doesn't check access.
 #![tactic(auto)]
 
 mod at;

@@ -1,10 +1,10 @@
-//! How much a tree holds.
+//! The limits of a tree.
 ghost use Rattle.std.specs.Prelude.{◌≡◌};
 ghost use Rattle.node_tree.specs.Sound.{most_bytes};
 
 use acl_list::Kind;
 
-/// The number of the root: the directory that every other lies below.
+/// The number of the root: all other directories lie below it.
 pub const ROOT: u64 = 1;
 
 /// The most bytes of a file, the attribute `maxfilesize`.

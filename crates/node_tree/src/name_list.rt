@@ -49,7 +49,7 @@ fn put_entry<A: Allocator + Copy>(
     Ok(())
 }
 
-/// A cookie less for a directory and for a child.
+/// One cookie less for a directory and for a child.
 fn take_both<A: Allocator>(
     by_directory: &mut BTreeMap<u64, BTreeSet<u64, A>, A>,
     by_child: &mut BTreeMap<u64, BTreeSet<u64, A>, A>,
@@ -135,7 +135,7 @@ impl<A: Allocator + Copy> NameList<A> {
         }
     }
 
-    /// A name more, with a cookie above all others. `Err`: there is no memory for it, and nothing has changed.
+    /// One more name, with a cookie above all others. `Err`: there is no memory for it, and nothing has changed.
     pub fn push(
         &mut self,
         alloc: A,

@@ -110,7 +110,7 @@ impl<A: Allocator + Copy> NameTable<A> {
         }
     }
 
-    /// A name more, which isn't there, with a cookie above all others. `Err`: there is no memory for it, and nothing has changed.
+    /// One more name, which isn't there, with a cookie above all others. `Err`: there is no memory for it, and nothing has changed.
     pub fn push(
         &mut self,
         alloc: A,

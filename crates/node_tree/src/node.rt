@@ -1,4 +1,4 @@
-//! An object with what it is judged by.
+//! An object with the attributes that decide access.
 ghost use Rattle.std.specs.Prelude.{◌≡◌, ◌+◌, ◌<◌, ◌≤◌, ◌^◌, ◌++◌, length, take, drop, OnOk, OnErr, IfOk};
 ghost use Rattle.acl_list.specs.declared.entry.Kind.TheVariants as kinds;
 ghost use Rattle.acl_shape.specs.Inherited.{is_directory};
@@ -12,24 +12,24 @@ use nfs_types::Moment;
 use std::alloc::{AllocError, Allocator, Global};
 use std::marker::Model;
 
-/// What a new object is made of.
+/// The parts of a new object.
 #[derive(Debug, Drop)]
 pub struct NewObject<A: Allocator = Global> {
-    /// What it is.
+    /// The type of the object.
     pub kind: Kind,
     /// The bytes of a file, or the text of a link. A directory has none.
     pub bytes: Vec<u8, A>,
-    /// The number of its owner.
+    /// The number of the owner.
     pub owner: u32,
-    /// The number of its group.
+    /// The number of the owner's group.
     pub group: u32,
-    /// Its list, within the bounds of [`acl_shape::is_bounded`].
+    /// The list, within the bounds of [`acl_shape::is_bounded`].
     pub list: AclList<A>,
-    /// The bits 0o7000 of its mode.
+    /// The bits 0o7000 of the mode.
     pub high: u32,
 }
 
-/// An object of a tree: its attributes, and what it is judged by. [`crate::Tree::read`] gives its bytes.
+/// An object of a tree: its attributes, also those that decide access. [`crate::Tree::read`] gives its bytes.
 #[derive(Debug, Drop)]
 pub struct Node<A: Allocator = Global> {
     contents: Contents<A>,
@@ -64,7 +64,7 @@ impl<A: Allocator> Model for Node<A> {
 }
 
 impl<A: Allocator> Node<A> {
-    /// What it is.
+    /// The type of the object.
     pub fn kind(&self) -> Kind
         ensures { result ≡ self.now.kind }
     {
@@ -85,56 +85,56 @@ impl<A: Allocator> Node<A> {
         self.contents.size() as u64
     }
 
-    /// The number of its owner.
+    /// The number of the owner.
     pub fn owner(&self) -> u32
         ensures { result ≡ self.now.owner }
     {
         self.owner
     }
 
-    /// The number of its group.
+    /// The number of the owner's group.
     pub fn group(&self) -> u32
         ensures { result ≡ self.now.group }
     {
         self.group
     }
 
-    /// Its list.
+    /// The list.
     pub fn list(&self) -> &AclList<A>
         ensures { result.now ≡ self.now.list }
     {
         &self.list
     }
 
-    /// The bits 0o7000 of its mode.
+    /// The bits 0o7000 of the mode.
     pub fn high(&self) -> u32
         ensures { result ≡ self.now.high }
     {
         self.high
     }
 
-    /// The tick of its last change, the attribute `change`.
+    /// The tick of the last change, the attribute `change`.
     pub fn change(&self) -> u64
         ensures { result ≡ self.now.change }
     {
         self.change
     }
 
-    /// When its bytes or names were last changed, the attribute `time_modify`.
+    /// The time of the last change of the bytes or names, the attribute `time_modify`.
     pub fn time_modify(&self) -> Moment
         ensures { result ≡ self.now.time_modify }
     {
         self.time_modify
     }
 
-    /// When anything of it was last changed, the attribute `time_metadata`.
+    /// The time of the last change, the attribute `time_metadata`.
     pub fn time_metadata(&self) -> Moment
         ensures { result ≡ self.now.time_metadata }
     {
         self.time_metadata
     }
 
-    /// Its stamp. It is another one whenever the list, the owner or the group is set, and no other object ever has it.
+    /// The stamp. It changes whenever the list, the owner or the group is set, and no other object ever has it.
     pub fn stamp(&self) -> u64
         ensures { result ≡ self.now.stamp }
     {
@@ -197,7 +197,7 @@ impl<A: Allocator> Node<A> {
 }
 
 impl<A: Allocator + Copy> Node<A> {
-    /// An object as it is made. `Err`: there is no memory for the bytes of a file.
+    /// A new object. `Err`: there is no memory for the bytes of a file.
     pub(crate) fn made(alloc: A, new: NewObject<A>, stamp: u64, at: At) -> Result<Self, AllocError>
         requires { length new.bytes.items ≤ most_bytes new.kind }
         ensures { IfOk result (λ node. node ≡ made new stamp at) }

@@ -102,7 +102,7 @@ impl<A: Allocator> NodeTable<A> {
         }
     }
 
-    /// An object more, of a number that has none. `Err`: there is no memory for it, and nothing has changed.
+    /// One more object, of a number that has none. `Err`: there is no memory for it, and nothing has changed.
     pub fn insert(&mut self, number: u64, node: Node<A>) -> Result<(), AllocError>
     where
         A: Copy,

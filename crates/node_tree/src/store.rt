@@ -1,5 +1,5 @@
-//! What a tree is kept in: objects in a map by number, names by rising cookie. What it answers and does is right
-//! whatever they are; whether they are a tree is for [`crate::Tree`] to see to.
+//! The storage of a tree: objects in a map by number, names by rising cookie. Its results and changes are right for any
+//! objects and names; [`crate::Tree`] keeps them a tree.
 ghost use Rattle.std.specs.Prelude.{◌≡◌, ◌+◌, ◌-◌, ◌<◌, ◌≤◌, ◌^◌, ◌&&◌, ◌++◌, ℕ, nat_le, nat_lt, if◌then◌else◌, slice_index, length, drop, filter, not, None, OnOk, OnErr, IfOk, Some, false, ◌≢◌};
 ghost use Rattle.std.specs.Option.{option_copied, option_map_or};
 ghost use Rattle.node_tree.specs.World.{object, kind_of, bytes_at, child_named, name_after, is_named, is_directory_at, has_name, has_entries, name_count, link_count, parent_of};
@@ -21,7 +21,7 @@ use acl_list::{AclList, Kind};
 use std::alloc::{AllocError, Allocator, Global};
 use std::marker::Model;
 
-/// No counter goes past it.
+/// The bound of all counters.
 const END: u64 = 1 << 63;
 
 /// Objects by number, names by cookie, and the counters.
@@ -106,7 +106,7 @@ impl<A: Allocator + Copy> Store<A> {
         self.names.link_count(number)
     }
 
-    /// The directory that a directory has its name in.
+    /// The parent of a directory.
     pub fn parent(&self, number: u64) -> Option<u64>
         ensures { result ≡ parent_of self.now number }
     {
@@ -136,28 +136,28 @@ impl<A: Allocator + Copy> Store<A> {
 
 // Whether there is space.
 impl<A: Allocator + Copy> Store<A> {
-    /// Whether a directory has room for a name more.
+    /// Whether a directory has room for one more name.
     pub fn has_room(&self, directory: u64) -> bool
         ensures { result ≡ has_room (name_count self.now.names directory) }
     {
         self.name_count(directory) < MAX_NAMES
     }
 
-    /// Whether an object may have a name more.
+    /// Whether an object may have one more name.
     pub fn may_link(&self, number: u64) -> bool
         ensures { result ≡ may_link (link_count self.now.names number) }
     {
         self.link_count(number) < MAX_LINKS
     }
 
-    /// Whether there is room for an object more.
+    /// Whether there is room for one more object.
     pub fn has_object_room(&self) -> bool
         ensures { result ≡ has_object_room (length self.now.objects) }
     {
         self.objects.len() < MAX_OBJECTS
     }
 
-    /// Whether the counters have a number, a stamp and a cookie left for an object more.
+    /// Whether the counters have a number, a stamp and a cookie left for one more object.
     pub fn has_counters(&self) -> bool
         ensures { result ≡ (has_left self.now.next_number && has_left self.now.next_stamp && has_left self.now.next_cookie) }
     {
@@ -171,14 +171,14 @@ impl<A: Allocator + Copy> Store<A> {
         self.next_cookie < END
     }
 
-    /// Whether a directory may have a name more.
+    /// Whether a directory may have one more name.
     pub fn may_name(&self, directory: u64) -> bool
         ensures { result ≡ may_name (name_count self.now.names directory) self.now.next_cookie }
     {
         self.has_room(directory) && self.has_cookie()
     }
 
-    /// Whether a directory may have a new object under a name more.
+    /// Whether a directory may have a new object under one more name.
     pub fn may_add(&self, directory: u64) -> bool
         ensures { result ≡ may_add (name_count self.now.names directory) (length self.now.objects) self.now.next_number self.now.next_stamp self.now.next_cookie }
     {
@@ -238,7 +238,7 @@ impl<A: Allocator + Copy> Store<A> {
         self.is_directory(child) && self.is_within(child, directory)
     }
 
-    /// Whether a child may take a name that a target has, or none.
+    /// Whether a child may replace a target, which may be absent.
     pub fn may_replace(&self, child: u64, target: Option<u64>) -> bool
         ensures { result ≡ may_replace (kind_of self.now) (has_entries self.now.names) child target }
     {
@@ -252,7 +252,7 @@ impl<A: Allocator + Copy> Store<A> {
         }
     }
 
-    /// Whether there is space for a child's new name, which a target has or none.
+    /// Whether there is space for a child's new name, of a target that may be absent.
     pub fn may_move(&self, from: u64, to: u64, target: Option<u64>) -> bool
         ensures { result ≡ may_move (name_count self.now.names to) self.now.next_cookie from to target }
     {
@@ -262,7 +262,7 @@ impl<A: Allocator + Copy> Store<A> {
         }
     }
 
-    /// Why a child may not come under another name, which a target has or none.
+    /// Why a child may not get another name, of a target that may be absent.
     pub fn move_fault(
         &self,
         from: u64,
@@ -300,7 +300,7 @@ impl<A: Allocator + Copy> Store<A> {
 
 // Changes.
 impl<A: Allocator + Copy> Store<A> {
-    /// A root and nothing else.
+    /// A root and no other object.
     pub fn new(alloc: A, root: Node<A>) -> Result<Self, AllocError>
         ensures { IfOk result (λ store. store ≡ alone root) }
     {
@@ -309,7 +309,7 @@ impl<A: Allocator + Copy> Store<A> {
         Ok(Store::from_start(alloc, objects, NameTable::new(alloc), 2, 3))
     }
 
-    /// What is there from the start. Its numbers, ticks and stamps go on from one number.
+    /// The objects that are there from the start. The numbers, ticks and stamps go on from one number.
     pub fn from_start(
         alloc: A,
         objects: NodeTable<A>,
@@ -366,7 +366,7 @@ impl<A: Allocator + Copy> Store<A> {
         Ok(number)
     }
 
-    /// One name more for an object.
+    /// One more name for an object.
     pub fn link(
         &mut self,
         directory: u64,
@@ -390,7 +390,7 @@ impl<A: Allocator + Copy> Store<A> {
         Ok(())
     }
 
-    /// Takes a name away, and its child with its last name.
+    /// Takes a name away. Its child goes with its last name.
     pub fn unlink(&mut self, directory: u64, name: &[u8], child: u64, at: At)
         requires { at.tick < 2 ^ 63 }
         ensures { self.new ≡ without_name self.old directory name.now child at }
@@ -402,7 +402,7 @@ impl<A: Allocator + Copy> Store<A> {
         self.next_tick = at.tick + 1;
     }
 
-    /// Gives a child another name, and takes the one that it had. A target that had the new name, another one, loses it.
+    /// Gives a child another name in place of the old one. Another target of the new name loses it.
     pub fn rename(
         &mut self,
         from: u64,

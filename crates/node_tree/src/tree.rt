@@ -1,4 +1,4 @@
-//! The tree: what it refuses, and that it stays one.
+//! The tree: the changes that it refuses, and that it stays a tree.
 ghost use Rattle.std.specs.Prelude.{◌≡◌, ◌≢◌, ◌<◌, ◌≤◌, ◌^◌, ◌++◌, [], length, drop, MatchOption, OnOk, OnErr, IfOk, IsOk, IsOkUnless, IfSome, IsSome, Some};
 ghost use Rattle.std.specs.Option.{option_copied};
 ghost use Rattle.acl_shape.specs.Bounds.{IsBounded};
@@ -80,7 +80,7 @@ impl<A: Allocator + Copy> Tree<A> {
         self.store.link_count(number)
     }
 
-    /// The directory that a directory has its name in. `None`: it is the root, or no directory.
+    /// The parent of a directory. `None`: it is the root, or no directory.
     pub fn parent(&self, number: u64) -> Option<u64>
         ensures value { result ≡ parent_of self.now number }
         ensures live { IfSome result (λ parent. kind_of self.now parent ≡ Some Kind.Directory) }
@@ -112,8 +112,8 @@ impl<A: Allocator + Copy> Tree<A> {
         self.store.list_after(directory, cookie)
     }
 
-    /// Why [`Tree::rename`] would be refused, want of memory apart: the first line of its table that fits. `None`: it wouldn't be
-    /// (RENAME: RFC 8881, section 18.26). It may be asked of names and directories that aren't there.
+    /// Why [`Tree::rename`] would be refused, want of memory apart: the first line of its table that fits. `None`: it would be done
+    /// (RENAME: RFC 8881, section 18.26). The names and directories may be absent.
     pub fn rename_fault(&self, from: u64, old: &[u8], to: u64, new: &[u8]) -> Option<TreeFault>
         ensures { result ≡ rename_refusal self.now from old.now to new.now }
     {
@@ -228,7 +228,7 @@ impl<A: Allocator + Copy> Tree<A> {
         Ok(())
     }
 
-    /// Takes a name away, and its child with its last name (REMOVE: RFC 8881, section 18.25). The directory's times are set, and
+    /// Takes a name away. Its child goes with its last name (REMOVE: RFC 8881, section 18.25). The directory's times are set, and
     /// the `time_metadata` of a child that has other names. It takes no memory.
     ///
     /// Refused: there is no such name, [`TreeFault::NoEnt`]; it is that of a directory that has names, [`TreeFault::NotEmpty`].
@@ -321,7 +321,7 @@ impl<A: Allocator + Copy> Tree<A> {
         Ok(())
     }
 
-    /// Sets the size of a file, also to the one that it has: it is cut, or zeros are added (SETATTR, OPEN: RFC 8881, section
+    /// Sets the size of a file, also to its own size: it is cut, or zeros are added (SETATTR, OPEN: RFC 8881, section
     /// 18.30). The file's times are set. It takes memory only where the file grows.
     ///
     /// Refused: the size is above [`crate::MAX_BYTES`], [`TreeFault::FBig`]; [`TreeFault::Memory`].

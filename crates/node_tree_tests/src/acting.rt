@@ -11,13 +11,13 @@ use std::alloc::Allocator;
 /// The outcome of a call.
 #[derive(Clone, Copy, Debug, PartialEq, Eq)]
 pub enum Outcome {
-    /// It was done.
+    /// The call was done.
     Done,
-    /// It was done, and made this object.
+    /// The call was done, and made this object.
     Made(u64),
-    /// It was refused.
+    /// The call was refused.
     Refused(TreeFault),
-    /// It may not be called so.
+    /// The call's requirements don't hold.
     Misused,
 }
 
@@ -187,17 +187,17 @@ pub fn size<A: Allocator + Copy>(tree: &Tree<A>, number: u64) -> Option<u64> {
     tree.object(number).map(|node| node.size())
 }
 
-/// The tick of its last change.
+/// The tick of the last change.
 pub fn change<A: Allocator + Copy>(tree: &Tree<A>, number: u64) -> Option<u64> {
     tree.object(number).map(|node| node.change())
 }
 
-/// Its stamp.
+/// The stamp.
 pub fn stamp<A: Allocator + Copy>(tree: &Tree<A>, number: u64) -> Option<u64> {
     tree.object(number).map(|node| node.stamp())
 }
 
-/// The seconds of its two times.
+/// The seconds of the two times.
 pub fn times<A: Allocator + Copy>(tree: &Tree<A>, number: u64) -> Option<(i64, i64)> {
     tree.object(number).map(|node| (node.time_modify().seconds, node.time_metadata().seconds))
 }

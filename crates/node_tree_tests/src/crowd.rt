@@ -33,7 +33,7 @@ fn next(index: u64) -> u64 {
     index.saturating_add(1) % DIRECTORIES
 }
 
-/// Adds an object to a directory, and sees what comes of it.
+/// Adds an object to a directory, and checks the outcome.
 fn see_added(
     rt: &impl Abort,
     alloc: Global,
@@ -44,7 +44,7 @@ fn see_added(
     assert_eq!(rt; add(tree, alloc, directory, name, kind), want);
 }
 
-/// Sees that no file more can be added to a directory.
+/// Checks that no further file can be added to a directory.
 fn see_full(rt: &impl Abort, alloc: Global, tree: &mut Tree<Global>, directory: u64) {
     let full = Outcome::Refused(TreeFault::NoSpc);
     see_added(rt, alloc, tree, (directory, b"more", Kind::File), full);
@@ -105,7 +105,7 @@ fn listed(tree: &Tree<Global>, directory: u64) -> (Option<u64>, Option<u64>, boo
     (Some(first), Some(second), third)
 }
 
-/// Sees the first two children of a directory, and whether there is a third.
+/// Checks the first two children of a directory, and whether there is a third.
 fn see_listed(
     rt: &impl Abort,
     tree: &Tree<Global>,
@@ -139,7 +139,7 @@ fn rename_two(rt: &impl Abort, tree: &mut Tree<Global>, index: u64) {
     assert_eq!(rt; tree.links(file(index, 2)), 0);
 }
 
-/// Sees what stands in the directory behind the one of this index then.
+/// Checks the names of the directory behind the one of this index then.
 fn see_next(rt: &impl Abort, tree: &Tree<Global>, index: u64) {
     let other = directory(next(index));
     assert_eq!(rt; tree.find(other, b"d"), Some(file(index, 0)));
@@ -158,7 +158,7 @@ fn rename_all(rt: &impl Abort, tree: &mut Tree<Global>) {
     }
 }
 
-/// Takes away what was moved from the first directory on, what was renamed from the last one on, and the directories in steps of 1,001.
+/// Removes the moved files from the first directory on, the renamed ones from the last on, and the directories in steps of 1,001.
 fn remove_all(rt: &impl Abort, tree: &mut Tree<Global>) -> Result<(), Fail> {
     for index in 0..DIRECTORIES {
         assert_eq!(rt; unlink(tree, directory(index), b"d"), Outcome::Done);

@@ -88,7 +88,7 @@ const GROWN_AGAIN: &[(Step, Outcome)] = &[
 
 const GONE: &[(Step, Outcome)] = &[(Unlink(1, b"notes"), Done), (Create(1, b"notes"), Made(4))];
 
-/// Sees the first bytes of `notes`: `a`, zeros, `xy` over the border of two blocks, and nothing behind that.
+/// Checks the first bytes of `notes`: `a`, zeros, `xy` over the border of two blocks, and nothing behind that.
 fn see_border(rt: &impl Abort, tree: &Tree<Global>) {
     let mut bytes = [9u8; 4098];
     assert_eq!(rt; tree.read(2, 0, &mut bytes), 4097);
@@ -119,7 +119,7 @@ fn go_over_a_border(rt: &impl Abort, alloc: Global, tree: &mut Tree<Global>) -> 
     Ok(())
 }
 
-/// Each byte of a file over the border of two blocks; what a cut took away is zero; the number of a file that has gone stays free.
+/// Each byte of a file over the border of two blocks; the bytes that a cut took away are zero; the number of a removed file stays free.
 #[test]
 fn a_file_goes_over_a_border(rt: HostRuntime) -> Result<(), Fail> {
     let mut tree = Tree::sample(rt.alloc())?;
@@ -210,7 +210,7 @@ fn take_stamps(rt: &impl Abort, alloc: Global, tree: &mut Tree<Global>) {
     assert_eq!(rt; stamp(tree, 2), Some(5));
 }
 
-/// A list is the object's, whatever the name; list and owner take a stamp each, and the object has the later one.
+/// The list of an object doesn't depend on the name; list and owner take a stamp each, and the object has the later one.
 #[test]
 fn lists_and_owners_take_stamps(rt: HostRuntime) -> Result<(), Fail> {
     let mut tree = Tree::sample(rt.alloc())?;

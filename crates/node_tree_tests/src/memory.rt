@@ -7,7 +7,7 @@ use linked_list_allocator::LocalHeap;
 use node_tree::{Kind, Tree, TreeFault};
 use std::test::Fail;
 
-/// The parts of a tree that are looked at before and after a call: the counters, and of each object how it stands.
+/// The parts of a tree that are checked before and after a call: the counters, and the attributes of each object.
 #[derive(Debug, Drop, PartialEq, Eq)]
 struct Picture {
     tick: u64,
@@ -50,7 +50,7 @@ fn grow<'a>(tree: &mut Tree<&'a LocalHeap>, heap: &'a LocalHeap, call: u32) -> O
     }
 }
 
-/// Over each size of a heap a call is done, or refused for memory with all as it was; and what takes no memory is done.
+/// Over each size of a heap a call is done, or refused for memory with all as it was; a call that takes no memory is done.
 #[test]
 fn refused_growth_changes_nothing(rt: HostRuntime) -> Result<(), Fail> {
     let mut refused = 0u32;

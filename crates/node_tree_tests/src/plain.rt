@@ -5,7 +5,7 @@ use crate::acting::Outcome::{Done, Made, Refused};
 use node_tree::TreeFault::{Exist, Inval, MLink, NoEnt, NotEmpty};
 use std::alloc::{AllocError, Global};
 
-/// No tick of a test reaches it.
+/// A tick above those of all tests.
 const LATEST: u64 = 1 << 32;
 
 /// A name of two bytes.
@@ -114,7 +114,7 @@ impl Plain {
         self.names.iter().any(|name| name.directory == directory)
     }
 
-    /// The directory that a directory has its name in.
+    /// The parent of a directory.
     pub fn parent(&self, number: u64) -> Option<u64> {
         if !self.is_directory(number) {
             return None;

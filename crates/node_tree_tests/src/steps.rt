@@ -1,4 +1,4 @@
-//! Calls as data, so that a test is a table of them with what each comes to.
+//! Calls as data, so that a test is a table of them with their outcomes.
 
 use crate::acting::{Outcome, add, link, rename, resize, set_owner, unlink, write};
 use node_tree::{Kind, Tree};
@@ -32,7 +32,7 @@ fn act(tree: &mut Tree<Global>, alloc: Global, step: Step) -> Outcome {
     }
 }
 
-/// Makes the calls, and sees what each comes to.
+/// Makes the calls, and checks their outcomes.
 pub fn walk(
     rt: &impl Abort,
     alloc: Global,

@@ -25,7 +25,7 @@ const ROUND: &[(Step, Outcome)] = &[
     (Unlink(3, b"z"), Done),
 ];
 
-/// Sees what a round leaves: the next tick and stamp, those of `notes`, and its one name and that of `pub`.
+/// Checks the state after a round: the next tick and stamp, those of `notes`, and its one name and that of `pub`.
 fn see_round(rt: &impl Abort, tree: &Tree<Global>, tick: u64, next_stamp: u64) {
     assert_eq!(rt; tree.next_tick(), tick);
     assert_eq!(rt; tree.next_stamp(), next_stamp);

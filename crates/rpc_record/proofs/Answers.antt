@@ -1,4 +1,4 @@
--- How a reply is read.
+-- The reading of a reply.
 use Rattle.std.proofs.Common.{◌≡◌, ℕ, Bool, true, false, ◌<◌, ◌^◌, [], ◌∷◌, ◌++◌, List, refl, sym, subst, ap, ◌∙◌, inl, inr, Ok}
 use Rattle.std.specs.Prelude.{Err, Result, not, ◌==◌, if◌then◌else◌}
 use Rattle.std.proofs.lemmas.Bool.{eq-eqb, eqb-true}

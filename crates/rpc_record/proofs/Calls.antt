@@ -1,4 +1,4 @@
--- What a written call spells, and how it is read again.
+-- The bytes of a written call, and their reading.
 use Rattle.std.proofs.Common.{◌≡◌, ℕ, suc, Fits, ◌<◌, ◌≤◌, ◌+◌, ◌*◌, ◌%◌, ◌^◌, lit<, [], ◌∷◌, ◌++◌, List, length, take, drop, get_or, rules, refl, sym, subst, arith, ap, ◌∙◌, Bool, true, false, eqb, ◌||◌, Option, Some, None, Ok, append-nil, append_assoc, take-append-drop}
 use Rattle.std.specs.Prelude.{Result, Err, IsOk, filter, not, ◌==◌, IsTrue, if◌then◌else◌, replicate, IfSome}
 use Rattle.std.specs.Int.{w32, to_be_bytes}
@@ -73,7 +73,7 @@ held_by : (b : Bool) (gid q : ℕ) (groups : List ℕ) → (gid == q) ≡ b → 
 held_by true gid q groups e h = subst (λ (k : ℕ). has_group groups k ≡ true) (eqb-true gid q e) h
 held_by false gid q groups e h = refl
 
--- a caller that holds its gid is the one of the credential that is written for it
+-- a caller that holds its gid is the caller of the credential that is written for it
 pub same_groups : (caller : Identity) → IsStrictlyIncreasing caller.groups → IsTrue (is_member caller caller.gid) → identity caller.uid caller.gid (further_groups caller) ≡ caller
 same_groups caller rising member =
     let set : IsSetOf caller.groups (caller.gid ∷ further_groups caller) =

@@ -58,7 +58,7 @@ abbrev AllOf : (ℕ → Type 0) → List ℕ → Type 0
 AllOf P [] = Unit {0}
 AllOf P (x ∷ xs) = P x × AllOf P xs
 
--- each is below all later ones
+-- each value is below all later ones
 abbrev pub IsRising : List ℕ → Type 0
 IsRising [] = Unit {0}
 IsRising (x ∷ xs) = AllOf (λ y. x < y) xs × IsRising xs
@@ -148,7 +148,7 @@ length_with g (x ∷ xs) =
       | false ↦ elim (eqb g x) as (λ b. length (cond b (x ∷ xs) (x ∷ with_group g xs)) ≤ suc (length xs) + 1) [ true ↦ omega arith | false ↦ omega (arith, length_with g xs) ]
     ]
 
--- a search found it
+-- a search found the group
 present : (g : ℕ) (xs : List ℕ) (i : ℕ) → IsRising xs → i < length xs → get_or xs i 0 ≡ g → with_group g xs ≡ xs
 present g [] i h l e = absurd (omega arith)
 present g (x ∷ xs) zero h l e = rw (le-ltb g x (omega arith), eq-eqb g x (sym e))
@@ -156,7 +156,7 @@ present g (x ∷ xs) (suc i) h l e =
     let below : x < g = omega (arith, AllOf-at (λ y. x < y) xs i h.0 (omega arith), e) in
     rw (le-ltb g x (omega arith), ne_eqb g x (omega arith)) (ap (λ t. x ∷ t) (present g xs i h.1 (omega arith) e))
 
--- a search found its place
+-- a search found the place of the group
 absent : (g : ℕ) (xs : List ℕ) (i : ℕ) → i ≤ length xs → ((k : ℕ) → k < i → get_or xs k 0 < g) → ((k : ℕ) → i ≤ k → k < length xs → g < get_or xs k 0)
     → with_group g xs ≡ insert xs i g
 absent g [] zero l below above = refl
@@ -171,7 +171,7 @@ pub searched_with : (g : ℕ) (xs : List ℕ) (r : Result ℕ ℕ) → IsBinaryS
 searched_with g xs (Ok i) found h = let s = searched xs g (Ok i) found (never_falls xs (rising xs h)) in present g xs i (rising xs h) s.0 s.1
 searched_with g xs (Err i) found h = let s = searched xs g (Err i) found (never_falls xs (rising xs h)) in absent g xs i s.0 s.1 s.2
 
--- ---- the set of what was sent
+-- ---- the set of the groups that were sent
 
 rising_set : (sent : List ℕ) → IsRising (group_set sent)
 rising_set [] = tt
@@ -191,7 +191,7 @@ has_none q (x ∷ xs) a = let lt : q < x = a.0 in rw (ne_eqb x q (omega arith)) 
 has_first : (x : ℕ) (xs : List ℕ) → has_group (x ∷ xs) x ≡ true
 has_first x xs = rw (eq-eqb x x refl)
 
--- the least one of two equal sets is the same
+-- two equal sets have the same least group
 not_less : (x y : ℕ) (xs ys : List ℕ) → IsRising (y ∷ ys) → ((q : ℕ) → has_group (x ∷ xs) q ≡ has_group (y ∷ ys) q) → x < y → ⊥
 not_less x y xs ys h same lt =
     both_ways _ (has_none x (y ∷ ys) (lt, AllOf-map (λ z. y < z) (λ z. x < z) (λ z q. omega arith) ys h.0)) (sym (same x) ∙ has_first x xs)
@@ -230,14 +230,14 @@ has_push : (sent : List ℕ) (g q : ℕ) → has_group (sent ++ g ∷ []) q ≡ 
 has_push [] g q = refl
 has_push (x ∷ sent) g q = ap (λ b. eqb x q || b) (has_push sent g q) ∙ or_swap (eqb x q) (eqb g q) (has_group sent q)
 
--- a step of the walk over what was sent
+-- a step of the walk over the groups that were sent
 pub set_more : (groups sent : List ℕ) (g : ℕ) → IsSetOf groups sent → IsSetOf (with_group g groups) (sent ++ g ∷ [])
 set_more groups sent g s = record {
   rising = increasing _ (rising_with g groups (rising groups s.rising));
   members = λ q. has_with g groups q ∙ ap (λ b. eqb g q || b) (s.members q) ∙ sym (has_push sent g q);
 }
 
--- ---- what the code does
+-- ---- the steps of the code
 
 -- behind one more group there is one zero less
 pub zeros_behind : (old new : List ℕ) (len : ℕ) → drop len old ≡ replicate (17 - len) 0 → drop (len + 1) new ≡ drop (len + 1) old → drop (len + 1) new ≡ replicate (17 - (len + 1)) 0

@@ -1,4 +1,4 @@
--- The bytes of a reply spell it.
+-- The bytes of a reply.
 use Rattle.std.proofs.Common.{◌≡◌, ℕ, ◌<◌, ◌^◌, [], ◌∷◌, rules, refl, sym, subst, length, Result}
 use Rattle.std.specs.Int.{w32, to_be_bytes}
 use Rattle.std.specs.List.{flat_map}

@@ -1,4 +1,4 @@
--- What a step of a framer says of the record that was begun.
+-- A step of a framer, and the record that has begun.
 use Rattle.std.proofs.Common.{◌≡◌, ◌≢◌, ℕ, ◌+◌, ◌-◌, ◌≤◌, ◌<◌, ◌↔◌, ◌⊎◌, inl, inr, Bool, true, false, ltb, leb, ◌%◌, ◌^◌, List, [], ◌∷◌, ◌++◌, length, take, drop, refl, sym, ap, subst, ◌∙◌, append_assoc, arith, zero-add, Some, None}
 use Rattle.std.specs.Prelude.{IsTrue, slice_range}
 use Rattle.std.specs.Int.{w32}
@@ -43,7 +43,7 @@ joined_push bodies body = sym (flat_map_more (λ (b : List ℕ). b) [] bodies bo
 
 -- ---- an open fragment
 
--- The framer has read a header, and of its fragment what came so far.
+-- The framer has read a header, and the first bytes of its fragment.
 pub record Opened (f : Frame) (content bytes : List ℕ) : Type 0 where
   pub bodies : List (List ℕ)
   pub front : List ℕ
@@ -234,7 +234,7 @@ breaks_at_header f content bytes more behind n s e h fits above =
       above = omega (arith, above, s.count, ap length i.content-is);
     }
 
--- a step from `from` on, behind what was read of a header from `at` on
+-- a step from `from` on, behind the bytes of a header that were read from `at` on
 pub step_from : (s : Step) (f g : Frame) (content bytes piece : List ℕ) (at from : ℕ) → at ≤ from → BodyGives s f g piece from → StepGives s g content (bytes ++ slice_range piece at from) piece from → StepGives s g content bytes piece at
 step_from (Part from' to) f g content bytes piece at from le w h =
     subst (λ (t : List ℕ). Stands g (content ++ slice_range piece from' to) t) (append_assoc bytes (slice_range piece at from) (slice_range piece from to) ∙ ap (λ (t : List ℕ). bytes ++ t) (slice_parts piece at from to le (omega (arith, w.1)))) h
@@ -325,7 +325,7 @@ header_waits f h content bytes piece at from left le in_piece used header s =
     } in
     subst (λ (t : List ℕ). Stands h content (bytes ++ t)) (sym rest) (subst (λ (k : Frame). Stands k content (bytes ++ more)) (sym header.0) stands)
 
--- what a framer stands for isn't a whole record
+-- a framer stands for no whole record
 pub unfinished : (f : Frame) (content bytes : List ℕ) → Stands f content bytes → IsUnfinished bytes
 unfinished f content bytes s =
     elim (cases_lt 0 f.left) [

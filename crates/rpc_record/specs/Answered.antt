@@ -1,4 +1,4 @@
--- What a record answers to a call (RFC 5531, section 9): the results, or why there are none.
+-- The answer of a record to a call (RFC 5531, section 9): the results, or why there are none.
 use Rattle.std.specs.Prelude.{ℕ, List, [], ◌∷◌, Result, Ok, Err, not, ◌==◌, if◌then◌else◌}
 use Rattle.std.proofs.Common.{inl, inr}
 use Rattle.xdr_wire.specs.Xdr.{Xdr, Value, uint, union, arm, no_more, fields}
@@ -38,7 +38,7 @@ denied_as (inl versions) rest = without_results (RpcMismatch versions.0 versions
 denied_as (inr (inl why)) rest = without_results (AuthError why) rest
 denied_as (inr (inr v)) rest = absurd v
 
--- what the body of a reply says, whose verifier may be any
+-- the answer by the body of a reply, with any verifier
 abbrev pub ended : Value reply_body → List ℕ → ReplyResult
 ended (inl accepted) rest = accepted_as accepted.1 rest
 ended (inr (inl denied)) rest = denied_as denied rest
@@ -49,7 +49,7 @@ unfoldable pub body_says : Read (Value reply_body) → ReplyResult
 body_says (Ok (body, rest)) = ended body rest
 body_says (Err e) = Err Header
 
--- The beginning can be read and is a reply's (1), or the record is no reply. It is to the transaction that is asked for.
+-- The beginning can be read and is a reply's (1), or the record is no reply. The reply is to this transaction.
 abbrev pub begun : ℕ → Read (Value beginning) → ReplyResult
 begun xid (Ok ((told, kind), rest)) =
     if not (kind == 1) then Err Header
@@ -57,6 +57,6 @@ begun xid (Ok ((told, kind), rest)) =
     else body_says (read_at reply_body rest)
 begun xid (Err e) = Err Header
 
--- what a record answers to the call of this transaction
+-- the answer of a record to the call of this transaction
 abbrev pub answered : ℕ → List ℕ → ReplyResult
 answered xid bytes = begun xid (read_at beginning bytes)

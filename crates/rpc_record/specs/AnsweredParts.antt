@@ -1,4 +1,4 @@
--- What the private parts of `read_reply` give.
+-- The results of the private parts of `read_reply`.
 use Rattle.std.specs.Prelude.{Ok}
 use Rattle.std.proofs.Common.{inl, inr}
 use Rattle.xdr_wire.specs.Xdr.{Value}
@@ -6,7 +6,7 @@ use Rattle.xdr_wire.specs.Reading.{◌>>=◌, Read}
 use Rattle.rpc_record.specs.Reply.{accepted_reply, rejected_reply}
 use Rattle.rpc_record.specs.Answered.{ReplyResult, body_says}
 
--- what a body says that is MSG_ACCEPTED, or MSG_DENIED
+-- the answer by a body that is MSG_ACCEPTED, or MSG_DENIED
 abbrev pub accepted_says : Read (Value accepted_reply) → ReplyResult
 accepted_says read = body_says (read >>= λ x. Ok (inl x.0, x.1))
 

@@ -1,4 +1,4 @@
--- What `read_reply` gives, without where the bytes lie; and how a client reads what a server replies.
+-- The result of `read_reply`, without where the bytes lie; and how a client reads a server's reply.
 use Rattle.std.specs.Prelude.{ℕ, List, Result, Ok, Err}
 use Rattle.rpc_record.specs.declared.answered.ReplyFault.{ReplyFault}
 use Rattle.rpc_record.specs.declared.answered.ReplyFault.TheVariants.{ProgUnavail, ProgMismatch, ProcUnavail, GarbageArgs, RpcMismatch, AuthError}

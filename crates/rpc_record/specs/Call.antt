@@ -1,4 +1,4 @@
--- Calls (RFC 5531, sections 8.2 and 9, and appendix A): their form, who calls, and the first thing that is wrong.
+-- Calls (RFC 5531, sections 8.2 and 9, and appendix A): their form, their caller, and the first thing that is wrong.
 use Rattle.std.specs.Prelude.{ℕ, List, [], ◌∷◌, Option, Some, None, Result, Ok, Err, not, ◌==◌, nat_lt, if◌then◌else◌}
 use Rattle.xdr_wire.specs.Xdr.{Xdr, Value, uint, opaque, array, fields}
 use Rattle.xdr_wire.specs.Reading.{Read, read_at}
@@ -46,11 +46,11 @@ flavor t = t.1.1.1.0.0
 abbrev pub credential : Value target → List ℕ
 credential t = t.1.1.1.0.1
 
--- the stamp and the machine name say nothing of who calls
+-- the stamp and the machine name don't count for the caller
 abbrev pub identity_of : Value authsys → Identity
 identity_of v = identity v.1.1.0 v.1.1.1.0 v.1.1.1.1
 
--- the transaction, the bytes behind the header, and who calls, where the procedure asks for it
+-- the transaction, the bytes behind the header, and the caller, where the procedure asks for it
 pub record Asked : Type 0 where
   pub xid : ℕ
   pub arguments : List ℕ
@@ -59,7 +59,7 @@ pub record Asked : Type 0 where
 abbrev pub CallResult : Type 0
 CallResult = Result Asked CallFault
 
--- who calls, where authsys_parms and nothing more was read
+-- the caller, where authsys_parms and nothing more was read
 abbrev pub caller_of : Read (Value authsys) → Option Identity
 caller_of (Ok (v, [])) = Some (identity_of v)
 caller_of (Ok (v, b ∷ rest)) = None
@@ -93,6 +93,6 @@ opened (Ok (o, rest)) =
     else targeted (xid_of o) (read_at target rest)
 opened (Err e) = Err Header
 
--- what a record asks, or the first thing that is wrong with it
+-- the call in a record, or the first thing that is wrong with it
 abbrev pub asked : List ℕ → CallResult
 asked bytes = opened (read_at opening bytes)

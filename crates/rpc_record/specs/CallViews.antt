@@ -1,4 +1,4 @@
--- What a call says, without where its bytes lie.
+-- The parts of a call, without where its bytes lie.
 use Rattle.std.specs.Prelude.{Result, Ok, Err, Option, Some, None}
 use Rattle.rpc_record.specs.Identity.{Identity}
 use Rattle.rpc_record.specs.declared.call.CallFault.{CallFault}

@@ -12,7 +12,7 @@ call_message = pair opening target
 abbrev pub further_groups : Identity → List ℕ
 further_groups caller = filter (λ g. not (g == caller.gid)) caller.groups
 
--- The stamp is 0 and the machine has no name, since neither says who calls.
+-- The stamp is 0 and the machine has no name: neither counts for the caller.
 abbrev pub parms_of : Identity → Value authsys
 parms_of caller = (0, ([], (caller.uid, (caller.gid, further_groups caller))))
 
@@ -25,7 +25,7 @@ abbrev pub auth_of : Option Identity → Value auth
 auth_of None = no_auth
 auth_of (Some caller) = (1, spelling authsys (parms_of caller))
 
--- NULL (0) has no caller, COMPOUND (1) has one
+-- NULL (0) has no caller, COMPOUND (1) has a caller
 abbrev pub procedure_of : Option Identity → ℕ
 procedure_of None = 0
 procedure_of (Some caller) = 1
@@ -38,7 +38,7 @@ call_of xid caller = ((xid, (0, 2)), (100003, (4, (procedure_of caller, (auth_of
 unfoldable pub call_bytes : ℕ → Option Identity → List ℕ
 call_bytes xid caller = spelling call_message (call_of xid caller)
 
--- how many there are
+-- how many bytes a call's header takes
 abbrev pub call_len : Option Identity → ℕ
 call_len None = 40
 call_len (Some caller) = 60 + 4 * length (further_groups caller)

@@ -15,7 +15,7 @@ number_of (Program xid) = 5
 number_of (Version xid) = 6
 number_of (Procedure xid) = 7
 
--- The transaction and its reply (RFC 5531, section 9). What is no call has none.
+-- The transaction and its reply (RFC 5531, section 9). A record that is no call has none.
 abbrev pub reply_to : CallFault → Option (ℕ × Reply)
 reply_to Header = None
 reply_to (RpcVersion xid) = Some (xid, RpcMismatch)

@@ -1,10 +1,10 @@
--- What a framer knows of the record that has begun (RFC 5531, section 11).
+-- The state of a framer: the record that has begun (RFC 5531, section 11).
 use Rattle.std.specs.Prelude.{ℕ, Bool, List, length, nat_lt, ◌||◌}
 
 pub record Frame : Type 0 where
   -- the first bytes of a header that isn't whole
   pub header : List ℕ
-  -- how many bytes the open fragment still has, and whether it is the last one of its record
+  -- how many bytes the open fragment still has, and whether it is the last fragment of its record
   pub left : ℕ
   pub last : Bool
   -- how many bytes of the record have come

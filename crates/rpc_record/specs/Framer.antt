@@ -1,4 +1,4 @@
--- Which unfinished record a framer stands for, and what a step of it says (RFC 5531, section 11).
+-- Which unfinished record a framer stands for, and what a step says of it (RFC 5531, section 11).
 use Rattle.std.specs.Prelude.{◌≡◌, ◌≤◌, ◌<◌, ◌+◌, ◌↔◌, ℕ, false, IsTrue, List, [], ◌++◌, length, drop, slice_range, ◌⊎◌}
 use Rattle.std.specs.Int.{w32}
 use Rattle.xdr_wire.specs.Xdr.{IsNumber}
@@ -22,9 +22,9 @@ pub record IsInHeader (f : Frame) (content : List ℕ) (bodies : List (List ℕ)
   pub few : length f.header < 4
   pub content-is : content ≡ joined bodies
 
--- The framer has read these bytes of a record that isn't whole, of which the content came so far.
+-- The framer has read these bytes of a record that isn't whole; `content` is the record so far.
 pub record Stands (f : Frame) (content bytes : List ℕ) : Type 0 where
-  -- whole fragments, none of which is the last one of its record, and what came behind them
+  -- whole fragments, none of which is the last of its record, and the bytes behind them
   pub bodies : List (List ℕ)
   pub front : List ℕ
   pub tail : List ℕ
@@ -37,7 +37,7 @@ pub record Stands (f : Frame) (content bytes : List ℕ) : Type 0 where
   pub unbroken : f.broken ≡ false
   pub begun : IsTrue f.begun ↔ (4 ≤ length bytes)
 
--- What a step says of the record that was begun with these bytes, where the piece goes on at `at`.
+-- The answer of a step on the record that was begun with these bytes, where the piece goes on at `at`.
 abbrev pub StepGives : Step → Frame → List ℕ → List ℕ → List ℕ → ℕ → Type 0
 StepGives (Part from to) new content bytes piece at = Stands new (content ++ slice_range piece from to) (bytes ++ slice_range piece at to)
 StepGives (Record from to) new content bytes piece at = IsRecord (content ++ slice_range piece from to) (bytes ++ slice_range piece at to) × Stands new [] []
@@ -51,7 +51,7 @@ IsWithin (Record from to) piece at = (at ≤ from) × (from ≤ to) × (at < to)
 IsWithin NeedMore piece at = Unit {0}
 IsWithin Broken piece at = Unit {0}
 
--- A part is all that the piece has of the fragment: it ends with the piece or with the fragment.
+-- A part is all bytes of the fragment that the piece has: it ends with the piece or with the fragment.
 abbrev pub TakesAll : Step → Frame → List ℕ → Type 0
 TakesAll (Part from to) new piece = (to ≡ length piece) ⊎ (new.left ≡ 0)
 TakesAll (Record from to) new piece = Unit {0}

@@ -1,4 +1,4 @@
--- Who calls: the user and the groups of an AUTH_SYS credential (RFC 5531, appendix A).
+-- The caller: the user and the groups of an AUTH_SYS credential (RFC 5531, appendix A).
 use Rattle.std.specs.Prelude.{◌≡◌, ℕ, Bool, ◌==◌, ◌&&◌, nat_lt, if◌then◌else◌, nat_eq, List, [], ◌∷◌}
 use Rattle.std.specs.List.Sorted.{IsStrictlyIncreasing}
 use Rattle.std.specs.List.{list_any}

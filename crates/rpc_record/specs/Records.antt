@@ -8,7 +8,7 @@ use Rattle.xdr_wire.specs.Xdr.{IsNumber, AreItems, Follows}
 abbrev pub limit : ℕ
 limit = 131072
 
--- the header of a fragment: its length, and the top bit on the last one of a record
+-- the header of a fragment: its length, and the top bit on the last fragment of a record
 abbrev pub mark : Bool → ℕ → ℕ
 mark last len = if last then 2147483648 + len else len
 
@@ -19,7 +19,7 @@ pub record IsFragment (last : Bool) (body bytes : List ℕ) : Type 0 where
   pub marked : IsNumber w32 (mark last (length body)) header
   pub short : length body < 2 ^ 31
 
--- fragments that aren't the last one of a record, with these bodies
+-- fragments with these bodies, none of which is the last of its record
 abbrev pub AreOpen : List (List ℕ) → List ℕ → Type 0
 AreOpen bodies bytes = AreItems (λ body. IsFragment false body) bodies bytes
 
@@ -69,6 +69,6 @@ pub record IsUnfinished (bytes : List ℕ) : Type 0 where
 abbrev pub Cuts : List ℕ → List (List ℕ) → List ℕ → Type 0
 Cuts stream records rest = Follows (AreItems IsRecord records) (λ bytes. bytes ≡ rest) stream
 
--- what stands behind the last whole record of a stream
+-- the bytes behind the last whole record of a stream
 abbrev pub IsEnd : List ℕ → Type 0
 IsEnd rest = IsUnfinished rest ⊎ Breaks rest

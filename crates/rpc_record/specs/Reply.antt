@@ -52,7 +52,7 @@ view_of_reply xid (AuthError why) = denied xid (inr (inl (auth_stat why)))
 unfoldable pub reply_bytes : ℕ → Reply → List ℕ
 reply_bytes xid reply = spelling reply_message (view_of_reply xid reply)
 
--- how many there are
+-- how many bytes a reply's header takes
 abbrev pub reply_len : Reply → ℕ
 reply_len Success = 24
 reply_len ProgUnavail = 24

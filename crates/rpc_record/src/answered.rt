@@ -1,4 +1,4 @@
-//! What a record answers to a call (RFC 5531, section 9).
+//! The answer of a record to a call (RFC 5531, section 9).
 ghost use Rattle.std.specs.Prelude.{◌≡◌, ◌≢◌, ◌++◌, ◌↔◌, ◌<◌, ◌^◌, ℕ, List, [], Ok, Err, MatchResult};
 ghost use Rattle.xdr_wire.specs.Xdr.{Value, Begins};
 ghost use Rattle.xdr_wire.specs.Reading.{read_at};
@@ -49,7 +49,7 @@ pub enum ReplyFault {
     AuthError(u32),
 }
 
-/// What can't be read is no reply.
+/// A record that can't be read is no reply.
 fn header<T>(read: Result<T, XdrFault>) -> Result<T, ReplyFault>
     ensures { MatchResult read (λ x. result ≡ Ok x) (λ _. result ≡ Err ReplyFault.Header) }
 {
@@ -70,7 +70,7 @@ fn without_results<'a>(fault: ReplyFault, reader: &Reader<'a>) -> Result<&'a [u8
     }
 }
 
-/// What the body of an accepted reply says.
+/// The answer by the body of an accepted reply.
 #[tactic(auto, unfolding(crate::specs::Answered::body_says))]
 fn read_accepted<'a>(reader: &mut Reader<'a>) -> Result<&'a [u8], ReplyFault>
     ensures { results (λ x. x.now) result ≡ accepted_says (read_at accepted_reply reader.old) }
@@ -92,7 +92,7 @@ fn read_accepted<'a>(reader: &mut Reader<'a>) -> Result<&'a [u8], ReplyFault>
     }
 }
 
-/// What the body of a denied reply says.
+/// The answer by the body of a denied reply.
 #[tactic(auto, unfolding(crate::specs::Answered::body_says))]
 fn read_denied<'a>(reader: &mut Reader<'a>) -> Result<&'a [u8], ReplyFault>
     ensures { results (λ x. x.now) result ≡ denied_says (read_at rejected_reply reader.old) }
@@ -111,7 +111,7 @@ fn read_denied<'a>(reader: &mut Reader<'a>) -> Result<&'a [u8], ReplyFault>
     }
 }
 
-/// What the body of a reply says.
+/// The answer by the body of a reply.
 #[tactic(auto, unfolding(crate::specs::Answered::body_says))]
 fn read_body<'a>(reader: &mut Reader<'a>) -> Result<&'a [u8], ReplyFault>
     ensures { results (λ x. x.now) result ≡ body_says (read_at reply_body reader.old) }
@@ -147,7 +147,7 @@ pub fn results_stand_behind_a_reply()
     ensures given { (xid : ℕ) (verifier : Value auth) (bytes found : List ℕ) → Begins reply_message (xid, (1, inl (verifier, inl tt))) bytes found → answered xid bytes ≡ Ok found }
 {}
 
-/// What a server replies is read as that reply: behind SUCCESS the results, else the cause.
+/// A client reads a server's reply as it was written: behind SUCCESS the results, else the cause.
 pub fn what_is_replied_is_read()
     ensures { (xid : ℕ) (reply : Reply) (found : List ℕ) → xid < 2 ^ 32 → answered xid (reply_bytes xid reply ++ found) ≡ read_as reply found }
 {}

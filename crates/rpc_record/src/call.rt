@@ -50,7 +50,7 @@ impl CallFault {
         }
     }
 
-    /// The transaction and its reply. `None`: there is none, and the connection breaks.
+    /// The transaction and its reply. `None`: there is no reply, and the connection breaks.
     pub fn reply(self) -> Option<(u32, Reply)>
         ensures { result ≡ reply_to self }
     {
@@ -82,7 +82,7 @@ pub struct Call<'a> {
     pub xid: u32,
     /// The bytes behind the header.
     pub arguments: &'a [u8],
-    /// Who calls COMPOUND. NULL has no caller.
+    /// The caller of COMPOUND. NULL has no caller.
     pub caller: Option<Caller>,
 }
 

@@ -86,8 +86,8 @@ impl Further {
     }
 }
 
-/// Who calls, by the data of an AUTH_SYS credential: all of them (appendix A). The stamp and the machine name, of
-/// any bytes, say nothing.
+/// The caller, by the data of an AUTH_SYS credential: all of them (appendix A). The stamp and the machine name may be
+/// any bytes.
 pub(crate) fn read_caller(body: &[u8]) -> Option<Caller>
     ensures { result ≡ caller_of (read_at authsys body.now) }
 {

@@ -14,7 +14,7 @@ pub const RECORD_LIMIT: usize = 131_072;
 // the top bit of a header, which stands on the last fragment of a record
 const LAST: u32 = 1 << 31;
 
-/// What the bytes of a piece from `at` on are. After `Part` and `Record` the next call goes on at their second number.
+/// A step in a piece from `at` on. After `Part` and `Record` the next call goes on at their second number.
 #[derive(Clone, Copy, Debug, PartialEq, Eq)]
 pub enum Step {
     /// The bytes of the piece from the first to the second number go on the record. There may be none.
@@ -28,7 +28,7 @@ pub enum Step {
 }
 
 /// Finds the records in a stream that comes in pieces, whatever its fragments and wherever it is cut. It keeps no byte
-/// of a record and takes no memory: who calls joins the parts.
+/// of a record and takes no memory: its user joins the parts.
 #[derive(Debug, Drop)]
 pub struct Framer {
     // the first bytes of a header that isn't whole
@@ -93,7 +93,7 @@ impl Framer {
         self.begun || self.have > 0
     }
 
-    /// Reads on in a header. `None`: it isn't whole yet.
+    /// Reads on in a header. `None`: the header isn't whole yet.
     fn read_header(&mut self, bytes: &[u8]) -> Option<u32>
         requires { length self.old.header + length bytes.now ≤ 4 }
         ensures { HeaderGives result self.old self.new bytes.now }
@@ -132,7 +132,7 @@ impl Framer {
         Step::Record(from, to)
     }
 
-    /// Finds what the bytes of the piece from `at` on are: a part of the record that has begun, its end, less than
+    /// Finds the next step in the piece from `at` on: a part of the record that has begun, its end, less than
     /// either, or a header that takes the record above the limit. The limit holds for the whole record, at the header
     /// that passes it. A broken framer stays so.
     pub fn feed(&mut self, piece: &[u8], at: usize) -> Step
@@ -180,8 +180,8 @@ pub fn a_stream_has_one_cut()
         → IsEnd rest → IsEnd behind → (records ≡ others) × (rest ≡ behind) }
 {}
 
-/// How the records of a stream are found as it comes: at its start there are none, what comes goes behind the rest, a
-/// rest that is a record is one more, and a stream that breaks stays broken.
+/// The records of a stream as it comes: at its start there are none, new bytes go behind the rest, a rest that is a
+/// record is one more, and a stream that breaks stays broken.
 pub fn records_of_a_growing_stream()
     ensures start { Cuts [] [] [] }
     ensures more { (stream rest more : List ℕ) (records : List (List ℕ)) → Cuts stream records rest → Cuts (stream ++ more) records (rest ++ more) }
@@ -189,7 +189,7 @@ pub fn records_of_a_growing_stream()
     ensures next { (stream rest content : List ℕ) (records : List (List ℕ)) → Cuts stream records rest → IsRecord content rest → Cuts stream (records ++ content ∷ []) [] }
 {}
 
-/// What a framer stands for is the unfinished rest behind the last whole record.
+/// A framer stands for the unfinished rest behind the last whole record.
 pub fn a_framer_stands_for_a_rest()
     ensures { (frame : Frame) (content bytes : List ℕ) → Stands frame content bytes → IsUnfinished bytes }
 {}

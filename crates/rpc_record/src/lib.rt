@@ -8,16 +8,18 @@ mod caller;
 mod calling;
 mod credential;
 mod framer;
+mod group_set;
 mod reading;
 mod reply;
 
 pub use answered::{ReplyFault, read_reply, results_stand_behind_a_reply, what_is_replied_is_read};
 pub use call::{Call, CallFault, Procedure};
-pub use caller::{Caller, MOST_FURTHER, MOST_GROUPS, equal_callers_are_the_same, groups_are_a_set};
+pub use caller::{Caller, MOST_FURTHER, equal_callers_are_the_same, groups_are_a_set};
 pub use calling::{CALL_HEADER_LIMIT, write_call};
 pub use framer::{
     Framer, RECORD_LIMIT, Step, a_framer_stands_for_a_rest, a_stream_has_one_cut, record_mark,
     records_of_a_growing_stream,
 };
+pub use group_set::{GroupSet, MOST_GROUPS};
 pub use reading::read_call;
 pub use reply::{AuthStat, REPLY_HEADER_LIMIT, Reply, write_reply};

@@ -1,4 +1,4 @@
-//! What a record asks (RFC 5531, section 9).
+//! The call in a record (RFC 5531, section 9).
 ghost use Rattle.std.specs.Prelude.{◌≡◌, Ok, Err, MatchResult};
 ghost use Rattle.rpc_record.specs.declared.call.CallFault.TheVariants.{Header};
 ghost use Rattle.xdr_wire.specs.Reading.{read_at};
@@ -30,7 +30,7 @@ pub(crate) const AUTH_SYS: u32 = 1;
 /// The most bytes of a credential's or a verifier's data.
 pub(crate) const MOST_AUTH: usize = 400;
 
-/// What can't be read is no header.
+/// A record that can't be read is no header.
 fn header<T>(read: Result<T, XdrFault>) -> Result<T, CallFault>
     ensures { MatchResult read (λ x. result ≡ Ok x) (λ _. result ≡ Err Header) }
 {
@@ -40,7 +40,7 @@ fn header<T>(read: Result<T, XdrFault>) -> Result<T, CallFault>
     }
 }
 
-/// What a record asks, or the first thing that is wrong with it: the message type and the version of the protocol are
+/// The call in a record, or the first thing that is wrong with it: the message type and the version of the protocol are
 /// read first and checked before the rest is read; then program, version and procedure; then, for COMPOUND, the flavor
 /// and the data of its credential. The verifier is not looked at. The bytes behind the header are the arguments.
 pub fn read_call(bytes: &[u8]) -> Result<Call<'_>, CallFault>

@@ -6,7 +6,7 @@ use std::alloc::Global;
 use std::test::Fail;
 use xdr_wire::Writer;
 
-/// Where a stream is, the record that it is in, and what was answered.
+/// The place in a stream, the record that it is in, and the replies so far.
 #[derive(Drop)]
 pub struct Connection {
     framer: Framer,

@@ -7,7 +7,7 @@ use std::alloc::Global;
 use std::process::Abort;
 use std::test::Fail;
 
-/// A stream, what is answered to it, and whether it breaks.
+/// A stream, the answers to it, and whether it breaks.
 struct Case {
     name: &'static str,
     stream: &'static [u32],
@@ -245,7 +245,7 @@ fn answered(alloc: Global, stream: &[u8], cut: usize) -> Result<(Vec<u8>, bool),
     Ok((out, broken))
 }
 
-/// Sees what is answered to a case's stream that comes in pieces of `cut` bytes.
+/// Checks the answers to a case's stream that comes in pieces of `cut` bytes.
 fn see_cut(
     rt: &impl Abort,
     alloc: Global,
@@ -341,7 +341,7 @@ fn step(rt: &impl Abort, framer: &mut Framer, piece: &[u8], at: usize) -> Step {
     framer.feed(piece, at)
 }
 
-/// Sees a record of two fragments, the first of 65,536 bytes and the second with this mark.
+/// Checks a record of two fragments, the first of 65,536 bytes and the second with this mark.
 fn see_second_mark(rt: &impl Abort, half: &[u8], mark: u32, broken: bool) {
     let mut framer = Framer::new();
     assert_eq!(rt; step(rt, &mut framer, &[0, 1, 0, 0], 0), Step::NeedMore);
@@ -365,7 +365,7 @@ fn a_record_above_the_limit_in_two_fragments(rt: HostRuntime) -> Result<(), Fail
 }
 
 /// Pieces that are fed one after another, each from this place on, the step that it gives, and whether the framer is
-/// inside a record then, where that is asked.
+/// inside a record then, where that is checked.
 type Fed = (&'static [u8], usize, Step, Option<bool>);
 
 static STEPS: [Fed; 9] = [

@@ -1,7 +1,7 @@
 //! Servers, and calls that they answer.
 
 use crate::pictures::trail_text;
-use call_texts::{BOB, Caller, Row, answer_of, bytes_of, call_of};
+use call_texts::Caller;
 use compound_run::{Args, MAX_RESULTS, RunEnd, Server};
 use node_tree::{Moment, Tree};
 use rpc_record::Caller as Identity;
@@ -28,19 +28,67 @@ pub fn sample_server(alloc: Global, hasher: RandomState) -> Result<Server, Alloc
     server_of(alloc, Book::default(alloc), Tree::sample(alloc)?, hasher)
 }
 
-/// A look at a server, by what a test is given.
-pub trait Sight<R> {
-    fn see(rt: &R, alloc: Global, server: &mut Server) -> Result<(), Fail>;
+/// The book of this text; without a text, one without names.
+pub fn book_of(alloc: Global, text: &str) -> Result<Book, Fail> {
+    if text.is_empty() {
+        return Ok(Book::default(alloc));
+    }
+    Ok(Book::read(alloc, text)?)
 }
 
-/// Sees it on this server, which is dropped here: once for all that is seen.
-pub fn on<R, S: Sight<R>>(rt: &R, alloc: Global, mut server: Server) -> Result<(), Fail> {
-    S::see(rt, alloc, &mut server)
+/// Loads the book of this text, as [`book_of`] has it.
+pub fn reload<A: Allocator + Copy>(
+    alloc: Global,
+    server: &mut Server<A>,
+    text: &str,
+) -> Result<(), Fail> {
+    let book = book_of(alloc, text)?;
+    if server.reload(book).is_err() {
+        return Err(Fail::new("no epoch"));
+    }
+    Ok(())
 }
 
-/// Sees it on a server of the sample tree.
-pub fn on_sample<R, S: Sight<R>>(rt: &R, alloc: Global, hasher: RandomState) -> Result<(), Fail> {
-    on::<R, S>(rt, alloc, sample_server(alloc, hasher)?)
+/// The results of these arguments in a record of so many bytes, or `None` where they are garbage.
+pub fn run_record(
+    alloc: Global,
+    server: &mut Server,
+    who: Caller,
+    seconds: i64,
+    bytes: &[u8],
+    record_len: usize,
+) -> Result<Option<Vec<u8>>, AllocError> {
+    let caller = Identity::new(who.0, who.1, &[who.2]);
+    let now = Moment {
+        seconds,
+        nanoseconds: 0,
+    };
+    let mut out = Writer::new(alloc, MAX_RESULTS)?;
+    match server.run_bare(Args { bytes, record_len }, &caller, now, &mut out) {
+        RunEnd::Replied => Ok(Some(out.into_bytes())),
+        RunEnd::Garbage => Ok(None),
+    }
+}
+
+/// The results of these arguments in a record of so many bytes where sessions are in use, or `None` where they are garbage.
+pub fn run_record_in_session(
+    alloc: Global,
+    server: &mut Server,
+    who: Caller,
+    seconds: i64,
+    bytes: &[u8],
+    record_len: usize,
+) -> Result<Option<Vec<u8>>, AllocError> {
+    let caller = Identity::new(who.0, who.1, &[who.2]);
+    let now = Moment {
+        seconds,
+        nanoseconds: 0,
+    };
+    let mut out = Writer::new(alloc, MAX_RESULTS)?;
+    match server.run(Args { bytes, record_len }, &caller, now, &mut out) {
+        RunEnd::Replied => Ok(Some(out.into_bytes())),
+        RunEnd::Garbage => Ok(None),
+    }
 }
 
 /// The results of these arguments, or `None` where they are garbage.
@@ -51,20 +99,7 @@ pub fn run(
     seconds: i64,
     bytes: &[u8],
 ) -> Result<Option<Vec<u8>>, AllocError> {
-    let caller = Identity::new(who.0, who.1, &[who.2]);
-    let now = Moment {
-        seconds,
-        nanoseconds: 0,
-    };
-    let args = Args {
-        bytes,
-        record_len: bytes.len(),
-    };
-    let mut out = Writer::new(alloc, MAX_RESULTS)?;
-    match server.run_bare(args, &caller, now, &mut out) {
-        RunEnd::Replied => Ok(Some(out.into_bytes())),
-        RunEnd::Garbage => Ok(None),
-    }
+    run_record(alloc, server, who, seconds, bytes, bytes.len())
 }
 
 /// The results of these arguments where sessions are in use, or `None` where they are garbage.
@@ -75,23 +110,10 @@ pub fn run_in_session(
     seconds: i64,
     bytes: &[u8],
 ) -> Result<Option<Vec<u8>>, AllocError> {
-    let caller = Identity::new(who.0, who.1, &[who.2]);
-    let now = Moment {
-        seconds,
-        nanoseconds: 0,
-    };
-    let args = Args {
-        bytes,
-        record_len: bytes.len(),
-    };
-    let mut out = Writer::new(alloc, MAX_RESULTS)?;
-    match server.run(args, &caller, now, &mut out) {
-        RunEnd::Replied => Ok(Some(out.into_bytes())),
-        RunEnd::Garbage => Ok(None),
-    }
+    run_record_in_session(alloc, server, who, seconds, bytes, bytes.len())
 }
 
-/// Sees that bytes are there and are these. `Err`: they are others; the place of their call, and its words.
+/// Checks the bytes of a call. `Err`: they are others; the place of their call, and its words.
 pub fn see_bytes(given: Option<&[u8]>, wanted: &[u8], place: i64, call: &str) -> Result<(), Fail> {
     if given == Some(wanted) {
         return Ok(());
@@ -99,91 +121,7 @@ pub fn see_bytes(given: Option<&[u8]>, wanted: &[u8], place: i64, call: &str) ->
     Err(Fail::new(format_args!("{place}: {call}: {given:?}")))
 }
 
-/// Sees that these are the results of a row's call.
-pub fn see_answer(alloc: Global, given: Option<&[u8]>, place: i64, row: &Row) -> Result<(), Fail> {
-    let (_, call, answer) = row;
-    let wanted = answer_of(alloc, answer)?;
-    see_bytes(given, &wanted, place, call)
-}
-
-/// Sees that a call at this second is answered so.
-fn see(alloc: Global, server: &mut Server, seconds: i64, row: &Row) -> Result<(), Fail> {
-    let (who, call, _) = row;
-    let bytes = call_of(alloc, call)?;
-    let given = run(alloc, server, *who, seconds, &bytes)?;
-    let given = given.as_ref().map(|given| given.as_slice());
-    see_answer(alloc, given, seconds, row)
-}
-
-/// Sees the answers of calls, the first of them at second 1.
-pub fn play(alloc: Global, server: &mut Server, rows: &[Row]) -> Result<(), Fail> {
-    let mut seconds = 0i64;
-    for row in rows {
-        seconds = seconds.saturating_add(1);
-        see(alloc, server, seconds, row)?;
-    }
-    Ok(())
-}
-
-/// Sees that a call at this second is answered so, where sessions are in use.
-fn see_in_session(alloc: Global, server: &mut Server, seconds: i64, row: &Row) -> Result<(), Fail> {
-    let (who, call, _) = row;
-    let bytes = call_of(alloc, call)?;
-    let given = run_in_session(alloc, server, *who, seconds, &bytes)?;
-    let given = given.as_ref().map(|given| given.as_slice());
-    see_answer(alloc, given, seconds, row)
-}
-
-/// Sees the answers of calls where sessions are in use, the first of them at second 1.
-pub fn play_in_session(alloc: Global, server: &mut Server, rows: &[Row]) -> Result<(), Fail> {
-    let mut seconds = 0i64;
-    for row in rows {
-        seconds = seconds.saturating_add(1);
-        see_in_session(alloc, server, seconds, row)?;
-    }
-    Ok(())
-}
-
-/// Sees that arguments of these words have these results at second 0, where sessions are in use.
-pub fn see_words_in_session(
-    alloc: Global,
-    server: &mut Server,
-    who: Caller,
-    words: &str,
-    results: &str,
-) -> Result<(), Fail> {
-    let bytes = bytes_of(alloc, words)?;
-    let wanted = bytes_of(alloc, results)?;
-    let given = run_in_session(alloc, server, who, 0, &bytes)?;
-    let given = given.as_ref().map(|given| given.as_slice());
-    see_bytes(given, &wanted, 0, words)
-}
-
-/// Sees that a call is answered so at second 0, where sessions are in use.
-pub fn see_text_in_session(
-    alloc: Global,
-    server: &mut Server,
-    who: Caller,
-    call: &str,
-    answer: &str,
-) -> Result<(), Fail> {
-    let bytes = call_of(alloc, call)?;
-    let wanted = answer_of(alloc, answer)?;
-    let given = run_in_session(alloc, server, who, 0, &bytes)?;
-    let given = given.as_ref().map(|given| given.as_slice());
-    see_bytes(given, &wanted, 0, call)
-}
-
-/// Sees that bob's call is answered so, at second 0.
-pub fn see_text(alloc: Global, server: &mut Server, call: &str, answer: &str) -> Result<(), Fail> {
-    let bytes = call_of(alloc, call)?;
-    let wanted = answer_of(alloc, answer)?;
-    let given = run(alloc, server, BOB, 0, &bytes)?;
-    let given = given.as_ref().map(|given| given.as_slice());
-    see_bytes(given, &wanted, 0, call)
-}
-
-/// Sees that the trail has these lines, and has had no others.
+/// Checks that the trail has these lines, and has had no others.
 pub fn see_trail(alloc: Global, server: &Server, total: u64, wanted: &str) -> Result<(), Fail> {
     let given = trail_text(alloc, server.guard())?;
     if given.as_slice() == wanted.as_bytes() && server.guard().total() == total {

@@ -90,7 +90,7 @@ fn root<A: Allocator + Copy>(alloc: A, list: &[Entry]) -> Result<Tree<A>, TreeFa
     Ok(Tree::new(alloc, 0, 0, list, 0)?)
 }
 
-/// A root of owner 0 and group 0 with the list of these entries, which stand there as text.
+/// A root of owner 0 and group 0 with the list of these entries as text.
 pub fn root_of(alloc: Global, words: &str) -> Result<Tree, Fail> {
     let list = list_of(alloc, words)?;
     Ok(root(alloc, list.as_slice())?)
@@ -156,7 +156,7 @@ pub fn one_file<A: Allocator + Copy>(alloc: A, list: &[Entry]) -> Result<Tree<A>
     Ok(tree)
 }
 
-/// Gives a link a name more in the root.
+/// Gives a link one more name in the root.
 pub fn link(tree: &mut Tree, name: &[u8], number: u64) -> Result<(), Fail> {
     let (Some(at), Some(Kind::Link)) = (now(tree), kind(tree, number)) else {
         return Err(Fail::new("no link"));
@@ -194,7 +194,7 @@ pub fn fill(alloc: Global, tree: &mut Tree, directory: u64, count: u32) -> Resul
     Ok(())
 }
 
-/// Gives a link so many names more in the root.
+/// Gives a link so many more names in the root.
 pub fn link_often(tree: &mut Tree, number: u64, count: u32) -> Result<(), Fail> {
     for name in 0..count {
         link(tree, &name_of(name), number)?;

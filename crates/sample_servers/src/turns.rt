@@ -1,4 +1,4 @@
-//! Calls behind a SEQUENCE on slot 0, each of which comes again.
+//! Calls behind a SEQUENCE on slot 0, each of which is repeated.
 
 use crate::servers::{run_in_session, see_bytes};
 use call_texts::{Caller, answer_of, call_of};
@@ -6,7 +6,7 @@ use compound_run::Server;
 use std::alloc::Global;
 use std::test::Fail;
 
-/// A SEQUENCE: its session, its number, the highest slot that is asked and granted, and whether the reply is to be kept, 0 or 1.
+/// A SEQUENCE: its session, its sequence ID, the highest slot that is requested and granted, and whether the reply is to be cached, 0 or 1.
 #[derive(Clone, Copy, Debug)]
 pub struct Turn {
     pub session: u32,
@@ -50,7 +50,7 @@ fn answer_words(alloc: Global, turn: Turn, answer: &str) -> Result<String, Fail>
     )?)
 }
 
-/// Sees what a caller is answered at a second; its operations are told otherwise.
+/// Checks the answer to a caller at a second.
 fn see_at(
     alloc: Global,
     server: &mut Server,
@@ -63,7 +63,7 @@ fn see_at(
     see_bytes(given, wanted, seconds, operations)
 }
 
-/// Sees that a caller's operations behind a SEQUENCE have these results, at this second and again at another.
+/// Checks that a caller's operations behind a SEQUENCE have these results, at this second and again at another.
 pub fn see_turn(
     alloc: Global,
     server: &mut Server,

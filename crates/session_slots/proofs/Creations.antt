@@ -20,7 +20,7 @@ use Rattle.session_slots.proofs.Members.{found_kept}
 
 -- ---- the kept call, and the history
 
--- how a call fares, by the one that is kept
+-- the fate of a call, by the call that is kept
 abbrev kept_fate : Option (Result Created Status) → Bool → CreationFate
 kept_fate (Some kept) b = Gets kept
 kept_fate None b = if b then Runs else Gets (Err statuses.SeqMisordered)
@@ -60,7 +60,7 @@ and_false true false e = refl
 and_false false true e = refl
 and_false false false e = refl
 
--- a call that isn't accepted leaves what is kept
+-- a call that isn't accepted leaves the kept call
 stays : (old : Option Creation) (n : ℕ) (result : Result Created Status) → ((n == due (last_number number_of old)) ≡ false) ⊎ (is_accepted result ≡ false) →
     Agrees (kept_fate (repeated old n) (n == due (last_number number_of old))) result → CreatesByHistory old old n result
 stays old n result not_taken_by agrees = record {
@@ -80,7 +80,7 @@ kept old n result new is_due ok = record {
       (sym (due_is old n history stands) ∙ is_due) ok);
 }
 
--- a repeat doesn't have the number that is due
+-- a repeat doesn't have the next number
 not_due : (old : Option Creation) (n : ℕ) (result : Result Created Status) → repeated old n ≡ Some result → (n == due (last_number number_of old)) ≡ false
 not_due None n result h = cc
 not_due (Some k) n result h = grind arith

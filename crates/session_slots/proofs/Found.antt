@@ -20,7 +20,7 @@ pub lookup_changed : {X : Type 0} (test : ℕ → Bool) (es : List (ℕ × X)) (
     lookup test (option_map_or (λ x. set_value test es (f x)) (lookup test es) es) ≡ Some (f v)
 lookup_changed {X} test es f v h = ap (λ (o : Option X). lookup test (option_map_or (λ x. set_value test es (f x)) o es)) h ∙ lookup_set test es v (f v) h
 
--- ---- a search finds an element that passes
+-- ---- a search finds an element that passes the test
 
 found_step : {X : Type 0} (p : X → Bool) (b : Bool) (x : X) (xs : List X) (y : X) → p x ≡ b → cond b (Some x) (find p xs) ≡ Some y → (find p xs ≡ Some y → p y ≡ true) → p y ≡ true
 found_step p true x xs y t h ih = let same : x ≡ y = cc in subst (λ z. p z ≡ true) same t

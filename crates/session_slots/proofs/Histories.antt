@@ -13,7 +13,7 @@ due_of_rest n = omega arith
 pub is_number : (m n : ℕ) → (m == n) ≡ true → m ≡ n
 is_number m n h = grind (arith, h)
 
--- a call that was accepted has the number of those that were, modulo 2^32
+-- a call that was accepted has the number of accepted calls, modulo 2^32
 pub number_if : {X : Type 0} (number_of : X → ℕ) (keeps : X → Bool) (call : X) (before : List X) → last_number number_of (newest before) ≡ length before % 2 ^ 32 →
     last_number number_of (newest (if (number_of call == due (length before)) && keeps call then call ∷ before else before))
     ≡ length (if (number_of call == due (length before)) && keeps call then call ∷ before else before) % 2 ^ 32
@@ -23,7 +23,7 @@ pub newest_number : {X : Type 0} (number_of : X → ℕ) (keeps : X → Bool) (h
 newest_number number_of keeps [] = refl
 newest_number number_of keeps (call ∷ before) = number_if number_of keeps call (accepted number_of keeps before) (newest_number number_of keeps before)
 
--- so a history is stood for as soon as it gives what is kept
+-- so a slot stands for a history that gives the kept call
 pub stands_for : {X : Type 0} (number_of : X → ℕ) (keeps : X → Bool) (last : Option X) (history : List X) → last ≡ newest (accepted number_of keeps history) → StandsFor number_of keeps last history
 stands_for number_of keeps last history h = record { kept = h; number = ap (last_number number_of) h ∙ newest_number number_of keeps history }
 
@@ -100,7 +100,7 @@ all_accepted k (suc n) =
     length_if (due n == due (length (accepted_calls (count_up k n)))) (record k { call = record k.call { number = due n } }) (accepted_calls (count_up k n)) n
     (same_number (due n) (due (length (accepted_calls (count_up k n)))) (ap due (sym (all_accepted k n)))) (all_accepted k n)
 
--- how many calls came before one of this number
+-- how many calls came before the call of this number
 pub count_before : ℕ → ℕ
 count_before number = (number + 4294967295) % 2 ^ 32
 

@@ -105,7 +105,7 @@ found_other : {X : Type 0} (k n : ℕ) (es : List (ℕ × X)) (w : X) → k ≢ 
 found_other k n [] w apart = refl
 found_other k n (x ∷ es) w apart = found_other_step k n (is_at (nat_cmp k) x.0) (is_at (nat_cmp n) x.0) x es w apart refl refl (found_other k n es w apart)
 
--- behind a change of another value the same is found
+-- after a change of another value the same value is found
 pub found_beside : {X : Type 0} (k n : ℕ) (f : X → X) (es : List (ℕ × X)) (o : Option X) → k ≢ n → lookup (is_at (nat_cmp k)) (option_map_or (λ x. set_value (is_at (nat_cmp n)) es (f x)) o es) ≡ lookup (is_at (nat_cmp k)) es
 found_beside k n f es None apart = refl
 found_beside k n f es (Some x) apart = found_other k n es (f x) apart
@@ -133,7 +133,7 @@ found_insert_step k n Equal c x es v apart t u ih =
     ap (λ b. cond b (Some v) (lookup (is_at (nat_cmp k)) es)) off ∙ sym (ap (λ b. cond b (Some x.1) (lookup (is_at (nat_cmp k)) es)) off)
 found_insert_step k n Greater c x es v apart t u ih = ap (λ o. cond (is_at (nat_cmp k) x.0) (Some x.1) o) ih
 
--- beside an entry that is added the same is found
+-- beside an entry that is added the same value is found
 pub found_insert : {X : Type 0} (k n : ℕ) (es : List (ℕ × X)) (v : X) → k ≢ n → lookup (is_at (nat_cmp k)) (insert_entry nat_cmp es n v) ≡ lookup (is_at (nat_cmp k)) es
 found_insert k n [] v apart = ap (λ b. cond b (Some v) None) (is_another (is_at (nat_cmp k) n) k n refl apart)
 found_insert k n (x ∷ es) v apart = found_insert_step k n (nat_cmp n x.0) (is_at (nat_cmp k) n) x es v apart refl refl (found_insert k n es v apart)
@@ -175,7 +175,7 @@ found_in : {X : Type 0} (p : X → Bool) (xs : List X) (y : X) → find p xs ≡
 found_in p [] y h = cc
 found_in p (x ∷ xs) y h = found_in_step p (p x) x xs y h (found_in p xs y)
 
--- a value that a search finds is one of an entry
+-- a value that a search finds is the value of an entry
 pub found_entry : {X : Type 0} (p : X → Bool) (es : List (ℕ × X)) (v : X) → find p (values_of es) ≡ Some v → (k : ℕ) × IsIn (k, v) es
 found_entry p es v h = in_values es v (found_in p (values_of es) v h)
 
@@ -199,7 +199,7 @@ pub none_of : {X : Type 0} (p : X → Bool) (es : List (ℕ × X)) (e : ℕ × X
 none_of p [] e h m = absurd m
 none_of p (x ∷ es) e h m = none_of_step p (p x.1) (list_any p (values_of es)) x es e refl refl h m (none_of p es e)
 
--- ---- how many there are
+-- ---- how many entries there are
 
 length_filter_step : {X : Type 0} (p : X → Bool) (b : Bool) (x : X) (xs : List X) → length (filter p xs) ≤ length xs → length (cond b (x ∷ filter p xs) (filter p xs)) ≤ length (x ∷ xs)
 length_filter_step p true x xs h = omega (arith, h)

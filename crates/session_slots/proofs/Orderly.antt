@@ -94,7 +94,7 @@ pub record KeepsName (f : Client → Client) : Type 0 where
   pub owner : (owner : List ℕ) (c : Client) → is_confirmed_of owner (f c) ≡ is_confirmed_of owner c
   pub confirmed : (c : Client) → (f c).confirmed ≡ c.confirmed
 
--- the entry that an entry behind the change was
+-- the entry before the change
 was : (r : Registry) (n : ℕ) (f : Client → Client) → KeepsName f → (e : ℕ × Client) → IsIn e (changed_client n f r.clients) →
     (x : ℕ × Client) × IsIn x r.clients × (x.0 ≡ e.0) × (x.1.number ≡ e.1.number) × ((owner : List ℕ) → is_confirmed_of owner x.1 ≡ is_confirmed_of owner e.1)
 was r n f keeps e h =
@@ -239,12 +239,12 @@ length_stays : (leaving : Option ℕ) (sessions : List (ℕ × Session)) → len
 length_stays None sessions = omega arith
 length_stays (Some client) sessions = length_filter (λ e. not (e.1.client == client)) sessions
 
--- a session that stays, and its client doesn't go
+-- a session that stays, whose client stays
 session_stays : (leaving : Option ℕ) (sessions : List (ℕ × Session)) (e : ℕ × Session) → IsIn e (without_sessions leaving sessions) → IsIn e sessions × (not (goes leaving e.1.client) ≡ true)
 session_stays None sessions e h = (h, refl)
 session_stays (Some client) sessions e h = in_filter (λ e. not (e.1.client == client)) sessions e h
 
--- an entry behind a new one was there, or is the new one
+-- an entry after an addition was there, or is the new one
 was_or_new : (leaving : Option ℕ) (r : Registry) (a : Exchanging) (e : ℕ × Client) → IsIn e (with_client leaving r a).clients → IsIn e r.clients ⊎ (e ≡ (r.next_client, new_client r.next_client a))
 was_or_new leaving r a e h = in_insert r.clients r.next_client (new_client r.next_client a) e (in_filter (λ e. e.0 == r.next_client || stays leaving a.owner e) (insert_entry nat_cmp r.clients r.next_client (new_client r.next_client a)) e h).0
 
@@ -312,7 +312,7 @@ made_orderly leaving r a room o = record {
   sessions_end = o.sessions_end;
 }
 
--- a record is made where there is place
+-- a record is created where there is room
 
 new_if : (b : Bool) (other goes : Option ℕ) → (if b then standings.Refuses statuses.NoSpc else standings.Makes other) ≡ standings.Makes goes → (other ≡ goes) × (b ≡ false)
 new_if true other goes h = cc
@@ -355,7 +355,7 @@ record_stays : (leaving : Option ℕ) (clients : List (ℕ × Client)) (e : ℕ 
 record_stays None clients e h = (h, refl)
 record_stays (Some client) clients e h = in_filter (λ e. not (e.0 == client)) clients e h
 
--- and is found
+-- a record that stays is found
 record_found : (leaving : Option ℕ) (clients : List (ℕ × Client)) (k : ℕ) (c : Client) → lookup (is_at (nat_cmp k)) clients ≡ Some c → not (goes leaving k) ≡ true → lookup (is_at (nat_cmp k)) (without_record leaving clients) ≡ Some c
 record_found None clients k c is_c stays = is_c
 record_found (Some client) clients k c is_c stays = found_kept k (λ e. not (e.0 == client)) clients c is_c stays
@@ -375,7 +375,7 @@ length_records : (leaving : Option ℕ) (clients : List (ℕ × Client)) → len
 length_records None clients = omega arith
 length_records (Some client) clients = length_filter (λ e. not (e.0 == client)) clients
 
--- beside its owner's other confirmed record, which goes, a record is the only one
+-- without its owner's other confirmed record, which goes, a record is the only one
 alone_if : (r : Registry) (owner : List ℕ) (n : ℕ) (g : ℕ × Client) (found : Option Client) → IsOrderly r → IsIn g r.clients → is_confirmed_of owner g.1 ≡ true → (g.1.number == n) ≡ false →
     find (is_other owner n) (values_of r.clients) ≡ found → not (goes (option_map (λ c. c.number) found) g.0) ≡ true → ⊥
 alone_if r owner n g None o m is t e stays =
@@ -410,7 +410,7 @@ granted_within asked enough = record {
   slots = at_most_one_of asked.slots MOST_SLOTS (lit≤ tt);
 }
 
--- there is no place for another session
+-- there is no room for another session
 abbrev has_no_place : Registry → Bool
 has_no_place r = nat_le MOST_SESSIONS (length r.sessions) || nat_le END r.next_session
 

@@ -1,4 +1,4 @@
--- How numbers are counted, on a slot and for the sessions of a client: each call that is accepted has the number behind the one
+-- Sequence IDs, on a slot and for the sessions of a client: each call that is accepted has the number behind the number of the call
 -- before it, from 1 on, modulo 2^32 (RFC 8881, sections 2.10.6.1 and 18.36.4).
 use Rattle.std.specs.Prelude.{◌≡◌, ℕ, ◌+◌, ◌%◌, ◌^◌, ◌==◌, ◌&&◌, Bool, if◌then◌else◌, List, [], ◌∷◌, length, Option, Some, None}
 
@@ -6,8 +6,8 @@ use Rattle.std.specs.Prelude.{◌≡◌, ℕ, ◌+◌, ◌%◌, ◌^◌, ◌==�
 abbrev pub due : ℕ → ℕ
 due last = (last + 1) % 2 ^ 32
 
--- Of calls with numbers, the newest first, those that were accepted: each has the number that was due after those before it. `keeps`
--- tells whether a call that had it was accepted.
+-- Of calls with numbers, the newest first, those that were accepted: each has the number that was next after those before it. `keeps`
+-- tells whether a call of the next number was accepted.
 abbrev pub accepted : {X : Type 0} → (X → ℕ) → (X → Bool) → List X → List X
 accepted number_of keeps [] = []
 accepted number_of keeps (call ∷ before) =
@@ -18,7 +18,7 @@ abbrev pub newest : {X : Type 0} → List X → Option X
 newest [] = None
 newest (call ∷ before) = Some call
 
--- the last number: 0 where nothing was accepted
+-- the last number: 0 where no call was accepted
 abbrev pub last_number : {X : Type 0} → (X → ℕ) → Option X → ℕ
 last_number number_of None = 0
 last_number number_of (Some kept) = number_of kept

@@ -25,7 +25,7 @@ abbrev pub repeated : Option Creation → ℕ → Option (Result Created Status)
 repeated None number = None
 repeated (Some kept) number = if kept.number == number then Some kept.result else None
 
--- as much of a channel as is granted
+-- the part of a channel that is granted
 abbrev pub granted : Channel → Channel
 granted asked = record {
   padding = 0;
@@ -36,7 +36,7 @@ granted asked = record {
   slots = max 1 (min asked.slots MOST_SLOTS);
 }
 
--- why a call with the number that is due is refused
+-- why a call with the next number is refused
 abbrev pub creation_fault : Client → Registry → Create → Option Status
 creation_fault c r a =
     if not c.confirmed && not (c.uid == a.uid) then Some statuses.ClidInUse
@@ -61,7 +61,7 @@ is_other owner number c = is_confirmed_of owner c && not (c.number == number)
 abbrev pub other_record : List ℕ → ℕ → List (ℕ × Client) → Option ℕ
 other_record owner number clients = option_map (λ c. c.number) (find (is_other owner number) (values_of clients))
 
--- the record is confirmed, and the owner's other confirmed one goes with its sessions
+-- the record is confirmed, and the owner's other confirmed record goes with its sessions
 abbrev pub with_creation : Registry → Create → Option ℕ → Registry
 with_creation r a other = record r {
   clients = changed_client a.client (λ c. record (accepts a (Ok (created_of r a)) c) { confirmed = true }) (without_record other r.clients);
@@ -72,7 +72,7 @@ with_creation r a other = record r {
 abbrev pub refusing : Status → Made
 refusing status = record { result = Err status; gone = None }
 
--- a call with the number that is due: it is refused and kept, or it makes a session
+-- a call with the next number: it is refused and kept, or it creates a session
 abbrev pub judged_due : Option Status → Client → Registry → Create → Judged
 judged_due (Some status) c r a = Refuses status
 judged_due None c r a = Makes (other_record c.owner a.client r.clients)
@@ -92,7 +92,7 @@ judged r a = judged_for (client_at r a.client) r a
 abbrev pub delayed : Made
 delayed = record { result = Err statuses.Delay; gone = None }
 
--- a session is made, unless memory is refused: then nothing changes
+-- a session is created, unless memory is refused: then nothing changes
 abbrev pub MakesSession : Registry → Create → Option ℕ → Made → Registry → Type 0
 MakesSession r a other made new =
     ((made ≡ record { result = Ok (created_of r a); gone = other }) × (new ≡ with_creation r a other))
@@ -143,7 +143,7 @@ abbrev pub Agrees : CreationFate → Result Created Status → Type 0
 Agrees Runs result = Unit {0}
 Agrees (Gets given) result = result ≡ given
 
--- For every history that the record stood for, the call got what the history says, and the record stands for the history with the call.
+-- For every history that the record stood for, the call got the history's result, and the record stands for the history with the call.
 pub record CreatesByHistory (old new : Option Creation) (number : ℕ) (result : Result Created Status) : Type 0 where
   pub fate : (history : List Creation) → RecordStandsFor old history → Agrees (fate history number) result
   pub stands : (history : List Creation) → RecordStandsFor old history → RecordStandsFor new (record { number = number; result = result } ∷ history)

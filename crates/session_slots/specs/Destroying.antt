@@ -46,7 +46,7 @@ abbrev pub complete_already : Option Client → Option Status
 complete_already None = Some statuses.StaleClientId
 complete_already (Some c) = if c.reclaimed then Some statuses.CompleteAlready else None
 
--- why a client can't say that it has reclaimed all: it isn't there, or has said so
+-- why a RECLAIM_COMPLETE is refused: the client isn't there, or has sent it before
 abbrev pub reclaim_refusal : Registry → ℕ → Option Status
 reclaim_refusal r client = complete_already (client_at r client)
 

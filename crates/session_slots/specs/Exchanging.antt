@@ -38,7 +38,7 @@ abbrev pub goes : Option ℕ → ℕ → Bool
 goes None number = false
 goes (Some client) number = number == client
 
--- a record stays as this owner gets a new one, unless it is the owner's unconfirmed one or that of the client that goes
+-- a record stays as this owner gets a new one, unless it is the owner's unconfirmed record or that of the client that goes
 abbrev pub stays : Option ℕ → List ℕ → ℕ × Client → Bool
 stays gone owner e = not (is_unconfirmed_of owner e.1) && not (goes gone e.0)
 
@@ -63,7 +63,7 @@ standing_new gone r a = if is_full gone r a then Refuses statuses.NoSpc else Mak
 abbrev pub known : Client → Exchanged
 known c = record { client = c.number; sequence = due (last_number number_of c.created); is_confirmed = true }
 
--- by the confirmed record of the owner
+-- the answer by the confirmed record of the owner
 abbrev pub standing_behind : Option Client → Registry → Exchanging → Standing
 standing_behind None r a = standing_new None r a
 standing_behind (Some c) r a =
@@ -85,7 +85,7 @@ answered_flags e = if e.is_confirmed then CONFIRMED + USE_NON_PNFS else USE_NON_
 abbrev pub made_known : ℕ → Exchanged
 made_known number = record { client = number; sequence = 1; is_confirmed = false }
 
--- a record is made, unless memory is refused: then nothing changes
+-- a record is created, unless memory is refused: then nothing changes
 abbrev pub MakesClient : Registry → Exchanging → Option ℕ → Result Exchanged Status → Registry → Type 0
 MakesClient r a gone result new =
     ((result ≡ Ok (made_known r.next_client)) × (new ≡ with_client gone r a)) ⊎ ((result ≡ Err statuses.Delay) × (new ≡ r))

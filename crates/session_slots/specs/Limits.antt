@@ -1,4 +1,4 @@
--- How many clients, sessions and slots there may be, and what a session carries.
+-- The limits of clients, sessions and slots.
 use Rattle.std.specs.Prelude.{ℕ}
 
 -- records of clients
@@ -21,11 +21,11 @@ MOST_BYTES = 65536
 abbrev pub LEAST_REPLY : ℕ
 LEAST_REPLY = 4096
 
--- bytes of the header of a reply, which isn't kept
+-- bytes of the header of a reply, which isn't cached
 abbrev pub REPLY_HEADER : ℕ
 REPLY_HEADER = 24
 
--- bytes of results that are kept
+-- bytes of results that are cached
 abbrev pub MOST_RESULTS : ℕ
 MOST_RESULTS = 65512
 

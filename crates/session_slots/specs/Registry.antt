@@ -11,7 +11,7 @@ use Rattle.session_slots.specs.Limits.{REPLY_HEADER}
 use Rattle.session_slots.specs.Slots.{Place, results_of}
 
 pub record Session : Type 0 where
-  -- the number of its client
+  -- the number of the session's client
   pub client : ℕ
   pub granted : Channel
   pub slots : List Place
@@ -21,12 +21,12 @@ pub record Client : Type 0 where
   pub number : ℕ
   pub owner : List ℕ
   pub verifier : ℕ
-  -- the user that it was made for
+  -- the user for whom the record was created
   pub uid : ℕ
   pub confirmed : Bool
   -- the last CREATE_SESSION that was accepted, with its result
   pub created : Option Creation
-  -- it has said RECLAIM_COMPLETE
+  -- the client has sent RECLAIM_COMPLETE
   pub reclaimed : Bool
 
 -- clients and sessions by rising number, and the numbers that the next ones get
@@ -63,28 +63,28 @@ is_confirmed_of owner c = c.confirmed && pointwise nat_eq c.owner owner
 abbrev pub confirmed_entry : Registry → List ℕ → Option Client
 confirmed_entry r owner = find (is_confirmed_of owner) (values_of r.clients)
 
--- with f of the record of a number
+-- the clients after a change f of the record of a number
 abbrev pub changed_client : ℕ → (Client → Client) → List (ℕ × Client) → List (ℕ × Client)
 changed_client number f clients = option_map_or (λ c. set_value (is_at (nat_cmp number)) clients (f c)) (lookup (is_at (nat_cmp number)) clients) clients
 
--- without the record of a client that goes, if one does
+-- the clients without the record of a client that goes, if one does
 abbrev pub without_record : Option ℕ → List (ℕ × Client) → List (ℕ × Client)
 without_record None clients = clients
 without_record (Some client) clients = filter (λ e. not (e.0 == client)) clients
 
--- without the sessions of a client that goes, if one does
+-- the sessions without those of a client that goes, if one does
 abbrev pub without_sessions : Option ℕ → List (ℕ × Session) → List (ℕ × Session)
 without_sessions None sessions = sessions
 without_sessions (Some client) sessions = filter (λ e. not (e.1.client == client)) sessions
 
--- with f of the session of a number
+-- the sessions after a change f of the session of a number
 abbrev pub changed_session : ℕ → (Session → Session) → List (ℕ × Session) → List (ℕ × Session)
 changed_session number f sessions = option_map_or (λ s. set_value (is_at (nat_cmp number)) sessions (f s)) (lookup (is_at (nat_cmp number)) sessions) sessions
 
 abbrev pub with_session : ℕ → (Session → Session) → Registry → Registry
 with_session number f r = record r { sessions = changed_session number f r.sessions }
 
--- with f of the place of a number
+-- the places after a change f of the place of a number
 abbrev pub changed_place : ℕ → (Place → Place) → List Place → List Place
 changed_place slot f slots = option_map_or (λ p. set slots slot (f p)) (slice_get slots slot) slots
 
@@ -95,11 +95,11 @@ with_place slot f s = record s { slots = changed_place slot f s.slots }
 abbrev pub unused_places : ℕ → ℕ → ℕ → List Place
 unused_places count most_arguments most_results = replicate count (record { kept = None; most_arguments = most_arguments; most_results = most_results })
 
--- how many bytes of results each slot of a session keeps: those of a reply behind its header
+-- how many bytes of results each slot of a session caches: those of a reply behind its header
 abbrev pub kept_size : Channel → ℕ
 kept_size granted = granted.reply_size - REPLY_HEADER
 
--- and the slots of a session that may not be there
+-- the slots of a session that may be absent
 abbrev pub most_kept : Option Session → ℕ
 most_kept None = 0
 most_kept (Some s) = kept_size s.granted

@@ -1,4 +1,4 @@
--- Calls that are refused, repeated or run, and what is left where the repeats are taken out (RFC 8881, section 2.10.6.1).
+-- Calls that are refused, repeated or run, and the state without the repeats (RFC 8881, section 2.10.6.1).
 use Rattle.std.specs.Prelude.{◌≡◌, Bool, true, false, not, List, [], ◌∷◌, map, filter}
 
 -- the fate of a call, known before it is run: it is run, it gets this reply again, or it is refused with this reply
@@ -12,7 +12,7 @@ is_repeat Runs = false
 is_repeat (Repeats reply) = true
 is_repeat (Fails reply) = false
 
--- A call is answered by its fate: `Runs` tells what a call that is run may give, and what it may make of the state. Otherwise the
+-- A call is answered by its fate: `Runs` holds for the results and states of a call that is run. Otherwise the
 -- state stays.
 abbrev pub AnswersBy : {Call State Reply : Type 0} → (Call → State → Reply → State → Type 0) → Fate Reply → Call → State → Reply → State → Type 0
 AnswersBy Run Runs call old reply new = Run call old reply new
@@ -43,13 +43,13 @@ replies_of es = map (λ e. e.reply) es
 abbrev pub first_ones : {Call Reply : Type 0} → List (Exchange Call Reply) → List (Exchange Call Reply)
 first_ones es = filter (λ e. not e.repeats) es
 
--- each is marked as a repeat where it was one, at the state that the ones before it left
+-- each call is marked as a repeat where it was one, in the state after the calls before it
 abbrev pub AreAnswered : {Call State Reply : Type 0} → (State → Call → Fate Reply) → (Call → State → Reply → State → Type 0) → List (Exchange Call Reply) → State → State → Type 0
 AreAnswered fate Run [] old new = new ≡ old
 AreAnswered {Call} {State} fate Run (e ∷ es) old new =
     (mid : State) × AnswersBy Run (fate old e.call) e.call old e.reply mid × (e.repeats ≡ is_repeat (fate old e.call)) × AreAnswered fate Run es mid new
 
--- The calls with their replies, marked; and the same without the repeats, which leads to the same state.
+-- The calls with their replies, marked; and the calls without the repeats, which lead to the same state.
 pub record WithoutRepeats {Call State Reply : Type 0} (fate : State → Call → Fate Reply) (Run : Call → State → Reply → State → Type 0) (calls : List Call) (replies : List Reply) (old new : State) : Type 0 where
   pub exchanges : List (Exchange Call Reply)
   pub of_calls : calls_of exchanges ≡ calls

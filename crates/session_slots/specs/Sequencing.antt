@@ -11,7 +11,7 @@ use Rattle.session_slots.specs.Limits.{MOST_BYTES, LEAST_REPLY}
 use Rattle.session_slots.specs.Slots.{Call, Place, turn_of, begun, BeginsByHistory, KeepsByHistory}
 use Rattle.session_slots.specs.Registry.{Session, Registry, kept_size, session_at, place_at, client_at, with_session, with_place}
 
--- the arguments of SEQUENCE, and the call that it stands in
+-- the arguments of SEQUENCE, and its COMPOUND
 pub record Asked : Type 0 where
   pub slot : ℕ
   pub highest : ℕ
@@ -20,7 +20,7 @@ pub record Asked : Type 0 where
   pub record_len : ℕ
   pub call : Call
 
--- a refusal that comes before the number is looked at
+-- a refusal before the sequence ID is checked
 abbrev pub grant_fault : Channel → Asked → Option Status
 grant_fault granted a =
     if nat_lt granted.request_size a.record_len then Some statuses.ReqTooBig
@@ -47,7 +47,7 @@ begun_unless None s a = with_place a.slot (λ p. begun p a.call) s
 abbrev pub session_begun : Session → Asked → Session
 session_begun s a = begun_unless (grant_fault s.granted a) s a
 
--- the answer to a turn: a new call is told its client, how long its reply may be, and the highest slot
+-- the answer to a turn: a new call gets its client, the size of its reply, and the highest slot
 abbrev pub begin_of : ℕ → Channel → Turn → Begin
 begin_of client granted turns.New = begins.New (record { client = client; reply_size = granted.reply_size; highest_slot = granted.slots - 1 })
 begin_of client granted turns.Repeat = begins.Repeat
@@ -67,32 +67,32 @@ sequence_begin r session a = begin_in (session_at r session) a
 abbrev pub sequence_begun : Registry → ℕ → Asked → Registry
 sequence_begun r session a = with_session session (λ s. session_begun s a) r
 
--- what is said of a call that isn't new
+-- the answer to a call that isn't new
 abbrev pub UnlessNew : Begin → Type 0 → Type 0
 UnlessNew (begins.New new) A = Unit {0}
 UnlessNew begins.Repeat A = A
 UnlessNew (begins.Refused status) A = A
 
--- the slots of a session are as many as were granted, and have as much room
+-- a session has as many slots as were granted, each with the room that was granted
 pub record HasSlots (granted : Channel) (slots : List Place) : Type 0 where
   pub count : length slots ≡ granted.slots
   pub some : 1 ≤ granted.slots
   pub arguments : All (λ p. p.most_arguments ≡ granted.request_size) slots
   pub results : All (λ p. p.most_results ≡ kept_size granted) slots
 
--- the turn that an answer tells
+-- the turn of an answer
 abbrev pub turn_told : Begin → Turn
 turn_told (begins.New new) = turns.New
 turn_told begins.Repeat = turns.Repeat
 turn_told (begins.Refused status) = turns.Refused status
 
--- A call that isn't refused before its number is looked at: for every history of its slot it gets what the history says, and the slot
+-- A call that isn't refused before its number is checked: for every history of its slot it gets the history's result, and the slot
 -- stands for the history with the call.
 pub record SequencesByHistory (old new : Registry) (session : ℕ) (a : Asked) (answer : Begin) : Type 0 where
   pub by_history : (s : Session) (p : Place) → session_at old session ≡ Some s → grant_fault s.granted a ≡ None → slice_get s.slots a.slot ≡ Some p →
       (q : Place) × (place_at new session a.slot ≡ Some q) × BeginsByHistory p.kept q.kept a.call (turn_told answer)
 
--- A new call has a session that is there, with its slot and its client, until one of them is destroyed; its results may be kept.
+-- A new call has a session that is there, with its slot and its client, until one of them is destroyed; its results may be cached.
 abbrev pub StandsIn : Registry → ℕ → ℕ → Begin → Type 0
 StandsIn r session slot (begins.New new) =
     (s : Session) × (session_at r session ≡ Some s) × (s.client ≡ new.client) × (s.granted.reply_size ≡ new.reply_size)

@@ -8,13 +8,13 @@ use Rattle.session_slots.specs.declared.slot.Turn.{Turn}
 use Rattle.session_slots.specs.declared.slot.Turn.TheVariants as turns
 use Rattle.session_slots.specs.Counting.{due, accepted, last_number, StandsFor}
 
--- a call, as a slot sees it
+-- a call on a slot
 pub record Call : Type 0 where
   pub number : ℕ
   pub caller : Identity
   pub arguments : List ℕ
 
--- a call with its results, as a slot keeps it
+-- a call with its results, as a slot caches it
 pub record Kept : Type 0 where
   pub call : Call
   pub results : List ℕ
@@ -29,7 +29,7 @@ pub record Place : Type 0 where
 abbrev pub is_same_call : Call → Call → Bool
 is_same_call a b = pointwise nat_eq a.arguments b.arguments && is_same a.caller b.caller
 
--- a call that doesn't have the number that is due: a repeat of the last one, or refused
+-- a call without the next number: a repeat of the last call, or refused
 abbrev pub old_turn : Option Kept → Call → Turn
 old_turn None call = turns.Refused statuses.SeqMisordered
 old_turn (Some kept) call =
@@ -62,14 +62,14 @@ finished p results = record p { kept = with_results results p.kept }
 
 -- ---- by history
 
--- each call that has the number that is due is accepted
+-- each call that has the next number is accepted
 abbrev pub any : Kept → Bool
 any kept = true
 
 abbrev pub accepted_calls : List Kept → List Kept
 accepted_calls history = accepted number_of any history
 
--- a slot stands for the histories of its calls, the newest first, that give what it keeps
+-- a slot stands for the histories of its calls, the newest first, whose last call it keeps
 abbrev pub SlotStandsFor : Option Kept → List Kept → Type 0
 SlotStandsFor kept history = StandsFor number_of any kept history
 
@@ -79,7 +79,7 @@ pub data Fate : Type 0 where
   Repeats : List ℕ → Fate
   Fails : Status → Fate
 
--- n calls were accepted, of which these are the newest first
+-- n calls were accepted, of which these are the newest
 abbrev pub fate_behind : List Kept → Call → Fate
 fate_behind [] call = if call.number == 1 then Runs else Fails statuses.SeqMisordered
 fate_behind (last ∷ before) call =
@@ -90,7 +90,7 @@ fate_behind (last ∷ before) call =
 abbrev pub fate : List Kept → Call → Fate
 fate history call = fate_behind (accepted_calls history) call
 
--- the fate that a turn tells, with the results that the slot keeps
+-- the fate of a call by its turn, with the results that the slot keeps
 abbrev pub results_of : Option Kept → List ℕ
 results_of None = []
 results_of (Some kept) = kept.results
@@ -100,7 +100,7 @@ told turns.New kept = Runs
 told turns.Repeat kept = Repeats (results_of kept)
 told (turns.Refused status) kept = Fails status
 
--- For every history that the slot stood for, the call got what the history says, and the slot stands for the history with the call.
+-- For every history that the slot stood for, the call got the history's result, and the slot stands for the history with the call.
 pub record BeginsByHistory (old new : Option Kept) (call : Call) (turn : Turn) : Type 0 where
   pub fate : (history : List Kept) → SlotStandsFor old history → told turn old ≡ fate history call
   pub stands : (history : List Kept) → SlotStandsFor old history → SlotStandsFor new (opened call ∷ history)

@@ -41,7 +41,7 @@ pub fn confirm<A: Allocator>(
     }
 }
 
-/// Takes the sessions of a client away that goes, if one does.
+/// Takes away the sessions of a client that goes, if one does.
 pub fn remove_sessions<A: Allocator + Copy>(
     sessions: &mut BTreeMap<u64, Session<A>, A>,
     gone: Option<u64>,
@@ -53,14 +53,14 @@ pub fn remove_sessions<A: Allocator + Copy>(
     }
 }
 
-/// Takes the sessions of a client away.
+/// Takes away the sessions of a client.
 fn remove_sessions_of<A: Allocator + Copy>(sessions: &mut BTreeMap<u64, Session<A>, A>, client: u64)
     ensures { sessions.new.entries ≡ filter (λ e. not (e.1.client == client)) sessions.old.entries }
 {
     sessions.retain(|_, session| session.client() != client);
 }
 
-/// Takes the unconfirmed record of an owner away.
+/// Takes away the unconfirmed record of an owner.
 pub fn remove_unconfirmed<A: Allocator>(clients: &mut BTreeMap<u64, Client<A>, A>, owner: &[u8])
     ensures { clients.new.entries ≡ filter (λ e. not (is_unconfirmed_of owner.now e.1)) clients.old.entries }
 {
@@ -84,7 +84,7 @@ fn stays<A: Allocator>(gone: Option<u64>, owner: &[u8], number: u64, client: &Cl
     !client.is_unconfirmed_of(owner) && !goes(gone, number)
 }
 
-/// Takes the records away that don't stay as an owner gets this new one and a client goes.
+/// Takes away the records that don't stay as an owner gets this new one and a client goes.
 pub fn remove_others<A: Allocator>(
     clients: &mut BTreeMap<u64, Client<A>, A>,
     number: u64,
@@ -96,7 +96,7 @@ pub fn remove_others<A: Allocator>(
     clients.retain(|n, client| *n == number || stays(gone, owner, *n, client));
 }
 
-/// Takes the record of a client away that goes, if one does.
+/// Takes away the record of a client that goes, if one does.
 pub fn remove_record<A: Allocator>(clients: &mut BTreeMap<u64, Client<A>, A>, gone: Option<u64>)
     ensures { clients.new.entries ≡ without_record gone clients.old.entries }
 {
@@ -105,14 +105,14 @@ pub fn remove_record<A: Allocator>(clients: &mut BTreeMap<u64, Client<A>, A>, go
     }
 }
 
-/// Takes the record of this number away.
+/// Takes away the record of this number.
 fn remove_number<A: Allocator>(clients: &mut BTreeMap<u64, Client<A>, A>, number: u64)
     ensures { clients.new.entries ≡ filter (λ e. not (e.0 == number)) clients.old.entries }
 {
     clients.retain(|n, _| *n != number);
 }
 
-/// Keeps that a client has said RECLAIM_COMPLETE.
+/// Keeps that a client has sent RECLAIM_COMPLETE.
 pub fn reclaim<A: Allocator>(clients: &mut BTreeMap<u64, Client<A>, A>, number: u64)
     ensures { clients.new.entries ≡ changed_client number has_reclaimed clients.old.entries }
 {
@@ -157,7 +157,7 @@ pub fn confirmed_in<'c, A: Allocator>(
         .find(|client| client.is_confirmed_of(owner))
 }
 
-/// The number of an owner's confirmed record, where it isn't this one.
+/// The number of an owner's confirmed record, unless it is this number.
 pub fn other_in<A: Allocator>(
     clients: &BTreeMap<u64, Client<A>, A>,
     owner: &[u8],

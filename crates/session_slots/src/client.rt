@@ -13,23 +13,23 @@ use nfs_types::Status;
 use std::alloc::{AllocError, Allocator, Global};
 use std::marker::Model;
 
-/// The answer to a CREATE_SESSION that made a session (RFC 8881, section 18.36).
+/// The answer to a CREATE_SESSION that created a session (RFC 8881, section 18.36).
 #[derive(Clone, Copy, Debug, PartialEq, Eq)]
 pub struct Created {
     /// The number of the session.
     pub session: u64,
-    /// The number of the call.
+    /// The sequence ID of the call.
     pub sequence: u32,
-    /// For calls: as much as is granted.
+    /// The fore channel, as far as it is granted.
     pub fore: Channel,
-    /// For callbacks: as much as was asked.
+    /// The backchannel, as it was requested.
     pub back: Channel,
 }
 
 /// A CREATE_SESSION that was accepted.
 #[derive(Clone, Copy, Debug, PartialEq, Eq)]
 pub struct Creation {
-    /// The number of the call.
+    /// The sequence ID of the call.
     pub number: u32,
     /// The session, or why there is none.
     pub result: Result<Created, Status>,
@@ -77,28 +77,28 @@ impl<A: Allocator> Client<A> {
         })
     }
 
-    /// Its number.
+    /// The number of the client.
     pub fn number(&self) -> u64
         ensures { result ≡ self.now.number }
     {
         self.number
     }
 
-    /// Its verifier.
+    /// The verifier.
     pub fn verifier(&self) -> u64
         ensures { result ≡ self.now.verifier }
     {
         self.verifier
     }
 
-    /// The user that it was made for.
+    /// The user for whom the record was created.
     pub fn uid(&self) -> u32
         ensures { result ≡ self.now.uid }
     {
         self.uid
     }
 
-    /// Whether it is confirmed.
+    /// Whether the record is confirmed.
     pub fn is_confirmed(&self) -> bool
         ensures { result ≡ self.now.confirmed }
     {
@@ -112,21 +112,21 @@ impl<A: Allocator> Client<A> {
         &self.owner
     }
 
-    /// Whether it is the confirmed one of an owner.
+    /// Whether this is the confirmed record of an owner.
     pub fn is_confirmed_of(&self, owner: &[u8]) -> bool
         ensures { result ≡ is_confirmed_of owner.now self.now }
     {
         self.confirmed && self.owner.as_slice() == owner
     }
 
-    /// Whether it is an unconfirmed one of an owner.
+    /// Whether this is an unconfirmed record of an owner.
     pub fn is_unconfirmed_of(&self, owner: &[u8]) -> bool
         ensures { result ≡ is_unconfirmed_of owner.now self.now }
     {
         self.owner.as_slice() == owner && !self.confirmed
     }
 
-    /// The number that the next CREATE_SESSION is to have.
+    /// The sequence ID of the next CREATE_SESSION.
     pub fn due(&self) -> u32
         ensures { result ≡ due (last_number number_of self.now.created) }
     {
@@ -136,7 +136,7 @@ impl<A: Allocator> Client<A> {
         }
     }
 
-    /// The result of the last CREATE_SESSION, if this is its number.
+    /// The result of the last CREATE_SESSION, if this is its sequence ID.
     pub fn repeated(&self, number: u32) -> Option<Result<Created, Status>>
         ensures { result ≡ repeated self.now.created number }
     {
@@ -153,7 +153,7 @@ impl<A: Allocator> Client<A> {
         self.created = Some(creation);
     }
 
-    /// Confirms the record, and keeps the CREATE_SESSION that did it.
+    /// Confirms the record, and keeps the CREATE_SESSION that confirmed it.
     pub fn confirm(&mut self, creation: Creation)
         ensures { self.new ≡ record self.old { confirmed = true; created = Some creation } }
     {
@@ -161,14 +161,14 @@ impl<A: Allocator> Client<A> {
         self.created = Some(creation);
     }
 
-    /// Whether it has said RECLAIM_COMPLETE.
+    /// Whether the client has sent RECLAIM_COMPLETE.
     pub fn has_reclaimed(&self) -> bool
         ensures { result ≡ self.now.reclaimed }
     {
         self.reclaimed
     }
 
-    /// Keeps that it has said RECLAIM_COMPLETE.
+    /// Keeps that the client has sent RECLAIM_COMPLETE.
     pub fn reclaim(&mut self)
         ensures { self.new ≡ has_reclaimed self.old }
     {

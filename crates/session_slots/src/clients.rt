@@ -53,16 +53,16 @@ impl<A: Allocator + Copy> Clients<A> {
         self.registry.confirmed_of(owner)
     }
 
-    /// EXCHANGE_ID (RFC 8881, section 18.35). DELAY: there is no memory where a record would be made, and nothing changes.
+    /// EXCHANGE_ID (RFC 8881, section 18.35). DELAY: there is no memory for a new record, and nothing changes.
     pub fn exchange_id(&mut self, asked: Exchange<'_>) -> Result<Exchanged, Status>
         ensures { Exchanges self.old (exchanging_of asked.entry) result self.new }
     {
         self.registry.exchange(asked)
     }
 
-    /// CREATE_SESSION (RFC 8881, section 18.36). A call with the number of the last one gets the result that is kept. One that is refused
-    /// after its number was looked at is kept as the last one, but for DELAY: there is no memory where a session would be made, and
-    /// nothing changes.
+    /// CREATE_SESSION (RFC 8881, section 18.36). A call with the sequence ID of the last one gets the result that is kept. A call
+    /// that is refused after its sequence ID was checked is kept as the last one, but for DELAY: there is no memory for a new
+    /// session, and nothing changes.
     #[tactic(auto, using(crate::proofs::Creations::creates_by_history))]
     pub fn create_session(&mut self, asked: Create) -> Made
         ensures creates { Creates self.old asked result self.new }
@@ -71,7 +71,7 @@ impl<A: Allocator + Copy> Clients<A> {
         self.registry.create(asked)
     }
 
-    /// DESTROY_SESSION (RFC 8881, section 18.37). BADSESSION: it isn't there. It takes no memory.
+    /// DESTROY_SESSION (RFC 8881, section 18.37). BADSESSION: the session isn't there. It takes no memory.
     pub fn destroy_session(&mut self, session: u64) -> Result<(), Status>
         ensures refused { MatchOption (destroy_session_refusal self.old session) (IsOk result) (λ status. result ≡ Err status) }
         ensures ok { OnOk result (self.new ≡ without_session self.old session) }
@@ -80,8 +80,8 @@ impl<A: Allocator + Copy> Clients<A> {
         self.registry.destroy_session(session)
     }
 
-    /// DESTROY_CLIENTID (RFC 8881, section 18.50). STALE_CLIENTID: it isn't there. CLIENTID_BUSY: it has opens or sessions. It takes no
-    /// memory.
+    /// DESTROY_CLIENTID (RFC 8881, section 18.50). STALE_CLIENTID: the client isn't there. CLIENTID_BUSY: it has opens or
+    /// sessions. It takes no memory.
     pub fn destroy_client(&mut self, client: u64, has_opens: bool) -> Result<(), Status>
         ensures refused { MatchOption (destroy_client_refusal self.old client has_opens) (IsOk result) (λ status. result ≡ Err status) }
         ensures ok { OnOk result (self.new ≡ without_client self.old client) }
@@ -90,8 +90,8 @@ impl<A: Allocator + Copy> Clients<A> {
         self.registry.destroy_client(client, has_opens)
     }
 
-    /// RECLAIM_COMPLETE for all file systems (RFC 8881, section 18.51). COMPLETE_ALREADY: the client has said it before. STALE_CLIENTID:
-    /// it isn't there. It takes no memory.
+    /// RECLAIM_COMPLETE for all file systems (RFC 8881, section 18.51). COMPLETE_ALREADY: the client has sent it before.
+    /// STALE_CLIENTID: the client isn't there. It takes no memory.
     pub fn reclaim_complete(&mut self, client: u64) -> Result<(), Status>
         ensures refused { MatchOption (reclaim_refusal self.old client) (IsOk result) (λ status. result ≡ Err status) }
         ensures ok { OnOk result (self.new ≡ with_reclaimed self.old client) }

@@ -13,18 +13,18 @@ use crate::session::{Channel, Session};
 use nfs_types::Status;
 use std::alloc::Allocator;
 
-/// The arguments of CREATE_SESSION, and who calls.
+/// The arguments of CREATE_SESSION, and the caller.
 #[derive(Clone, Copy, Debug)]
 pub struct Create {
     /// The client.
     pub client: u64,
-    /// The number of the call.
+    /// The sequence ID of the call.
     pub sequence: u32,
     /// The user of the caller.
     pub uid: u32,
-    /// How much is asked for calls.
+    /// The fore channel that is requested.
     pub fore: Channel,
-    /// How much is asked for callbacks.
+    /// The backchannel that is requested.
     pub back: Channel,
 }
 
@@ -54,18 +54,18 @@ impl Made {
     }
 }
 
-/// How a CREATE_SESSION is judged, memory apart.
+/// The fate of a CREATE_SESSION, memory apart.
 #[derive(Clone, Copy, Debug, PartialEq, Eq)]
 enum Judged {
-    /// It is answered, and nothing changes.
+    /// The call is answered, and nothing changes.
     Answers(Made),
-    /// It is refused, and kept.
+    /// The call is refused, and kept.
     Refuses(Status),
-    /// It makes a session, and the record of this client goes.
+    /// The call creates a session, and the record of this client goes.
     Makes(Option<u64>),
 }
 
-/// How much is granted of what is asked.
+/// The part of a channel that is granted.
 fn granted(asked: Channel) -> Channel
     ensures { result ≡ granted asked }
 {
@@ -81,7 +81,7 @@ fn granted(asked: Channel) -> Channel
 }
 
 impl<A: Allocator + Copy> Registry<A> {
-    /// Why a CREATE_SESSION with the number that is due is refused.
+    /// Why a CREATE_SESSION with the next sequence ID is refused.
     fn creation_fault(&self, client: &Client<A>, asked: Create) -> Option<Status>
         ensures { result ≡ creation_fault client.now self.now asked }
     {
@@ -97,7 +97,7 @@ impl<A: Allocator + Copy> Registry<A> {
         None
     }
 
-    /// How a CREATE_SESSION is judged, memory apart.
+    /// The fate of a CREATE_SESSION, memory apart.
     fn judge_creation(&self, asked: Create) -> Judged
         ensures { result ≡ judged self.now asked }
     {
@@ -116,7 +116,7 @@ impl<A: Allocator + Copy> Registry<A> {
         Judged::Makes(other_in(&self.clients, client.owner(), asked.client))
     }
 
-    /// Makes a session, and confirms its client. The owner's other confirmed record goes with its sessions.
+    /// Creates a session, and confirms its client. The owner's other confirmed record goes with its sessions.
     fn make_session(&mut self, asked: Create, other: Option<u64>) -> Made
         requires { self.old.next_session < 2 ^ 63 }
         ensures { MakesSession self.old asked other result self.new }

@@ -49,7 +49,7 @@ impl<A: Allocator + Copy> Registry<A> {
         Ok(())
     }
 
-    /// Why a client can't say that it has reclaimed all.
+    /// Why a RECLAIM_COMPLETE is refused.
     fn reclaim_refusal(&self, client: u64) -> Option<Status>
         ensures { result ≡ reclaim_refusal self.now client }
     {

@@ -12,12 +12,12 @@ use crate::registry::Registry;
 use nfs_types::Status;
 use std::alloc::Allocator;
 
-/// The arguments of EXCHANGE_ID, and who calls.
+/// The arguments of EXCHANGE_ID, and the caller.
 #[derive(Clone, Copy, Debug)]
 pub struct Exchange<'a> {
-    /// The client's own name.
+    /// The client owner's ID.
     pub owner: &'a [u8],
-    /// Of this start of the client: its eight bytes, as a number.
+    /// The verifier of this incarnation of the client: its eight bytes, as a number.
     pub verifier: u64,
     /// The user of the caller.
     pub uid: u32,
@@ -30,11 +30,11 @@ pub struct Exchange<'a> {
 /// The answer to EXCHANGE_ID: the record of the client.
 #[derive(Clone, Copy, Debug, PartialEq, Eq)]
 pub struct Exchanged {
-    /// Its number.
+    /// The number of the client.
     pub client: u64,
-    /// The number that its next CREATE_SESSION is to have.
+    /// The sequence ID of the next CREATE_SESSION.
     pub sequence: u32,
-    /// Whether it is confirmed.
+    /// Whether the record is confirmed.
     pub is_confirmed: bool,
 }
 
@@ -51,18 +51,18 @@ impl Exchanged {
     }
 }
 
-/// How an EXCHANGE_ID stands, memory apart.
+/// The fate of an EXCHANGE_ID, memory apart.
 #[derive(Clone, Copy, Debug, PartialEq, Eq)]
 enum Standing {
-    /// It is refused, and nothing changes.
+    /// The call is refused, and nothing changes.
     Refuses(Status),
-    /// The owner's confirmed record is told.
+    /// The owner's confirmed record is answered.
     Knows(Exchanged),
-    /// A record is made, and this client goes with its sessions.
+    /// A record is created, and this client goes with its sessions.
     Makes(Option<u64>),
 }
 
-/// Tells a confirmed record.
+/// Answers a confirmed record.
 fn known<A: Allocator>(client: &Client<A>) -> Exchanged
     ensures { result ≡ known client.now }
 {
@@ -74,7 +74,7 @@ fn known<A: Allocator>(client: &Client<A>) -> Exchanged
 }
 
 impl<A: Allocator + Copy> Registry<A> {
-    /// Whether there is place for one more record, where this client goes.
+    /// Whether there is room for one more record, where this client goes.
     fn judge_new(&self, asked: Exchange<'_>, gone: Option<u64>) -> Standing
         ensures { result ≡ standing_new gone self.now (exchanging_of asked.entry) }
     {
@@ -85,7 +85,7 @@ impl<A: Allocator + Copy> Registry<A> {
         Standing::Makes(gone)
     }
 
-    /// How an EXCHANGE_ID stands, memory apart.
+    /// The fate of an EXCHANGE_ID, memory apart.
     fn judge_exchange(&self, asked: Exchange<'_>) -> Standing
         ensures { result ≡ standing self.now (exchanging_of asked.entry) }
     {
@@ -110,7 +110,7 @@ impl<A: Allocator + Copy> Registry<A> {
         Standing::Knows(known(client))
     }
 
-    /// Makes a record that isn't confirmed. The owner's other unconfirmed one goes, and this client with its sessions.
+    /// Creates a record that isn't confirmed. The owner's other unconfirmed record goes, and this client with its sessions.
     fn make_client(&mut self, asked: Exchange<'_>, gone: Option<u64>) -> Result<Exchanged, Status>
         requires { self.old.next_client < 2 ^ 63 }
         ensures { MakesClient self.old (exchanging_of asked.entry) gone result self.new }

@@ -1,4 +1,4 @@
-//! How many clients, sessions and slots there may be, and what a session carries.
+//! The limits of clients, sessions and slots.
 
 /// The most records of clients.
 pub const MOST_CLIENTS: usize = 64;
@@ -15,10 +15,10 @@ pub const MOST_BYTES: u32 = 65_536;
 /// The fewest bytes of a reply that a client may ask for.
 pub const LEAST_REPLY: u32 = 4096;
 
-/// The bytes of the header of a reply to a COMPOUND, which isn't kept.
+/// The bytes of the header of a reply to a COMPOUND, which isn't cached.
 pub const REPLY_HEADER: usize = 24;
 
-/// The most bytes of results that are kept.
+/// The most bytes of results that are cached.
 pub const MOST_RESULTS: usize = 65_512;
 
 /// The most operations of a COMPOUND.
@@ -27,7 +27,7 @@ pub const MOST_OPERATIONS: u32 = 16;
 /// No client and no session has this number.
 pub const END: u64 = 1 << 63;
 
-/// The server isn't one of pNFS, EXCHGID4_FLAG_USE_NON_PNFS (RFC 8881, section 18.35).
+/// The server is no pNFS server, EXCHGID4_FLAG_USE_NON_PNFS (RFC 8881, section 18.35).
 pub const USE_NON_PNFS: u32 = 0x1_0000;
 
 /// A confirmed record is to be updated, EXCHGID4_FLAG_UPD_CONFIRMED_REC_A (RFC 8881, section 18.35).

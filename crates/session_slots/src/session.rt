@@ -13,7 +13,7 @@ use rpc_record::Caller;
 use std::alloc::{AllocError, Allocator, Global};
 use std::marker::Model;
 
-/// How much a channel may carry, `channel_attrs4` (RFC 8881, section 18.36), RDMA apart.
+/// The attributes of a channel, `channel_attrs4` (RFC 8881, section 18.36), RDMA apart.
 #[derive(Clone, Copy, Debug, PartialEq, Eq)]
 pub struct Channel {
     /// Padding of requests and replies, in bytes.
@@ -22,7 +22,7 @@ pub struct Channel {
     pub request_size: u32,
     /// The most bytes of a reply.
     pub reply_size: u32,
-    /// The most bytes of a reply that is kept.
+    /// The most bytes of a reply that is cached.
     pub cached_size: u32,
     /// The most operations of a COMPOUND.
     pub operations: u32,
@@ -30,33 +30,33 @@ pub struct Channel {
     pub slots: u32,
 }
 
-/// The arguments of SEQUENCE (RFC 8881, section 18.46), and the call that it stands in.
+/// The arguments of SEQUENCE (RFC 8881, section 18.46), and its COMPOUND.
 #[derive(Clone, Copy, Debug)]
 pub struct Sequence<'a> {
     /// The slot.
     pub slot: u32,
-    /// The sequence id of the call.
+    /// The sequence ID of the call.
     pub number: u32,
     /// The highest slot that is in use.
     pub highest: u32,
-    /// How many operations the COMPOUND has, SEQUENCE among them.
+    /// How many operations the COMPOUND has, with SEQUENCE.
     pub count: u32,
     /// How many bytes the call's record has.
     pub record_len: usize,
     /// The bytes behind the call's header.
     pub arguments: &'a [u8],
-    /// Who sends it.
+    /// The caller.
     pub caller: &'a Caller,
 }
 
 /// A new call on a slot.
 #[derive(Clone, Copy, Debug, PartialEq, Eq)]
 pub struct NewCall {
-    /// The client of its session.
+    /// The client of the session.
     pub client: u64,
-    /// The most bytes of its reply.
+    /// The most bytes of the reply.
     pub reply_size: u32,
-    /// The highest slot of its session.
+    /// The highest slot of the session.
     pub highest_slot: u32,
 }
 
@@ -65,9 +65,9 @@ pub struct NewCall {
 pub enum Begin {
     /// The call is new: its operations run, and its results are kept at the end.
     New(NewCall),
-    /// The call is the last one of its slot again: it gets the results that are kept.
+    /// The call repeats the last call of its slot: it gets the results that are kept.
     Repeat,
-    /// It is refused.
+    /// The call is refused.
     Refused(Status),
 }
 
@@ -90,7 +90,7 @@ impl<A: Allocator> Model for Session<A> {
     ghost invariant = { λ s. HasSlots s.granted s.slots.items };
 }
 
-/// Tells a new call what it may use.
+/// The limits of a new call.
 fn begin_of(client: u64, granted: Channel, turn: Turn) -> Begin
     requires { 1 ≤ granted.slots }
     ensures { result ≡ begin_of client granted turn }
@@ -106,7 +106,7 @@ fn begin_of(client: u64, granted: Channel, turn: Turn) -> Begin
     }
 }
 
-/// Begins a call on a slot of these.
+/// Begins a call on one of these slots.
 #[tactic(auto, using(crate::proofs::Places::changed_there, crate::proofs::Places::is_there))]
 fn begin_at<A: Allocator + Copy>(slots: &mut Vec<Slot<A>, A>, asked: Sequence<'_>) -> Turn
     requires within { asked.slot < length slots.old.items }
@@ -119,7 +119,7 @@ fn begin_at<A: Allocator + Copy>(slots: &mut Vec<Slot<A>, A>, asked: Sequence<'_
     slot.begin(asked.number, asked.arguments, asked.caller)
 }
 
-/// Keeps the results of the call that was begun last on a slot of these.
+/// Keeps the results of the call that was begun last on one of these slots.
 #[tactic(auto, using(crate::proofs::Places::changed_there, crate::proofs::Places::is_there))]
 fn keep_at<A: Allocator + Copy>(slots: &mut Vec<Slot<A>, A>, index: usize, results: &[u8])
     requires within { index < length slots.old.items }
@@ -147,8 +147,8 @@ fn new_slots<A: Allocator + Copy>(
 }
 
 impl<A: Allocator + Copy> Session<A> {
-    /// A session of a client, with what was granted. Its slots have accepted no call, and have the room for their calls and replies.
-    /// `Err`: there is no memory for it.
+    /// A session of a client, with the channels that were granted. Its slots have accepted no call, and have the room for their calls
+    /// and replies. `Err`: there is no memory for it.
     #[tactic(auto, using(crate::proofs::Places::unused_has_slots))]
     pub fn new(alloc: A, client: u64, granted: Channel) -> Result<Self, AllocError>
         requires { 1 ≤ granted.slots }
@@ -163,7 +163,7 @@ impl<A: Allocator + Copy> Session<A> {
         })
     }
 
-    /// The number of its client.
+    /// The number of the session's client.
     pub fn client(&self) -> u64
         ensures { result ≡ self.now.client }
     {
@@ -179,7 +179,7 @@ impl<A: Allocator + Copy> Session<A> {
         self.slots.get(number as usize)
     }
 
-    /// Why a call is refused before its number is looked at.
+    /// Why a call is refused before its sequence ID is checked.
     fn fault(&self, asked: Sequence<'_>) -> Option<Status>
         ensures { result ≡ grant_fault self.now.granted (asked_of asked.entry) }
     {

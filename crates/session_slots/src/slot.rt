@@ -11,22 +11,22 @@ use std::marker::Model;
 /// Whether a call on a slot is new.
 #[derive(Clone, Copy, Debug, PartialEq, Eq)]
 pub enum Turn {
-    /// It has the number that is due.
+    /// The call has the next sequence ID.
     New,
-    /// It is the last one again.
+    /// The call repeats the last one.
     Repeat,
-    /// It is refused.
+    /// The call is refused.
     Refused(Status),
 }
 
-/// The number behind a number: that of the next call.
+/// The sequence ID of the next call.
 pub fn due(last: u32) -> u32
     ensures { result ≡ specs.due last }
 {
     last.wrapping_add(1)
 }
 
-/// Whether a call on a slot that has accepted none is new.
+/// Whether a call on an unused slot is new.
 fn first_turn(number: u32) -> Turn
     ensures { result ≡ (if number == 1 then Turn.New else Turn.Refused Status.SeqMisordered) }
 {
@@ -36,10 +36,10 @@ fn first_turn(number: u32) -> Turn
     }
 }
 
-/// A slot: the last call that it accepted, with its results. The room for them is reserved as it is made.
+/// A slot: the last call that it accepted, with its results. The room for them is reserved at the slot's creation.
 #[derive(Drop)]
 pub struct Slot<A: Allocator = Global> {
-    // its number, and who sent it; `None`: no call was accepted
+    // the sequence ID and the caller; `None`: no call was accepted
     last: Option<(u32, Caller)>,
     arguments: Vec<u8, A>,
     results: Vec<u8, A>,
@@ -77,7 +77,7 @@ impl<A: Allocator + Copy> Slot<A> {
         })
     }
 
-    /// The results that it keeps: none where it has accepted no call.
+    /// The results that the slot keeps: none where it has accepted no call.
     pub fn results(&self) -> &[u8]
         ensures kept { result.now ≡ results_of self.now.kept }
         ensures few { length result.now ≤ self.now.most_results }
@@ -88,7 +88,7 @@ impl<A: Allocator + Copy> Slot<A> {
         }
     }
 
-    /// Whether a call is new, the last one again, or refused.
+    /// Whether a call is new, a repeat of the last one, or refused.
     fn turn(&self, number: u32, arguments: &[u8], caller: &Caller) -> Turn
         ensures { result ≡ turn_of self.now.kept (record { number = number; caller = caller.now; arguments = arguments.now }) }
     {
@@ -123,9 +123,9 @@ impl<A: Allocator + Copy> Slot<A> {
         turn
     }
 
-    /// Begins a call: a new one is kept, with no results yet. It takes no memory.
+    /// Begins a call: a new call is kept, with no results yet. It takes no memory.
     ///
-    /// For every history of calls that the slot stood for, the call gets what that history says, and the slot stands for the history
+    /// For every history of calls that the slot stood for, the call gets that history's result, and the slot stands for the history
     /// with the call.
     #[tactic(auto, using(crate::proofs::Histories::begins_by_history))]
     pub fn begin(&mut self, number: u32, arguments: &[u8], caller: &Caller) -> Turn

@@ -115,7 +115,7 @@ fn see_a_new_verifier_gets_a_new_record(rt: &impl Abort, clients: &mut Clients) 
     assert_eq!(rt; session(clients, 1, 2), Err(Status::StaleClientId));
 }
 
-/// A client that has started anew keeps its old sessions until its new record is confirmed.
+/// A client that has restarted keeps its old sessions until its new record is confirmed.
 #[test]
 fn a_new_verifier_gets_a_new_record(rt: HostRuntime) {
     let mut clients = alice(rt.alloc());
@@ -144,7 +144,7 @@ fn see_a_known_client_loses_its_unconfirmed_record(rt: &impl Abort, clients: &mu
     assert!(rt; !is_gone(clients, 1));
 }
 
-/// The confirmed record is told, and the unconfirmed one of the same owner goes.
+/// The confirmed record is answered, and the owner's unconfirmed record goes.
 #[test]
 fn a_known_client_loses_its_unconfirmed_record(rt: HostRuntime) {
     let mut clients = alice(rt.alloc());
@@ -211,7 +211,7 @@ fn see_sixty_four_clients(rt: &impl Abort, clients: &mut Clients) {
     assert_eq!(rt; exchange(clients, asked(b"one more")), unconfirmed(67));
 }
 
-/// 64 records, one of them by another user than its owner's confirmed one: it takes that one's place.
+/// 64 records, one of them by another user than its owner's confirmed record: it takes the place of that record.
 #[test]
 fn sixty_four_clients(rt: HostRuntime) {
     let mut clients = alice(rt.alloc());

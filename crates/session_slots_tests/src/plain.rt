@@ -1,4 +1,4 @@
-//! The calls of `Clients`, bare of what is proved of them, so that a test's proof doesn't carry it along.
+//! The calls of `Clients` without their contracts, so that a test's proof doesn't carry them along.
 
 use nfs_types::Status;
 use rpc_record::Caller;
@@ -71,7 +71,7 @@ pub fn create<A: Allocator + Copy>(clients: &mut Clients<A>, asked: Create) -> M
     clients.create_session(asked)
 }
 
-/// The number of the session that is made, or why there is none.
+/// The number of the session that is created, or why there is none.
 pub fn session<A: Allocator + Copy>(
     clients: &mut Clients<A>,
     client: u64,

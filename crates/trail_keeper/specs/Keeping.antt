@@ -1,4 +1,4 @@
--- What a keeper does with the lines of a trail.
+-- The lines of a trail, as a keeper appends them.
 use Rattle.std.specs.Prelude.{◌≡◌, ℕ, ◌-◌, Bool, true, false, List, ◌++◌, length, drop, Option, max}
 use Rattle.std.specs.Io.KnownBytes.{Appends}
 use Rattle.access_guard.specs.Log.{Log}
@@ -8,26 +8,26 @@ use Rattle.trail_lines.specs.Told.{IsLogOf}
 use Rattle.trail_lines.specs.Written.{WritesFront}
 use Rattle.trail_keeper.specs.declared.keeper.TrailKeeper.{TrailKeeper}
 
--- The lines behind those that were seen stand behind what the writer held, and are seen.
+-- The lines behind the seen ones are appended to the bytes of the writer, and are seen.
 pub record Kept {W : Type 0} (contents : W → Option (List ℕ)) (log : Log) (old new : TrailKeeper W) : Type 0 where
   pub written : Appends (contents old.out) (contents new.out) (new_text old.seen log)
   pub seen : new.seen ≡ max old.seen log.total
   pub going : new.has_failed ≡ false
 
--- The writer failed behind a front of them, and none of them is seen.
+-- The writer failed behind a front of these lines, and none of them is seen.
 pub record Stops {W : Type 0} (contents : W → Option (List ℕ)) (log : Log) (old new : TrailKeeper W) : Type 0 where
   pub front : WritesFront (contents old.out) (contents new.out) (new_text old.seen log)
   pub unseen : new.seen ≡ old.seen
   pub failed : new.has_failed ≡ true
 
--- Whether it had failed before, and what it says now. A keeper that has failed says so again, and stays as it is.
+-- By whether the keeper had failed before, and its answer now. A keeper that has failed answers so again, and stays unchanged.
 abbrev pub KeepsSo : {W : Type 0} → (W → Option (List ℕ)) → Log → Bool → Bool → TrailKeeper W → TrailKeeper W → Type 0
 KeepsSo contents log true true old new = ⊥
 KeepsSo contents log true false old new = new ≡ old
 KeepsSo contents log false true old new = Kept contents log old new
 KeepsSo contents log false false old new = Stops contents log old new
 
--- Where the lines are those before and others behind them, and as many were seen as there were before, the others are told, and all are seen.
+-- Where all earlier lines were seen, and no others, the later lines are told, and all lines are seen.
 abbrev pub KeptOnce : {W : Type 0} → (W → Option (List ℕ)) → Type 0
 KeptOnce {W = W} contents =
     (earlier later : List Line) (log : Log) (old new : TrailKeeper W)

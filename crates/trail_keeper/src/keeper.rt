@@ -17,7 +17,7 @@ pub struct TrailKeeper<W> {
 }
 
 impl<W: Write> TrailKeeper<W> {
-    /// A keeper that has appended no line. The writer isn't flushed: it has to be one that keeps nothing back, such as a file.
+    /// A keeper that has appended no line. The writer isn't flushed: it has to be a writer that keeps no bytes back, such as a file.
     pub fn new(out: W) -> Self
         ensures { result ≡ record { out = out; seen = 0; has_failed = false } }
     {
@@ -36,10 +36,10 @@ impl<W: Write> TrailKeeper<W> {
     }
 
     /// Appends the lines of the trail that aren't appended yet, in their order, as [`append_new`] writes them: where the trail, which
-    /// keeps its last 4,096 lines, keeps some of them no more, `LOST lines=N` stands in front. It takes no memory.
+    /// keeps its last 4,096 lines, doesn't keep some of them any more, `LOST lines=N` stands in front. `keep` takes no memory.
     ///
-    /// `false`: the writer failed, or took nothing, now or before. A front of these lines stands there then at most, and no later call
-    /// writes anything.
+    /// `false`: the writer failed, or took no bytes, now or before. At most a front of these lines was appended then, and no later call
+    /// writes any bytes.
     pub fn keep<A: Allocator + Copy>(&mut self, guard: &Guard<A>) -> bool
         ensures { KeepsSo W.contents guard.now.log self.old.has_failed result self.old self.new }
     {

@@ -18,7 +18,7 @@ struct Disk {
     held: Vec<u8>,
     room: usize,
     piece: usize,
-    /// How many writes it was asked for.
+    /// How many times `write` was called.
     writes: u32,
 }
 
@@ -41,7 +41,7 @@ impl Write for Disk {
     }
 }
 
-/// Sees that a keeper that can't append the line of a refusal says so, and then says it again and writes nothing; one that can goes on.
+/// Sees that a keeper that can't append the line of a refusal says so, then says so again and writes nothing; any other keeper goes on.
 fn see_disk(rt: &impl Abort, server: &Server, disk: Disk) -> Result<(), Fail> {
     let has_room = disk.room >= BOBS.len();
     let count = disk.room.min(BOBS.len());
@@ -79,7 +79,7 @@ fn a_front_stands_where_a_write_fails(rt: HostRuntime) -> Result<(), Fail> {
     see_disks(&rt, alloc, &server)
 }
 
-/// Keeps a line for which there is room, and another one for which there is none, and then looks again.
+/// Keeps a line for which there is room, and another line for which there is none, and then keeps again.
 fn fail_later(
     rt: &impl Abort,
     alloc: Global,
@@ -94,7 +94,7 @@ fn fail_later(
     Ok(())
 }
 
-/// Once it has failed, a keeper asks its writer for nothing.
+/// A keeper that has failed doesn't call its writer any more.
 #[test]
 fn a_failed_keeper_writes_nothing(rt: HostRuntime) -> Result<(), Fail> {
     let alloc = rt.alloc();

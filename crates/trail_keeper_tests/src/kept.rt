@@ -1,4 +1,4 @@
-//! The lines that stand there behind each call of a keeper.
+//! The lines in the writer behind each call of a keeper.
 
 use call_texts::{BOB, CAROL, Caller, call_of};
 use compound_run::Server;
@@ -16,10 +16,10 @@ pub fn refuse(alloc: Global, server: &mut Server, who: Caller) -> Result<(), Fai
     Ok(())
 }
 
-/// The line of such a refusal.
+/// The line of this refusal, for bob.
 pub static BOBS: &[u8] = b"DENY uid=1002 op=CREATE obj=1 mask=00000024 missing=00000004\n";
 
-/// The lines of two.
+/// The lines of two refusals.
 static BOBS_AND_CAROLS: &[u8] =
     b"DENY uid=1002 op=CREATE obj=1 mask=00000024 missing=00000004\nDENY uid=1003 op=CREATE obj=1 mask=00000024 missing=00000004\n";
 
@@ -40,7 +40,7 @@ fn keep_all(
     Ok(())
 }
 
-/// Each line stands there once, behind what stood there.
+/// Each line is written once, behind the earlier lines.
 #[test]
 fn lines_are_kept_as_they_come(rt: HostRuntime) -> Result<(), Fail> {
     let alloc = rt.alloc();

@@ -1,4 +1,4 @@
--- What a log keeps of all lines that were put into it.
+-- The lines that a log keeps of all lines that were put into it.
 use Rattle.std.proofs.Common.{◌≡◌, ◌+◌, ◌-◌, ℕ, List, ◌++◌, length, drop, ap, ap₂, sym, ◌∙◌, arith}
 use Rattle.std.proofs.lemmas.List.{drop-append-le, drop-drop, length-append, length-drop}
 use Rattle.std.proofs.Math.Seq.{drop-append-add}

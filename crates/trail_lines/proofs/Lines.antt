@@ -42,12 +42,12 @@ took_none (Some x) (Some y) p = p ∙ append-nil x
 
 -- ---- pieces behind one another
 
--- a front of what comes behind a piece
+-- a front of the bytes behind a piece
 pub front_behind : (a b c : Option (List ℕ)) (bs cs : List ℕ) → Appends a b bs → WritesFront b c cs → WritesFront a c (bs ++ cs)
 front_behind a b c bs cs p (front, rest, is, q) =
     (bs ++ front, rest, ap (λ (l : List ℕ). bs ++ l) is ∙ sym (append_assoc bs front rest), appends_trans a b c bs front p q)
 
--- a front of a piece is one of what it begins
+-- a front of a piece is a front of the bytes that begin with the piece
 pub front_before : (a b : Option (List ℕ)) (bs cs : List ℕ) → WritesFront a b bs → WritesFront a b (bs ++ cs)
 front_before a b bs cs (front, rest, is, q) = (front, rest ++ cs, ap (λ (l : List ℕ). l ++ cs) is ∙ append_assoc front rest cs, q)
 
@@ -61,7 +61,7 @@ then_more (Err e) a b c bs cs p q = front_behind a b c bs cs p q
 
 -- ---- lines
 
--- a text that stands at the front of enough newlines, and one of them
+-- a text at the front of enough newlines, and one of them
 pub newline_behind : (text : List ℕ) (most : ℕ) → length text < most → take (length text + 1) (text ++ drop (length text) (replicate most 10)) ≡ text ++ 10 ∷ []
 newline_behind text most short =
     let more : most - length text ≡ suc (most - length text - 1) = omega arith in

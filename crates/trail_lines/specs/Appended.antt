@@ -1,4 +1,4 @@
--- What is appended for the lines of a trail that are new since so many.
+-- The text that is appended for the lines of a trail behind the first so many.
 use Rattle.std.specs.Prelude.{ℕ, ◌-◌, ◌==◌, if◌then◌else◌, List, [], ◌∷◌, ◌++◌, length, drop, codes, decimal}
 use Rattle.std.specs.List.{flat_map}
 use Rattle.access_guard.specs.Log.{Log}
@@ -16,7 +16,7 @@ text_of lines = flat_map line_bytes lines
 abbrev pub new_lines : ℕ → Log → List Line
 new_lines seen log = drop (length log.trail - (log.total - seen)) log.trail
 
--- how many lines behind the first so many the trail keeps no more
+-- how many lines behind the first so many the trail no longer keeps
 abbrev pub lost_lines : ℕ → Log → ℕ
 lost_lines seen log = (log.total - seen) - length log.trail
 
@@ -24,6 +24,6 @@ lost_lines seen log = (log.total - seen) - length log.trail
 abbrev pub lost_text : ℕ → List ℕ
 lost_text n = if n == 0 then [] else codes "LOST lines=" ++ decimal n ++ 10 ∷ []
 
--- what is missing, and then each line that is kept, in order
+-- the number of missing lines, and then each line that is kept, in order
 abbrev pub new_text : ℕ → Log → List ℕ
 new_text seen log = lost_text (lost_lines seen log) ++ text_of (new_lines seen log)

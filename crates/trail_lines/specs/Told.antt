@@ -1,4 +1,4 @@
--- Which lines a trail tells, over all that were ever put into it.
+-- The lines that are appended, of all that were ever put into a trail.
 use Rattle.std.specs.Prelude.{◌≡◌, ◌<◌, ◌+◌, ◌-◌, ◌^◌, true, List, ◌++◌, length, drop}
 use Rattle.circular_buffer.specs.Buffer.{keep_last}
 use Rattle.access_guard.specs.Log.{Log, settled}
@@ -10,8 +10,8 @@ pub record IsLogOf (lines : List Line) (log : Log) : Type 0 where
   pub kept : log.trail ≡ keep_last 4096 lines
   pub counted : log.total ≡ length lines
 
--- Behind those that were there before, each later line is told: by its text, in order, or, of more than 4,096, as one of so many that
--- are missing, which stand in front.
+-- Each line behind the earlier ones is appended: by its text, in order, or, of more than 4,096, as one of so many that are
+-- missing, whose number comes first.
 abbrev pub TellsEach : Type 0
 TellsEach =
     (earlier later : List Line) (log : Log) → IsLogOf (earlier ++ later) log

@@ -1,4 +1,4 @@
--- What a writer is given.
+-- The bytes that a writer is given.
 use Rattle.std.specs.Prelude.{◌≡◌, ℕ, List, ◌++◌, Option, Result, Ok, Err}
 use Rattle.std.specs.Io.KnownBytes.{Appends}
 

@@ -46,7 +46,7 @@ fn append_lines<W: Write>(lines: Iter<'_, Line>, out: &mut W) -> io::Result<()>
     Ok(())
 }
 
-/// Appends that so many lines are missing, if any are.
+/// Appends the number of missing lines, if any are.
 fn append_lost<W: Write>(count: u64, out: &mut W) -> io::Result<()>
     ensures { WriteGives (W.contents out.old) (W.contents out.new) (lost_text count) result }
 {
@@ -69,11 +69,11 @@ fn behind<A: Allocator + Copy>(guard: &Guard<A>, count: u64) -> Iter<'_, Line>
     lines
 }
 
-/// Appends the lines of the trail behind the first `seen` that there ever were, in their order, each with a newline (its text is that
-/// of [`write_line`]). Where the trail, which keeps its last 4,096 lines, keeps some of them no more, `LOST lines=N` stands in front, with
-/// their number in decimal digits.
+/// Appends the lines of the trail behind the first `seen` that there ever were, in their order, each with a newline (its text is
+/// that of [`write_line`]). Where the trail, which keeps its last 4,096 lines, no longer keeps some of them, `LOST lines=N` comes
+/// first, with their number in decimal digits.
 ///
-/// It answers how many lines there were in all: what `seen` is for the next call. `Err`: the writer failed, or took nothing, and then a
+/// It answers how many lines there were in all: `seen` for the next call. `Err`: the writer failed, or took nothing, and then a
 /// front of these bytes was written. It takes no memory.
 pub fn append_new<A: Allocator + Copy, W: Write>(
     guard: &Guard<A>,

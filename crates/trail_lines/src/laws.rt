@@ -1,7 +1,7 @@
-//! What follows from what is appended.
+//! Laws of the bytes that are appended.
 ghost use Rattle.trail_lines.specs.Told.{SettlingAdds, TellsEach};
 
-/// Where the first so many lines were seen, what is appended tells each line behind them: by its text, in order; of more than 4,096
+/// Where the first so many lines were seen, each line behind them is appended: by its text, in order; of more than 4,096
 /// those in front by their number alone.
 pub fn each_line_is_told()
     ensures { TellsEach }

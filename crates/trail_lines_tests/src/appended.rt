@@ -7,14 +7,14 @@ use std::process::Abort;
 use std::test::Fail;
 use trail_lines::append_new;
 
-/// What is appended for the lines behind the first `seen`, and the total that is answered.
+/// The bytes that are appended for the lines behind the first `seen`, and the total that is answered.
 fn appended(alloc: Global, guard: &Guard, seen: u64) -> Result<(Vec<u8>, u64), Fail> {
     let mut file = Vec::new(alloc);
     let total = append_new(guard, seen, &mut file)?;
     Ok((file, total))
 }
 
-/// Sees what is appended to what stands there, and that the total is this.
+/// Checks the bytes that are appended to the writer's, and the total.
 fn see(
     rt: &impl Abort,
     alloc: Global,
@@ -39,7 +39,7 @@ fn new_lines_are_appended(rt: HostRuntime) -> Result<(), Fail> {
     see(&rt, alloc, &guard, 3, (&[], 3))
 }
 
-/// What is appended stands behind what the writer holds.
+/// The bytes are appended behind those that the writer holds.
 #[test]
 fn a_writer_keeps_what_it_holds(rt: HostRuntime) -> Result<(), Fail> {
     let alloc = rt.alloc();
@@ -54,12 +54,12 @@ fn a_writer_keeps_what_it_holds(rt: HostRuntime) -> Result<(), Fail> {
     Ok(())
 }
 
-/// How many lines stand in a text.
+/// How many lines a text has.
 fn lines_in(text: &[u8]) -> usize {
     text.iter().filter(|byte| **byte == b'\n').count()
 }
 
-/// Sees which lines stand in front and at the end of what is appended, and how many there are.
+/// Checks the first and last lines that are appended, and how many there are.
 fn see_many(
     rt: &impl Abort,
     alloc: Global,

@@ -48,7 +48,7 @@ fn disk_of(alloc: Global, room: usize, piece: usize, fails: bool) -> Disk {
 static LINES: &[u8] =
     b"DENY uid=1 op=READ obj=1 mask=00000001 missing=00000001\nDENY uid=2 op=READ obj=1 mask=00000001 missing=00000001\n";
 
-/// Appends two lines to a disk, and sees that it has as much of them as it has room for, and that this is an error if it isn't all.
+/// Appends two lines to a disk, and checks that it has all that it has room for, and that this is an error if it isn't all.
 fn see_disk(rt: &impl Abort, guard: &Guard, disk: Disk) -> Result<(), Fail> {
     let mut disk = disk;
     let has_room = disk.room >= LINES.len();

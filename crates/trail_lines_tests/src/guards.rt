@@ -2,7 +2,7 @@
 ghost use Rattle.std.specs.Prelude.{◌≡◌, []};
 ghost use Rattle.access_guard.specs.Memory.{Agrees};
 
-use access_guard::{Demand, Guard};
+use access_guard::{Demand, FIRST_EPOCH, Guard};
 use acl_list::AclList;
 use node_tree::Tree;
 use rpc_record::Caller;
@@ -10,28 +10,34 @@ use std::alloc::Global;
 use std::hash::RandomState;
 use std::num::NonZeroUsize;
 use std::test::Fail;
+use who_book::Book;
 
 const READ: u32 = 25;
 
 /// Asks for bit 1 of the root, whose list is empty, and keeps the line of the refusal.
-fn refuse(guard: &mut Guard, tree: &Tree, caller: &Caller)
+fn refuse(guard: &mut Guard, tree: &Tree, book: &Book, caller: &Caller)
     requires none { guard.old.log.held ≡ [] }
-    requires agrees { Agrees guard.old.memory.remembered tree.now }
+    requires agrees { Agrees guard.old.memory.remembered book.now FIRST_EPOCH tree.now }
     ensures none { guard.new.log.held ≡ [] }
-    ensures agrees { Agrees guard.new.memory.remembered tree.now }
+    ensures agrees { Agrees guard.new.memory.remembered book.now FIRST_EPOCH tree.now }
 {
     let demand = Demand::Bits { object: 1, mask: 1 };
-    let _ = guard.decide(demand, tree, caller, READ);
+    let _ = guard.decide(demand, tree, book, FIRST_EPOCH, caller, READ);
     guard.settle(true);
 }
 
 /// Asks by so many users, of the numbers 1, 2 and so on.
-fn refuse_all(guard: &mut Guard, tree: &Tree, count: u32)
+fn refuse_all(guard: &mut Guard, tree: &Tree, book: &Book, count: u32)
     requires none { guard.old.log.held ≡ [] }
-    requires agrees { Agrees guard.old.memory.remembered tree.now }
+    requires agrees { Agrees guard.old.memory.remembered book.now FIRST_EPOCH tree.now }
 {
     for uid in 0..count {
-        refuse(guard, tree, &Caller::new(uid.saturating_add(1), 100, &[]));
+        refuse(
+            guard,
+            tree,
+            book,
+            &Caller::new(uid.saturating_add(1), 100, &[]),
+        );
     }
 }
 
@@ -39,6 +45,6 @@ fn refuse_all(guard: &mut Guard, tree: &Tree, count: u32)
 pub fn refusing(alloc: Global, hasher: RandomState, count: u32) -> Result<Guard, Fail> {
     let tree = Tree::new(alloc, 0, 0, AclList::from_slice(alloc, &[])?, 0)?;
     let mut guard = Guard::new(alloc, NonZeroUsize::MIN, hasher)?;
-    refuse_all(&mut guard, &tree, count);
+    refuse_all(&mut guard, &tree, &Book::default(alloc), count);
     Ok(guard)
 }

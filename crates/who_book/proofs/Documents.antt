@@ -20,16 +20,16 @@ pub known_keys-entries : (es : List Entry) → has_known_keys (members_view es) 
 known_keys-entries [] = refl
 known_keys-entries (e ∷ es) = ap (λ b. is_known (string_bytes e.0) && b) (known_keys-entries es)
 
--- rows found so far, before the rows of the rest
-abbrev pub onto : List (List ℕ × ℤ) → Option (List (List ℕ × ℤ)) → Option (List (List ℕ × ℤ))
+-- the result so far, before the result of the rest
+abbrev pub onto : {A : Type 0} → List A → Option (List A) → Option (List A)
 onto rows = option_map (λ rest. rows ++ rest)
 
-pub onto-none : (o : Option (List (List ℕ × ℤ))) → onto [] o ≡ o
+pub onto-none : {A : Type 0} (o : Option (List A)) → onto [] o ≡ o
 onto-none None = refl
 onto-none (Some rest) = refl
 
--- one more row
-pub onto-more : (rows : List (List ℕ × ℤ)) (row : List ℕ × ℤ) (o : Option (List (List ℕ × ℤ))) → onto rows (option_and_then (λ rest. Some (row ∷ rest)) o) ≡ onto (rows ++ row ∷ []) o
+-- the result with one more key
+pub onto-more : {A : Type 0} (rows : List A) (row : A) (o : Option (List A)) → onto rows (option_and_then (λ rest. Some (row ∷ rest)) o) ≡ onto (rows ++ row ∷ []) o
 onto-more rows row None = refl
 onto-more rows row (Some rest) = ap Some (sym (append_assoc rows (row ∷ []) rest))
 
@@ -51,7 +51,7 @@ pub names-push : (rows : List Row) (row : Row) (name : List ℕ) (rest : List (L
 names-push [] row name rest is = rw is refl
 names-push (r ∷ rows) row name rest is = ap (λ more. r.name.now ∷ more) (names-push rows row name rest is)
 
--- one turn of a walk over a table: `left` is what it has not come to before, `rest` after
+-- one turn of a walk over a table: `left` is the rest before it, `rest` the rest after it
 pub integers-turn : (found : Option (List (List ℕ × ℤ))) (rows rows' : List Row) (left rest : List Entry) (name : String Global) (value : Value) (row : Row) (n : ℤ)
     → rows' ≡ rows ++ row ∷ [] → left ≡ (name, value) ∷ rest → as_integer (view value) ≡ Some n → row.number ≡ n → row.name.now ≡ string_bytes name
     → found ≡ onto (rows_of rows) (integers (members_view left)) → found ≡ onto (rows_of rows') (integers (members_view rest))

@@ -1,10 +1,12 @@
--- What the ranges of a document give.
-use Rattle.std.proofs.Common.{◌≡◌, ℕ, ℤ, pos, negsuc, true, ◌&&◌, ◌≤◌, List, to_z, of_z, w64, refl, arith, rules}
+-- The book of the ranges of a document.
+use Rattle.std.proofs.Common.{◌≡◌, ℕ, ℤ, pos, negsuc, true, false, ◌&&◌, ◌≤◌, List, Option, option_map, Ok, Err, to_z, of_z, w64, refl, arith, rules}
 use Rattle.std.proofs.lemmas.Int.{ints, to_z-of_z}
 use Rattle.std.proofs.lemmas.Bool.{and_parts, leb-true, le-leb, false≢true}
-use Rattle.who_book.specs.Content.{IsBook, is_domain}
-use Rattle.who_book.specs.Document.{Outline, is_in_range, is_up_to, is_table, natural, naturals, content}
+use Rattle.who_book.specs.Content.{Memberships, IsBook, is_domain}
+use Rattle.who_book.specs.Document.{Outline, is_in_range, is_up_to, is_table, natural, naturals, content, has_twins, agrees, filled}
+use Rattle.who_book.specs.Members.{memberships}
 use Rattle.who_book.specs.Names.{Rows, IsTable}
+use Rattle.who_book.specs.declared.fault.BookFault.TheVariants.{Twice, Member}
 
 pub record Fits (said : Outline) : Type 0 where
   pub domain : is_domain said.domain ≡ true
@@ -40,7 +42,7 @@ book_from said h users groups = record {
   groups_are_table = groups;
 }
 
--- an integer in range comes out of a register as it went in
+-- an integer in range comes out of a register unchanged
 pub stored : (z : ℤ) → is_up_to 4294967295 z ≡ true → to_z w64 (of_z w64 z) ≡ z
 stored (pos n) h = let small : n ≤ 4294967295 = leb-true n 4294967295 h in search (rules, ints, to_z-of_z)
 stored (negsuc n) h = absurd (false≢true h)
@@ -51,21 +53,29 @@ passed z h = rw (stored z h) h
 pub passed_number : (n : ℕ) (z : ℤ) → is_up_to 4294967295 z ≡ true → n ≡ natural (to_z w64 (of_z w64 z)) → n ≡ natural z
 passed_number n z h is = rw (stored z h) at is
 
-pub filled : (said : Outline) (domain : List ℕ) (owner group mode : ℕ) (users groups : Rows) → is_in_range said ≡ true → domain ≡ said.domain
-    → owner ≡ natural (to_z w64 (of_z w64 said.root_owner)) → group ≡ natural (to_z w64 (of_z w64 said.root_group)) → mode ≡ natural (to_z w64 (of_z w64 said.root_mode))
-    → users ≡ naturals said.users → groups ≡ naturals said.groups
-    → record { domain = domain; root_owner = owner; root_group = group; root_mode = mode; users = users; groups = groups } ≡ content said
-filled said domain owner group mode users groups h is_domain is_owner is_group is_mode is_users is_groups =
-    let all = fits said h in
-    let same_owner = passed_number owner said.root_owner all.root_owner is_owner in
-    let same_group = passed_number group said.root_group all.root_group is_group in
-    let same_mode = passed_number mode said.root_mode (up_to_more said.root_mode all.root_mode) is_mode in
-    rw (is_domain, same_owner, same_group, same_mode, is_users, is_groups) refl
+-- the settings that are kept are those of the document
+module _ (said : Outline) (domain : List ℕ) (owner group mode : ℕ) (users groups : Rows) (members : Option Memberships) (in_range : is_in_range said ≡ true) (same_domain : domain ≡ said.domain)
+    (same_owner : owner ≡ natural (to_z w64 (of_z w64 said.root_owner))) (same_group : group ≡ natural (to_z w64 (of_z w64 said.root_group))) (same_mode : mode ≡ natural (to_z w64 (of_z w64 said.root_mode)))
+    (same_users : users ≡ naturals said.users) (same_groups : groups ≡ naturals said.groups) (same_members : members ≡ option_map (memberships users groups) said.members) where
+  pub kept : record { domain = domain; root_owner = owner; root_group = group; root_mode = mode; users = users; groups = groups; members = members } ≡ content said
+  kept =
+      let all = fits said in_range in
+      let is_owner = passed_number owner said.root_owner all.root_owner same_owner in
+      let is_group = passed_number group said.root_group all.root_group same_group in
+      let is_mode = passed_number mode said.root_mode (up_to_more said.root_mode all.root_mode) same_mode in
+      rw (same_domain, is_owner, is_group, is_mode, same_members, same_users, same_groups) refl
 
-pub filled_book : (said : Outline) (domain : List ℕ) (owner group mode : ℕ) (users groups : Rows) → is_in_range said ≡ true → domain ≡ said.domain
-    → owner ≡ natural (to_z w64 (of_z w64 said.root_owner)) → group ≡ natural (to_z w64 (of_z w64 said.root_group)) → mode ≡ natural (to_z w64 (of_z w64 said.root_mode))
-    → users ≡ naturals said.users → groups ≡ naturals said.groups → IsTable users → IsTable groups
-    → IsBook (record { domain = domain; root_owner = owner; root_group = group; root_mode = mode; users = users; groups = groups })
-filled_book said domain owner group mode users groups h is_domain is_owner is_group is_mode is_users is_groups users_table groups_table =
-    rw (filled said domain owner group mode users groups h is_domain is_owner is_group is_mode is_users is_groups)
-    (book_from said h (rw is_users at users_table) (rw is_groups at groups_table))
+  pub kept_book : IsTable users → IsTable groups → IsBook (record { domain = domain; root_owner = owner; root_group = group; root_mode = mode; users = users; groups = groups; members = members })
+  kept_book users_table groups_table = rw kept (book_from said in_range (rw same_users at users_table) (rw same_groups at groups_table))
+
+  pub kept_fills : has_twins (content said) ≡ false → agrees users groups said.members ≡ true
+      → filled said ≡ Ok (record { domain = domain; root_owner = owner; root_group = group; root_mode = mode; users = users; groups = groups; members = members })
+  kept_fills apart agreed =
+      let same : agrees (naturals said.users) (naturals said.groups) said.members ≡ true = rw (same_users, same_groups) at agreed in
+      rw (kept, apart, same) refl
+
+pub fills_twice : (said : Outline) → has_twins (content said) ≡ true → filled said ≡ Err Twice
+fills_twice said twins = rw twins refl
+
+pub fills_member : (said : Outline) → has_twins (content said) ≡ false → agrees (naturals said.users) (naturals said.groups) said.members ≡ false → filled said ≡ Err Member
+fills_member said apart disagree = rw (apart, disagree) refl

@@ -193,7 +193,7 @@ word_fits most bytes h =
 pub name_fits : (rows : Rows) (n : ℕ) (name : List ℕ) → IsTable rows → name_at n rows ≡ Some name → length name ≤ 64
 name_fits rows n name table found = word_fits 64 name ((and_parts (is_word 64 name) _ (name_is_name rows n name table found)).0)
 
--- what was written is read
+-- a written text is read as its number
 
 read_case : (o : Option (List ℕ)) (rows : Rows) (domain : List ℕ) (n : ℕ) → IsTable rows → name_at n rows ≡ o → n < 2 ^ 32 → option_or (number_in (text_for o domain n)) (named_in rows domain (text_for o domain n)) ≡ Some n
 read_case None rows domain n table found small = rw (number_in-decimal n small) refl
@@ -282,7 +282,7 @@ pub group_flag : (flags : ℕ) → has_bit flags 6 ≡ not (bit_and flags 64 == 
 unfolding has_bit
 group_flag flags = let e = and_pow flags 6 in let small : bit_at flags 6 < 2 = bit_at-lt flags 6 in grind (arith, nat_tests)
 
--- what a reading answers
+-- the answers of a reading
 
 pub principal_digits : (kind : NameKind) (book : Content) (text : List ℕ) (n : ℕ) → number_in text ≡ Some n → Some n ≡ principal_in kind book text
 unfolding principal_in
@@ -407,7 +407,7 @@ pub who_of_special : (flags : ℕ) (book : Content) (who : Who) (text : List ℕ
 unfolding who_in
 who_of_special flags book who text is = rw is refl
 
--- which text is which who, both ways
+-- a text is read as a who exactly where it is its spelling
 
 spelled_plain : (kind : NameKind) (book : Content) (text : List ℕ) (n : ℕ) → IsBook book → Spells kind book text n → special_in text ≡ None
 spelled_plain kind book text n is (inl digits) = let wide : n < 2 ^ 64 = omega (arith, digits.0) in special_none text (rw digits.1 (last_at-digits (decimal n) (digits_decimal own n wide)))

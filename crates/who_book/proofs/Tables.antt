@@ -24,12 +24,12 @@ use Rattle.who_book.specs.declared.outline.Row.{Row}
 abbrev pub Named : Type 0
 Named = Vec ℕ Global × ℕ
 
--- the index by name finds what the table has
+-- the index by name finds the number that the table has
 pub lookup-rows : (name : List ℕ) (es : List Named) → lookup (is_at (λ key. slice_cmp nat_cmp name key.items)) es ≡ number_at name (rows_in es)
 lookup-rows name [] = refl
 lookup-rows name (e ∷ es) = rw (is_eq-slice_cmp name e.0.items, lookup-rows name es) refl
 
--- a name above all goes last
+-- a name above all others goes last
 pub insert-last : (es : List Named) (key : Vec ℕ Global) (number : ℕ) → AllByRecursion (λ k. slice_cmp nat_cmp k key.items ≡ Less) (keys_of (rows_in es))
     → rows_in (insert_entry (λ x y. slice_cmp nat_cmp x.items y.items) es key number) ≡ rows_in es ++ (key.items, number) ∷ []
 insert-last [] key number below = refl
@@ -53,11 +53,11 @@ keys_of-naturals [] = refl
 keys_of-naturals (row ∷ rows) = ap (λ ks. row.0 ∷ ks) (keys_of-naturals rows)
 
 -- a key of a middle row is above those before it
-below_middle : (first : List ℕ) (before : Rows) (row : List ℕ × ℕ) (after : Rows) → AllByRecursion (λ k. slice_cmp nat_cmp first k ≡ Less) (keys_of (before ++ row ∷ after)) → slice_cmp nat_cmp first row.0 ≡ Less
+below_middle : {A : Type 0} (first : List ℕ) (before : List (List ℕ × A)) (row : List ℕ × A) (after : List (List ℕ × A)) → AllByRecursion (λ k. slice_cmp nat_cmp first k ≡ Less) (keys_of (before ++ row ∷ after)) → slice_cmp nat_cmp first row.0 ≡ Less
 below_middle first [] row after h = h.0
 below_middle first (b ∷ before) row after h = below_middle first before row after h.1
 
-all_below_middle : (before : Rows) (row : List ℕ × ℕ) (after : Rows) → IsStrictlySortedBy (slice_cmp nat_cmp) (keys_of (before ++ row ∷ after)) → AllByRecursion (λ k. slice_cmp nat_cmp k row.0 ≡ Less) (keys_of before)
+pub all_below_middle : {A : Type 0} (before : List (List ℕ × A)) (row : List ℕ × A) (after : List (List ℕ × A)) → IsStrictlySortedBy (slice_cmp nat_cmp) (keys_of (before ++ row ∷ after)) → AllByRecursion (λ k. slice_cmp nat_cmp k row.0 ≡ Less) (keys_of before)
 unfolding IsStrictlySortedBy
 all_below_middle [] row after h = tt
 all_below_middle (b ∷ before) row after h = (below_middle b.0 before row after h.0, all_below_middle before row after h.1)
@@ -68,7 +68,7 @@ below_turn rows before row after ascending parts =
     let P : List (List ℕ) → Type 0 = IsStrictlySortedBy (slice_cmp nat_cmp) in
     all_below_middle before row after (subst P (sym (keys_of-naturals rows) ∙ ap keys_of parts) ascending)
 
--- what a table with one more row finds
+-- the numbers and names that a table with one more row finds
 push_cases : (b : Bool) (o : Option (List ℕ × ℕ)) (row : List ℕ × ℕ) → (b ≡ true → option_map (λ r. r.0) o ≡ None)
     → option_map (λ r. r.0) (option_or o (cond b (Some row) None)) ≡ cond b (Some row.0) (option_map (λ r. r.0) o)
 push_cases true None row absent = refl
@@ -97,7 +97,7 @@ any_push test (r ∷ rows) row none is =
     let (first, rest) = or_parts (test r.1) _ none in
     or_from _ _ first (any_push test rows row rest is)
 
--- a number that has a name, once more
+-- a number that has a name already
 found_cases : (b : Bool) (r : List ℕ × ℕ) (o : Option (List ℕ × ℕ)) → IsSome (option_map (λ r. r.0) (cond b (Some r) o)) → (b ≡ true) ⊎ IsSome (option_map (λ r. r.0) o)
 found_cases true r o some = inl refl
 found_cases false r o some = inr some
@@ -181,7 +181,7 @@ empty_indexes numbers names no_numbers no_names = record {
   both_ways = λ n. rw (no_numbers, no_names) refl;
 }
 
--- what a finished walk over the rows leaves
+-- the indexes after a walk over all rows
 pub full_indexes : (numbers : BTreeMap (Vec ℕ Global) ℕ) (names : BTreeMap ℕ (String Global)) (rows : List (List ℕ × ℤ))
     → is_table rows ≡ true → IsAscending rows → naturals rows ≡ rows_in numbers.entries
     → ((n : ℕ) → name_in names n ≡ name_at n (rows_in numbers.entries)) → repeats (values_of (rows_in numbers.entries)) ≡ false → AreIndexes numbers names

@@ -1,10 +1,11 @@
--- What a `Book` of the program shows.
-use Rattle.std.specs.Prelude.{ℕ, List, codes, Option, Some, None, String, string_bytes}
+-- The content of a `Book` of the program.
+use Rattle.std.specs.Prelude.{ℕ, List, codes, Option, Some, None, option_map, String, string_bytes}
 use Rattle.std.specs.declared.alloc.Global.{Global}
 use Rattle.who_book.specs.Content.{Content}
+use Rattle.who_book.specs.Indexes.{memberships_in}
 use Rattle.who_book.specs.declared.book.Book.TheInside.{Inside}
 
--- the domain that is kept, where none is the one without a book
+-- the domain that is kept; `None` stands for that without a book
 abbrev pub domain_of : Option (String Global) → List ℕ
 domain_of None = codes "localdomain"
 domain_of (Some domain) = string_bytes domain
@@ -17,4 +18,5 @@ content_in book = record {
   root_mode = book.root_mode;
   users = book.users;
   groups = book.groups;
+  members = option_map (memberships_in book.users) book.members;
 }

@@ -1,21 +1,22 @@
--- What a TOML document says as a book, and the first fault where it says none.
-use Rattle.std.specs.Prelude.{◌≡◌, ◌⊎◌, ℕ, nat_le, Bool, true, false, not, ◌&&◌, ◌||◌, if◌then◌else◌, ℤ, pos, negsuc, List, [], ◌∷◌, map, length, codes, Option, Some, None, option_and_then, Result, Ok, Err}
+-- The book of a TOML document, or its first fault.
+use Rattle.std.specs.Prelude.{◌≡◌, ◌⊎◌, ℕ, nat_le, Bool, true, false, not, ◌&&◌, ◌||◌, if◌then◌else◌, ℤ, pos, negsuc, List, [], ◌∷◌, map, length, codes, Option, Some, None, option_map, option_and_then, Result, Ok, Err}
 use Rattle.std.specs.List.{list_any, list_all}
 use Rattle.std.specs.Map.{values_of}
 use Rattle.std.specs.Bool.{nat_eq}
 use Rattle.std.specs.Str.{bytes_eq}
-use Rattle.toml.specs.Data.{Members, no_members, member, get_member, as_str, as_integer, as_table}
+use Rattle.toml.specs.Data.{Data, Items, no_items, item, Members, no_members, member, get_member, as_str, as_integer, as_array, as_table}
 use Rattle.toml.specs.Parse.{parse_document}
 use Rattle.who_book.specs.Content.{Content, is_domain}
+use Rattle.who_book.specs.Members.{Rolls, memberships, are_rolls}
 use Rattle.who_book.specs.Names.{Rows, is_name}
 use Rattle.who_book.specs.declared.fault.BookFault.{BookFault}
-use Rattle.who_book.specs.declared.fault.BookFault.TheVariants.{Text, Shape, Range, Twice, Memory}
+use Rattle.who_book.specs.declared.fault.BookFault.TheVariants.{Text, Shape, Range, Twice, Member, Memory}
 
 infixl 10 ◌>>=◌
 abbrev pub ◌>>=◌ : {A B : Type 0} → Option A → (A → Option B) → Option B
 o >>= f = option_and_then f o
 
--- what the six keys hold, before any number or name is looked at
+-- the values of the keys, before any number or name is checked
 pub record Outline : Type 0 where
   pub domain : List ℕ
   pub root_owner : ℤ
@@ -23,17 +24,18 @@ pub record Outline : Type 0 where
   pub root_mode : ℤ
   pub users : List (List ℕ × ℤ)
   pub groups : List (List ℕ × ℤ)
+  pub members : Option Rolls
 
 -- Shape
 
 abbrev pub known_keys : List (List ℕ)
 known_keys =
-    codes "domain" ∷ codes "root_owner" ∷ codes "root_group" ∷ codes "root_mode" ∷ codes "users" ∷ codes "groups" ∷ []
+    codes "domain" ∷ codes "root_owner" ∷ codes "root_group" ∷ codes "root_mode" ∷ codes "users" ∷ codes "groups" ∷ codes "members" ∷ []
 
 abbrev pub is_known : List ℕ → Bool
 is_known key = list_any (bytes_eq key) known_keys
 
--- no key is another than these
+-- each key is one of these
 abbrev pub has_known_keys : Members → Bool
 has_known_keys no_members = true
 has_known_keys (member key value more) = is_known key && has_known_keys more
@@ -58,7 +60,37 @@ table_at key document = get_member key document >>= as_table
 abbrev pub integers_at : List ℕ → Members → Option (List (List ℕ × ℤ))
 integers_at key document = table_at key document >>= integers
 
--- the six keys of a document, if each is there with its type and no other key is
+abbrev pub if_there : {A B : Type 0} → (A → Option B) → Option A → Option (Option B)
+if_there f None = Some None
+if_there f (Some x) = option_map Some (f x)
+
+-- the items of an array, if each is a text
+abbrev pub texts : Items → Option (List (List ℕ))
+texts no_items = Some []
+texts (item value more) = do
+  text ← as_str value
+  rest ← texts more
+  Some (text ∷ rest)
+
+abbrev pub texts_in : Data → Option (List (List ℕ))
+texts_in value = as_array value >>= texts
+
+-- the members of a table, if each is an array of texts
+abbrev pub rolls : Members → Option Rolls
+rolls no_members = Some []
+rolls (member group value more) = do
+  users ← texts_in value
+  rest ← rolls more
+  Some ((group, users) ∷ rest)
+
+abbrev pub rolls_in : Data → Option Rolls
+rolls_in value = as_table value >>= rolls
+
+-- the value of a key that may be missing
+abbrev pub rolls_at : List ℕ → Members → Option (Option Rolls)
+rolls_at key document = if_there rolls_in (get_member key document)
+
+-- the keys of a document, if each has its type, none but `members` is missing, and no other key is there
 unfoldable pub outline : Members → Option Outline
 outline document = if not (has_known_keys document) then None else do
   domain ← text_at (codes "domain") document
@@ -67,7 +99,8 @@ outline document = if not (has_known_keys document) then None else do
   root_mode ← integer_at (codes "root_mode") document
   users ← integers_at (codes "users") document
   groups ← integers_at (codes "groups") document
-  Some (record { domain = domain; root_owner = root_owner; root_group = root_group; root_mode = root_mode; users = users; groups = groups })
+  members ← rolls_at (codes "members") document
+  Some (record { domain = domain; root_owner = root_owner; root_group = root_group; root_mode = root_mode; users = users; groups = groups; members = members })
 
 -- Range
 
@@ -90,7 +123,7 @@ is_in_range said =
 
 -- Twice
 
--- some number stands twice
+-- some number is there twice
 abbrev pub repeats : List ℕ → Bool
 repeats [] = false
 repeats (n ∷ ns) = list_any (nat_eq n) ns || repeats ns
@@ -112,36 +145,49 @@ content said = record {
   root_mode = natural said.root_mode;
   users = naturals said.users;
   groups = naturals said.groups;
+  members = option_map (memberships (naturals said.users) (naturals said.groups)) said.members;
 }
 
--- some table has two names of one number
+-- some table has two names for one number
 abbrev pub has_twins : Content → Bool
 has_twins said = repeats (values_of said.users) || repeats (values_of said.groups)
+
+-- the value of `members`, if the key is there, agrees with the two tables
+abbrev pub agrees : Rows → Rows → Option Rolls → Bool
+agrees users groups None = true
+agrees users groups (Some rolls) = are_rolls users groups rolls
+
+-- the book of values in range
+abbrev pub filled : Outline → Result Content BookFault
+filled said =
+    if has_twins (content said) then Err Twice
+    else if not (agrees (naturals said.users) (naturals said.groups) said.members) then Err Member
+    else Ok (content said)
 
 abbrev pub said_by : Option Outline → Result Content BookFault
 said_by None = Err Shape
 said_by (Some said) =
-    if not (is_in_range said) then Err Range else if has_twins (content said) then Err Twice else Ok (content said)
+    if not (is_in_range said) then Err Range else filled said
 
--- the book that a document is, or its first fault
+-- the book of a document, or its first fault
 abbrev pub book_in : Option Members → Result Content BookFault
 book_in None = Err Text
 book_in (Some document) = said_by (outline document)
 
--- the book that a text is, or its first fault
+-- the book of a text, or its first fault
 abbrev pub book_of : List ℕ → Result Content BookFault
 book_of text = book_in (parse_document text)
 
--- a reader's answer to a text: what the text says, or that memory ran out
+-- a reader's answer to a text: its book or fault, or that memory ran out
 abbrev pub Answers : List ℕ → Result Content BookFault → Type 0
 Answers text (Ok book) = book_of text ≡ Ok book
 Answers text (Err fault) = (fault ≡ Memory) ⊎ (book_of text ≡ Err fault)
 
--- the same answer of the reader's steps: that the text is TOML, and that no table has twins
+-- the answer by the reader's steps: that the text is TOML, and the book of values in range
 abbrev pub Parses : {T : Type 0} → (T → Members) → List ℕ → Result T BookFault → Type 0
 Parses shows text (Ok table) = parse_document text ≡ Some (shows table)
 Parses shows text (Err fault) = (fault ≡ Memory) ⊎ ((fault ≡ Text) × (parse_document text ≡ None))
 
-abbrev pub Fills : Content → Result Content BookFault → Type 0
-Fills said (Ok book) = (book ≡ said) × (has_twins said ≡ false)
-Fills said (Err fault) = (fault ≡ Memory) ⊎ ((fault ≡ Twice) × (has_twins said ≡ true))
+abbrev pub Fills : Outline → Result Content BookFault → Type 0
+Fills said (Ok book) = filled said ≡ Ok book
+Fills said (Err fault) = (fault ≡ Memory) ⊎ (filled said ≡ Err fault)

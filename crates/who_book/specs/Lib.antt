@@ -1,5 +1,6 @@
 pub mod Names
 pub mod Content
+pub mod Members
 pub mod Document
 pub mod Outlines
 pub mod Indexes

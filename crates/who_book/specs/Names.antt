@@ -33,7 +33,7 @@ is_name bytes = is_word 64 bytes && not (list_all is_ascii_digit bytes)
 abbrev pub IsOneToOne : Rows → Type 0
 IsOneToOne rows = IsDistinct bytes_eq (keys_of rows) × IsDistinct nat_eq (values_of rows)
 
--- what each table of a book meets
+-- the bounds of each table of a book
 pub record IsTable (rows : Rows) : Type 0 where
   pub one_to_one : IsOneToOne rows
   pub named : list_all is_name (keys_of rows) ≡ true

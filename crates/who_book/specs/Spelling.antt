@@ -1,4 +1,4 @@
--- How users, groups and whos are spelled (RFC 8881, sections 5.9 and 6.2.1.5).
+-- The texts of users, groups and whos (RFC 8881, sections 5.9 and 6.2.1.5).
 use Rattle.std.specs.Prelude.{◌≡◌, ◌⊎◌, ℕ, ◌+◌, ◌-◌, ◌*◌, ◌<◌, ◌^◌, ◌==◌, nat_lt, Bool, true, false, not, ◌&&◌, if◌then◌else◌, List, [], ◌∷◌, ◌++◌, codes, decimal, Option, Some, None, option_map}
 use Rattle.std.specs.List.{find}
 use Rattle.std.specs.Option.{option_or}
@@ -34,7 +34,7 @@ full_name name domain = name ++ 64 ∷ domain
 abbrev pub named_in : Rows → List ℕ → List ℕ → Option ℕ
 named_in rows domain text = option_map (λ row. row.1) (find (λ row. bytes_eq text (full_name row.0 domain)) rows)
 
--- the user or the group that a text spells
+-- the user or the group of a text
 unfoldable pub principal_in : NameKind → Content → List ℕ → Option ℕ
 principal_in kind book text = option_or (number_in text) (named_in (table_of kind book) book.domain text)
 
@@ -42,11 +42,11 @@ abbrev pub text_for : Option (List ℕ) → List ℕ → ℕ → List ℕ
 text_for None domain number = decimal number
 text_for (Some name) domain number = full_name name domain
 
--- what is written for a user or a group: the full name where the book has one, else digits
+-- the text of a user or a group: the full name where the book has one, else digits
 unfoldable pub principal_text : NameKind → Content → ℕ → List ℕ
 principal_text kind book number = text_for (name_at number (table_of kind book)) book.domain number
 
--- which texts are which user or group
+-- the texts that are read as a user or group
 abbrev pub Spells : NameKind → Content → List ℕ → ℕ → Type 0
 Spells kind book text number =
     ((number < 2 ^ 32) × (text ≡ decimal number))
@@ -68,11 +68,11 @@ special_in text =
     else if bytes_eq text (codes "EVERYONE@") then Some Everyone
     else None
 
--- the who that a text spells under an entry's flags
+-- the who of a text under an entry's flags
 unfoldable pub who_in : ℕ → Content → List ℕ → Option Who
 who_in flags book text = option_or (special_in text) (option_map (named_who (kind_of flags)) (principal_in (kind_of flags) book text))
 
--- what is written for a who
+-- the text of a who
 abbrev pub who_text : Content → Who → List ℕ
 who_text book Owner = codes "OWNER@"
 who_text book Group = codes "GROUP@"
@@ -86,7 +86,7 @@ IsUnder flags (User number) = (number < 2 ^ 32) × (has_bit flags 6 ≡ false)
 IsUnder flags (GroupOf number) = (number < 2 ^ 32) × (has_bit flags 6 ≡ true)
 IsUnder flags _ = Unit {0}
 
--- which texts are which who under an entry's flags
+-- the texts that are read as a who under an entry's flags
 abbrev pub SpellsWho : ℕ → Content → List ℕ → Who → Type 0
 SpellsWho flags book text Owner = text ≡ codes "OWNER@"
 SpellsWho flags book text Group = text ≡ codes "GROUP@"

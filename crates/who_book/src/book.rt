@@ -1,17 +1,20 @@
-//! The book: how it is read, and what it says.
-ghost use Rattle.std.specs.Prelude.{◌≡◌, IfOk, true, option_map, codes};
+//! The book: how it is read, and its content.
+ghost use Rattle.std.specs.Prelude.{◌≡◌, IfOk, IfSome, true, option_map, codes};
 ghost use Rattle.toml.specs.Parse.{parse_document};
 ghost use Rattle.toml.specs.View.{table_view};
 ghost use Rattle.who_book.specs.Content.{IsBook, nameless, table_of};
-ghost use Rattle.who_book.specs.Document.{Answers, Parses, Fills, is_in_range, is_up_to, content, natural};
+ghost use Rattle.who_book.specs.Document.{Answers, Parses, Fills, is_in_range, is_up_to, natural};
+ghost use Rattle.who_book.specs.Members.{member};
 ghost use Rattle.who_book.specs.Names.{name_at, number_at};
-ghost use Rattle.who_book.specs.Outlines.{outline_of, rows_of, IsAscending};
+ghost use Rattle.who_book.specs.Outlines.{outline_of, rows_of, rolls_of, IsAscending};
 ghost use Rattle.who_book.specs.declared.fault.BookFault.TheVariants.{Text};
 
 use crate::fault::BookFault;
 use crate::kind::NameKind;
+use crate::members::{Members, gid_among};
 use crate::names::Names;
 use crate::outline::{Outline, to_number};
+use rpc_record::Caller;
 use std::alloc::Global;
 use std::marker::Model;
 use toml::Table;
@@ -19,8 +22,8 @@ use toml::Table;
 /// The domain without a book.
 const LOCAL: &str = "localdomain";
 
-/// A book of names: users and groups by name and by number, the domain of the names, and the root's owner,
-/// group and mode.
+/// A book of names: users and groups by name and by number, the domain of the names, the root's owner, group and
+/// mode, and the users of each group, if it has `members`.
 #[derive(Drop)]
 pub struct Book {
     /// None is `localdomain`, so that a server without a book needs no memory for it.
@@ -30,6 +33,7 @@ pub struct Book {
     root_mode: u32,
     users: Names,
     groups: Names,
+    members: Option<Members>,
 }
 
 impl Model for Book {
@@ -39,15 +43,19 @@ impl Model for Book {
 
     ghost use Rattle.who_book.specs.Content.{IsBook};
     ghost use Rattle.who_book.specs.Books.{content_in};
+    ghost use Rattle.who_book.specs.Indexes.{KnowsMembers};
 
     ghost view = { content_in };
 
-    ghost invariant = { λ b. IsBook (content_in b) };
+    ghost invariant = { λ b. record {
+      book : IsBook (content_in b);
+      members : KnowsMembers b.users b.members;
+    } };
 }
 
 impl Book {
-    /// The book without a file: the domain is `localdomain`, no number has a name, and the root is of user 0
-    /// and group 0 with mode 0o755. It takes no memory; the allocator is that of the empty tables.
+    /// The book without a file: the domain is `localdomain`, no number has a name, and the root's owner is 0, its group 0
+    /// and its mode 0o755. It takes no memory; the allocator is that of the empty tables.
     pub fn default(alloc: Global) -> Self
         ensures content { result ≡ nameless }
         ensures book { IsBook result }
@@ -59,15 +67,18 @@ impl Book {
             root_mode: 0o755,
             users: Names::new(alloc),
             groups: Names::new(alloc),
+            members: None,
         }
     }
 
     /// Reads a book from TOML: the keys `domain` (a text), `root_owner`, `root_group` and `root_mode`
-    /// (integers), `users` and `groups` (tables of names to integers), all six and no others.
+    /// (integers), `users` and `groups` (tables of names to integers), all six, perhaps `members` (a table of
+    /// names of groups to arrays of names of users), and no others.
     ///
     /// Numbers go from 0 to 4294967295 and modes to 0o7777. The domain has 1 to 128 bytes of UTF-8, a name 1 to
     /// 64, neither with an `@`, and a name isn't of ASCII digits alone. A table has at most 1,024 names, and no
-    /// two of one number. What is refused is the first fault in the order of `BookFault`, over the whole text.
+    /// two of one number. `members` names only groups and users of the two tables, no user twice in one array, and none
+    /// in more than 17 groups. The fault is the first in the order of `BookFault`, over the whole text.
     pub fn read(alloc: Global, text: &str) -> Result<Book, BookFault>
         ensures answer { Answers text.now result }
         ensures book { IfOk result IsBook }
@@ -81,17 +92,20 @@ impl Book {
         Book::fill(alloc, &said)
     }
 
-    /// The book of what is in range. `Twice` where two names of a table have one number.
+    /// The book of values in range. `Twice` where two names of a table have one number, else `Member` where
+    /// `members` doesn't agree with the tables.
     fn fill(alloc: Global, said: &Outline<'_>) -> Result<Book, BookFault>
         requires in_range { is_in_range (outline_of said.now) ≡ true }
         requires users_ascend { IsAscending (rows_of said.now.users.items) }
         requires groups_ascend { IsAscending (rows_of said.now.groups.items) }
-        ensures answer { Fills (content (outline_of said.now)) result }
+        requires members_ascend { IfSome said.now.members (λ rolls. IsAscending (rolls_of rolls.items)) }
+        ensures answer { Fills (outline_of said.now) result }
         ensures book { IfOk result IsBook }
     {
         let domain = String::from_str(alloc, said.domain)?;
         let users = Names::build(alloc, said.users.as_slice())?;
         let groups = Names::build(alloc, said.groups.as_slice())?;
+        let members = Members::of(alloc, &users, &groups, &said.members)?;
         Ok(Book {
             domain: Some(domain),
             root_owner: to_number(said.root_owner),
@@ -99,6 +113,7 @@ impl Book {
             root_mode: to_number(said.root_mode),
             users,
             groups,
+            members,
         })
     }
 
@@ -155,6 +170,21 @@ impl Book {
             NameKind::User => self.users.number_of(name),
             NameKind::Group => self.groups.number_of(name),
         }
+    }
+
+    /// The caller by the book. Where the book has `members`, the caller's groups are those whose array has the name of its
+    /// user, and none where the user has no name, in place of the groups that it sent; its gid is the gid that it sent if
+    /// that is among them, else the least of them, else 65534, which then gives no membership. Without `members` it is
+    /// the caller as sent. It takes no memory.
+    pub fn member(&self, caller: &Caller) -> Caller
+        ensures { result ≡ member self.now caller.now }
+    {
+        let Some(members) = &self.members else {
+            return *caller;
+        };
+        let groups = members.groups_of(caller.uid());
+        let gid = gid_among(&groups, caller.gid());
+        Caller::with_groups(caller.uid(), gid, groups)
     }
 }
 

@@ -1,12 +1,12 @@
-//! Why a text is no book.
+//! The faults of a text that is no book.
 ghost use Rattle.std.specs.Prelude.{◌≡◌};
 ghost use Rattle.who_book.specs.declared.fault.BookFault.TheVariants.{Memory};
 
 use std::alloc::{AllocError, AllocFailed};
 use thiserror::Error;
 
-/// Why a text is no book: the first of these over the whole text, so that a wrong type at its end comes
-/// before a number out of range at its beginning. `Memory` may stand in place of any of them, and of a book.
+/// The fault of a text that is no book: the first of these over the whole text, so that a wrong type at its end comes
+/// before a number out of range at its beginning. `Memory` may be given in place of any of them, and of a book.
 #[derive(Clone, Copy, Debug, PartialEq, Eq, Error)]
 pub enum BookFault {
     /// The text is no TOML.
@@ -21,6 +21,10 @@ pub enum BookFault {
     /// Two names of one table have one number.
     #[error("two names of one number")]
     Twice = 4,
+    /// `members` names a group or a user that the tables don't have, a user twice in one array, or a user in more
+    /// than 17 groups.
+    #[error("an unknown member, one twice in a group, or one of more than 17 groups")]
+    Member = 6,
     /// Memory ran out.
     #[error("out of memory")]
     Memory = 5,

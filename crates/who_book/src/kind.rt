@@ -1,6 +1,6 @@
-//! Which of the two tables a name stands in.
+//! The two tables of names.
 
-/// Which of the two tables a name stands in.
+/// The table that a name is in.
 #[derive(Clone, Copy, Debug, PartialEq, Eq)]
 pub enum NameKind {
     /// The names of users.

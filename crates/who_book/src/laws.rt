@@ -1,4 +1,4 @@
-//! What follows from the definitions alone.
+//! Laws that follow from the definitions alone.
 ghost use Rattle.std.specs.Prelude.{◌≡◌, ◌↔◌, ℕ, List, Some};
 ghost use Rattle.acl_list.specs.declared.entry.Who.{Who};
 ghost use Rattle.who_book.specs.Content.{Content, IsBook, table_of};
@@ -13,20 +13,20 @@ pub fn names_and_numbers_agree()
         (number_at name (table_of kind book) ≡ Some number) ↔ (name_at number (table_of kind book) ≡ Some name) }
 {}
 
-/// The texts that are read as a number are its decimal digits, and its full name where it has a name.
+/// A text is read as a number where it is its decimal digits, or its full name where it has a name.
 pub fn texts_are_spellings()
     ensures { (kind : NameKind) (book : Content) (text : List ℕ) (number : ℕ) → IsBook book →
         (principal_in kind book text ≡ Some number) ↔ Spells kind book text number }
 {}
 
-/// What is written for a who is read as the same who.
+/// The text written for a who is read as that who.
 #[tactic(auto, using(crate::proofs::Spelled::who_read_back))]
 pub fn written_is_read()
     ensures { (flags : ℕ) (book : Content) (who : Who) → IsBook book → IsUnder flags who →
         who_in flags book (who_text book who) ≡ Some who }
 {}
 
-/// The texts that are read as a who under an entry's flags: its special identifier, or the spellings of its user or
+/// A text is read as a who under an entry's flags where it is its special identifier, or a spelling of its user or
 /// group.
 pub fn who_texts_are_spellings()
     ensures { (flags : ℕ) (book : Content) (text : List ℕ) (who : Who) → IsBook book →

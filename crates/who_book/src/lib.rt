@@ -1,13 +1,16 @@
-//! The book of names: users and groups by name and by number, the domain, and whom the root belongs to.
+//! The book of names: users and groups by name and by number, the domain, the root's owner and group, and the users
+//! of each group.
 #![tactic(auto)]
 
 mod book;
 mod fault;
 mod kind;
 mod laws;
+mod members;
 mod names;
 mod outline;
 mod principals;
+mod rolls;
 mod spelling;
 
 pub use book::Book;

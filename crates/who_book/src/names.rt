@@ -86,7 +86,7 @@ impl Names {
     }
 }
 
-/// Puts the name of a number in. `Twice` where the number has one.
+/// Puts in the name of a number. `Twice` where the number has a name.
 fn add_name(
     alloc: Global,
     names: &mut BTreeMap<u32, String>,
@@ -106,7 +106,7 @@ fn add_name(
     }
 }
 
-/// Puts the number of a name in, which comes after each that is there.
+/// Puts in the number of a name, which comes after each name that is there.
 fn add_number(
     alloc: Global,
     numbers: &mut BTreeMap<Vec<u8>, u32>,

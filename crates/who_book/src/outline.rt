@@ -1,14 +1,15 @@
-//! What the six keys of a document hold, once their types are right and before any range is asked.
-ghost use Rattle.std.specs.Prelude.{◌≡◌, true, IfOk, option_map};
+//! The values of a document's keys, once their types are right and before any range is checked.
+ghost use Rattle.std.specs.Prelude.{◌≡◌, true, IfOk, IfSome, option_map};
 ghost use Rattle.std.specs.List.{list_all};
 ghost use Rattle.std.specs.Char.{is_ascii_digit};
 ghost use Rattle.toml.specs.View.{table_view};
 ghost use Rattle.who_book.specs.Document.{has_known_keys, integers, integers_at, integer_at, text_at, table_at, is_up_to, natural, is_row, is_table, is_in_range, outline};
 ghost use Rattle.who_book.specs.Names.{is_word, is_name};
 ghost use Rattle.who_book.specs.Document as document;
-ghost use Rattle.who_book.specs.Outlines.{rows_of, outline_of, IsAscending, Finds};
+ghost use Rattle.who_book.specs.Outlines.{rolls_of, rows_of, outline_of, IsAscending, Finds};
 
 use crate::fault::BookFault;
+use crate::rolls::{Roll, rolls_at};
 use std::alloc::Global;
 use toml::Table;
 
@@ -41,7 +42,7 @@ impl Row<'_> {
     }
 }
 
-/// What the six keys of a document hold.
+/// The values of a document's keys.
 #[derive(Drop)]
 pub struct Outline<'a> {
     pub domain: &'a str,
@@ -50,15 +51,17 @@ pub struct Outline<'a> {
     pub root_mode: i64,
     pub users: Vec<Row<'a>>,
     pub groups: Vec<Row<'a>>,
+    pub members: Option<Vec<Roll<'a>>>,
 }
 
 impl<'a> Outline<'a> {
     #[tactic(auto, unfolding(crate::specs::Document::outline))]
-    /// What the six keys hold. `Shape` where one is missing, a key is another, or a value has another type.
+    /// The values of the keys. `Shape` where a key but `members` is missing, a key is unknown, or a value has another type.
     pub fn of(alloc: Global, table: &'a Table) -> Result<Self, BookFault>
         ensures found { Finds outline_of result (outline (table_view table.now)) }
         ensures users_ascend { IfOk result (λ said. IsAscending (rows_of said.users.items)) }
         ensures groups_ascend { IfOk result (λ said. IsAscending (rows_of said.groups.items)) }
+        ensures members_ascend { IfOk result (λ said. IfSome said.members (λ rolls. IsAscending (rolls_of rolls.items))) }
     {
         if !has_only_known(table) {
             return Err(BookFault::Shape);
@@ -70,6 +73,7 @@ impl<'a> Outline<'a> {
             root_mode: integer_at(table, "root_mode").ok_or(BookFault::Shape)?,
             users: rows_at(alloc, table, "users")?,
             groups: rows_at(alloc, table, "groups")?,
+            members: rolls_at(alloc, table, "members")?,
         })
     }
 
@@ -92,7 +96,7 @@ fn is_known(key: &str) -> bool
 {
     matches!(
         key,
-        "domain" | "root_owner" | "root_group" | "root_mode" | "users" | "groups"
+        "domain" | "root_owner" | "root_group" | "root_mode" | "users" | "groups" | "members"
     )
 }
 

@@ -1,4 +1,4 @@
-//! How users, groups and whos are spelled, and how their texts are read (RFC 8881, sections 5.9 and 6.2.1.5).
+//! The texts of users, groups and whos, and how they are read (RFC 8881, sections 5.9 and 6.2.1.5).
 ghost use Rattle.std.specs.Prelude.{◌≡◌, ◌<◌, ◌≤◌, ◌^◌, ◌↔◌, ◌++◌, List, ℕ, decimal, Some, None, MatchOption, length, true, false, if◌then◌else◌, nat_lt, ◌&&◌};
 ghost use Rattle.std.specs.Str.{all_ascii_digits};
 ghost use Rattle.acl_list.specs.Mask.{has_bit};
@@ -33,7 +33,7 @@ impl NameKind {
 }
 
 impl Book {
-    /// The user or the group that a text spells: `name@domain` with a name of the kind's table and the book's
+    /// The user or the group of a text: `name@domain` with a name of the kind's table and the book's
     /// domain, by their exact bytes, or the number in decimal digits without leading zeros, whether it has a
     /// name or not. None where the text is neither, which an NFS server answers with NFS4ERR_BADOWNER.
     #[tactic(auto, unfolding(crate::specs::Spelling::principal_in))]
@@ -51,7 +51,7 @@ impl Book {
         }
     }
 
-    /// What is written for a user or a group: `name@domain` where the book has a name for the number, else
+    /// The text of a user or a group: `name@domain` where the book has a name for the number, else
     /// decimal digits. It is read back as the same number.
     pub fn spell_principal(&self, kind: NameKind, number: u32) -> Spelling
         ensures text { result ≡ principal_text kind self.now number }
@@ -65,7 +65,7 @@ impl Book {
         }
     }
 
-    /// The who that a text spells in an entry with these flags: `OWNER@`, `GROUP@` and `EVERYONE@` whatever the
+    /// The who of a text in an entry with these flags: `OWNER@`, `GROUP@` and `EVERYONE@` whatever the
     /// flags, else a group under IDENTIFIER_GROUP and a user without it, as `principal` reads them.
     #[tactic(auto, unfolding(crate::specs::Spelling::who_in))]
     pub fn who(&self, flags: u32, text: &[u8]) -> Option<Who>
@@ -82,8 +82,8 @@ impl Book {
         })
     }
 
-    /// What is written for a who. It is read back as the same who, under flags that have IDENTIFIER_GROUP for a
-    /// group and haven't for a user.
+    /// The text of a who. It is read back as the same who, under flags that have IDENTIFIER_GROUP for a
+    /// group and don't for a user.
     pub fn spell_who(&self, who: Who) -> Spelling
         ensures text { result ≡ who_text self.now who }
         ensures read_back { (flags : ℕ) → flags < 2 ^ 32 → IsUnder flags who → who_in flags self.now result ≡ Some who }
@@ -122,7 +122,7 @@ fn digits(number: u32) -> Spelling
     spelling
 }
 
-/// The special identifier that a text is, by its exact bytes.
+/// The special identifier of a text, by its exact bytes.
 fn special_in(text: &[u8]) -> Option<Who>
     ensures { result ≡ special_in text.now }
 {
@@ -147,7 +147,7 @@ fn special(identifier: &[u8]) -> Spelling
     spelling
 }
 
-/// Whether digits have no leading zero, and there are some.
+/// Whether there are digits, without a leading zero.
 fn is_short(digits: &[u8]) -> bool
     ensures { result ≡ is_short digits.now }
 {
@@ -174,14 +174,14 @@ fn value_of(digits: &[u8]) -> Option<u32>
     Some(value)
 }
 
-/// The number that a text is in decimal digits without leading zeros.
+/// The number of a text in decimal digits without leading zeros.
 fn number_in(text: &[u8]) -> Option<u32>
     ensures { result ≡ number_in text.now }
 {
     if is_short(text) { value_of(text) } else { None }
 }
 
-/// What stands before the end of a text.
+/// The bytes before the end of a text.
 fn strip_end<'a>(text: &'a [u8], end: &[u8]) -> Option<&'a [u8]>
     ensures { MatchOption result
         ((front : List ℕ) → text.now ≡ front ++ end.now → ⊥)

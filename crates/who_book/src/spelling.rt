@@ -56,7 +56,7 @@ impl Spelling {
         self.as_bytes().len()
     }
 
-    /// Whether the text has no bytes, which none that a book gives is.
+    /// Whether the text has no bytes; a book gives no such text.
     pub fn is_empty(&self) -> bool
         ensures { result ≡ (length self.now == 0) }
     {

@@ -1,4 +1,4 @@
-//! Books with the answer that the rules and the standard of TOML give, worked out by hand.
+//! Books with their answers by the rules and the standard of TOML, worked out by hand.
 use std::alloc::{AllocError, Global};
 use std::test::Fail;
 use who_book::{Book, BookFault};
@@ -53,7 +53,7 @@ static KEYS: [(&str, u8); 15] = [
     ),
     (
         "domain='d'\nroot_owner=0\nroot_group=0\nroot_mode=0\nmembers={}\n",
-        2,
+        0,
     ),
     ("Domain='d'\nroot_owner=0\nroot_group=0\nroot_mode=0\n", 2),
     ("domain='d'\nroot.owner=0\nroot_group=0\nroot_mode=0\n", 2),

@@ -1,7 +1,9 @@
-//! The tests of the book of names: texts with their answers, and how whos are spelled.
+//! The tests of the book of names: texts with their answers, how whos are spelled, and the groups of callers.
 #![tactic(auto)]
 
 #[cfg(test)]
 mod books;
+#[cfg(test)]
+mod members;
 #[cfg(test)]
 mod spelled;

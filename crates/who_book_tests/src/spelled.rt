@@ -119,7 +119,7 @@ fn read_table() -> &'static [(&'static str, Option<u32>, Option<u32>)] {
     &READ
 }
 
-/// The user or group that a text spells.
+/// The user or group of a text.
 fn principal(book: &Book, kind: NameKind, text: &str) -> Option<u32> {
     book.principal(kind, text.as_bytes())
 }
@@ -213,7 +213,7 @@ fn spelled_table() -> &'static [(Who, &'static str)] {
     &SPELLED
 }
 
-/// The who that a text spells under some flags.
+/// The who of a text under some flags.
 fn who(book: &Book, flags: u32, text: &str) -> Option<Who> {
     book.who(flags, text.as_bytes())
 }

@@ -1,4 +1,5 @@
 use Rattle.acl_shape.proofs.Bounded.{IsBounded-set_mode, IsBounded-inherit, IsBounded-admitted, IsBounded-created, IsBounded-changed, is_some-kept}
+use Rattle.acl_shape.proofs.Parts.{IsBounded-sorted, IsBounded-parts}
 use Rattle.acl_shape.proofs.laws.bounds_are_kept.Goals as goal
 
 pub returns : goal.returns
@@ -8,5 +9,7 @@ returns c = record {
   admitted = IsBounded-admitted;
   created = IsBounded-created;
   changed = IsBounded-changed;
+  sorted = IsBounded-sorted;
+  parts = IsBounded-parts;
   counted = is_some-kept;
 }

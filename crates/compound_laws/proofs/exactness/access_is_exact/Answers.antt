@@ -8,7 +8,7 @@ use Rattle.compound_run.specs.Questions.{told}
 use Rattle.compound_run.proofs.Exactly.{refused_by_row, by_row, ends_in_refusal}
 use Rattle.compound_laws.proofs.exactness.access_is_exact.Goals as goal
 
--- what is told is the failure
+-- the status of the answer is the failure
 told_failure : (f : Option Status) (o : Outcome) → told f o ≡ Err statuses.Access → f ≡ Some statuses.Access
 told_failure None o h = cc
 told_failure (Some status) o h = cc

@@ -9,7 +9,7 @@ use Rattle.compound_run.specs.Runs.{spelled}
 use Rattle.compound_run.specs.Says.{PutsWithin, given_outcome}
 use Rattle.compound_run.proofs.getattr.put_attributes.Goals as goal
 
--- what takes as many bytes as its spelling has is written where they fit
+-- a value that takes as many bytes as its spelling has is written where they fit
 puts : {E : Type 0} (room : ℕ) (o : Outcome) (before after : Buffer) (result : Result (Unit {0}) E) → length (item_spelling (outcome_item o)) ≡ most o
     → ops.PutsWithin room before after (outcome_item o) result → PutsWithin room o before result after
 unfolding spelled

@@ -1,4 +1,4 @@
--- What is read of each is what its row says.
+-- The arguments of each operation are read by its row.
 use Rattle.std.proofs.Common.{refl, ap}
 use Rattle.nfs_ops.specs.Operations.{arguments_of, supported}
 use Rattle.nfs_ops.specs.declared.op_kind.OpKind.TheVariants as kinds

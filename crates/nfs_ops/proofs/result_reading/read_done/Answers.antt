@@ -1,4 +1,4 @@
--- What is read of each is what its row says.
+-- The result of each operation is read by its row.
 use Rattle.std.proofs.Common.{refl}
 use Rattle.nfs_ops.specs.ResultReading.{done_of}
 use Rattle.nfs_ops.specs.declared.op_kind.OpKind.TheVariants as kinds

@@ -1,4 +1,4 @@
--- The bitmap that is written is the empty one, and another number than SETATTR's has none.
+-- The bitmap that is written is empty, and only SETATTR has one.
 use Rattle.std.proofs.Common.{ℕ, List, [], ◌∷◌, OnOk, subst, refl, arith}
 use Rattle.std.proofs.lemmas.Bool.{ne_eqb}
 use Rattle.xdr_wire.specs.Xdr.{uint, fields, HasSpelling, spelling}

@@ -1,4 +1,4 @@
--- What is written of each is what its form and its value spell, and takes no more bytes than is said.
+-- Each result is written as the spelling of its value in its form, and takes no more bytes than its row says.
 use Rattle.std.proofs.Common.{arith}
 use Rattle.nfs_ops.specs.Views.{close_result_value, create_result_value, getattr_result_value, getfh_result_value, open_result_value, read_result_value, readdir_result_value, readlink_result_value, setattr_result_value, exchange_id_result_value, create_session_result_value, sequence_result_value}
 use Rattle.nfs_ops.proofs.Sizes.{fits, words_few, handle_short, at_most, close_short, create_short, getattr_short, getfh_short, open_short, read_short, readdir_short, readlink_short, setattr_short, exchange_id_short, create_session_short, sequence_short}

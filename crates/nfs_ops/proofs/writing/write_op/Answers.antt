@@ -1,4 +1,4 @@
--- What is written of each is what its form and its value spell.
+-- Each operation is written as the spelling of its value in its form.
 use Rattle.nfs_ops.proofs.writing.write_op.Goals as goal
 
 pub returns-in-Access : goal.returns-in-Access

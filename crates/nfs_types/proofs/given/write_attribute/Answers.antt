@@ -109,6 +109,18 @@ returns-in-TimeModify-clause-puts g c = rw c.in-TimeModify.is (c.write-in-TimeMo
 pub returns-in-MountedOnFileId-clause-puts : goal.returns-in-MountedOnFileId-clause-puts
 returns-in-MountedOnFileId-clause-puts g c = rw c.in-MountedOnFileId.is (c.put_u64-in-MountedOnFileId.ensures)
 
+pub returns-in-Dacl-clause-puts : goal.returns-in-Dacl-clause-puts
+returns-in-Dacl-clause-puts g c = rw c.in-Dacl.is (c.write_part_of_list.ensures.puts)
+
+pub returns-in-Dacl-clause-short : goal.returns-in-Dacl-clause-short
+returns-in-Dacl-clause-short g c = rw c.in-Dacl.is (c.write_part_of_list.ensures.short)
+
+pub returns-in-Sacl-clause-puts : goal.returns-in-Sacl-clause-puts
+returns-in-Sacl-clause-puts g c = rw c.in-Sacl.is (c.write_part_of_list-in-Sacl.ensures.puts)
+
+pub returns-in-Sacl-clause-short : goal.returns-in-Sacl-clause-short
+returns-in-Sacl-clause-short g c = rw c.in-Sacl.is (c.write_part_of_list-in-Sacl.ensures.short)
+
 pub returns-in-SuppattrExclcreat-clause-puts : goal.returns-in-SuppattrExclcreat-clause-puts
 returns-in-SuppattrExclcreat-clause-puts g c = rw c.in-SuppattrExclcreat.is (subst (λ (ws : List ℕ). Puts c.args.writer.now c.write-in-SuppattrExclcreat.new.writer (spelling bitmap ws) c.write-in-SuppattrExclcreat.result) c.empty.ensures c.write-in-SuppattrExclcreat.ensures.puts)
 

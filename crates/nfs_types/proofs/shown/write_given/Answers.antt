@@ -1,4 +1,4 @@
-use Rattle.std.proofs.Common.{[], drop, refl, sym}
+use Rattle.std.proofs.Common.{[], refl, sym}
 use Rattle.std.proofs.lemmas.List.{drop_all}
 use Rattle.xdr_wire.proofs.Going.{unchanged, all_written, on_ok}
 use Rattle.nfs_types.specs.Seen.{seen_all, shown_part, shown_values}

@@ -1,6 +1,8 @@
 use Rattle.std.proofs.Common.{◌≡◌, true, sym, ap, ◌∙◌}
 use Rattle.access_rows.specs.declared.demand.Demand.TheVariants.{Bits, Removal}
 use Rattle.node_tree.specs.Judged.{judged_of}
+use Rattle.access_guard.specs.Asker.{member_of}
+use Rattle.access_guard.specs.Lists.{sum_at}
 use Rattle.access_guard.specs.Memory.{tells, tells_removal, is_told}
 use Rattle.access_guard.proofs.Telling.{told_granted, told_silent}
 use Rattle.access_guard.proofs.memory.Summaries.tells.Goals as goal
@@ -8,25 +10,25 @@ use Rattle.access_guard.proofs.memory.Summaries.tells.Goals as goal
 pub returns-in-Bits-clause-granted : goal.returns-in-Bits-clause-granted
 returns-in-Bits-clause-granted g c h =
     let demand = Bits c.in-Bits.object c.in-Bits.mask in
-    let told : is_told (judged_of c.args.tree.now) c.args.caller.now demand ≡ true = ap (λ s. tells s c.in-Bits.mask) (sym c.sum_at.ensures.sum) ∙ sym c.tells.ensures.told ∙ h in
-    rw c.in-Bits.is (told_granted (judged_of c.args.tree.now) c.args.caller.now 0 demand c.tells.ensures.fits told)
+    let told : is_told (judged_of c.args.tree.now) (member_of c.args.asker.now) demand ≡ true = ap (λ s. tells s c.in-Bits.mask) (sym c.sum_at.ensures.sum) ∙ sym c.tells.ensures.told ∙ h in
+    rw c.in-Bits.is (told_granted (judged_of c.args.tree.now) (member_of c.args.asker.now) 0 demand c.tells.ensures.fits told)
 
 pub returns-in-Bits-clause-silent : goal.returns-in-Bits-clause-silent
 returns-in-Bits-clause-silent g c h op =
     let demand = Bits c.in-Bits.object c.in-Bits.mask in
-    let told : is_told (judged_of c.args.tree.now) c.args.caller.now demand ≡ true = ap (λ s. tells s c.in-Bits.mask) (sym c.sum_at.ensures.sum) ∙ sym c.tells.ensures.told ∙ h in
-    rw c.in-Bits.is (told_silent (judged_of c.args.tree.now) c.args.caller.now op demand c.tells.ensures.fits told)
+    let told : is_told (judged_of c.args.tree.now) (member_of c.args.asker.now) demand ≡ true = ap (λ s. tells s c.in-Bits.mask) (sym c.sum_at.ensures.sum) ∙ sym c.tells.ensures.told ∙ h in
+    rw c.in-Bits.is (told_silent (judged_of c.args.tree.now) (member_of c.args.asker.now) op demand c.tells.ensures.fits told)
 
 pub returns-in-Removal-clause-granted : goal.returns-in-Removal-clause-granted
 returns-in-Removal-clause-granted g c h =
     let demand = Removal c.in-Removal.parent c.in-Removal.target in
-    let told : is_told (judged_of c.args.tree.now) c.args.caller.now demand ≡ true
-    = (λ i. tells_removal (sym c.sum_at-on_target.ensures.sum i) (sym c.sum_at-on_parent.ensures.sum i)) ∙ sym c.tells_removal.ensures ∙ h in
-    rw c.in-Removal.is (told_granted (judged_of c.args.tree.now) c.args.caller.now 0 demand tt told)
+    let told : is_told (judged_of c.args.tree.now) (member_of c.args.asker.now) demand ≡ true
+    = (λ i. tells_removal (sym c.sum_at-on_target.ensures.sum i) (sym (c.sum_at-on_parent.ensures.sum ∙ ap (λ a. sum_at (judged_of c.args.tree.now) (member_of a) c.in-Removal.parent) c.sum_at-on_target.ensures.same) i)) ∙ sym c.tells_removal.ensures ∙ h in
+    rw c.in-Removal.is (told_granted (judged_of c.args.tree.now) (member_of c.args.asker.now) 0 demand tt told)
 
 pub returns-in-Removal-clause-silent : goal.returns-in-Removal-clause-silent
 returns-in-Removal-clause-silent g c h op =
     let demand = Removal c.in-Removal.parent c.in-Removal.target in
-    let told : is_told (judged_of c.args.tree.now) c.args.caller.now demand ≡ true
-    = (λ i. tells_removal (sym c.sum_at-on_target.ensures.sum i) (sym c.sum_at-on_parent.ensures.sum i)) ∙ sym c.tells_removal.ensures ∙ h in
-    rw c.in-Removal.is (told_silent (judged_of c.args.tree.now) c.args.caller.now op demand tt told)
+    let told : is_told (judged_of c.args.tree.now) (member_of c.args.asker.now) demand ≡ true
+    = (λ i. tells_removal (sym c.sum_at-on_target.ensures.sum i) (sym (c.sum_at-on_parent.ensures.sum ∙ ap (λ a. sum_at (judged_of c.args.tree.now) (member_of a) c.in-Removal.parent) c.sum_at-on_target.ensures.same) i)) ∙ sym c.tells_removal.ensures ∙ h in
+    rw c.in-Removal.is (told_silent (judged_of c.args.tree.now) (member_of c.args.asker.now) op demand tt told)

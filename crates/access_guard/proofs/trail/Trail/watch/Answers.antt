@@ -1,4 +1,4 @@
-use Rattle.std.proofs.Common.{◌≤◌, length, ap, arith}
+use Rattle.std.proofs.Common.{ap, arith}
 use Rattle.access_guard.specs.Lists.{entries_of}
 use Rattle.access_guard.proofs.trail.Trail.watch.Goals as goal
 

@@ -11,7 +11,7 @@ use Rattle.access_guard.proofs.Lines.{step-some, step-none}
 use Rattle.access_guard.proofs.trail.Trail.watch_list.Goals as goal
 use Rattle.access_guard.proofs.trail.Trail.watch_list.Goals.{in-Some, in_default}
 
--- what an element is read as, past the end
+-- an element past the end is read as the default
 spare : Entry
 spare = record { kind = Allow; flags = 0; mask = 0; who = Owner }
 

@@ -5,7 +5,7 @@ use Rattle.access_guard.specs.Lines.{watch_line}
 use Rattle.access_guard.specs.Log.{held}
 use Rattle.access_guard.proofs.trail.Trail.watch_list.Given as goal
 
--- the lines so far with those of the entries that are left are all lines, and each entry has one at most
+-- the lines so far with those of the entries that are left are all lines, and each entry has one line at most
 abbrev pub invariant-loop-index : goal.invariant-loop-index
 invariant-loop-index g l =
     (held (filter_map (watch_line l.caller l.asked.op l.asked.object l.asked.mask l.asked.granted (judged l.node)) (enumerate_from l.index (drop l.index l.node.list))) l.self

@@ -9,7 +9,7 @@ use Rattle.compound_run.specs.Compound.{first_room}
 use Rattle.compound_run.specs.Limits.{REFUSAL_ROOM, REPLY_HEADER}
 use Rattle.compound_run.specs.Runs.{spelled}
 use Rattle.compound_run.specs.SessionViews.{sequence_told}
-use Rattle.compound_run.specs.Views.{context_of}
+use Rattle.compound_run.specs.Views.{context_at}
 use Rattle.compound_run.proofs.InSession.{sequenced_within, longer_by}
 use Rattle.compound_run.proofs.compound.CompoundArgs.run_behind.Goals as goal
 
@@ -23,7 +23,7 @@ returns-clause-answers g c =
     let size = length (spelled (Done kinds.Sequence (sequence_result_value c.args.given))) in
     let end = c.capacity.result - (c.room.result - c.args.limit) - REFUSAL_ROOM in
     let long = longer_by tag start c.put_word.new.writer tagged begun c.put_word.ensures c.put_tag.ensures.written c.put_word-2.ensures in
-    sequenced_within c.args.limit (end + REFUSAL_ROOM) (context_of c.args.context) (end - length begun.bytes - size) (first_room (c.args.limit + REPLY_HEADER) tag - size) tag (sequence_told c.args.given) c.args.operations.now
+    sequenced_within c.args.limit (end + REFUSAL_ROOM) (context_at c.args.export.now c.args.context) (end - length begun.bytes - size) (first_room (c.args.limit + REPLY_HEADER) tag - size) tag (sequence_told c.args.given) c.args.operations.now
     c.args.export.now c.run_sequenced-ended.new.export start c.put_word.new.writer tagged begun done c.fill.new.self c.fill-2.new.self c.run_sequenced-ended.result
     c.put_word.ensures c.put_tag.ensures.written c.put_word-2.ensures c.run_sequenced-ended.ensures.answers
     (subst (λ (at : ℕ). Fills done c.fill.new.self at (to_be_bytes w32 c.run_sequenced-ended.result.ran)) c.len-count_at.ensures c.fill.ensures)

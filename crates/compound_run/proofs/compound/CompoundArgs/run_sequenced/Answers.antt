@@ -6,7 +6,7 @@ use Rattle.nfs_ops.specs.Rows.{row}
 use Rattle.nfs_ops.specs.declared.op_kind.OpKind.TheVariants as kinds
 use Rattle.compound_run.specs.Limits.{REFUSAL_ROOM}
 use Rattle.compound_run.specs.Runs.{spelled}
-use Rattle.compound_run.specs.Views.{context_of}
+use Rattle.compound_run.specs.Views.{context_at}
 use Rattle.compound_run.proofs.InSession.{sequenced}
 use Rattle.compound_run.proofs.compound.CompoundArgs.run_sequenced.Goals as goal
 
@@ -17,7 +17,7 @@ returns-clause-answers g c =
     let after = c.run_all.new.results in
     let given = Done kinds.Sequence (sequence_result_value c.args.given) in
     let long = ap length c.put_result.ensures.written.behind ∙ length-append before.bytes (spelled given) in
-    sequenced (c.args.end + REFUSAL_ROOM) (record (context_of c.args.context) { room = c.args.end - c.len.result }) (c.args.end - length before.bytes - length (spelled given)) c.args.self.now.tag.now (row kinds.Sequence).number given
+    sequenced (c.args.end + REFUSAL_ROOM) (record (context_at c.args.export.now c.args.context) { room = c.args.end - c.len.result }) (c.args.end - length before.bytes - length (spelled given)) c.args.self.now.tag.now (row kinds.Sequence).number given
     c.args.operations.now c.args.export.now c.run_all.new.self before mid after c.run_all.result
     c.requires.second (omega (arith, c.len.ensures, long)) c.put_result.ensures.written c.run_all.ensures.gives
     (omega (arith, c.len.ensures, c.run_all.ensures.gives.within, c.put_result.ensures.within, c.requires.result))

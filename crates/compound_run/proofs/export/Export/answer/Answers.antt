@@ -1,13 +1,13 @@
 use Rattle.std.proofs.Common.{rules}
 use Rattle.nfs_ops.specs.OpViews.{op_view}
 use Rattle.compound_run.specs.Operations.{body, takes_memory, entry_fault, entry_may}
-use Rattle.compound_run.specs.Views.{context_of}
+use Rattle.compound_run.specs.Views.{context_at}
 use Rattle.compound_run.proofs.Entering.{enters_so, roomy, stops_so}
 use Rattle.compound_run.proofs.export.Export.answer.Goals as goal
 
 pub returns-in-Some : goal.returns-in-Some
 returns-in-Some g c =
-    let context = context_of c.args.context in
+    let context = context_at c.args.self.now c.args.context in
     let op = op_view c.args.op.now in
     stops_so (takes_memory op) (entry_fault context op) (entry_may context op) c.args.context.room (body context c.args.handles.now op) c.args.self.now c.args.handles.now c.args.out.now c.in-Some.fault (search rules)
 
@@ -16,7 +16,7 @@ body-requires-clause-room g c = roomy c.args.context (op_view c.args.op.now) c.a
 
 pub returns : goal.returns
 returns g c =
-    let context = context_of c.args.context in
+    let context = context_at c.args.self.now c.args.context in
     let op = op_view c.args.op.now in
     enters_so (takes_memory op) (entry_fault context op) (entry_may context op) c.args.context.room (body context c.args.handles.now op) c.args.self.now c.args.handles.now c.args.out.now c.body.result c.body.new.self c.body.new.handles c.body.new.out
     (search rules) c.body.ensures

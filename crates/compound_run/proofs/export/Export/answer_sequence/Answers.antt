@@ -37,9 +37,9 @@ returns-in-Repeat-clause-answers g c =
     let b = begin_in e.clients (call_of call) call.compound.count v in
     let told = c.in-Repeat.ensures.answer ∙ ap (λ s. sequence_begin e.clients s asked) session in
     let kept = c.results.ensures.kept ∙ ap (λ r. results_at r c.session_of-session.result c.args.args.now.slot) c.in-Repeat.ensures.stays ∙ ap (λ s. results_at e.clients s c.args.args.now.slot) session in
-    answers_known (fate_by tag v e.clients b) (RunsBy b (call_of call) tag call.compound.count v c.args.operations.now (state_of e call.book.now)) (state_of e call.book.now) (state_of (record e { clients = c.begin.new.self }) call.book.now) c.results.result.now c.args.out.now c.put_kept.new.out
+    answers_known (fate_by tag v e.clients b) (RunsBy b (call_of call) tag call.compound.count v c.args.operations.now (state_of e)) (state_of e) (state_of (record e { clients = c.begin.new.self })) c.results.result.now c.args.out.now c.put_kept.new.out
     (ap (fate_by tag v e.clients) (sym told) ∙ ap (λ bytes. let f : Fate Reply = Repeats (Some bytes) in f) (sym kept))
-    (ap (λ r. state_of (record e { clients = r }) call.book.now) c.in-Repeat.ensures.stays)
+    (ap (λ r. state_of (record e { clients = r })) c.in-Repeat.ensures.stays)
     c.put_kept.ensures
 
 pub returns-in-Refused-clause-answers : goal.returns-in-Refused-clause-answers
@@ -51,7 +51,7 @@ returns-in-Refused-clause-answers g c =
     let asked = asked_in (call_of call) call.compound.count v in
     let b = begin_in e.clients (call_of call) call.compound.count v in
     let told = c.in-Refused.ensures.answer ∙ ap (λ s. sequence_begin e.clients s asked) c.session_of-session.ensures in
-    answers_refused (fate_by tag v e.clients b) (RunsBy b (call_of call) tag call.compound.count v c.args.operations.now (state_of e call.book.now)) (state_of e call.book.now) (state_of (record e { clients = c.begin.new.self }) call.book.now) (refused_alone tag (row kinds.Sequence).number c.in-Refused.status) c.args.out.now c.put_refused.new.out
+    answers_refused (fate_by tag v e.clients b) (RunsBy b (call_of call) tag call.compound.count v c.args.operations.now (state_of e)) (state_of e) (state_of (record e { clients = c.begin.new.self })) (refused_alone tag (row kinds.Sequence).number c.in-Refused.status) c.args.out.now c.put_refused.new.out
     (ap (fate_by tag v e.clients) (sym told))
-    (ap (λ r. state_of (record e { clients = r }) call.book.now) c.in-Refused.ensures.stays)
+    (ap (λ r. state_of (record e { clients = r })) c.in-Refused.ensures.stays)
     c.put_refused.ensures

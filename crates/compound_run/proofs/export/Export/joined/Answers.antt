@@ -6,13 +6,13 @@ use Rattle.nfs_ops.specs.Views.{open_args_value}
 use Rattle.compound_run.specs.Asking.{sight_of}
 use Rattle.compound_run.specs.Open as specs
 use Rattle.compound_run.specs.Stateids.{client_of}
-use Rattle.compound_run.specs.Views.{context_of, open_view}
+use Rattle.compound_run.specs.Views.{context_at, open_view}
 use Rattle.compound_run.proofs.OpenFiles.{found_in_view}
 use Rattle.compound_run.proofs.export.Export.joined.Goals as goal
 
 pub returns : goal.returns
 returns g c =
-    let context = context_of c.args.context in
+    let context = context_at c.args.self.now c.args.context in
     let owner = c.args.args.now.owner.bytes.now in
     let file = c.in_ok-file.file in
     let is : c.args.file ≡ Some file = search rules in

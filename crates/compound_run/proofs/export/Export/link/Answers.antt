@@ -2,6 +2,7 @@ use Rattle.std.proofs.Common.{rules, ◌≡◌, ◌≢◌, ◌<◌, ◌≤◌, �
 use Rattle.std.proofs.lemmas.Bool.{lt-ltb, le-ltb}
 use Rattle.std.specs.Prelude.{[], ◌∷◌, nat_lt, Option, Some, None}
 use Rattle.std.specs.Option.{option_map_or}
+use Rattle.who_book.specs.Members.{member}
 use Rattle.acl_list.specs.declared.entry.Kind.{Kind}
 use Rattle.acl_list.specs.declared.entry.Kind.TheVariants.{File, Directory, Link}
 use Rattle.acl_shape.specs.Inherited.{is_directory}
@@ -16,8 +17,8 @@ use Rattle.compound_run.specs.Rows.{first_facts}
 use Rattle.compound_run.specs.Questions.{demand_lines}
 use Rattle.compound_run.specs.Meaning.{number_in, there}
 use Rattle.compound_run.specs.Link.{link, is_nameable}
-use Rattle.compound_run.specs.Views.{context_of, realm_of}
-use Rattle.compound_run.proofs.Behind.{behind}
+use Rattle.compound_run.specs.Views.{context_at, realm_of}
+use Rattle.compound_run.proofs.Behind.{behind_at}
 use Rattle.compound_run.proofs.export.Export.link.Goals as goal
 
 no_directory : (o : Option Kind) → o ≢ Some Directory → option_map_or is_directory o false ≡ false
@@ -28,7 +29,7 @@ no_directory (Some Directory) other = absurd (other refl)
 
 pub returns : goal.returns
 returns g c =
-    let lines = demand_lines (judged_of c.args.self.now.tree.world) c.args.context.caller.now 11 (first_demands (Known kinds.Link c.args.name.now) (first_facts (whole (realm_of c.args.self.now)) c.args.handles)) in
+    let lines = demand_lines (judged_of c.args.self.now.tree.world) (member c.args.self.now.tree.book c.args.context.caller.now) 11 (first_demands (Known kinds.Link c.args.name.now) (first_facts (whole (realm_of c.args.self.now)) c.args.handles)) in
     let linked = c.in_ok-linked.linked in
     let here : link_count c.grants_first.new.self.tree.world.names linked < MAX_LINKS = search rules in
     let same : c.grants_first.new.self.tree.world ≡ c.args.self.now.tree.world = ap (λ e. e.tree.world) c.grants_first.ensures.state in
@@ -40,8 +41,8 @@ returns g c =
     let there_is : there c.args.handles ≡ linked = ap number_in saved in
     let may_there = subst (λ (n : ℕ). nat_lt (link_count c.args.self.now.tree.world.names n) MAX_LINKS ≡ true) (sym there_is) may in
     let plain_there = subst (λ (n : ℕ). option_map_or is_directory (kind_of c.args.self.now.tree.world n) false ≡ false) (sym there_is) plain in
-    behind c.args.context.room (link c.args.name.now (context_of c.args.context) c.args.handles)
-    (is_nameable c.in_ok-directory.directory ∷ []) c.args.self.now c.args.handles c.args.out.now lines c.grants_first.new.self _ _ _ _
+    behind_at c.args.context.room c.args.context (λ x. link c.args.name.now x c.args.handles)
+    (λ x. is_nameable c.in_ok-directory.directory ∷ []) c.args.self.now c.args.handles c.args.out.now lines c.grants_first.new.self _ _ _ _
     (search (rules, may_there, plain_there)) (search (rules, may_there, plain_there)) (search rules) c.name_linked.ensures
 
 pub returns-then-links-ge-MAX_LINKS : goal.returns-then-links-ge-MAX_LINKS

@@ -1,6 +1,7 @@
 use Rattle.std.proofs.Common.{rules, ◌≡◌}
 use Rattle.std.specs.Prelude.{◌++◌, [], ◌∷◌, Some}
 use Rattle.std.proofs.lemmas.List.{append_assoc}
+use Rattle.who_book.specs.Members.{member}
 use Rattle.nfs_ops.specs.Views.{rename_args_value}
 use Rattle.node_tree.specs.Judged.{judged_of}
 use Rattle.compound_run.specs.Questions.{demand_lines}
@@ -12,8 +13,8 @@ use Rattle.access_rows.specs.Rows.{rename_first, rename_second, second_demands}
 use Rattle.compound_run.specs.Sight.{whole}
 use Rattle.compound_run.specs.Rows.{first_facts, second_facts, second_row}
 use Rattle.compound_run.specs.Rename.{rename, is_movable, moved, replaced}
-use Rattle.compound_run.specs.Views.{context_of, realm_of}
-use Rattle.compound_run.proofs.Behind.{behind, row_refuses}
+use Rattle.compound_run.specs.Views.{context_at, realm_of}
+use Rattle.compound_run.proofs.Behind.{behind, behind_at, row_refuses}
 use Rattle.compound_run.proofs.Refused.{renamed_same}
 use Rattle.compound_run.proofs.Demanding.{held_together}
 use Rattle.compound_run.proofs.Writing.{written_as}
@@ -22,7 +23,7 @@ use Rattle.compound_run.proofs.export.Export.rename.Goals as goal
 pub returns-then-is_one : goal.returns-then-is_one
 returns-then-is_one g c =
     let w = c.args.self.now.tree.world in
-    let same = renamed_same w c.in_ok-from.from c.args.args.now.old.bytes.now c.in_ok-to.to c.args.args.now.new.bytes.now (at (context_of c.args.context) w) (search rules) in
+    let same = renamed_same w c.in_ok-from.from c.args.args.now.old.bytes.now c.in_ok-to.to c.args.args.now.new.bytes.now (at (context_at c.args.self.now c.args.context) w) (search rules) in
     record {
       answered = record {
         outcome = search rules;
@@ -33,7 +34,7 @@ returns-then-is_one g c =
         handles = search rules;
         realm_stays = search rules;
         handles_stay = search rules;
-        capacity = search rules;
+        settings = search rules;
       };
       written = written_as _ _ _ _ c.put_result.ensures.written (search rules);
       within = search rules;
@@ -46,9 +47,9 @@ returns-then-not-grants_second g c =
     let s = whole (realm_of c.args.self.now) in
     let h = c.args.handles in
     let v = rename_args_value c.args.args.now in
-    let m = rename v (context_of c.args.context) h in
+    let m = rename v (context_at c.args.self.now c.args.context) h in
     let room = c.args.context.room in
-    let first = demand_lines lists c.args.context.caller.now 29 (rename_first (first_facts s h)) in
+    let first = demand_lines lists (member c.args.self.now.tree.book c.args.context.caller.now) 29 (rename_first (first_facts s h)) in
     let found : moved h v s ≡ Some c.in_ok-child.child = search rules in
     let has_it : replaced h v s ≡ c.find-target.result = search rules in
     behind room m (second_row h (Known kinds.Rename v) (moved h v) (replaced h v) ∷ is_movable (there h) (here h) (new_name v) ∷ []) c.args.self.now h c.args.out.now first c.grants_first.new.self _ _ _ _
@@ -61,8 +62,8 @@ returns g c =
     let s = whole (realm_of c.args.self.now) in
     let h = c.args.handles in
     let v = rename_args_value c.args.args.now in
-    let first = demand_lines lists c.args.context.caller.now 29 (rename_first (first_facts s h)) in
-    let second = demand_lines lists c.args.context.caller.now 29 (rename_second (second_facts s h (moved h v s) (replaced h v s))) in
-    behind c.args.context.room (rename v (context_of c.args.context) h)
-    (is_movable c.in_ok-from.from c.in_ok-to.to c.args.args.now.new.bytes.now ∷ []) c.args.self.now h c.args.out.now (first ++ second) c.grants_second.new.self _ _ _ _
+    let first = demand_lines lists (member c.args.self.now.tree.book c.args.context.caller.now) 29 (rename_first (first_facts s h)) in
+    let second = demand_lines lists (member c.args.self.now.tree.book c.args.context.caller.now) 29 (rename_second (second_facts s h (moved h v s) (replaced h v s))) in
+    behind_at c.args.context.room c.args.context (λ x. rename v x h)
+    (λ x. is_movable c.in_ok-from.from c.in_ok-to.to c.args.args.now.new.bytes.now ∷ []) c.args.self.now h c.args.out.now (first ++ second) c.grants_second.new.self _ _ _ _
     (search rules) (search (rules, append_assoc)) (search (rules, held_together)) c.move_child.ensures

@@ -6,14 +6,14 @@ use Rattle.nfs_ops.specs.OpViews.{op_view}
 use Rattle.compound_run.specs.Sight.{whole}
 use Rattle.compound_run.specs.Operations.{meaning}
 use Rattle.compound_run.specs.Runs.{Given, result_bytes}
-use Rattle.compound_run.specs.Views.{context_of, realm_of}
+use Rattle.compound_run.specs.Views.{context_at, realm_of}
 use Rattle.compound_run.proofs.export.Export.run_one.Goals as goal
 
 pub returns-in-Ok-clause-gives : goal.returns-in-Ok-clause-gives
 returns-in-Ok-clause-gives g c =
     let gives = c.in-Ok.ensures.gives in
     record {
-      outcome = Ok ((meaning (context_of c.args.context) c.args.handles.now (op_view c.args.op.now)).answer (whole (realm_of c.args.self.now)));
+      outcome = Ok ((meaning (context_at c.args.self.now c.args.context) c.args.handles.now (op_view c.args.op.now)).answer (whole (realm_of c.args.self.now)));
       steps = gives.answered;
       written = gives.written;
       fits = gives.within;

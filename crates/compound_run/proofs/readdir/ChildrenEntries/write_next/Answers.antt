@@ -7,13 +7,13 @@ use Rattle.access_rows.specs.declared.demand.Demand.{Demand}
 use Rattle.compound_run.specs.Asking.{sight_of}
 use Rattle.compound_run.specs.Readdir.{entry_of, judged_above}
 use Rattle.compound_run.specs.Listed.{linked}
-use Rattle.compound_run.specs.Views.{context_of}
+use Rattle.compound_run.specs.Views.{context_at}
 use Rattle.compound_run.proofs.Listing.{moved_entry, next_judged}
 use Rattle.compound_run.proofs.readdir.ChildrenEntries.write_next.Goals as goal
 
 pub returns-in-Err-clause-gives : goal.returns-in-Err-clause-gives
 returns-in-Err-clause-gives g c =
-    let context = context_of c.args.self.now.context in
+    let context = context_at c.args.self.now.export.now c.args.self.now.context in
     let asked = bitmap_value c.args.self.now.asked in
     let s = sight_of c.args.self.now.export.now in
     let next = c.in-Some.ensures.some in (
@@ -25,7 +25,7 @@ returns-in-Err-clause-gives g c =
 pub returns-in-Ok-put_next-clause-gives : goal.returns-in-Ok-put_next-clause-gives
 unfolding linked
 returns-in-Ok-put_next-clause-gives g c =
-    let context = context_of c.args.self.now.context in
+    let context = context_at c.args.self.now.export.now c.args.self.now.context in
     let asked = bitmap_value c.args.self.now.asked in
     let s = sight_of c.args.self.now.export.now in
     let next = c.in-Some.ensures.some in
@@ -34,15 +34,15 @@ returns-in-Ok-put_next-clause-gives g c =
     let put = c.in-Ok-put_next.ensures next.name (search (rules, next.is, same)) in (
       entry_of context s next.name given.0 (bitmap_value given.1),
       next_judged context asked s c.args.self.now.directory c.args.self.now.cookie _ c.in-Some.cookie c.in-Some.child (Ok (given.0, bitmap_value given.1)) next (search rules)
-          ∙ ap (λ e. let all : List (Judged Demand) = Ok (entry_of context s next.name given.0 (bitmap_value given.1)) ∷ judged_above context asked c.args.self.now.directory c.in-Some.cookie (sight_of e) in all) (sym same),
-      moved_entry context _ _ next.name given.0 (bitmap_value given.1) (λ x. Appends c.args.writer.now c.put_next.new.out (linked_bytes x)) same put.puts,
-      moved_entry context _ _ next.name given.0 (bitmap_value given.1) IsSendable same put.sendable,
+          ∙ ap (λ e. let all : List (Judged Demand) = Ok (entry_of context s next.name given.0 (bitmap_value given.1)) ∷ judged_above (context_at e c.args.self.now.context) asked c.args.self.now.directory c.in-Some.cookie (sight_of e) in all) (sym same),
+      moved_entry c.args.self.now.context _ _ next.name given.0 (bitmap_value given.1) (λ x. Appends c.args.writer.now c.put_next.new.out (linked_bytes x)) same put.puts,
+      moved_entry c.args.self.now.context _ _ next.name given.0 (bitmap_value given.1) IsSendable same put.sendable,
     )
 
 pub returns-in-Err-put_next-clause-gives : goal.returns-in-Err-put_next-clause-gives
 unfolding linked
 returns-in-Err-put_next-clause-gives g c =
-    let context = context_of c.args.self.now.context in
+    let context = context_at c.args.self.now.export.now c.args.self.now.context in
     let asked = bitmap_value c.args.self.now.asked in
     let s = sight_of c.args.self.now.export.now in
     let next = c.in-Some.ensures.some in
@@ -52,6 +52,6 @@ returns-in-Err-put_next-clause-gives g c =
       entry_of context s next.name given.0 (bitmap_value given.1),
       judged_above context asked c.args.self.now.directory c.in-Some.cookie s,
       next_judged context asked s c.args.self.now.directory c.args.self.now.cookie _ c.in-Some.cookie c.in-Some.child (Ok (given.0, bitmap_value given.1)) next (search rules),
-      moved_entry context _ _ next.name given.0 (bitmap_value given.1) (λ x. c.args.writer.now.room < length (linked_bytes x)) same put.puts.0,
+      moved_entry c.args.self.now.context _ _ next.name given.0 (bitmap_value given.1) (λ x. c.args.writer.now.room < length (linked_bytes x)) same put.puts.0,
       put.puts.1,
     )

@@ -1,10 +1,10 @@
-use Rattle.std.proofs.Common.{◌≡◌, ◌≤◌, ◌<◌, ◌++◌, ℕ, List, length, map, drop, refl, sym, ap, subst, arith}
+use Rattle.std.proofs.Common.{◌≡◌, ◌<◌, ℕ, List, length, map, sym, subst, arith}
 use Rattle.std.specs.Int.{w32, to_be_bytes}
 use Rattle.std.proofs.lemmas.List.{drop_all, length-map}
 use Rattle.xdr_wire.specs.Xdr.{HasSpelling, spelling}
 use Rattle.xdr_wire.specs.Buffer.{Appends}
 use Rattle.xdr_wire.proofs.Going.{all_written, all_fit}
-use Rattle.nfs_types.specs.Attributes.{ace, acl}
+use Rattle.nfs_types.specs.Attributes.{ace}
 use Rattle.nfs_types.specs.AceView.{ace_value}
 use Rattle.nfs_types.proofs.Listing.{one_written, one_unwritten, sent_bytes, all_mapped}
 use Rattle.nfs_types.proofs.aces.AcesSpell.write.Goals as goal

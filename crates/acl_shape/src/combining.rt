@@ -1,0 +1,130 @@
+//! A list by its two parts: dacl and sacl.
+ghost use Rattle.std.specs.Prelude.{◌≡◌, ◌&&◌, ◌++◌, count_by, true, false, unwrap_or, IsNone, Err, IfOk, IsOk, MatchResult, OnOk};
+ghost use Rattle.acl_shape.specs.Bounds.{IsBounded, fits, keeps};
+ghost use Rattle.acl_shape.specs.Parts.{combined, is_of, lent, part_of, parts_fit};
+ghost use Rattle.acl_shape.specs.Parts as specs;
+ghost use Rattle.acl_shape.specs.declared.combining.CombineFault.TheVariants.{NoSpc, Memory};
+
+use crate::bounds::{MAX_ENTRIES, MAX_KEPT, is_kept};
+use crate::part::Part;
+use acl_list::{AclList, Entry};
+use std::alloc::{AllocError, Allocator};
+use thiserror::Error;
+
+/// Why parts aren't put into a list.
+#[derive(Clone, Copy, Debug, PartialEq, Eq, Error)]
+pub enum CombineFault {
+    /// NFS4ERR_NOSPC: the list would not be within the bounds of [`crate::is_bounded`].
+    #[error("a list beyond its bounds")]
+    NoSpc,
+    /// There is no memory for the list.
+    #[error("out of memory")]
+    Memory,
+}
+
+/// The entries that a part is taken from: those that are given, else the list's own.
+fn source<'a, B: Allocator, C: Allocator>(
+    part: Option<&'a AclList<C>>,
+    list: &'a AclList<B>,
+) -> &'a [Entry]
+    ensures { result.now ≡ unwrap_or (lent part.entry) list.now }
+{
+    match part {
+        Some(part) => part.as_slice(),
+        None => list.as_slice(),
+    }
+}
+
+/// How many of the dacl's entries a new mode keeps.
+fn kept_dacl_count(entries: &[Entry]) -> usize
+    ensures { result ≡ count_by (λ e. is_of Part.Dacl e && keeps e) entries.now }
+{
+    entries
+        .iter()
+        .filter(|entry| Part::Dacl.has(entry) && is_kept(entry))
+        .count()
+}
+
+/// Whether the dacl of these entries and the sacl of those make a list within the bounds.
+fn fits_together(dacl: &[Entry], sacl: &[Entry]) -> bool
+    ensures { result ≡ fits (part_of Part.Dacl dacl.now ++ part_of Part.Sacl sacl.now) }
+{
+    let watching = Part::Sacl.count(sacl);
+    if watching > MAX_KEPT {
+        return false;
+    }
+    if Part::Dacl.count(dacl) > MAX_ENTRIES - watching {
+        return false;
+    }
+    kept_dacl_count(dacl) <= MAX_KEPT - watching
+}
+
+/// Adds those of the entries that are of the part.
+fn add_part<A: Allocator>(
+    list: &mut AclList<A>,
+    entries: &[Entry],
+    part: Part,
+) -> Result<(), AllocError>
+    ensures { OnOk result (list.new ≡ list.old ++ part_of part entries.now) }
+{
+    for entry in entries {
+        if part.has(entry) {
+            list.push(*entry)?;
+        }
+    }
+    Ok(())
+}
+
+/// The dacl of these entries and the sacl of those.
+fn joined<A: Allocator>(alloc: A, dacl: &[Entry], sacl: &[Entry]) -> Result<AclList<A>, AllocError>
+    ensures { IfOk result (λ new. new ≡ part_of Part.Dacl dacl.now ++ part_of Part.Sacl sacl.now) }
+{
+    let mut new = AclList::new(alloc);
+    add_part(&mut new, dacl, Part::Dacl)?;
+    add_part(&mut new, sacl, Part::Sacl)?;
+    Ok(new)
+}
+
+/// The list that two parts make, over `alloc` (RFC 8881, sections 6.2.2 and 6.2.3): the ALLOW and DENY entries of `dacl`, and
+/// behind them the AUDIT and ALARM entries of `sacl`, each in their order. Where a part isn't given, the entries of `list` are
+/// taken for it; so with nothing given they are sorted, first those that allow or deny. Other entries of a part are left out.
+///
+/// `NoSpc`: the list would not be within the bounds of [`crate::is_bounded`]. `Memory`: there is no memory for a list within.
+pub fn combine<A: Allocator, B: Allocator, C: Allocator>(
+    alloc: A,
+    list: &AclList<B>,
+    dacl: Option<&AclList<C>>,
+    sacl: Option<&AclList<C>>,
+) -> Result<AclList<A>, CombineFault>
+    ensures refused { fits (combined list.now (lent dacl.entry) (lent sacl.entry)) ≡ false → result ≡ Err NoSpc }
+    ensures taken { fits (combined list.now (lent dacl.entry) (lent sacl.entry)) ≡ true → MatchResult result (λ new. new ≡ combined list.now (lent dacl.entry) (lent sacl.entry)) (λ fault. fault ≡ Memory) }
+    ensures bounded { IfOk result IsBounded }
+{
+    let dacl = source(dacl, list);
+    let sacl = source(sacl, list);
+    if !fits_together(dacl, sacl) {
+        return Err(CombineFault::NoSpc);
+    }
+    joined(alloc, dacl, sacl).map_err(|_| CombineFault::Memory)
+}
+
+/// The list with the parts that are given put into it by [`combine`], over `alloc`; the list itself where none is given.
+///
+/// `NoSpc`: the list would not be within the bounds of [`crate::is_bounded`]. `Memory`: a part is given, and there is no
+/// memory for the list, which would be within them.
+pub fn with_parts<A: Allocator>(
+    alloc: A,
+    list: AclList<A>,
+    dacl: Option<AclList<A>>,
+    sacl: Option<AclList<A>>,
+) -> Result<AclList<A>, CombineFault>
+    ensures refused { parts_fit list dacl sacl ≡ false → result ≡ Err NoSpc }
+    ensures taken { parts_fit list dacl sacl ≡ true → MatchResult result (λ new. new ≡ specs.with_parts list dacl sacl) (λ fault. fault ≡ Memory) }
+    ensures bounded { IsBounded list → IfOk result IsBounded }
+    ensures whole { IsNone dacl → IsNone sacl → IsOk result }
+{
+    if dacl.is_none() && sacl.is_none() {
+        return Ok(list);
+    }
+    combine(alloc, &list, dacl.as_ref(), sacl.as_ref())
+}

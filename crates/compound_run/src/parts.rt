@@ -1,0 +1,28 @@
+//! Parts of a list that are given: dacl and sacl (RFC 8881, sections 6.2.2 and 6.2.3).
+ghost use Rattle.std.specs.Prelude.{◌≡◌, IfOk};
+ghost use Rattle.acl_shape.specs.Bounds.{IsBounded};
+ghost use Rattle.acl_shape.specs.Parts as specs;
+ghost use Rattle.compound_run.specs.Lists.{IsFit};
+
+use acl_list::AclList;
+use acl_shape::{CombineFault, with_parts};
+use nfs_types::Status;
+use std::alloc::Allocator;
+
+/// A list with the parts that are given put into it. `NoSpc`: it would not be within the bounds of a list. `Delay`: there is no
+/// memory for it.
+pub(crate) fn put_parts<A: Allocator>(
+    alloc: A,
+    list: AclList<A>,
+    dacl: Option<AclList<A>>,
+    sacl: Option<AclList<A>>,
+) -> Result<AclList<A>, Status>
+    ensures fits { IsFit (specs.parts_fit list dacl sacl) result }
+    ensures list { IfOk result (λ new. new ≡ specs.with_parts list dacl sacl) }
+    ensures bounded { IsBounded list → IfOk result IsBounded }
+{
+    with_parts(alloc, list, dacl, sacl).map_err(|fault| match fault {
+        CombineFault::NoSpc => Status::NoSpc,
+        CombineFault::Memory => Status::Delay,
+    })
+}
