@@ -1,9 +1,9 @@
 //! Scenes over a hub: records on a connection that come in pieces of several sizes.
 
-use crate::names::{Text, filled};
+use crate::names::filled;
 use crate::rows::Row;
 use crate::stages::{House, Way, book_text, play_all};
-use call_texts::{put_call_record, reply_of, spell};
+use call_texts::{Text, put_call_record, reply_of, spell};
 use compound_run::Server;
 use nfs_hub::{Clock, ConnId, Hub, HubFault, ServeEnd, serve};
 use nfs_types::Moment;

@@ -1,7 +1,7 @@
 //! Looks at a server: its trail, its tree, its opens.
 
-use crate::lines::{split_word, text_in};
-use crate::names::Text;
+use crate::lines::text_in;
+use call_texts::{Text, split_word};
 use compound_run::Server;
 use sample_servers::{list_text, see_trail, trail_text, tree_text};
 use std::test::Fail;

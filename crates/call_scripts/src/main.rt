@@ -16,8 +16,8 @@ mod stages;
 mod trees;
 mod views;
 
-use crate::lines::joined;
 use crate::scenes::play_scenes;
+use call_texts::joined;
 use std::alloc::Global;
 use std::hash::RandomState;
 use std::rt::Files;

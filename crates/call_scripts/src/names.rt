@@ -1,15 +1,7 @@
 //! Callers, and the places in a line that are filled in.
 
-use crate::lines::{line_of, split_word};
-use call_texts::{ALICE, BOB, CAROL, Caller, ROOT};
+use call_texts::{ALICE, BOB, CAROL, Caller, ROOT, Text, line_of, split_word};
 use std::alloc::{AllocError, Global};
-
-/// The text that is played, and where it allocates.
-#[derive(Clone, Copy)]
-pub struct Text<'a> {
-    pub alloc: Global,
-    pub lines: &'a [&'a str],
-}
 
 /// The caller of a uid, a gid and one further group.
 fn caller_in(words: &str) -> Option<Caller> {

@@ -1,12 +1,10 @@
 //! Scenes in which calls are made again: beside the same calls made once, all results and what is left are equal.
 
-use crate::lines::{behind, split_word};
 use crate::looks::{Kept, is_look, look, picture};
-use crate::names::Text;
 use crate::rows::{Form, row_in};
 use crate::servers::results;
 use crate::stages::{FIRST, Way};
-use call_texts::{Caller, bytes_of, call_of};
+use call_texts::{Caller, Text, behind, bytes_of, call_of, split_word};
 use compound_run::Server;
 use sample_servers::{sample_server, see_bytes};
 use std::hash::RandomState;

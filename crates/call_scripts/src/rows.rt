@@ -1,8 +1,7 @@
 //! A call of a scene with its answer, as two lines.
 
-use crate::lines::split_word;
-use crate::names::{Text, caller_of};
-use call_texts::Caller;
+use crate::names::caller_of;
+use call_texts::{Caller, Text, split_word};
 use std::test::Fail;
 
 /// How an answer is written.

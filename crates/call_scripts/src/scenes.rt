@@ -1,24 +1,13 @@
 //! Scenes: the lines from one that begins with `scene` to the next.
 
 use crate::hubs::in_pieces;
-use crate::lines::{behind, split_word};
-use crate::names::Text;
 use crate::repeats::play_repeats;
 use crate::servers::{on_root, on_sample};
 use crate::views::{play_views, play_world};
+use call_texts::{Text, behind, split_word, up_to};
 use std::alloc::Global;
 use std::hash::RandomState;
 use std::test::Fail;
-
-/// The lines before the next scene.
-fn up_to_scene<'a>(lines: &'a [&'a str]) -> &'a [&'a str] {
-    for (index, line) in lines.iter().enumerate() {
-        if line.starts_with("scene ") {
-            return lines.get(..index).unwrap_or(&[]);
-        }
-    }
-    lines
-}
 
 /// Plays a scene, whose first line says over what, and gives the number of its calls.
 fn play_scene(text: Text<'_>, hasher: RandomState, scene: &[&str]) -> Result<u32, Fail> {
@@ -46,7 +35,7 @@ pub fn play_scenes<R: Print>(
     let text = Text { alloc, lines };
     for (index, line) in lines.iter().enumerate() {
         if let Some(title) = line.strip_prefix("scene ") {
-            let scene = up_to_scene(behind(lines, index));
+            let scene = up_to(behind(lines, index), "scene ");
             let count = play_scene(text, hasher, scene)?;
             println!(rt; "{file}: {title}: {count} calls")?;
         }

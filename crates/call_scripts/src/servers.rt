@@ -1,10 +1,10 @@
 //! Scenes over a server: calls that it answers one by one.
 
-use crate::names::{Text, filled};
+use crate::names::filled;
 use crate::rows::{Form, Row};
 use crate::stages::{House, Way, play_all};
 use crate::trees::grow;
-use call_texts::{Caller, answer_of, bytes_of, call_of};
+use call_texts::{Caller, Text, answer_of, bytes_of, call_of};
 use compound_run::Server;
 use node_tree::Tree;
 use sample_servers::{

@@ -1,10 +1,10 @@
 //! The lines of a scene, one after the other, over whatever answers calls.
 
-use crate::lines::{behind, lines_of, split_word, text_in, up_to_end};
+use crate::lines::{text_in, up_to_end};
 use crate::looks::{Kept, is_look, look};
-use crate::names::Text;
 use crate::rows::{Row, row_in};
 use crate::trees::grows;
+use call_texts::{Text, behind, lines_of, split_word};
 use compound_run::Server;
 use sample_servers::Turn;
 use std::test::Fail;

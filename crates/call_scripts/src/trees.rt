@@ -1,8 +1,7 @@
 //! Trees of scenes, line by line.
 
-use crate::lines::split_word;
-use crate::names::Text;
 use acl_list::Kind;
+use call_texts::{Text, split_word};
 use node_tree::Tree;
 use sample_servers::{add, fill, link, link_often, set_list};
 use std::test::Fail;

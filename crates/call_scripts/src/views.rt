@@ -1,10 +1,10 @@
 //! Scenes of two worlds that differ in a part that is hidden from bob: he is told the same in both.
 
-use crate::lines::{line_of, lines_of, split_word, up_to_end};
-use crate::names::{Text, caller_of};
+use crate::lines::up_to_end;
+use crate::names::caller_of;
 use crate::servers::{play_on, results};
 use crate::stages::{FIRST, Way, book_text};
-use call_texts::{BOB, Caller, ROOT, bytes_of, call_of};
+use call_texts::{BOB, Caller, ROOT, Text, bytes_of, call_of, line_of, lines_of, split_word};
 use compound_run::Server;
 use sample_servers::{ALL, reload, root_of, sample_server, server_of, trail_text};
 use std::hash::RandomState;
