@@ -1,6 +1,8 @@
 //! Streams that fail, or go on for ever: the fault is answered, and no command follows it.
-use crate::replies::{BEGUN, SESSION, reply};
-use nfs_tool::{Client, ToolFault};
+
+use crate::plain::{mkdir, resume, rm};
+use crate::replies::REMOVED;
+use nfs_tool::ToolFault;
 use std::alloc::Global;
 use std::io::{self, ErrorKind, Read, Write};
 use std::test::Fail;
@@ -41,63 +43,53 @@ impl Write for Failing<'_> {
     }
 }
 
-/// `rm /f` is done by this reply.
-const REMOVED: &[u32] = &[28, 0, 1, 0, 1, 0, 2];
-
 /// The answers to `rm /f` and to a command behind it.
-fn removed<S: Read + Write + Drop>(
-    alloc: Global,
-    stream: S,
-) -> (Result<(), ToolFault>, Result<(), ToolFault>) {
-    let mut client = Client::resume(alloc, stream, 1001, 100, 1, SESSION, 1);
-    let first = client.rm(b"/f");
-    let second = client.mkdir(b"/g");
+type Told = (Result<(), ToolFault>, Result<(), ToolFault>);
+
+fn removed<S: Read + Write + Drop>(alloc: Global, stream: S) -> Told {
+    let mut client = resume(alloc, stream);
+    let first = rm(&mut client);
+    let second = mkdir(&mut client, b"/g");
     (first, second)
 }
 
+/// The answers where so many writes and reads don't fail.
+fn removed_within(alloc: Global, writes: u32, reads: u32) -> Told {
+    let gives = REMOVED;
+    removed(
+        alloc,
+        Failing {
+            gives,
+            writes,
+            reads,
+        },
+    )
+}
+
+/// The call is written by 32 writes.
 #[test]
 fn each_write_fails(rt: HostRuntime) -> Result<(), Fail> {
-    let gives = reply(rt.alloc(), 1, 0, 3, BEGUN, REMOVED)?;
     for writes in 0..32 {
-        let stream = Failing {
-            gives: &gives,
-            writes,
-            reads: 1000,
-        };
-        let told = removed(rt.alloc(), stream);
-        assert_eq!(rt; told.0, Err(ToolFault::Write));
-        assert_eq!(rt; told.1, Err(ToolFault::Failed));
+        let told = removed_within(rt.alloc(), writes, 1000);
+        assert_eq!(rt; told, (Err(ToolFault::Write), Err(ToolFault::Failed)));
     }
     Ok(())
 }
 
+/// The reply is read by 40 reads.
 #[test]
 fn each_read_fails(rt: HostRuntime) -> Result<(), Fail> {
-    let gives = reply(rt.alloc(), 1, 0, 3, BEGUN, REMOVED)?;
     for reads in 0..40 {
-        let stream = Failing {
-            gives: &gives,
-            writes: 1000,
-            reads,
-        };
-        let told = removed(rt.alloc(), stream);
-        assert_eq!(rt; told.0, Err(ToolFault::Read));
-        assert_eq!(rt; told.1, Err(ToolFault::Failed));
+        let told = removed_within(rt.alloc(), 1000, reads);
+        assert_eq!(rt; told, (Err(ToolFault::Read), Err(ToolFault::Failed)));
     }
     Ok(())
 }
 
 #[test]
 fn no_read_and_no_write_too_many_fail(rt: HostRuntime) -> Result<(), Fail> {
-    let gives = reply(rt.alloc(), 1, 0, 3, BEGUN, REMOVED)?;
-    let stream = Failing {
-        gives: &gives,
-        writes: 32,
-        reads: 40,
-    };
-    let told = removed(rt.alloc(), stream);
-    assert_eq!(rt; told.0, Ok(()));
-    assert_eq!(rt; told.1, Err(ToolFault::Write));
+    let told = removed_within(rt.alloc(), 32, 40);
+    assert_eq!(rt; told, (Ok(()), Err(ToolFault::Write)));
     Ok(())
 }
 
@@ -128,8 +120,7 @@ impl Write for Zeros {
 #[test]
 fn zeros_for_ever_end(rt: HostRuntime) -> Result<(), Fail> {
     let told = removed(rt.alloc(), Zeros);
-    assert_eq!(rt; told.0, Err(ToolFault::Read));
-    assert_eq!(rt; told.1, Err(ToolFault::Failed));
+    assert_eq!(rt; told, (Err(ToolFault::Read), Err(ToolFault::Failed)));
     Ok(())
 }
 
@@ -165,22 +156,17 @@ impl Write for Late<'_> {
     }
 }
 
+fn removed_late(alloc: Global, zeros: u32) -> Told {
+    let gives = REMOVED;
+    removed(alloc, Late { zeros, gives })
+}
+
 /// A reply may take at most 200,000 reads. With 199,996 zero bytes it takes 199,997.
 #[test]
 fn a_late_reply_is_read(rt: HostRuntime) -> Result<(), Fail> {
-    let gives = reply(rt.alloc(), 1, 0, 3, BEGUN, REMOVED)?;
-    let stream = Late {
-        zeros: 199_996,
-        gives: &gives,
-    };
-    let told = removed(rt.alloc(), stream);
+    let told = removed_late(rt.alloc(), 199_996);
     assert_eq!(rt; told.0, Ok(()));
-    let stream = Late {
-        zeros: 200_000,
-        gives: &gives,
-    };
-    let told = removed(rt.alloc(), stream);
-    assert_eq!(rt; told.0, Err(ToolFault::Read));
-    assert_eq!(rt; told.1, Err(ToolFault::Failed));
+    let told = removed_late(rt.alloc(), 200_000);
+    assert_eq!(rt; told, (Err(ToolFault::Read), Err(ToolFault::Failed)));
     Ok(())
 }

@@ -1,7 +1,10 @@
 //! Every growth refused: a client on a small heap answers `Memory`, and goes on where no bytes were written.
-use crate::replies::{BEGUN, SESSION, reply};
+
+use crate::plain::{getacl, mkdir, resume};
+use crate::replies::LISTED;
 use linked_list_allocator::LocalHeap;
-use nfs_tool::{Client, ToolFault};
+use nfs_tool::ToolFault;
+use std::alloc::{AllocError, Global};
 use std::io::{self, Read, Write};
 use std::test::Fail;
 
@@ -31,50 +34,62 @@ impl Write for Given<'_> {
     }
 }
 
-/// The end of `getacl /` on this heap, and the answer to a command behind it.
-fn listed(gives: &[u8], heap: &LocalHeap) -> (Option<ToolFault>, Result<(), ToolFault>) {
-    let stream = Given { gives };
-    let mut client = Client::resume(heap, stream, 1001, 100, 1, SESSION, 1);
-    let first = match client.getacl(b"/") {
-        Ok(_) => None,
-        Err(fault) => Some(fault),
-    };
-    (first, client.mkdir(b"/"))
+/// How many bytes `getacl /` prints, or its fault, and the answer to a command behind it.
+type Told = (Result<usize, ToolFault>, Result<(), ToolFault>);
+
+fn listed(heap: &LocalHeap) -> Told {
+    let mut client = resume(heap, Given { gives: LISTED });
+    let first = getacl(&mut client);
+    let second = mkdir(&mut client, b"/");
+    (first, second)
+}
+
+/// The answers on a heap of so many bytes.
+fn listed_on(alloc: Global, size: usize) -> Result<Told, AllocError> {
+    let heap = LocalHeap::new(alloc, size)?;
+    Ok(listed(&heap))
+}
+
+/// The answers on a heap of 131,000 bytes and so many times 64 more.
+fn listed_at(alloc: Global, step: usize) -> Result<Told, AllocError> {
+    listed_on(alloc, step.saturating_mul(64).saturating_add(131_000))
+}
+
+/// On how many heaps memory was refused, and on how many of those behind them it wasn't.
+#[derive(Clone, Copy)]
+struct Seen {
+    refused: u32,
+    done: u32,
+}
+
+/// What is seen with one answer more, if it may come behind these.
+fn seen_with(seen: Seen, told: Told) -> Option<Seen> {
+    match told {
+        (Err(ToolFault::Memory), Err(ToolFault::Path)) if seen.done == 0 => Some(Seen {
+            refused: seen.refused.saturating_add(1),
+            done: 0,
+        }),
+        (Ok(21), Err(ToolFault::Path)) => Some(Seen {
+            refused: seen.refused,
+            done: seen.done.saturating_add(1),
+        }),
+        _ => None,
+    }
 }
 
 #[test]
 fn memory_is_refused_until_there_is_enough(rt: HostRuntime) -> Result<(), Fail> {
-    let alloc = rt.alloc();
-    let list = [
-        9,
-        0,
-        1,
-        0x1000,
-        28,
-        1,
-        0,
-        0,
-        0x001e_0187,
-        6,
-        0x4f57_4e45,
-        0x5240_0000,
-    ];
-    let gives = reply(alloc, 1, 0, 3, BEGUN, &list)?;
-    let mut refused = false;
-    let mut done = false;
-    for step in 0..24usize {
-        let size = step.saturating_mul(64).saturating_add(131_000);
-        let heap = LocalHeap::new(alloc, size)?;
-        let (told, then) = listed(&gives, &heap);
-        assert_eq!(rt; then, Err(ToolFault::Path));
-        if told == Some(ToolFault::Memory) {
-            assert!(rt; !done);
-            refused = true;
-        } else {
-            assert_eq!(rt; told, None);
-            done = true;
-        }
+    let mut seen = Seen {
+        refused: 0,
+        done: 0,
+    };
+    for step in 0..24 {
+        let told = listed_at(rt.alloc(), step)?;
+        let Some(next) = seen_with(seen, told) else {
+            return Err(Fail::new("another answer"));
+        };
+        seen = next;
     }
-    assert!(rt; refused && done);
+    assert!(rt; seen.refused > 0 && seen.done > 0);
     Ok(())
 }

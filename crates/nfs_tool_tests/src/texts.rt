@@ -2,20 +2,32 @@
 use acl_list::EntryKind;
 use nfs_tool::{Command, EntryText, ListPart, Listed, Path, ToolFault, mode_text, read_mode};
 use nfs_types::Status;
+use std::alloc::{AllocError, Global};
 use std::test::Fail;
+
+/// Whether a path has these names, or its fault.
+fn has_names(alloc: Global, text: &[u8], names: &[&[u8]]) -> Result<bool, ToolFault> {
+    match Path::read(alloc, text) {
+        Ok(path) => Ok(path.names() == names),
+        Err(fault) => Err(fault),
+    }
+}
 
 #[test]
 fn paths_are_read(rt: HostRuntime) -> Result<(), Fail> {
-    let alloc = rt.alloc();
-    let path = Path::read(alloc, b"/a/bc")?;
-    assert_eq!(rt; path.names().len(), 2);
-    assert!(rt; path.names()[1] == b"bc".as_slice());
-    let root = Path::read(alloc, b"/")?;
-    assert_eq!(rt; root.names().len(), 0);
+    assert_eq!(rt; has_names(rt.alloc(), b"/a/bc", &[b"a", b"bc"]), Ok(true));
+    assert_eq!(rt; has_names(rt.alloc(), b"/", &[]), Ok(true));
     for text in &[b"".as_slice(), b"a", b"//", b"/a/", b"/a//b"] {
-        assert!(rt; matches!(Path::read(alloc, text), Err(ToolFault::Path)));
+        assert_eq!(rt; has_names(rt.alloc(), text, &[]), Err(ToolFault::Path));
     }
     Ok(())
+}
+
+/// Whether an entry is written as this text.
+fn entry_is(alloc: Global, entry: EntryText<'_>, wanted: &[u8]) -> Result<bool, AllocError> {
+    let mut text = Vec::new(alloc);
+    entry.put(&mut text)?;
+    Ok(text.as_slice() == wanted)
 }
 
 #[test]
@@ -27,16 +39,22 @@ fn entries_are_read_and_written(rt: HostRuntime) -> Result<(), Fail> {
     assert_eq!(rt; entry.flags, 0x0b);
     assert_eq!(rt; entry.mask, 0x0004_0027);
     assert!(rt; entry.who == b"a:b".as_slice());
-    let mut text = Vec::new(rt.alloc());
-    entry.put(&mut text)?;
-    assert!(rt; text.as_slice() == b"L:0b:00040027:a:b".as_slice());
-    for text in &[
-        b"".as_slice(),
-        b"X:00:00000001:1",
-        b"A:0:00000001:1",
-        b"A:00:0000001:1",
-        b"A:00:00000001",
-    ] {
+    assert!(rt; entry_is(rt.alloc(), entry, b"L:0b:00040027:a:b")?);
+    Ok(())
+}
+
+/// Texts that are no entry.
+const NO_ENTRIES: &[&[u8]] = &[
+    b"",
+    b"X:00:00000001:1",
+    b"A:0:00000001:1",
+    b"A:00:0000001:1",
+    b"A:00:00000001",
+];
+
+#[test]
+fn other_texts_are_no_entries(rt: HostRuntime) -> Result<(), Fail> {
+    for text in NO_ENTRIES {
         assert!(rt; EntryText::read(text).is_none());
     }
     Ok(())
@@ -53,38 +71,50 @@ fn modes_are_read_and_written(rt: HostRuntime) -> Result<(), Fail> {
     Ok(())
 }
 
+/// Faults and their texts.
+const FAULTS: &[(ToolFault, &str)] = &[
+    (ToolFault::Path, "failed 1"),
+    (ToolFault::Reply, "failed 3"),
+    (ToolFault::Read, "failed 4"),
+    (ToolFault::Write, "failed 5"),
+    (ToolFault::Memory, "failed 6"),
+    (ToolFault::Entry, "failed 7"),
+    (ToolFault::Failed, "failed 8"),
+    (
+        ToolFault::Refused(25, Status::Access),
+        "refused READ ACCESS",
+    ),
+    (
+        ToolFault::Refused(57, Status::RepTooBigToCache),
+        "refused DESTROY_CLIENTID REP_TOO_BIG_TO_CACHE",
+    ),
+    (
+        ToolFault::Refused(4_294_967_295, Status::NoEnt),
+        "refused 4294967295 NOENT",
+    ),
+];
+
+fn has_text(fault: ToolFault, text: &str) -> bool {
+    fault.text().as_bytes() == text.as_bytes()
+}
+
 #[test]
 fn faults_have_texts(rt: HostRuntime) -> Result<(), Fail> {
-    let texts: [(ToolFault, &str); 10] = [
-        (ToolFault::Path, "failed 1"),
-        (ToolFault::Reply, "failed 3"),
-        (ToolFault::Read, "failed 4"),
-        (ToolFault::Write, "failed 5"),
-        (ToolFault::Memory, "failed 6"),
-        (ToolFault::Entry, "failed 7"),
-        (ToolFault::Failed, "failed 8"),
-        (
-            ToolFault::Refused(25, Status::Access),
-            "refused READ ACCESS",
-        ),
-        (
-            ToolFault::Refused(57, Status::RepTooBigToCache),
-            "refused DESTROY_CLIENTID REP_TOO_BIG_TO_CACHE",
-        ),
-        (
-            ToolFault::Refused(4_294_967_295, Status::NoEnt),
-            "refused 4294967295 NOENT",
-        ),
-    ];
-    for (fault, text) in texts {
-        assert!(rt; fault.text().as_bytes() == text.as_bytes());
+    for (fault, text) in FAULTS {
+        assert!(rt; has_text(*fault, text));
     }
     Ok(())
 }
 
+/// Whether the line of an entry of a directory is this.
+fn line_is(alloc: Global, listed: Listed<'_>, wanted: &[u8]) -> Result<bool, AllocError> {
+    let mut text = Vec::new(alloc);
+    listed.put(&mut text)?;
+    Ok(text.as_slice() == wanted)
+}
+
 #[test]
 fn lines_are_written(rt: HostRuntime) -> Result<(), Fail> {
-    let mut text = Vec::new(rt.alloc());
     let known = Listed {
         kind: Some(1),
         mode: Some(0o600),
@@ -93,9 +123,7 @@ fn lines_are_written(rt: HostRuntime) -> Result<(), Fail> {
         size: Some(2),
         name: b"f",
     };
-    known.put(&mut text)?;
-    assert!(rt; text.as_slice() == b"- 0600 0 0 2 f".as_slice());
-    text.truncate(0);
+    assert!(rt; line_is(rt.alloc(), known, b"- 0600 0 0 2 f")?);
     let refused = Listed {
         kind: Some(5),
         mode: None,
@@ -104,8 +132,7 @@ fn lines_are_written(rt: HostRuntime) -> Result<(), Fail> {
         size: None,
         name: b"l",
     };
-    refused.put(&mut text)?;
-    assert!(rt; text.as_slice() == b"l ? ? ? ? l".as_slice());
+    assert!(rt; line_is(rt.alloc(), refused, b"l ? ? ? ? l")?);
     Ok(())
 }
 
