@@ -183,11 +183,12 @@ fn play_opened(
     match open(text.alloc, lent, verifier) {
         Ok(mut client) => {
             see_opened(text, fills, Ok(()), lines)?;
-            run_lines(text, fills, &mut client, lines)
+            let count = run_lines(text, fills, &mut client, lines)?;
+            Ok(count.saturating_add(1))
         }
         Err(fault) => {
             see_opened(text, fills, Err(fault), lines)?;
-            Ok(0)
+            Ok(1)
         }
     }
 }
@@ -202,7 +203,7 @@ fn play_over(
 ) -> Result<u32, Fail> {
     let lent = Lent { played };
     match head {
-        ("opens", words) => { Ok(play_opened(text, fills, lent, words, lines)?.saturating_add(1)) }
+        ("opens", words) => play_opened(text, fills, lent, words, lines),
         (_, numbers) => play_resumed(text, fills, lent, numbers, lines),
     }
 }
