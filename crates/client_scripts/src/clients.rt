@@ -2,27 +2,15 @@
 
 use crate::fills::Fills;
 use crate::lines::{Text, behind, is_definition, split_word};
+use crate::methods::{answer, end, put_method};
 use crate::outcomes::{put_done, put_told, put_wanted};
-use crate::played::{Lent, Played};
+use crate::played::{Lent, Played, Player};
 use crate::repetitions::written;
 use crate::talks::{Talk, is_talk, talk_of};
 use call_texts::bytes_of;
-use nfs_tool::{Answer, Client, Command, ToolFault};
+use nfs_tool::{Client, Command, ToolFault};
 use std::alloc::{AllocError, Global};
 use std::test::Fail;
-
-/// A client over a stream in memory.
-type Player<'a, 'b> = Client<Lent<'a, 'b>>;
-
-/// Runs a command, without the contract of that, which no caller here needs.
-fn answer(client: &mut Player<'_, '_>, command: Command<'_>) -> Result<Answer, ToolFault> {
-    client.answer(command)
-}
-
-/// Ends the session and the client.
-fn end(client: &mut Player<'_, '_>) -> Result<(), ToolFault> {
-    client.end()
-}
 
 /// The words of a line; `""` is the empty word.
 fn words_of(alloc: Global, line: &str) -> Result<Vec<&[u8]>, AllocError> {
@@ -33,33 +21,38 @@ fn words_of(alloc: Global, line: &str) -> Result<Vec<&[u8]>, AllocError> {
     Ok(words)
 }
 
-/// Puts what comes of a command of these words.
-fn put_run(out: &mut Vec<u8>, client: &mut Player<'_, '_>, words: &[&[u8]]) -> Result<(), Fail> {
-    let Some(command) = Command::read(words) else {
-        return Err(Fail::new("no command"));
-    };
-    put_told(out, answer(client, command))
+/// Puts what comes of a line: of the command of these words, or of the end of the session and the client.
+fn put_line(
+    out: &mut Vec<u8>,
+    client: &mut Player<'_, '_>,
+    word: &str,
+    words: &[&[u8]],
+) -> Result<(), Fail> {
+    match (word, Command::read(words)) {
+        ("run", Some(command)) => put_told(out, answer(client, command)),
+        ("do", Some(command)) => put_method(out, client, command),
+        ("leave", None) => put_done(out, end(client)),
+        _ => Err(Fail::new(format_args!("no such line: {word}"))),
+    }
 }
 
-/// What comes of a line `run WORDS`.
-fn run(alloc: Global, client: &mut Player<'_, '_>, line: &str) -> Result<Vec<u8>, Fail> {
-    let words = words_of(alloc, line)?;
+/// What comes of a line.
+fn came_of(
+    alloc: Global,
+    client: &mut Player<'_, '_>,
+    word: &str,
+    rest: &str,
+) -> Result<Vec<u8>, Fail> {
+    let words = words_of(alloc, rest)?;
     let mut out = Vec::new(alloc);
-    put_run(&mut out, client, &words)?;
-    Ok(out)
-}
-
-/// What comes of a line `leave`.
-fn leave(alloc: Global, client: &mut Player<'_, '_>) -> Result<Vec<u8>, Fail> {
-    let mut out = Vec::new(alloc);
-    put_done(&mut out, end(client))?;
+    put_line(&mut out, client, word, &words)?;
     Ok(out)
 }
 
 /// The first of these lines that says what comes of a command, before another command.
 fn outcome_in<'a>(lines: &[&'a str]) -> &'a str {
     for line in lines {
-        if matches!(split_word(line).0, "=" | "!" | "run" | "leave") {
+        if matches!(split_word(line).0, "=" | "!" | "run" | "do" | "leave") {
             return line;
         }
     }
@@ -92,11 +85,7 @@ fn run_line(
     behind: &[&str],
 ) -> Result<(), Fail> {
     let line = written(text, fills, rest)?;
-    let came = match word {
-        "run" => run(text.alloc, client, line.as_str())?,
-        "leave" => leave(text.alloc, client)?,
-        _ => return Err(Fail::new(format_args!("no such line: {word} {rest}"))),
-    };
+    let came = came_of(text.alloc, client, word, line.as_str())?;
     see(text, fills, &came, line.as_str(), behind)
 }
 

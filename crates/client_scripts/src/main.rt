@@ -9,6 +9,7 @@ mod books;
 mod clients;
 mod fills;
 mod lines;
+mod methods;
 mod outcomes;
 mod played;
 mod repetitions;

@@ -56,7 +56,35 @@ pub fn put_told(out: &mut Vec<u8>, told: Result<Answer, ToolFault>) -> Result<()
     }
 }
 
-/// Puts what came of opening or ending a session.
+/// Puts what came of a method that gives bytes.
+pub fn put_given(out: &mut Vec<u8>, told: Result<Vec<u8>, ToolFault>) -> Result<(), Fail> {
+    match told {
+        Ok(bytes) => {
+            out.push(b'=')?;
+            out.extend_from_slice(&bytes)?;
+            Ok(())
+        }
+        Err(fault) => put_fault(out, fault),
+    }
+}
+
+/// Puts a line of two numbers of rights.
+fn put_numbers(out: &mut Vec<u8>, supported: u32, granted: u32) -> Result<(), Fail> {
+    let alloc = *out.allocator();
+    let line = format!(in alloc; "=access {supported:08x} {granted:08x}\n")?;
+    out.extend_from_slice(line.as_bytes())?;
+    Ok(())
+}
+
+/// Puts what came of a method that gives rights: those that are supported, and those that are granted.
+pub fn put_rights(out: &mut Vec<u8>, told: Result<(u32, u32), ToolFault>) -> Result<(), Fail> {
+    match told {
+        Ok((supported, granted)) => put_numbers(out, supported, granted),
+        Err(fault) => put_fault(out, fault),
+    }
+}
+
+/// Puts what came of a command that gives nothing more.
 pub fn put_done(out: &mut Vec<u8>, told: Result<(), ToolFault>) -> Result<(), Fail> {
     match told {
         Ok(()) => {

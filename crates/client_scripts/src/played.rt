@@ -1,5 +1,6 @@
 //! A stream in memory that plays a server.
 
+use nfs_tool::Client;
 use std::io::{self, ErrorKind, Read, Write};
 
 /// The calls that are still to come, and the replies that are still to be given.
@@ -17,6 +18,9 @@ pub struct Played<'a> {
 pub struct Lent<'a, 'b> {
     pub played: &'a mut Played<'b>,
 }
+
+/// A client over a stream in memory.
+pub type Player<'a, 'b> = Client<Lent<'a, 'b>>;
 
 /// Moves the first bytes of a text to the front of a buffer, at most so many.
 fn give(gives: &mut &[u8], buf: &mut [u8], most: usize) -> usize {
