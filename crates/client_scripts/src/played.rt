@@ -22,30 +22,14 @@ pub struct Lent<'a, 'b> {
 /// A client over a stream in memory.
 pub type Player<'a, 'b> = Client<Lent<'a, 'b>>;
 
-/// Moves the first bytes of a text to the front of a buffer, at most so many.
-fn give(gives: &mut &[u8], buf: &mut [u8], most: usize) -> usize {
-    let n = gives.len().min(buf.len()).min(most);
-    let (front, rest) = gives.split_at(n);
-    buf[..n].copy_from_slice(front);
-    *gives = rest;
-    n
-}
-
-/// Takes the first bytes of a buffer from the front of a text, at most so many.
-fn take(wants: &mut &[u8], buf: &[u8], most: usize) -> io::Result<usize> {
-    let n = wants.len().min(buf.len()).min(most);
-    let (front, rest) = wants.split_at(n);
-    if front != &buf[..n] {
-        return Err(io::Error::from(ErrorKind::Other));
-    }
-    *wants = rest;
-    Ok(n)
-}
-
 impl Read for Lent<'_, '_> {
     fn read(&mut self, buf: &mut [u8]) -> io::Result<usize> {
         let most = if self.played.takes_any { buf.len() } else { 4 };
-        Ok(give(&mut self.played.gives, buf, most))
+        let n = self.played.gives.len().min(buf.len()).min(most);
+        let (front, rest) = self.played.gives.split_at(n);
+        buf[..n].copy_from_slice(front);
+        self.played.gives = rest;
+        Ok(n)
     }
 }
 
@@ -54,7 +38,13 @@ impl Write for Lent<'_, '_> {
         if self.played.takes_any {
             return Ok(buf.len());
         }
-        take(&mut self.played.wants, buf, 3)
+        let n = self.played.wants.len().min(buf.len()).min(3);
+        let (front, rest) = self.played.wants.split_at(n);
+        if front != &buf[..n] {
+            return Err(io::Error::from(ErrorKind::Other));
+        }
+        self.played.wants = rest;
+        Ok(n)
     }
 
     fn flush(&mut self) -> io::Result<()> {
