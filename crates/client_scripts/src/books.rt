@@ -1,6 +1,7 @@
 //! The books of a text: lines with a bar in front, behind a line `book NAME`.
 
-use crate::lines::{Text, bars_of};
+use crate::lines::bars_of;
+use call_texts::Text;
 use nfs_tool::Texts;
 use std::alloc::{AllocError, Global};
 

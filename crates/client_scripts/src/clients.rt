@@ -1,13 +1,13 @@
 //! Scenes of a client over a stream in memory: commands one after the other, with what comes of each.
 
 use crate::fills::Fills;
-use crate::lines::{Text, behind, is_definition, split_word};
+use crate::lines::is_definition;
 use crate::methods::{answer, end, put_method};
 use crate::outcomes::{put_done, put_told, put_wanted};
 use crate::played::{Lent, Played, Player};
 use crate::repetitions::written;
 use crate::talks::{Talk, is_talk, talk_of};
-use call_texts::bytes_of;
+use call_texts::{Text, behind, bytes_of, split_word};
 use nfs_tool::{Client, Command, ToolFault};
 use std::alloc::{AllocError, Global};
 use std::test::Fail;

@@ -1,6 +1,6 @@
 //! The places in a line that are filled in: `{NAME}` and `{N}`.
 
-use crate::lines::{Text, line_of};
+use call_texts::{Text, line_of};
 use std::test::Fail;
 
 /// A row of a table: the names of its columns, and their values, with bars between them.

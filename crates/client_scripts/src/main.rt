@@ -17,8 +17,8 @@ mod scenes;
 mod scripts;
 mod talks;
 
-use crate::lines::joined;
 use crate::scenes::play_scenes;
+use call_texts::joined;
 use std::alloc::Global;
 use std::hash::RandomState;
 use std::rt::Files;

@@ -1,9 +1,8 @@
 //! What comes of a command, as bytes: its text behind `=`; or the number of its fault behind `!`, and of a refusal the numbers of the
 //! operation and of the status.
 
-use crate::lines::split_word;
 use crate::repetitions::put_bytes;
-use call_texts::spell;
+use call_texts::{spell, split_word};
 use nfs_tool::{Answer, ToolFault};
 use std::test::Fail;
 

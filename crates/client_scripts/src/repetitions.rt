@@ -1,7 +1,7 @@
 //! The parts of a line that stand for many: `<FROM TO TEXT>`; and bytes that no line can hold: `\n` and `\xHH`.
 
 use crate::fills::{Fills, filled};
-use crate::lines::{Text, split_word};
+use call_texts::{Text, split_word};
 use std::alloc::{AllocError, Global};
 use std::test::Fail;
 

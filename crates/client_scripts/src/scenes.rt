@@ -2,8 +2,9 @@
 
 use crate::clients::play_client;
 use crate::fills::{Cells, Fills, NO_CELLS};
-use crate::lines::{Text, bars_of, behind, line_of, split_word, up_to};
+use crate::lines::bars_of;
 use crate::scripts::play_script;
+use call_texts::{Text, behind, line_of, split_word, up_to};
 use std::alloc::Global;
 use std::hash::RandomState;
 use std::test::Fail;

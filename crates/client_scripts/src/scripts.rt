@@ -2,8 +2,9 @@
 
 use crate::books::Books;
 use crate::fills::Fills;
-use crate::lines::{Text, behind, is_definition, split_word, up_to};
+use crate::lines::is_definition;
 use crate::repetitions::{put_line, written};
+use call_texts::{Text, behind, split_word, up_to};
 use nfs_hub::Hub;
 use nfs_tool::{ToolFault, script};
 use std::hash::RandomState;

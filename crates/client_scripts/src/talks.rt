@@ -1,9 +1,8 @@
 //! The calls that a scene's client has to write, and the replies that it is given.
 
 use crate::fills::Fills;
-use crate::lines::{Text, split_word};
 use crate::repetitions::{repeated, written};
-use call_texts::{bytes_of, call_of, reply_of, spell};
+use call_texts::{Text, bytes_of, call_of, reply_of, spell, split_word};
 use std::alloc::Global;
 use std::test::Fail;
 
