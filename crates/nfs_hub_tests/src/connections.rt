@@ -1,191 +1,108 @@
-//! Connections: opened, broken, closed, and over small heaps.
+//! Connections: closed, broken, and as many as may be open at once.
 
 use crate::plain::{bare, close, connect, feed, take_out};
-use crate::words::{ACCESS_NOTES, CREATE_D, NULL, bytes_of};
-use linked_list_allocator::LocalHeap;
-use nfs_hub::{Hub, HubFault};
-use std::alloc::{Allocator, Global};
+use crate::words::{NULL, bytes_of};
+use nfs_hub::{ConnId, Hub, HubFault, MAX_CONNECTIONS};
+use std::alloc::Global;
 use std::hash::RandomState;
 use std::process::Abort;
 use std::test::Fail;
 
-fn see_connections(rt: &impl Abort, hub: &mut Hub) -> Result<(), Fail> {
-    let first = connect(hub)?;
-    assert_eq!(rt; close(hub, first), Ok(()));
-    assert_eq!(rt; close(hub, first), Err(HubFault::NoSuch));
-    assert_eq!(rt; feed(hub, first, &[0]), Err(HubFault::NoSuch));
+/// The faults of: closing a connection, closing it again, a piece for it, taking out of it; a piece for another one, and closing the first once more.
+fn closed(hub: &mut Hub) -> Result<[Option<HubFault>; 6], HubFault> {
     let mut out = [0u8; 8];
-    assert_eq!(rt; take_out(hub, first, &mut out), Err(HubFault::NoSuch));
+    let first = connect(hub)?;
+    let closed = close(hub, first).err();
+    let again = close(hub, first).err();
+    let fed = feed(hub, first, &[0]).err();
+    let taken = take_out(hub, first, &mut out).err();
     let second = connect(hub)?;
-    assert_eq!(rt; feed(hub, second, &[0]), Ok(()));
-    assert_eq!(rt; close(hub, first), Err(HubFault::NoSuch));
-    Ok(())
+    let other = feed(hub, second, &[0]).err();
+    let last = close(hub, first).err();
+    close(hub, second)?;
+    Ok([closed, again, fed, taken, other, last])
 }
 
-#[test]
-fn a_connection_is_opened_and_closed(rt: HostRuntime) -> Result<(), Fail> {
-    let mut hub = bare(rt.alloc(), rt.alloc(), RandomState::new(&rt)?)?;
-    see_connections(&rt, &mut hub)
-}
-
-/// Records that break a connection: a header above the limit, a record that is no call, and a credential of 401 bytes.
-static BREAKING: [(&str, &str); 5] = [
-    ("131,073 bytes", "80020001"),
-    ("the empty record", "80000000"),
-    ("a reply", "8000000c 1 1 2"),
-    ("a header that ends early", "8000001c 2 0 2 186a3 4 1 1"),
-    (
-        "a credential of 401 bytes",
-        "80000024 2 0 2 186a3 4 1 1 191 0",
-    ),
-];
-
-fn breaking() -> &'static [(&'static str, &'static str)] {
-    &BREAKING
-}
-
-/// A call, and these bytes behind it.
-fn broken_stream(alloc: Global, call: &[u8], bad: &str) -> Result<Vec<u8>, Fail> {
-    let mut stream = bytes_of(alloc, bad)?;
-    stream.extend_from_slice(call)?;
-    stream.rotate_right(call.len());
-    Ok(stream)
-}
-
-/// How often a connection answers that it is broken, where a call stands before the bad record; and how many bytes then come out of it, in
-/// pieces of 20.
-fn broken_by(
-    hub: &mut Hub,
-    call: &[u8],
-    stream: &[u8],
-) -> Result<(bool, bool, usize, usize, usize), HubFault> {
-    let conn = connect(hub)?;
-    let first = feed(hub, conn, stream) == Err(HubFault::Broken);
-    let again = feed(hub, conn, call) == Err(HubFault::Broken);
+/// The faults of a call with a record behind it that breaks the connection, and of a call then; and how many bytes come out of it, in pieces of 20.
+fn broken(hub: &mut Hub) -> Result<([Option<HubFault>; 2], [usize; 3]), HubFault> {
     let mut out = [0u8; 20];
+    let mut stream = bytes_of(NULL);
+    stream.put("80020001");
+    let conn = connect(hub)?;
+    let first = feed(hub, conn, stream.as_slice()).err();
+    let again = feed(hub, conn, bytes_of(NULL).as_slice()).err();
     let a = take_out(hub, conn, &mut out)?;
     let b = take_out(hub, conn, &mut out)?;
     let c = take_out(hub, conn, &mut out)?;
-    Ok((first, again, a, b, c))
+    close(hub, conn)?;
+    Ok(([first, again], [a, b, c]))
 }
 
-fn see_broken(
-    rt: &impl Abort,
-    alloc: Global,
-    hasher: RandomState,
-    name: &str,
-    bad: &str,
-) -> Result<(), Fail> {
-    let call = bytes_of(alloc, NULL)?;
-    let stream = broken_stream(alloc, &call, bad)?;
-    let mut hub = bare(alloc, alloc, hasher)?;
-    let told = broken_by(&mut hub, &call, &stream);
-    assert!(rt; told == Ok((true, true, 20, 8, 0)), "{name}");
-    Ok(())
-}
-
-/// The reply to a call before it in the piece still comes.
-#[test]
-fn a_connection_breaks(rt: HostRuntime) -> Result<(), Fail> {
-    let hasher = RandomState::new(&rt)?;
-    for (name, bad) in breaking() {
-        see_broken(&rt, rt.alloc(), hasher, name, bad)?;
+/// Opens as many connections as may be, the last of which breaks, and answers its number.
+fn open_all(hub: &mut Hub) -> Result<ConnId, HubFault> {
+    let mut last = connect(hub)?;
+    for _ in 1..MAX_CONNECTIONS {
+        last = connect(hub)?;
     }
-    Ok(())
+    let _ = feed(hub, last, &[0x80, 2, 0, 1]);
+    Ok(last)
 }
 
-/// How many bytes are answered to a stream in one piece.
-fn answered(hub: &mut Hub, stream: &[u8]) -> Result<usize, HubFault> {
-    let conn = connect(hub)?;
-    feed(hub, conn, stream)?;
-    let mut out = [0u8; 128];
-    take_out(hub, conn, &mut out)
+/// The fault of one connection more, and how many bytes are answered to a call on a new one once one is closed, a broken one here.
+fn full(hub: &mut Hub) -> Result<(Option<HubFault>, usize), HubFault> {
+    let mut out = [0u8; 64];
+    let last = open_all(hub)?;
+    let refused = connect(hub).err();
+    close(hub, last)?;
+    let new = connect(hub)?;
+    feed(hub, new, bytes_of(NULL).as_slice())?;
+    let taken = take_out(hub, new, &mut out)?;
+    Ok((refused, taken))
 }
 
-/// Fragments are joined: empty ones, and a call in two of them.
-#[test]
-fn fragments_are_joined(rt: HostRuntime) -> Result<(), Fail> {
-    let stream = bytes_of(rt.alloc(), "0 0 10 1 0 2 186a3 80000018 4 0 0 0 0 0")?;
-    let mut hub = bare(rt.alloc(), rt.alloc(), RandomState::new(&rt)?)?;
-    assert_eq!(rt; answered(&mut hub, &stream), Ok(28));
-    Ok(())
+/// What is told of connections that are closed, that break, and that are as many as may be.
+#[derive(Clone, Copy)]
+struct Told {
+    closed: [Option<HubFault>; 6],
+    faults: [Option<HubFault>; 2],
+    pieces: [usize; 3],
+    refused: Option<HubFault>,
+    answered: usize,
 }
 
-/// Checks that a stream with a call of CREATE makes the directory `d` in `pub`.
-fn see_made(rt: &impl Abort, hub: &mut Hub, stream: &[u8]) {
-    assert_eq!(rt; answered(hub, stream), Ok(88));
-    assert_eq!(rt; hub.server().tree().find(3, b"d"), Some(4));
-    assert_eq!(rt; hub.server().guard().total(), 0);
-}
-
-/// The calls change the server behind the connections.
-#[test]
-fn the_server_is_changed(rt: HostRuntime) -> Result<(), Fail> {
-    let stream = bytes_of(rt.alloc(), CREATE_D)?;
-    let mut hub = bare(rt.alloc(), rt.alloc(), RandomState::new(&rt)?)?;
-    see_made(&rt, &mut hub, &stream);
-    Ok(())
-}
-
-/// The end of a call over a small heap.
-#[derive(Clone, Copy, Debug, PartialEq, Eq)]
-enum Fate {
-    /// There is no hub or no connection.
-    Refused,
-    /// The connection breaks for want of memory, with no reply.
-    Broken,
-    /// So many bytes of a reply.
-    Answered(usize),
-    /// Any other end.
-    Wrong,
-}
-
-/// The end of a call to a hub.
-fn fate_of<A: Allocator + Copy>(hub: &mut Hub<A>, call: &[u8]) -> Fate {
-    let Ok(conn) = connect(hub) else {
-        return Fate::Refused;
-    };
-    let mut out = [0u8; 128];
-    let fed = feed(hub, conn, call);
-    match (fed, take_out(hub, conn, &mut out)) {
-        (Ok(()), Ok(taken)) => Fate::Answered(taken),
-        (Err(HubFault::Memory), Ok(0)) => Fate::Broken,
-        _ => Fate::Wrong,
-    }
-}
-
-/// A call to a hub over a heap of this size.
-fn over_heap(alloc: Global, hasher: RandomState, call: &[u8], size: usize) -> Result<Fate, Fail> {
-    let heap = LocalHeap::new(alloc, size)?;
-    if let Ok(mut hub) = bare(&heap, alloc, hasher) {
-        return Ok(fate_of(&mut hub, call));
-    }
-    Ok(if heap.used() == 0 {
-        Fate::Refused
-    } else {
-        Fate::Wrong
+fn tell(hub: &mut Hub) -> Result<Told, Fail> {
+    let closed = closed(hub)?;
+    let (faults, pieces) = broken(hub)?;
+    let (refused, answered) = full(hub)?;
+    Ok(Told {
+        closed,
+        faults,
+        pieces,
+        refused,
+        answered,
     })
 }
 
-/// Over every size of a small heap a call is answered as with ample memory, or the connection breaks with `Memory` and has
-/// no reply; and each size either makes the hub or leaves nothing behind.
+fn tell_new(alloc: Global, hasher: RandomState) -> Result<Told, Fail> {
+    let mut hub = bare(alloc, alloc, hasher)?;
+    tell(&mut hub)
+}
+
+fn see(rt: &impl Abort, told: &Told) {
+    let gone = Some(HubFault::NoSuch);
+    assert!(rt; told.closed == [None, gone, gone, gone, None, gone]);
+    assert!(rt; told.faults == [Some(HubFault::Broken); 2]);
+    assert!(rt; told.pieces == [20, 8, 0]);
+    assert!(rt; told.refused == Some(HubFault::TooMany));
+    assert!(rt; told.answered == 28);
+}
+
+/// A connection that is closed is gone; the reply to a call before the record that breaks a connection still comes; and sixteen are open at once, broken ones among
+/// them, and no more.
 #[test]
-fn memory_runs_out(rt: HostRuntime) -> Result<(), Fail> {
-    let call = bytes_of(rt.alloc(), ACCESS_NOTES)?;
-    let hasher = RandomState::new(&rt)?;
-    let mut refused = 0u32;
-    let mut broken = 0u32;
-    let mut answered = 0u32;
-    for step in 0..320usize {
-        match over_heap(rt.alloc(), hasher, &call, step * 4096)? {
-            Fate::Refused => refused = refused.saturating_add(1),
-            Fate::Broken => broken = broken.saturating_add(1),
-            Fate::Answered(72) => answered = answered.saturating_add(1),
-            _ => assert!(rt; false, "at {step}"),
-        }
-    }
-    assert!(rt; refused > 0, "refused {refused}");
-    assert!(rt; broken > 0, "broken {broken}");
-    assert!(rt; answered > 0, "answered {answered}");
+fn connections_are_closed_broken_and_counted(rt: HostRuntime) -> Result<(), Fail> {
+    let told = tell_new(rt.alloc(), RandomState::new(&rt)?)?;
+    see(&rt, &told);
+    assert_eq!(rt; MAX_CONNECTIONS, 16);
     Ok(())
 }

@@ -1,39 +1,33 @@
-//! Tests of `nfs_hub`: calls and replies as bytes, in any cut, books that are loaded between them, and streams that fail.
+//! Tests of `nfs_hub` that aren't texts of calls: several connections at once, books that come between bytes, streams that fail, and every growth refused.
 #![tactic(auto)]
 
 #[cfg(test)]
-mod calls;
+mod books;
+#[cfg(test)]
+mod client_calls;
 #[cfg(test)]
 mod clients;
 #[cfg(test)]
 mod connections;
 #[cfg(test)]
-mod failing;
-#[cfg(test)]
-mod granted;
+mod fates;
 #[cfg(test)]
 mod growth;
 #[cfg(test)]
-mod hostile;
+mod growth_calls;
 #[cfg(test)]
-mod interleaving;
-#[cfg(test)]
-mod largest;
-#[cfg(test)]
-mod limits;
+mod heaps;
 #[cfg(test)]
 mod pictures;
 #[cfg(test)]
 mod plain;
 #[cfg(test)]
-mod reloads;
-#[cfg(test)]
-mod scenes;
+mod records;
 #[cfg(test)]
 mod serving;
 #[cfg(test)]
-mod sessions;
+mod streams;
 #[cfg(test)]
-mod statuses;
+mod turns;
 #[cfg(test)]
 mod words;

@@ -1,20 +1,19 @@
 //! The calls of a hub without their contracts, so that a test's proof doesn't carry them along.
 
-use crate::words::EPOCH;
+use crate::records::Run;
 use nfs_hub::{Clock, ConnId, Hub, HubFault, ServeEnd, serve};
 use nfs_types::Moment;
+use sample_servers::book_of;
 use std::alloc::{AllocError, Allocator, Global};
 use std::hash::RandomState;
 use std::io::{Read, Write};
+use std::test::Fail;
 use who_book::Book;
 
-struct Epoch;
-
-impl Clock for Epoch {
-    fn now(&self) -> Moment {
-        EPOCH
-    }
-}
+const EPOCH: Moment = Moment {
+    seconds: 0,
+    nanoseconds: 0,
+};
 
 pub fn bare<A: Allocator + Copy>(
     alloc: A,
@@ -31,6 +30,20 @@ pub fn with_sessions<A: Allocator + Copy>(
     hasher: RandomState,
 ) -> Result<Hub<A>, AllocError> {
     Hub::new(alloc, book, hasher)
+}
+
+/// A hub with sessions by the book of this text, or by one without names.
+pub fn new_hub(alloc: Global, hasher: RandomState, text: &str) -> Result<Hub, Fail> {
+    let book = book_of(alloc, text)?;
+    Ok(with_sessions(alloc, book, hasher)?)
+}
+
+/// One with sessions and no names, or one of the sample tree, without sessions.
+pub fn hub_of(alloc: Global, hasher: RandomState, has_sessions: bool) -> Result<Hub, Fail> {
+    if has_sessions {
+        return new_hub(alloc, hasher, "");
+    }
+    Ok(bare(alloc, alloc, hasher)?)
 }
 
 pub fn connect<A: Allocator + Copy>(hub: &mut Hub<A>) -> Result<ConnId, HubFault> {
@@ -50,19 +63,6 @@ pub fn feed<A: Allocator + Copy>(
     hub.feed(conn, piece, EPOCH)
 }
 
-pub fn take_out<A: Allocator + Copy>(
-    hub: &mut Hub<A>,
-    conn: ConnId,
-    buf: &mut [u8],
-) -> Result<usize, HubFault> {
-    hub.take_out(conn, buf)
-}
-
-/// Whether a book is loaded.
-pub fn reload<A: Allocator + Copy>(hub: &mut Hub<A>, book: Book) -> bool {
-    hub.reload(book).is_ok()
-}
-
 pub fn feed_at<A: Allocator + Copy>(
     hub: &mut Hub<A>,
     conn: ConnId,
@@ -76,14 +76,46 @@ pub fn feed_at<A: Allocator + Copy>(
     hub.feed(conn, piece, now)
 }
 
-/// Each call is made at the epoch.
-pub fn serve_all<A: Allocator + Copy, R: Read, W: Write>(
+pub fn take_out<A: Allocator + Copy>(
     hub: &mut Hub<A>,
-    reader: &mut R,
-    writer: &mut W,
-    turns: u64,
-) -> ServeEnd {
-    serve(hub, reader, writer, &Epoch, turns)
+    conn: ConnId,
+    buf: &mut [u8],
+) -> Result<usize, HubFault> {
+    hub.take_out(conn, buf)
+}
+
+/// Whether these bytes and nothing more are pending on a connection.
+pub fn is_pending<A: Allocator + Copy>(
+    hub: &mut Hub<A>,
+    conn: ConnId,
+    wanted: &[u8],
+) -> Result<bool, HubFault> {
+    let mut out = [0u8; 4096];
+    let taken = take_out(hub, conn, &mut out)?;
+    Ok(out.get(..taken) == Some(wanted))
+}
+
+/// Whether calls are answered so on a new connection, which is closed then.
+pub fn is_answered(hub: &mut Hub, run: &Run<'_>) -> Result<bool, HubFault> {
+    let conn = connect(hub)?;
+    feed(hub, conn, run.calls)?;
+    let is_answered = is_pending(hub, conn, run.replies)?;
+    close(hub, conn)?;
+    Ok(is_answered)
+}
+
+/// Whether a book is loaded.
+pub fn reload<A: Allocator + Copy>(hub: &mut Hub<A>, book: Book) -> bool {
+    hub.reload(book).is_ok()
+}
+
+/// Loads a book of this text, or one without names.
+pub fn load<A: Allocator + Copy>(alloc: Global, hub: &mut Hub<A>, text: &str) -> Result<(), Fail> {
+    let book = book_of(alloc, text)?;
+    if reload(hub, book) {
+        return Ok(());
+    }
+    Err(Fail::new("no epoch"))
 }
 
 pub fn serve_by<A: Allocator + Copy, R: Read, W: Write, C: Clock>(

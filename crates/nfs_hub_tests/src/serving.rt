@@ -1,298 +1,267 @@
-//! Serving over readers and writers in memory, some of which fail.
+//! Serving over readers and writers in memory, some of which fail: no reply is written in place of the error.
 
-use crate::plain::{bare, changed_at, connect, serve_all, serve_by};
-use crate::words::{ACCESS_NOTES, ACCESS_NOTES_REPLY, CREATE_D, CREATE_E, NULL, bytes_of};
-use nfs_hub::{Clock, Hub, HubFault, MAX_CONNECTIONS, ServeEnd};
-use nfs_types::Moment;
+use crate::records::{Run, front, replies_of, whole};
+use crate::streams::{Paper, Source, Told, gives, serve_new};
+use crate::words::{
+    ACCESS_NOTES, ACCESS_NOTES_REPLY, Bytes, CREATE_D, CREATE_E, NULL, NULL_REPLY, bytes_of,
+};
+use call_texts::{ROOT, Row, calls_of};
+use nfs_hub::{HubFault, ServeEnd};
 use std::alloc::Global;
-use std::cell::Cell;
 use std::hash::RandomState;
-use std::io;
-use std::io::{ErrorKind, Read, Write};
+use std::process::Abort;
 use std::test::Fail;
 
-/// Gives its bytes in pieces of at most five, and fails at the read of this number.
-#[derive(Drop)]
-pub struct Failing<'a> {
-    pub bytes: &'a [u8],
-    pub reads_left: usize,
+/// Whether serving ended so with these bytes written, the connection is closed, and without a free one it is refused.
+fn ends(told: &Told, paper: &Paper, end: ServeEnd, written: &[u8]) -> bool {
+    told.end == end
+        && told.is_closed
+        && told.again == ServeEnd::TooMany
+        && paper.written() == written
 }
 
-impl Read for Failing<'_> {
-    fn read(&mut self, buf: &mut [u8]) -> io::Result<usize> {
-        if self.reads_left == 0 {
-            return Err(io::Error::from(ErrorKind::Other));
-        }
-        self.reads_left -= 1;
-        let n = self.bytes.len().min(buf.len()).min(5);
-        let (front, rest) = self.bytes.split_at(n);
-        buf[..n].copy_from_slice(front);
-        self.bytes = rest;
-        Ok(n)
-    }
+/// A stream as words, in pieces of so many bytes, and the end of serving it for so many turns, with what is written.
+#[derive(Clone, Copy)]
+struct Stream {
+    name: &'static str,
+    words: &'static str,
+    piece: usize,
+    turns: u64,
+    end: ServeEnd,
+    written: &'static str,
 }
 
-/// Gives its bytes in pieces of this length.
-#[derive(Drop)]
-pub struct Pieces<'a> {
-    pub bytes: &'a [u8],
-    pub len: usize,
+static STREAMS: [Stream; 3] = [
+    Stream {
+        name: "a call",
+        words: ACCESS_NOTES,
+        piece: 4096,
+        turns: 10,
+        end: ServeEnd::Ended,
+        written: ACCESS_NOTES_REPLY,
+    },
+    Stream {
+        name: "a call before what breaks the connection",
+        words: "80000028 1 0 2 186a3 4 0 0 0 0 0 80020001",
+        piece: 4096,
+        turns: 10,
+        end: ServeEnd::Broken,
+        written: NULL_REPLY,
+    },
+    Stream {
+        name: "more empty fragments than turns",
+        words: "0 0 0 0 0 0 0 0 0 0 0 0 0 0 0 0 0 0 0 0 0 0 0 0 0 0 0 0 0 0 0 0 0 0 0 0 0 0 0 0 0 0 0 0 0 0 0 0 0 0",
+        piece: 1,
+        turns: 199,
+        end: ServeEnd::Turns,
+        written: "",
+    },
+];
+
+fn streams() -> &'static [Stream] {
+    &STREAMS
 }
 
-impl Read for Pieces<'_> {
-    fn read(&mut self, buf: &mut [u8]) -> io::Result<usize> {
-        let n = self.bytes.len().min(buf.len()).min(self.len);
-        let (front, rest) = self.bytes.split_at(n);
-        buf[..n].copy_from_slice(front);
-        self.bytes = rest;
-        Ok(n)
-    }
-}
-
-/// Gives one zero byte a read, for ever.
-#[derive(Drop)]
-struct Zeros;
-
-impl Read for Zeros {
-    fn read(&mut self, buf: &mut [u8]) -> io::Result<usize> {
-        match buf.first_mut() {
-            Some(byte) => {
-                *byte = 0;
-                Ok(1)
-            }
-            None => Ok(0),
-        }
-    }
-}
-
-/// Takes at most three bytes a write, and fails at the write of this number, or takes nothing then.
-#[derive(Drop)]
-struct Narrow {
-    taken: usize,
-    writes_left: usize,
-    fails: bool,
-}
-
-impl Write for Narrow {
-    fn write(&mut self, buf: &[u8]) -> io::Result<usize> {
-        if self.writes_left == 0 {
-            return if self.fails {
-                Err(io::Error::from(ErrorKind::Interrupted))
-            } else {
-                Ok(0)
-            };
-        }
-        self.writes_left -= 1;
-        let n = buf.len().min(3);
-        self.taken = self.taken.saturating_add(n);
-        Ok(n)
-    }
-
-    fn flush(&mut self) -> io::Result<()> {
-        Ok(())
-    }
+fn is_served(alloc: Global, hasher: RandomState, row: &Stream) -> Result<bool, Fail> {
+    let (stream, written) = (bytes_of(row.words), bytes_of(row.written));
+    let mut paper = Paper::ample();
+    let source = gives(stream.as_slice(), row.piece);
+    let told = serve_new(alloc, hasher, false, source, &mut paper, row.turns)?;
+    Ok(ends(&told, &paper, row.end, written.as_slice()))
 }
 
 #[test]
-fn a_call_is_served(rt: HostRuntime) -> Result<(), Fail> {
-    let call = bytes_of(rt.alloc(), ACCESS_NOTES)?;
-    let wanted = bytes_of(rt.alloc(), ACCESS_NOTES_REPLY)?;
-    let mut hub = bare(rt.alloc(), rt.alloc(), RandomState::new(&rt)?)?;
-    let mut written = Vec::new(rt.alloc());
-    let end = serve_all(&mut hub, &mut call.as_slice(), &mut written, 10);
-    assert_eq!(rt; end, ServeEnd::Ended);
-    assert_eq!(rt; written.as_slice(), wanted.as_slice());
+fn streams_are_served(rt: HostRuntime) -> Result<(), Fail> {
+    let hasher = RandomState::new(&rt)?;
+    for row in streams() {
+        assert!(rt; is_served(rt.alloc(), hasher, row)?, "{}", row.name);
+    }
     Ok(())
 }
 
-/// The end of serving these bytes, and how many bytes are written.
-fn served(alloc: Global, hasher: RandomState, bytes: &[u8]) -> Result<(ServeEnd, usize), Fail> {
-    let mut hub = bare(alloc, alloc, hasher)?;
-    let mut written = Vec::new(alloc);
-    let mut reader = bytes;
-    let end = serve_all(&mut hub, &mut reader, &mut written, 10);
-    Ok((end, written.len()))
+/// Whether nothing is written where a stream ends so: inside a record, or before one.
+fn is_inside(alloc: Global, hasher: RandomState, stream: &[u8]) -> Result<bool, Fail> {
+    let mut paper = Paper::ample();
+    let source = gives(stream, 4096);
+    let told = serve_new(alloc, hasher, false, source, &mut paper, 10)?;
+    let end = if stream.is_empty() {
+        ServeEnd::Ended
+    } else {
+        ServeEnd::Inside
+    };
+    Ok(ends(&told, &paper, end, &[]))
 }
 
-/// Every front of a call, and then the end: nothing is written, and it ended inside a record, or before one.
+/// Every front of a call, and then the end.
 #[test]
 fn a_front_of_a_call_is_inside(rt: HostRuntime) -> Result<(), Fail> {
     let hasher = RandomState::new(&rt)?;
-    let call = bytes_of(rt.alloc(), ACCESS_NOTES)?;
-    for len in 0..call.len() {
-        let wanted = if len == 0 {
-            ServeEnd::Ended
-        } else {
-            ServeEnd::Inside
-        };
-        let told = served(rt.alloc(), hasher, &call[..len])?;
-        assert!(rt; told == (wanted, 0), "{len} bytes");
+    let call = bytes_of(ACCESS_NOTES);
+    for len in 0..call.as_slice().len() {
+        let front = call.as_slice().get(..len).unwrap_or(&[]);
+        assert!(rt; is_inside(rt.alloc(), hasher, front)?, "{len} bytes");
     }
     Ok(())
-}
-
-/// The end of serving a call where the reader fails after so many reads, and how many bytes are written.
-fn read_so_far(
-    alloc: Global,
-    hasher: RandomState,
-    call: &[u8],
-    reads_left: usize,
-) -> Result<(ServeEnd, usize), Fail> {
-    let mut hub = bare(alloc, alloc, hasher)?;
-    let mut written = Vec::new(alloc);
-    let mut reader = Failing {
-        bytes: call,
-        reads_left,
-    };
-    let end = serve_all(&mut hub, &mut reader, &mut written, 100);
-    Ok((end, written.len()))
-}
-
-#[test]
-fn a_reader_fails(rt: HostRuntime) -> Result<(), Fail> {
-    let hasher = RandomState::new(&rt)?;
-    let call = bytes_of(rt.alloc(), NULL)?;
-    for reads_left in 0..12usize {
-        let wanted = if reads_left < 10 {
-            ServeEnd::Read
-        } else {
-            ServeEnd::Ended
-        };
-        let bytes = if reads_left < 9 { 0 } else { 28 };
-        let told = read_so_far(rt.alloc(), hasher, &call, reads_left)?;
-        assert!(rt; told == (wanted, bytes), "after {reads_left} reads");
-    }
-    Ok(())
-}
-
-/// The end of serving a call where the writer stops after so many writes, and whether the connection is closed.
-fn written_so_far(
-    alloc: Global,
-    hasher: RandomState,
-    call: &[u8],
-    writes_left: usize,
-    fails: bool,
-) -> Result<(ServeEnd, bool), Fail> {
-    let mut hub = bare(alloc, alloc, hasher)?;
-    let mut writer = Narrow {
-        taken: 0,
-        writes_left,
-        fails,
-    };
-    let mut reader = call;
-    let end = serve_all(&mut hub, &mut reader, &mut writer, 100);
-    let is_closed = connect(&mut hub).is_ok();
-    Ok((end, is_closed))
-}
-
-#[test]
-fn a_writer_fails(rt: HostRuntime) -> Result<(), Fail> {
-    let hasher = RandomState::new(&rt)?;
-    let call = bytes_of(rt.alloc(), NULL)?;
-    for writes_left in 0..12usize {
-        let wanted = if writes_left < 10 {
-            ServeEnd::Write
-        } else {
-            ServeEnd::Ended
-        };
-        let silent = written_so_far(rt.alloc(), hasher, &call, writes_left, false)?;
-        assert!(rt; silent == (wanted, true), "after {writes_left} writes");
-        let loud = written_so_far(rt.alloc(), hasher, &call, writes_left, true)?;
-        assert!(rt; loud == (wanted, true), "after {writes_left} writes");
-    }
-    Ok(())
-}
-
-#[test]
-fn an_endless_reader_uses_up_the_turns(rt: HostRuntime) -> Result<(), Fail> {
-    let mut hub = bare(rt.alloc(), rt.alloc(), RandomState::new(&rt)?)?;
-    let mut written = Vec::new(rt.alloc());
-    let end = serve_all(&mut hub, &mut Zeros, &mut written, 1000);
-    assert_eq!(rt; end, ServeEnd::Turns);
-    Ok(())
-}
-
-/// Opens as many connections as may be.
-fn fill(hub: &mut Hub) -> Result<(), HubFault> {
-    for _ in 0..MAX_CONNECTIONS {
-        connect(hub)?;
-    }
-    Ok(())
-}
-
-/// The end of serving a stream, and of serving it again while all connections are open; and how many bytes are written in all.
-fn served_twice(
-    alloc: Global,
-    hasher: RandomState,
-    stream: &[u8],
-) -> Result<(ServeEnd, bool, ServeEnd, usize), Fail> {
-    let mut hub = bare(alloc, alloc, hasher)?;
-    let mut written = Vec::new(alloc);
-    let mut reader = stream;
-    let first = serve_all(&mut hub, &mut reader, &mut written, 10);
-    let is_open = fill(&mut hub).is_ok();
-    let mut reader = stream;
-    let second = serve_all(&mut hub, &mut reader, &mut written, 10);
-    Ok((first, is_open, second, written.len()))
-}
-
-/// Serving a stream that breaks answers so, with the replies before it written; and without a free connection the hub says so.
-#[test]
-fn other_ends(rt: HostRuntime) -> Result<(), Fail> {
-    let hasher = RandomState::new(&rt)?;
-    let mut stream = bytes_of(rt.alloc(), NULL)?;
-    stream.extend_from_slice(&[0x80, 2, 0, 1])?;
-    let told = served_twice(rt.alloc(), hasher, &stream)?;
-    assert!(rt;
-        told == (ServeEnd::Broken, true, ServeEnd::TooMany, 28),
-        "{told:?}"
-    );
-    Ok(())
-}
-
-/// Gives one more second each time.
-#[derive(Drop)]
-struct Rising {
-    seconds: Cell<i64>,
-}
-
-impl Clock for Rising {
-    fn now(&self) -> Moment {
-        let seconds = self.seconds.get();
-        self.seconds.set(seconds.saturating_add(1));
-        Moment {
-            seconds,
-            nanoseconds: 0,
-        }
-    }
-}
-
-/// The times of the last changes of the objects 4 and 5, by two calls in pieces of their own, by a clock that rises.
-fn made_at(
-    alloc: Global,
-    hasher: RandomState,
-    stream: &[u8],
-    len: usize,
-) -> Result<(Option<i64>, Option<i64>), Fail> {
-    let mut reader = Pieces { bytes: stream, len };
-    let clock = Rising {
-        seconds: Cell::new(70),
-    };
-    let mut hub = bare(alloc, alloc, hasher)?;
-    let mut written = Vec::new(alloc);
-    serve_by(&mut hub, &mut reader, &mut written, &clock, 10);
-    Ok((changed_at(&hub, 4), changed_at(&hub, 5)))
 }
 
 /// The moment of a call is the clock's, as its piece comes.
 #[test]
 fn each_piece_has_its_moment(rt: HostRuntime) -> Result<(), Fail> {
+    let mut paper = Paper::ample();
+    let mut stream = bytes_of(CREATE_D);
+    let len = stream.as_slice().len();
+    stream.put(CREATE_E);
+    let (alloc, hasher) = (rt.alloc(), RandomState::new(&rt)?);
+    let source = gives(stream.as_slice(), len);
+    let told = serve_new(alloc, hasher, false, source, &mut paper, 10)?;
+    assert!(rt; told.changed == (Some(70), Some(71)), "{:?}", told.changed);
+    Ok(())
+}
+
+/// Whether a reader that fails after so many reads of five bytes ends serving with `Read`, and the calls before it are answered.
+fn is_read(
+    alloc: Global,
+    hasher: RandomState,
+    (run, has_sessions): (&Run<'_>, bool),
+    reads_left: usize,
+) -> Result<bool, Fail> {
+    let mut paper = Paper::ample();
+    let source = Source {
+        bytes: run.calls,
+        piece: 5,
+        reads_left,
+    };
+    let told = serve_new(alloc, hasher, has_sessions, source, &mut paper, 1_000_000)?;
+    let read = run.calls.get(..reads_left.saturating_mul(5));
+    let count = whole(read.unwrap_or(run.calls));
+    let end = if reads_left <= run.calls.len().div_ceil(5) {
+        ServeEnd::Read
+    } else {
+        ServeEnd::Ended
+    };
+    Ok(ends(&told, &paper, end, front(run.replies, count)))
+}
+
+/// The first number of reads at which a reader fails, and serving ends otherwise.
+fn first_read(
+    alloc: Global,
+    hasher: RandomState,
+    served: (&Run<'_>, bool),
+) -> Result<Option<usize>, Fail> {
+    for reads_left in 0..(served.0.calls.len() / 5).saturating_add(4) {
+        if !is_read(alloc, hasher, served, reads_left)? {
+            return Ok(Some(reads_left));
+        }
+    }
+    Ok(None)
+}
+
+/// Whether a writer that stops after so many writes of three bytes ends serving with `Write`, and has the front of the replies.
+fn is_written(
+    alloc: Global,
+    hasher: RandomState,
+    (run, has_sessions): (&Run<'_>, bool),
+    writes_left: usize,
+    fails: bool,
+) -> Result<bool, Fail> {
+    let mut paper = Paper::new(3, writes_left, fails);
+    let source = gives(run.calls, 4096);
+    let told = serve_new(alloc, hasher, has_sessions, source, &mut paper, 1_000_000)?;
+    let written = run.replies.get(..writes_left.saturating_mul(3));
+    let end = if writes_left < run.replies.len().div_ceil(3) {
+        ServeEnd::Write
+    } else {
+        ServeEnd::Ended
+    };
+    Ok(ends(&told, &paper, end, written.unwrap_or(run.replies)))
+}
+
+/// The first number of writes behind which a writer stops, and serving ends otherwise.
+fn first_write(
+    alloc: Global,
+    hasher: RandomState,
+    served: (&Run<'_>, bool),
+) -> Result<Option<usize>, Fail> {
+    for writes_left in 0..(served.0.replies.len() / 3).saturating_add(3) {
+        let silent = is_written(alloc, hasher, served, writes_left, false)?;
+        let loud = is_written(alloc, hasher, served, writes_left, true)?;
+        if !silent || !loud {
+            return Ok(Some(writes_left));
+        }
+    }
+    Ok(None)
+}
+
+/// The first places where a reader fails, or a writer, and serving ends otherwise.
+type Places = (Option<usize>, Option<usize>);
+
+fn places(alloc: Global, hasher: RandomState, served: (&Run<'_>, bool)) -> Result<Places, Fail> {
+    let read = first_read(alloc, hasher, served)?;
+    let written = first_write(alloc, hasher, served)?;
+    Ok((read, written))
+}
+
+static CALLS: [Row; 5] = [
+    (
+        ROOT,
+        "EXCHANGE_ID ^0 'own 0 0 0",
+        "ok EXCHANGE_ID ok ^1 1 10000 0 ^0 'nfs41-lists 'nfs41-lists 0",
+    ),
+    (
+        ROOT,
+        "CREATE_SESSION ^1 1 0 0 10000 10000 0 10 8 0 0 0 0 0 0 0 0 0 0",
+        "ok CREATE_SESSION ok ^0 ^1 1 0 0 10000 10000 10000 10 8 0 0 0 0 0 0 0 0",
+    ),
+    (
+        ROOT,
+        "$1.1 PUTROOTFH CREATE 2 'd 0 0",
+        "ok =1.1 PUTROOTFH ok CREATE ok 1>2 0",
+    ),
+    (
+        ROOT,
+        "$1.2 PUTROOTFH LOOKUP 'd GETFH",
+        "ok =1.2 PUTROOTFH ok LOOKUP ok GETFH ok @2",
+    ),
+    (
+        ROOT,
+        "$1.3 PUTROOTFH REMOVE 'e",
+        "noent =1.3 PUTROOTFH ok REMOVE noent",
+    ),
+];
+
+fn calls() -> &'static [Row] {
+    &CALLS
+}
+
+fn places_of_sessions(alloc: Global, hasher: RandomState) -> Result<Places, Fail> {
+    let calls_sent = calls_of(alloc, calls())?;
+    let replies = replies_of(alloc, calls())?;
+    let run = Run {
+        calls: &calls_sent,
+        replies: &replies,
+    };
+    places(alloc, hasher, (&run, true))
+}
+
+fn places_of_null(alloc: Global, hasher: RandomState) -> Result<Places, Fail> {
+    let (call, reply): (Bytes, Bytes) = (bytes_of(NULL), bytes_of(NULL_REPLY));
+    let run = Run {
+        calls: call.as_slice(),
+        replies: reply.as_slice(),
+    };
+    places(alloc, hasher, (&run, false))
+}
+
+fn see(rt: &impl Abort, places: Places) {
+    assert!(rt; places == (None, None), "{places:?}");
+}
+
+/// No reply is written in place of an error, in the midst of a call and of a session's calls.
+#[test]
+fn readers_and_writers_fail(rt: HostRuntime) -> Result<(), Fail> {
     let hasher = RandomState::new(&rt)?;
-    let mut stream = bytes_of(rt.alloc(), CREATE_D)?;
-    let len = stream.len();
-    stream.extend_from_slice(&bytes_of(rt.alloc(), CREATE_E)?)?;
-    let told = made_at(rt.alloc(), hasher, &stream, len)?;
-    assert!(rt; told == (Some(70), Some(71)), "{told:?}");
+    see(&rt, places_of_null(rt.alloc(), hasher)?);
+    see(&rt, places_of_sessions(rt.alloc(), hasher)?);
     Ok(())
 }
 
