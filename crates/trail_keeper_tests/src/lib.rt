@@ -2,6 +2,6 @@
 #![tactic(auto)]
 
 #[cfg(test)]
-mod failing;
+mod disk;
 #[cfg(test)]
 mod kept;
