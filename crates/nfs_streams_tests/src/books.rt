@@ -1,11 +1,10 @@
 //! Books that come while streams are served: the book by which each call is judged.
 
-use crate::memory::{Memory, Script, Time, script_of};
-use crate::plain::{bare, read_book, serve};
-use crate::scenes::{AMPLE, add, replies_as};
-use nfs_hub::Hub;
+use crate::memory::{Memory, Time};
+use crate::peers::{Script, script_of};
+use crate::plain::{AMPLE, serve_new};
 use nfs_streams::{AllEnd, Limits};
-use std::alloc::Global;
+use std::alloc::{AllocError, Global};
 use std::hash::RandomState;
 use std::process::Abort;
 use std::test::Fail;
@@ -112,70 +111,37 @@ fn scenes() -> &'static [Scene] {
     &SCENES
 }
 
-/// Adds the two streams. Whether there was memory for them.
-fn add_both(alloc: Global, streams: &mut Memory<'_>, scene: &Scene) -> Result<bool, Fail> {
+/// Adds the two streams, and the book that comes.
+fn set(streams: &mut Memory<'_>, scene: &Scene) {
     let (piece, takes) = scene.sizes;
-    let mut peer = 0u32;
-    let mut well = true;
-    for word in scene.peers {
-        peer = peer.saturating_add(1);
+    for (word, digits) in scene.peers.iter().zip(scene.told.iter()) {
         let script = Script {
             piece,
             takes,
             ..script_of(word)
         };
-        well &= add(alloc, streams, peer, script)?;
+        streams.add(script, digits);
     }
-    Ok(well)
-}
-
-fn see_end(rt: &impl Abort, name: &str, end: AllEnd, added: bool) {
-    assert_eq!(rt; end, AllEnd::Served, "{name}");
-    assert!(rt; added, "{name}");
-}
-
-/// Sees that the peer of this index got these replies.
-fn see_peer(rt: &impl Abort, name: &str, streams: &Memory<'_>, index: usize, replies: &[u8]) {
-    let told = streams.streams.get(index).map(|s| s.told.as_slice());
-    assert!(rt; told == Some(replies), "{name}: peer {index}");
-}
-
-/// Serves both peers, and sees the replies to each, and that each wait is followed by a request for a book.
-fn serve_scene(
-    rt: &impl Abort,
-    alloc: Global,
-    hub: &mut Hub,
-    streams: &mut Memory<'_>,
-    time: &Time,
-    scene: &Scene,
-) -> Result<(), Fail> {
-    let added = add_both(alloc, streams, scene)?;
-    streams.book = Some(read_book(alloc, IN_NO_GROUP)?);
+    streams.book = Some(IN_NO_GROUP);
     streams.brings = scene.brings;
+}
+
+/// The end of serving both peers, whether each got its replies, and whether each wait is followed by a request for a book.
+fn told(
+    alloc: Global,
+    hasher: RandomState,
+    scene: &Scene,
+) -> Result<(AllEnd, bool, bool), AllocError> {
+    let time = Time::new();
+    let mut streams = Memory::new(alloc, &time);
+    set(&mut streams, scene);
     let limits = Limits {
         connections: 2,
         ..AMPLE
     };
-    see_end(rt, scene.name, serve(hub, streams, time, limits), added);
-    assert_eq!(rt; streams.asked, streams.waits, "{}", scene.name);
-    for index in 0..2 {
-        let peer = if index == 0 { 1 } else { 2 };
-        let replies = replies_as(alloc, peer, scene.told[index])?;
-        see_peer(rt, scene.name, streams, index, &replies);
-    }
-    Ok(())
-}
-
-fn see_scene(
-    rt: &impl Abort,
-    alloc: Global,
-    hasher: RandomState,
-    scene: &Scene,
-) -> Result<(), Fail> {
-    let time = Time::new();
-    let mut hub = bare(alloc, hasher)?;
-    let mut streams = Memory::new(alloc, &time);
-    serve_scene(rt, alloc, &mut hub, &mut streams, &time, scene)
+    let end = serve_new(alloc, hasher, &mut streams, &time, limits)?;
+    let is_answered = streams.all().iter().all(|stream| stream.has_all());
+    Ok((end, is_answered, streams.asked == streams.waits))
 }
 
 /// Each call is judged by the book that had come when its last byte was read, and a reply that waits stays as it is.
@@ -183,7 +149,12 @@ fn see_scene(
 fn calls_are_judged_by_the_book_of_their_end(rt: HostRuntime) -> Result<(), Fail> {
     let hasher = RandomState::new(&rt)?;
     for scene in scenes() {
-        see_scene(&rt, rt.alloc(), hasher, scene)?;
+        let told = told(rt.alloc(), hasher, scene)?;
+        see(&rt, scene.name, told);
     }
     Ok(())
+}
+
+fn see(rt: &impl Abort, name: &str, told: (AllEnd, bool, bool)) {
+    assert!(rt; told == (AllEnd::Served, true, true), "{name}: {told:?}");
 }

@@ -1,11 +1,11 @@
 //! Full houses: peers that never read, silent peers, and peers that knock at a full house.
 
-use crate::memory::{Memory, Seat, Time};
-use crate::plain::{bare, serve};
-use crate::scenes::{AMPLE, Outcome, REPLY, add_all, outcome_at};
-use nfs_hub::Hub;
+use crate::bytes::REPLY_LEN;
+use crate::memory::{Memory, Time};
+use crate::peers::{Seat, Stream};
+use crate::plain::{AMPLE, serve_new};
 use nfs_streams::Limits;
-use std::alloc::Global;
+use std::alloc::{AllocError, Global};
 use std::hash::RandomState;
 use std::process::Abort;
 use std::test::Fail;
@@ -98,11 +98,11 @@ fn houses() -> &'static [House] {
 }
 
 /// The peer that was let go first, and behind how many waits; 0: no peer.
-fn first_gone(streams: &Memory<'_>) -> (u32, u64) {
+fn first_gone(streams: &[Stream]) -> (u32, u64) {
     let mut first = (0, 0);
     let mut earliest = u64::MAX;
     let mut peer = 0u32;
-    for stream in &streams.streams {
+    for stream in streams {
         peer = peer.saturating_add(1);
         if let Seat::Gone(waits) = stream.seat {
             if waits < earliest {
@@ -114,74 +114,50 @@ fn first_gone(streams: &Memory<'_>) -> (u32, u64) {
     first
 }
 
-fn see_first(rt: &impl Abort, house: &House, first: (u32, u64), most: usize) {
-    assert_eq!(rt; first, house.first, "{}", house.name);
-    assert_eq!(rt; most, house.most, "{}", house.name);
-}
-
-fn see_peer(rt: &impl Abort, name: &str, peer: u32, outcome: Option<Outcome>, calls: u32) {
-    let told = (calls as usize).saturating_mul(REPLY);
-    let seen = outcome.map(|o| (o.told, o.right));
-    assert_eq!(rt; seen, Some((told, true)), "{name}: peer {peer}");
-}
-
-fn see_peers(
-    rt: &impl Abort,
-    alloc: Global,
-    streams: &Memory<'_>,
-    house: &House,
-) -> Result<(), Fail> {
+/// The first peer, from 1 on, that doesn't have the replies to so many of its calls, a digit a peer; 0: no peer.
+fn first_other(streams: &[Stream], told: &str) -> u32 {
     let mut peer = 0u32;
-    for digit in house.told.bytes() {
+    for (stream, digit) in streams.iter().zip(told.bytes()) {
         peer = peer.saturating_add(1);
-        let calls = u32::from(digit.saturating_sub(b'0'));
-        see_peer(
-            rt,
-            house.name,
-            peer,
-            outcome_at(alloc, streams, peer)?,
-            calls,
-        );
+        let calls = usize::from(digit.saturating_sub(b'0'));
+        if !stream.right || stream.told != calls.saturating_mul(REPLY_LEN) {
+            return peer;
+        }
     }
-    Ok(())
+    0
 }
 
-/// Serves a house for 400 turns.
+/// Serves a house for 400 turns. Gives the peer that was let go first, and behind how many waits, the most connections at once, and the first peer that has other
+/// replies.
 fn serve_house(
-    rt: &impl Abort,
     alloc: Global,
-    hub: &mut Hub,
-    streams: &mut Memory<'_>,
-    time: &Time,
+    hasher: RandomState,
     house: &House,
-) -> Result<(), Fail> {
-    add_all(alloc, streams, house.peers)?;
+) -> Result<((u32, u64), usize, u32), AllocError> {
+    let time = Time::new();
+    let mut streams = Memory::new(alloc, &time);
+    streams.add_all(house.peers);
     let limits = Limits {
         places: house.places,
         ..AMPLE
     };
-    serve(hub, streams, time, limits);
-    see_first(rt, house, first_gone(streams), streams.most);
-    see_peers(rt, alloc, streams, house)
+    serve_new(alloc, hasher, &mut streams, &time, limits)?;
+    let first = first_gone(streams.all());
+    let other = first_other(streams.all(), house.told);
+    Ok((first, streams.most, other))
 }
 
-fn see_house(
-    rt: &impl Abort,
-    alloc: Global,
-    hasher: RandomState,
-    house: &House,
-) -> Result<(), Fail> {
-    let time = Time::new();
-    let mut hub = bare(alloc, hasher)?;
-    let mut streams = Memory::new(alloc, &time);
-    serve_house(rt, alloc, &mut hub, &mut streams, &time, house)
+fn see(rt: &impl Abort, house: &House, told: ((u32, u64), usize, u32)) {
+    let name = house.name;
+    assert!(rt; told == (house.first, house.most, 0), "{name}: {told:?}");
 }
 
 #[test]
 fn who_is_let_go(rt: HostRuntime) -> Result<(), Fail> {
     let hasher = RandomState::new(&rt)?;
     for house in houses() {
-        see_house(&rt, rt.alloc(), hasher, house)?;
+        let told = serve_house(rt.alloc(), hasher, house)?;
+        see(&rt, house, told);
     }
     Ok(())
 }
@@ -191,15 +167,14 @@ fn looks(
     alloc: Global,
     hasher: RandomState,
     peers: &str,
-) -> Result<(Option<(usize, usize)>, u64), Fail> {
+) -> Result<(Option<(usize, usize)>, u64), AllocError> {
     let time = Time::new();
-    let mut hub = bare(alloc, hasher)?;
     let mut streams = Memory::new(alloc, &time);
-    add_all(alloc, &mut streams, peers)?;
-    serve(&mut hub, &mut streams, &time, AMPLE);
-    let first = outcome_at(alloc, &streams, 1)?;
+    streams.add_all(peers);
+    serve_new(alloc, hasher, &mut streams, &time, AMPLE)?;
     let looks = streams.waits.saturating_sub(streams.rests);
-    Ok((first.map(|o| (o.read, o.told)), looks))
+    let first = streams.all().first();
+    Ok((first.map(|stream| (stream.read, stream.told)), looks))
 }
 
 /// Of a peer that never reads one piece is read, and no more; and while no peer speaks serving waits, and doesn't only look.

@@ -4,14 +4,16 @@
 #[cfg(test)]
 mod books;
 #[cfg(test)]
+mod bytes;
+#[cfg(test)]
 mod house;
 #[cfg(test)]
 mod memory;
 #[cfg(test)]
 mod orders;
 #[cfg(test)]
-mod plain;
+mod peers;
 #[cfg(test)]
-mod scenes;
+mod plain;
 #[cfg(test)]
 mod stopping;

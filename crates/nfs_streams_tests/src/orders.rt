@@ -1,12 +1,12 @@
 //! Streams that are ready in every order, with short reads and writes, and one among them that fails or breaks: each gets the replies to
 //! its own calls.
 
-use crate::memory::{Memory, Script, Seat, Time, USUAL, script_of};
-use crate::plain::{bare, serve};
-use crate::scenes::{AMPLE, Outcome, REPLY, add, outcome_at};
-use nfs_hub::Hub;
+use crate::bytes::REPLY_LEN;
+use crate::memory::{Memory, Time};
+use crate::peers::{Script, Seat, Stream, USUAL, script_of};
+use crate::plain::{AMPLE, serve_new};
 use nfs_streams::{AllEnd, Limits};
-use std::alloc::Global;
+use std::alloc::{AllocError, Global};
 use std::hash::RandomState;
 use std::process::Abort;
 use std::test::Fail;
@@ -18,61 +18,39 @@ struct Three {
     second: Option<u32>,
 }
 
-fn see_end(rt: &impl Abort, end: AllEnd, added: bool) {
-    assert_eq!(rt; end, AllEnd::Served);
-    assert!(rt; added);
+/// Whether a peer got replies, to so many calls where that is known, and was let go.
+fn is_served(stream: &Stream, calls: Option<u32>) -> bool {
+    let told = calls.map(|calls| (calls as usize).saturating_mul(REPLY_LEN));
+    let is_gone = matches!(&stream.seat, Seat::Gone(_));
+    stream.right && is_gone && stream.told == told.unwrap_or(stream.told)
 }
 
-/// Sees that a peer got replies, to so many calls where that is known, and was let go.
-fn see_peer(rt: &impl Abort, peer: u32, outcome: Option<Outcome>, calls: Option<u32>) {
-    assert_eq!(rt; outcome.map(|o| o.right), Some(true), "peer {peer}");
-    let gone = outcome.map(|o| matches!(o.seat, Seat::Gone(_)));
-    assert_eq!(rt; gone, Some(true), "peer {peer}");
-    if let Some(calls) = calls {
-        let bytes = (calls as usize).saturating_mul(REPLY);
-        assert_eq!(rt; outcome.map(|o| o.told), Some(bytes), "peer {peer}");
-    }
-}
-
-/// Sees the replies to each of the three: to all calls of the first and the last.
-fn see_peers(
-    rt: &impl Abort,
-    alloc: Global,
-    streams: &Memory<'_>,
-    three: &Three,
-) -> Result<(), Fail> {
-    for peer in 1..4u32 {
-        let calls = if peer == 2 { three.second } else { Some(2) };
-        see_peer(rt, peer, outcome_at(alloc, streams, peer)?, calls);
-    }
-    Ok(())
-}
-
-/// Adds the streams of the three. Whether there was memory for them.
-fn add_three(alloc: Global, streams: &mut Memory<'_>, scripts: &[Script; 3]) -> Result<bool, Fail> {
-    let first = add(alloc, streams, 1, scripts[0])?;
-    let second = add(alloc, streams, 2, scripts[1])?;
-    let third = add(alloc, streams, 3, scripts[2])?;
-    Ok(first & second & third)
-}
-
-/// Serves the three.
+/// The end of serving three, and whether each of them is served: to all calls of the first and the last.
 fn serve_three(
-    rt: &impl Abort,
     alloc: Global,
-    hub: &mut Hub,
-    streams: &mut Memory<'_>,
-    time: &Time,
+    hasher: RandomState,
     three: &Three,
-) -> Result<(), Fail> {
-    let added = add_three(alloc, streams, &three.scripts)?;
+) -> Result<(AllEnd, [bool; 3]), AllocError> {
+    let time = Time::new();
+    let mut streams = Memory::new(alloc, &time);
+    for script in three.scripts {
+        streams.add(script, "11");
+    }
     let limits = Limits {
         connections: 3,
         turns: 20_000,
         ..AMPLE
     };
-    see_end(rt, serve(hub, streams, time, limits), added);
-    see_peers(rt, alloc, streams, three)
+    let end = serve_new(alloc, hasher, &mut streams, &time, limits)?;
+    let [a, b, c] = streams.all() else {
+        return Ok((end, [false; 3]));
+    };
+    let served = [
+        is_served(a, Some(2)),
+        is_served(b, three.second),
+        is_served(c, Some(2)),
+    ];
+    Ok((end, served))
 }
 
 fn see_three(
@@ -81,10 +59,9 @@ fn see_three(
     hasher: RandomState,
     three: &Three,
 ) -> Result<(), Fail> {
-    let time = Time::new();
-    let mut hub = bare(alloc, hasher)?;
-    let mut streams = Memory::new(alloc, &time);
-    serve_three(rt, alloc, &mut hub, &mut streams, &time, three)
+    let told = serve_three(alloc, hasher, three)?;
+    assert!(rt; told == (AllEnd::Served, [true; 3]), "{told:?}");
+    Ok(())
 }
 
 /// The waits of eight in which each of the three is ready.

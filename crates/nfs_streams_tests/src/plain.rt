@@ -1,27 +1,47 @@
 //! The calls of a hub, of serving and of a book, without their contracts, so that a test's proof doesn't carry those along.
 
 use crate::memory::{Memory, Time};
+use compound_run::Server;
 use nfs_hub::Hub;
 use nfs_streams::{AllEnd, Limits, serve_all};
 use std::alloc::{AllocError, Allocator, Global};
 use std::hash::RandomState;
-use who_book::{Book, BookFault};
+use who_book::Book;
 
 /// A hub of the sample tree, without sessions.
-pub fn bare(alloc: Global, hasher: RandomState) -> Result<Hub, AllocError> {
+fn bare(alloc: Global, hasher: RandomState) -> Result<Hub, AllocError> {
     Hub::bare(alloc, alloc, hasher)
 }
 
-pub fn serve<A: Allocator + Copy>(
-    hub: &mut Hub<A>,
-    streams: &mut Memory<'_>,
-    time: &Time,
-    limits: Limits,
-) -> AllEnd {
+fn serve(hub: &mut Hub, streams: &mut Memory<'_>, time: &Time, limits: Limits) -> AllEnd {
     serve_all(hub, streams, time, limits)
 }
 
-/// The book of a text.
-pub fn read_book(alloc: Global, text: &str) -> Result<Book, BookFault> {
-    Book::read(alloc, text)
+/// The end of serving streams by a new hub.
+pub fn serve_new(
+    alloc: Global,
+    hasher: RandomState,
+    streams: &mut Memory<'_>,
+    time: &Time,
+    limits: Limits,
+) -> Result<AllEnd, AllocError> {
+    let mut hub = bare(alloc, hasher)?;
+    Ok(serve(&mut hub, streams, time, limits))
 }
+
+/// The book of a text.
+pub fn read_book(alloc: Global, text: &str) -> Option<Book> {
+    Book::read(alloc, text).ok()
+}
+
+/// How many lines a server's trail has had.
+pub fn total<A: Allocator + Copy>(server: &Server<A>) -> u64 {
+    server.guard().total()
+}
+
+/// The highest limits, with 400 turns.
+pub const AMPLE: Limits = Limits {
+    places: 16,
+    connections: u64::MAX,
+    turns: 400,
+};

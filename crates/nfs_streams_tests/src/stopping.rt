@@ -1,11 +1,10 @@
 //! The end of serving, by its reason.
 
+use crate::bytes::REPLY_LEN;
 use crate::memory::{Memory, Time};
-use crate::plain::{bare, serve};
-use crate::scenes::{REPLY, add_all};
-use nfs_hub::Hub;
+use crate::plain::serve_new;
 use nfs_streams::{AllEnd, Limits};
-use std::alloc::Global;
+use std::alloc::{AllocError, Global};
 use std::hash::RandomState;
 use std::process::Abort;
 use std::test::Fail;
@@ -122,34 +121,28 @@ fn stops() -> &'static [Stop] {
     &STOPS
 }
 
-fn see_end(rt: &impl Abort, stop: &Stop, end: AllEnd, waits: u64) {
-    assert_eq!(rt; end, stop.end, "{}", stop.name);
-    assert_eq!(rt; waits, stop.waits, "{}", stop.name);
-}
-
-fn see_counts(rt: &impl Abort, stop: &Stop, admitted: usize, told: usize) {
-    assert_eq!(rt; admitted, stop.admitted, "{}", stop.name);
-    assert_eq!(rt; told, stop.told.saturating_mul(REPLY), "{}", stop.name);
+/// The end of serving, how many waits there were, how many were admitted, and how many bytes were written to all.
+#[derive(Clone, Copy)]
+struct Told {
+    end: AllEnd,
+    waits: u64,
+    admitted: usize,
+    told: usize,
 }
 
 /// How many bytes were written to all streams.
 fn told_of(streams: &Memory<'_>) -> usize {
     let mut told = 0usize;
-    for stream in &streams.streams {
-        told = told.saturating_add(stream.told.len());
+    for stream in streams.all() {
+        told = told.saturating_add(stream.told);
     }
     told
 }
 
-fn serve_stop(
-    rt: &impl Abort,
-    alloc: Global,
-    hub: &mut Hub,
-    streams: &mut Memory<'_>,
-    time: &Time,
-    stop: &Stop,
-) -> Result<(), Fail> {
-    add_all(alloc, streams, "u u")?;
+fn serve_stop(alloc: Global, hasher: RandomState, stop: &Stop) -> Result<Told, AllocError> {
+    let time = Time::new();
+    let mut streams = Memory::new(alloc, &time);
+    streams.add_all("u u");
     streams.fails_wait = stop.fails_wait;
     streams.fails_keep = stop.fails_keep;
     let limits = Limits {
@@ -157,24 +150,29 @@ fn serve_stop(
         connections: stop.connections,
         turns: stop.turns,
     };
-    let end = serve(hub, streams, time, limits);
-    see_end(rt, stop, end, streams.waits);
-    see_counts(rt, stop, streams.admitted, told_of(streams));
-    Ok(())
+    let end = serve_new(alloc, hasher, &mut streams, &time, limits)?;
+    Ok(Told {
+        end,
+        waits: streams.waits,
+        admitted: streams.admitted,
+        told: told_of(&streams),
+    })
 }
 
-fn see_stop(rt: &impl Abort, alloc: Global, hasher: RandomState, stop: &Stop) -> Result<(), Fail> {
-    let time = Time::new();
-    let mut hub = bare(alloc, hasher)?;
-    let mut streams = Memory::new(alloc, &time);
-    serve_stop(rt, alloc, &mut hub, &mut streams, &time, stop)
+fn see(rt: &impl Abort, stop: &Stop, told: &Told) {
+    let name = stop.name;
+    assert_eq!(rt; told.end, stop.end, "{name}");
+    assert_eq!(rt; told.waits, stop.waits, "{name}");
+    assert_eq!(rt; told.admitted, stop.admitted, "{name}");
+    assert_eq!(rt; told.told, stop.told.saturating_mul(REPLY_LEN), "{name}");
 }
 
 #[test]
 fn serving_ends(rt: HostRuntime) -> Result<(), Fail> {
     let hasher = RandomState::new(&rt)?;
     for stop in stops() {
-        see_stop(&rt, rt.alloc(), hasher, stop)?;
+        let told = serve_stop(rt.alloc(), hasher, stop)?;
+        see(&rt, stop, &told);
     }
     Ok(())
 }

@@ -1,0 +1,240 @@
+//! Peers, and the streams between them and the server.
+ghost use Rattle.std.specs.Prelude.{◌≤◌, length};
+ghost use Rattle.nfs_streams.specs.Acts.{IsWithin};
+
+use crate::bytes::{Bytes, calls_of, replies_to};
+use nfs_streams::Moved;
+
+/// The acts of the peer of a stream.
+#[derive(Clone, Copy)]
+pub struct Script {
+    /// How many waits come before its knock.
+    pub comes: u64,
+    /// How many calls it sends.
+    pub calls: u32,
+    /// It sends them again and again.
+    pub repeats: bool,
+    /// Behind its calls the peer sends bytes that break the connection.
+    pub breaks: bool,
+    /// Behind all its bytes the stream ends; else the peer stays silent.
+    pub leaves: bool,
+    /// The most bytes that a read gives.
+    pub piece: usize,
+    /// The most bytes that a write takes; 0: the peer never reads.
+    pub takes: usize,
+    /// The waits of eight in which bytes can be read or written.
+    pub ready: u8,
+    /// The read of this number fails.
+    pub fails_read: u32,
+    /// The write of this number fails.
+    pub fails_write: u32,
+}
+
+/// A peer that comes at once, sends two calls and leaves.
+pub const USUAL: Script = Script {
+    comes: 0,
+    calls: 2,
+    repeats: false,
+    breaks: false,
+    leaves: true,
+    piece: 4096,
+    takes: 4096,
+    ready: 0xff,
+    fails_read: u32::MAX,
+    fails_write: u32::MAX,
+};
+
+/// One that sends so many calls, leaves or is silent then, and comes behind so many waits.
+fn peer(comes: u64, calls: u32, leaves: bool) -> Script {
+    Script {
+        comes,
+        calls,
+        leaves,
+        ..USUAL
+    }
+}
+
+/// The script of a word: the kind of the peer by a letter, and a number, how many waits come before its knock.
+///
+/// | Letter | The peer |
+/// |---|---|
+/// | u | sends two calls and leaves |
+/// | b | sends two calls, and then bytes that break its connection |
+/// | c | sends one call in single bytes, and then bytes that break its connection; it takes three bytes at once |
+/// | g | sends at once bytes that break its connection |
+/// | n | leaves at once |
+/// | w | sends two calls in single bytes and leaves |
+/// | o | sends a call, and then is silent; it is ready in one wait of eight |
+/// | d | sends calls again and again and never reads |
+/// | s | is silent |
+pub fn script_of(word: &str) -> Script {
+    let comes = word.get(1..).unwrap_or("").parse::<u64>().unwrap_or(0);
+    match word.as_bytes().first() {
+        Some(b'b') => Script {
+            breaks: true,
+            ..peer(comes, 2, false)
+        },
+        Some(b'c') => Script {
+            breaks: true,
+            piece: 1,
+            takes: 3,
+            ..peer(comes, 1, true)
+        },
+        Some(b'g') => Script {
+            breaks: true,
+            ..peer(comes, 0, false)
+        },
+        Some(b'n') => peer(comes, 0, true),
+        Some(b'w') => Script {
+            piece: 1,
+            ..peer(comes, 2, true)
+        },
+        Some(b'o') => Script {
+            ready: 0x80,
+            ..peer(comes, 1, false)
+        },
+        Some(b'd') => Script {
+            repeats: true,
+            takes: 0,
+            ..peer(comes, 2, true)
+        },
+        Some(b's') => peer(comes, 0, false),
+        _ => peer(comes, 2, true),
+    }
+}
+
+/// Where a stream is.
+#[derive(Clone, Copy)]
+pub enum Seat {
+    Outside,
+    At(usize),
+    /// The stream was let go behind so many waits.
+    Gone(u64),
+}
+
+/// A peer's stream. What the server writes is compared with the replies that are to come.
+#[derive(Clone, Copy)]
+pub struct Stream {
+    pub script: Script,
+    input: Bytes,
+    replies: Bytes,
+    /// The place in the input.
+    at: usize,
+    /// How many bytes were read.
+    pub read: usize,
+    reads: u32,
+    writes: u32,
+    /// How many bytes were written to the stream, and whether they are a front of the replies.
+    pub told: usize,
+    pub right: bool,
+    pub seat: Seat,
+}
+
+impl Stream {
+    /// The stream of a peer, whose calls are to be answered so, a digit a call.
+    pub fn new(number: u32, script: Script, digits: &str) -> Self {
+        Stream {
+            script,
+            input: calls_of(number, script.calls, script.breaks),
+            replies: replies_to(number, digits),
+            at: 0,
+            read: 0,
+            reads: 0,
+            writes: 0,
+            told: 0,
+            right: true,
+            seat: Seat::Outside,
+        }
+    }
+
+    /// Whether all replies were written, and nothing more.
+    pub fn has_all(&self) -> bool {
+        self.right && self.told == self.replies.as_slice().len()
+    }
+
+    pub fn is_at(&self, place: usize) -> bool {
+        match self.seat {
+            Seat::At(at) => at == place,
+            Seat::Outside | Seat::Gone(_) => false,
+        }
+    }
+
+    fn is_ready(&self, waits: u64) -> bool {
+        (self.script.ready >> (waits % 8)) & 1 == 1
+    }
+
+    /// The next byte of the input, which begins again where it is repeated.
+    fn next_byte(&mut self) -> Option<u8> {
+        if self.script.repeats && self.at >= self.input.as_slice().len() {
+            self.at = 0;
+        }
+        let byte = self.input.as_slice().get(self.at).copied()?;
+        self.at = self.at.saturating_add(1);
+        Some(byte)
+    }
+
+    /// Reads on in the input, and says how many bytes.
+    fn give_more(&mut self, buf: &mut [u8]) -> usize
+        ensures { result ≤ length buf.new }
+    {
+        let mut n = 0usize;
+        for index in 0..buf.len().min(self.script.piece) {
+            let (Some(byte), Some(place)) = (self.next_byte(), buf.get_mut(index)) else {
+                break;
+            };
+            *place = byte;
+            n = n.saturating_add(1);
+        }
+        n.min(buf.len())
+    }
+
+    /// Gives a piece.
+    pub fn give(&mut self, waits: u64, buf: &mut [u8]) -> Moved
+        ensures { IsWithin result (length buf.new) }
+    {
+        if !self.is_ready(waits) {
+            return Moved::NotYet;
+        }
+        self.reads = self.reads.saturating_add(1);
+        if self.reads == self.script.fails_read {
+            return Moved::Over;
+        }
+        let n = self.give_more(buf);
+        self.read = self.read.saturating_add(n);
+        if n > 0 {
+            return Moved::Bytes(n);
+        }
+        if self.script.leaves {
+            Moved::Over
+        } else {
+            Moved::NotYet
+        }
+    }
+
+    /// Compares bytes with the replies that come next.
+    fn hear(&mut self, bytes: &[u8]) {
+        let end = self.told.saturating_add(bytes.len());
+        let is_next = self.replies.as_slice().get(self.told..end) == Some(bytes);
+        self.right = self.right && is_next;
+        self.told = end;
+    }
+
+    /// Takes a front of the bytes.
+    pub fn take(&mut self, waits: u64, bytes: &[u8]) -> Moved
+        ensures { IsWithin result (length bytes.now) }
+    {
+        if !self.is_ready(waits) {
+            return Moved::NotYet;
+        }
+        self.writes = self.writes.saturating_add(1);
+        if self.writes == self.script.fails_write {
+            return Moved::Over;
+        }
+        let n = bytes.len().min(self.script.takes);
+        if n == 0 {
+            return Moved::NotYet;
+        }
+        self.hear(&bytes[..n]);
+        Moved::Bytes(n)
+    }
+}
