@@ -5,7 +5,7 @@ use Kind::{Directory, File, Link};
 use Who::{Everyone, Group, Owner, User};
 use acl_list::{AclList, Entry, Kind, Who};
 use acl_shape::inherit;
-use std::test::Fail;
+use std::alloc::{AllocError, Global};
 
 /// A parent's flags; those of its child, for a directory, and for a file or a link.
 static FLAGS: [(u32, Option<u32>, Option<u32>); 18] = [
@@ -29,20 +29,52 @@ static FLAGS: [(u32, Option<u32>, Option<u32>); 18] = [
     (0xfb, Some(0xf3), Some(0xf0)),
 ];
 
+fn flags_table() -> &'static [(u32, Option<u32>, Option<u32>)] {
+    &FLAGS
+}
+
+/// The list that a child inherits, without the contract of what makes it.
+fn inherited(alloc: Global, list: &AclList, kind: Kind) -> Result<AclList, AllocError> {
+    inherit(alloc, list, kind)
+}
+
+fn first_of(list: &AclList) -> Option<Entry> {
+    list.as_slice().first().copied()
+}
+
+/// The first entry that a child inherits of a list of one entry.
+fn first_of_child(alloc: Global, entry: Entry, kind: Kind) -> Result<Option<Entry>, AllocError> {
+    let list = AclList::from_slice(alloc, &[entry])?;
+    let child = inherited(alloc, &list, kind)?;
+    Ok(first_of(&child))
+}
+
+/// Whether a child of this kind gets these flags of its parent's.
+fn gets(alloc: Global, flags: u32, kind: Kind, want: Option<u32>) -> bool {
+    let want = match want {
+        Some(flags) => Some(deny!(flags, 0x27, User(5))),
+        None => None,
+    };
+    first_of_child(alloc, deny!(flags, 0x27, User(5)), kind) == Ok(want)
+}
+
 /// The flags that a child gets of its parent's.
 #[test]
-fn flags_of_children(rt: HostRuntime) -> Result<(), Fail> {
-    for (flags, directory, other) in &FLAGS {
-        let list = AclList::from_slice(rt.alloc(), &[deny!(*flags, 0x27, User(5))])?;
-        for kind in [Directory, File, Link] {
-            let inherited = inherit(rt.alloc(), &list, kind)?;
-            let child = if kind == Directory { directory } else { other };
-            let want = child.map(|flags| deny!(flags, 0x27, User(5)));
-            let got = inherited.as_slice().first().copied();
-            assert_eq!(rt; got, want, "flags {flags:x}, {kind:?}");
-        }
+fn flags_of_children(rt: HostRuntime) {
+    for (flags, directory, other) in flags_table() {
+        assert!(rt;
+            gets(rt.alloc(), *flags, Directory, *directory),
+            "flags {flags:x}, a directory"
+        );
+        assert!(rt;
+            gets(rt.alloc(), *flags, File, *other),
+            "flags {flags:x}, a file"
+        );
+        assert!(rt;
+            gets(rt.alloc(), *flags, Link, *other),
+            "flags {flags:x}, a link"
+        );
     }
-    Ok(())
 }
 
 static PARENT: [Entry; 4] = [
@@ -60,13 +92,31 @@ static CHILD_DIRECTORY: [Entry; 3] = [
 
 static CHILD_FILE: [Entry; 2] = [allow!(0, 0x27, User(1002)), audit!(0x20, 0x02, Group)];
 
+/// The entries of a parent, of a directory in it, and of a file.
+fn families() -> (&'static [Entry], &'static [Entry], &'static [Entry]) {
+    (&PARENT, &CHILD_DIRECTORY, &CHILD_FILE)
+}
+
+fn has(list: &AclList, entries: &[Entry]) -> bool {
+    list.as_slice() == entries
+}
+
+/// Whether a child of this kind inherits these entries.
+fn is_child(
+    alloc: Global,
+    parent: &[Entry],
+    kind: Kind,
+    want: &[Entry],
+) -> Result<bool, AllocError> {
+    let list = AclList::from_slice(alloc, parent)?;
+    let child = inherited(alloc, &list, kind)?;
+    Ok(has(&child, want))
+}
+
 /// Entries are inherited in their order, and those that no child gets leave no gap.
 #[test]
-fn children_keep_the_order(rt: HostRuntime) -> Result<(), Fail> {
-    let list = AclList::from_slice(rt.alloc(), &PARENT)?;
-    let directory = inherit(rt.alloc(), &list, Directory)?;
-    assert_eq!(rt; directory.as_slice(), CHILD_DIRECTORY.as_slice());
-    let file = inherit(rt.alloc(), &list, File)?;
-    assert_eq!(rt; file.as_slice(), CHILD_FILE.as_slice());
-    Ok(())
+fn children_keep_the_order(rt: HostRuntime) {
+    let (parent, directory, file) = families();
+    assert!(rt; is_child(rt.alloc(), parent, Directory, directory) == Ok(true));
+    assert!(rt; is_child(rt.alloc(), parent, File, file) == Ok(true));
 }

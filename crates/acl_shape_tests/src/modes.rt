@@ -5,9 +5,7 @@ use Kind::{Directory, File, Link};
 use Who::{Everyone, Group, GroupOf, Owner, User};
 use acl_list::{AclList, Entry, Kind, Who};
 use acl_shape::{mode_of, set_mode};
-use std::alloc::Global;
-use std::process::Abort;
-use std::test::Fail;
+use std::alloc::{AllocError, Global};
 
 static LISTS: [(Kind, u32, &[Entry]); 8] = [
     (Directory, 0o755, &five!(0x1e01e7, 0, 0x21, 0x46, 0x1200a1)),
@@ -20,32 +18,45 @@ static LISTS: [(Kind, u32, &[Entry]); 8] = [
     (Directory, 0, &five!(0x1e0180, 0x67, 0, 0x67, 0x120080)),
 ];
 
-/// Checks a list, and its mode.
-fn see_list(rt: &impl Abort, list: &AclList, want: &[Entry], mode: u32) {
-    assert_eq!(rt; list.as_slice(), want, "{mode:o}");
-    assert_eq!(rt; mode_of(list), mode, "{mode:o}");
+fn lists() -> &'static [(Kind, u32, &'static [Entry])] {
+    &LISTS
 }
 
-/// Checks the list for a mode, where there was none before. The high bits of a mode don't count.
-fn see_made(
-    rt: &impl Abort,
-    alloc: Global,
-    (kind, mode, want): (Kind, u32, &[Entry]),
-) -> Result<(), Fail> {
+/// The list and the mode, without the contracts of what makes them.
+fn with_mode(alloc: Global, list: &AclList, kind: Kind, mode: u32) -> Result<AclList, AllocError> {
+    set_mode(alloc, list, kind, mode)
+}
+
+fn mode_in(list: &AclList) -> u32 {
+    mode_of(list)
+}
+
+/// Whether a list has these entries and this mode.
+fn is_list(list: &AclList, want: &[Entry], mode: u32) -> bool {
+    (list.as_slice() == want) & (mode_in(list) == mode)
+}
+
+/// Whether the list for a mode, where there was none before, has these entries and the nine low bits.
+fn is_made(alloc: Global, kind: Kind, mode: u32, want: &[Entry]) -> Result<bool, AllocError> {
     let none = AclList::new(alloc);
-    let list = set_mode(alloc, &none, kind, mode)?;
-    see_list(rt, &list, want, mode);
-    let high = set_mode(alloc, &none, kind, mode | 0o7000)?;
-    see_list(rt, &high, want, mode);
-    Ok(())
+    let list = with_mode(alloc, &none, kind, mode)?;
+    Ok(is_list(&list, want, mode % 0o1000))
 }
 
+/// The high bits of a mode don't count.
 #[test]
-fn lists_for_modes(rt: HostRuntime) -> Result<(), Fail> {
-    for row in &LISTS {
-        see_made(&rt, rt.alloc(), *row)?;
+fn lists_for_modes(rt: HostRuntime) {
+    for (kind, mode, want) in lists() {
+        assert!(rt;
+            is_made(rt.alloc(), *kind, *mode, want) == Ok(true),
+            "{mode:o}"
+        );
+        let high = *mode | 0o7000;
+        assert!(rt;
+            is_made(rt.alloc(), *kind, high, want) == Ok(true),
+            "{high:o}"
+        );
     }
-    Ok(())
 }
 
 static BEFORE: [Entry; 3] = [
@@ -65,15 +76,27 @@ static AFTER: [Entry; 8] = [
     allow!(0, 0x120080, Everyone),
 ];
 
+fn before_and_after() -> (&'static [Entry], &'static [Entry]) {
+    (&BEFORE, &AFTER)
+}
+
+/// Whether a list of a directory has these entries after a mode, and after it again.
+fn is_after(alloc: Global, list: &AclList, after: &[Entry]) -> Result<bool, AllocError> {
+    let new = with_mode(alloc, list, Directory, 0o640)?;
+    let again = with_mode(alloc, &new, Directory, 0o640)?;
+    Ok(is_list(&new, after, 0o640) & is_list(&again, after, 0o640))
+}
+
+fn is_changed(alloc: Global, before: &[Entry], after: &[Entry]) -> Result<bool, AllocError> {
+    let list = AclList::from_slice(alloc, before)?;
+    is_after(alloc, &list, after)
+}
+
 /// A mode that is set on the list of a directory, and set again.
 #[test]
-fn a_mode_on_the_list_of_a_directory(rt: HostRuntime) -> Result<(), Fail> {
-    let list = AclList::from_slice(rt.alloc(), &BEFORE)?;
-    let new = set_mode(rt.alloc(), &list, Directory, 0o640)?;
-    see_list(&rt, &new, &AFTER, 0o640);
-    let again = set_mode(rt.alloc(), &new, Directory, 0o640)?;
-    see_list(&rt, &again, &AFTER, 0o640);
-    Ok(())
+fn a_mode_on_the_list_of_a_directory(rt: HostRuntime) {
+    let (before, after) = before_and_after();
+    assert!(rt; is_changed(rt.alloc(), before, after) == Ok(true));
 }
 
 static KEPT: [(Entry, Option<Entry>); 14] = [
@@ -113,43 +136,46 @@ static KEPT: [(Entry, Option<Entry>); 14] = [
     (deny!(0x03, 0x27, User(5)), Some(deny!(0x03, 0x27, User(5)))),
 ];
 
-/// Checks the entries between the ends of a list, of which there are five beside the entry that is kept.
-fn see_kept(
-    rt: &impl Abort,
-    new: &[Entry],
-    ends: &[Entry],
-    (before, after): (Entry, Option<Entry>),
-) {
-    let extra = if after.is_some() { 1 } else { 0 };
-    assert_eq!(rt; new.len(), 5 + extra, "{before:?}");
-    if after.is_some() {
-        assert_eq!(rt; new.get(2).copied(), after, "{before:?}");
-    }
-    assert_eq!(rt; new.first(), ends.first(), "{before:?}");
-    assert_eq!(rt; new.last(), ends.last(), "{before:?}");
+fn kept() -> &'static [(Entry, Option<Entry>)] {
+    &KEPT
 }
 
-fn see_one(
-    rt: &impl Abort,
-    alloc: Global,
-    ends: &[Entry],
-    row: (Entry, Option<Entry>),
-) -> Result<(), Fail> {
-    let list = AclList::from_slice(alloc, &[row.0])?;
-    let new = set_mode(alloc, &list, File, 0o640)?;
-    see_kept(rt, new.as_slice(), ends, row);
-    Ok(())
+/// The first entry and the last one of a list.
+fn ends_of(entries: &[Entry]) -> (Option<Entry>, Option<Entry>) {
+    (entries.first().copied(), entries.last().copied())
+}
+
+/// Whether a list of so many entries has just this one between its two first and its three last ones.
+fn keeps(entries: &[Entry], after: Option<Entry>) -> bool {
+    match after {
+        Some(entry) => (entries.len() == 6) & (entries.get(2).copied() == Some(entry)),
+        None => entries.len() == 5,
+    }
+}
+
+/// Whether a file's list has the ends of the list of a mode, and between them what that keeps of an entry.
+fn is_kept(alloc: Global, before: Entry, after: Option<Entry>) -> Result<bool, AllocError> {
+    let list = AclList::from_slice(alloc, &[before])?;
+    let new = with_mode(alloc, &list, File, 0o640)?;
+    Ok(keeps(new.as_slice(), after) & (ends_of(new.as_slice()) == ends_of(ends())))
+}
+
+static ENDS: [Entry; 5] = five!(0x1e0187, 0x20, 0x01, 0x26, 0x120080);
+
+/// The list for the mode 0o640 of a file, where there was none before.
+fn ends() -> &'static [Entry] {
+    &ENDS
 }
 
 /// Each entry by itself, where the group may read alone and so lacks 0x26.
 #[test]
-fn what_a_mode_keeps(rt: HostRuntime) -> Result<(), Fail> {
-    let none = AclList::new(rt.alloc());
-    let ends = set_mode(rt.alloc(), &none, File, 0o640)?;
-    for row in &KEPT {
-        see_one(&rt, rt.alloc(), ends.as_slice(), *row)?;
+fn what_a_mode_keeps(rt: HostRuntime) {
+    for (before, after) in kept() {
+        assert!(rt;
+            is_kept(rt.alloc(), *before, *after) == Ok(true),
+            "{before:?}"
+        );
     }
-    Ok(())
 }
 
 static MODES: [(&str, &[Entry], u32); 14] = [
@@ -208,21 +234,19 @@ static MODES: [(&str, &[Entry], u32); 14] = [
     ),
 ];
 
-fn see_mode(
-    rt: &impl Abort,
-    alloc: Global,
-    (name, entries, mode): (&str, &[Entry], u32),
-) -> Result<(), Fail> {
+fn modes() -> &'static [(&'static str, &'static [Entry], u32)] {
+    &MODES
+}
+
+fn mode_by(alloc: Global, entries: &[Entry]) -> Result<u32, AllocError> {
     let list = AclList::from_slice(alloc, entries)?;
-    assert_eq!(rt; mode_of(&list), mode, "{name}");
-    Ok(())
+    Ok(mode_in(&list))
 }
 
 /// Modes counted by hand.
 #[test]
-fn modes_of_lists(rt: HostRuntime) -> Result<(), Fail> {
-    for row in &MODES {
-        see_mode(&rt, rt.alloc(), *row)?;
+fn modes_of_lists(rt: HostRuntime) {
+    for (name, entries, mode) in modes() {
+        assert!(rt; mode_by(rt.alloc(), entries) == Ok(*mode), "{name}");
     }
-    Ok(())
 }
