@@ -1,10 +1,8 @@
 //! The replies of records to a call.
 
-use crate::words::bytes_of;
+use crate::words::{bytes_of, is_text};
 use rpc_record::{ReplyFault, read_reply};
-use std::alloc::Global;
-use std::process::Abort;
-use std::test::Fail;
+use std::alloc::{AllocError, Global};
 
 /// The words of replies to call 9 that have results, and the words of these. The verifier may be any.
 static RESULTS: [(&[u32], &[u32]); 3] = [
@@ -17,22 +15,32 @@ fn results() -> &'static [(&'static [u32], &'static [u32])] {
     &RESULTS
 }
 
-fn see_results(rt: &impl Abort, alloc: Global, words: &[u32], found: &[u32]) -> Result<(), Fail> {
-    let record = bytes_of(alloc, words)?;
-    let expected = bytes_of(alloc, found)?;
-    match read_reply(&record, 9) {
-        Ok(bytes) => assert_eq!(rt; bytes, expected.as_slice(), "{words:?}"),
-        Err(fault) => assert!(rt; false, "{words:?}: {fault}"),
+/// The results in a reply to call 9, without the contract of what reads them.
+fn reply(record: &[u8]) -> Result<&[u8], ReplyFault> {
+    read_reply(record, 9)
+}
+
+fn is_reply_with(record: &[u8], results: &[u8]) -> bool {
+    match reply(record) {
+        Ok(bytes) => bytes == results,
+        Err(_) => false,
     }
-    Ok(())
+}
+
+fn has_results(alloc: Global, words: &[u32], results: &[u32]) -> Result<bool, AllocError> {
+    let record = bytes_of(alloc, words)?;
+    let expected = bytes_of(alloc, results)?;
+    Ok(is_reply_with(&record, &expected))
 }
 
 #[test]
-fn replies_with_results(rt: HostRuntime) -> Result<(), Fail> {
+fn replies_with_results(rt: HostRuntime) {
     for (words, found) in results() {
-        see_results(&rt, rt.alloc(), words, found)?;
+        assert!(rt;
+            has_results(rt.alloc(), words, found) == Ok(true),
+            "{words:?}"
+        );
     }
-    Ok(())
 }
 
 /// The words of records that have no results for call 9, and why.
@@ -69,21 +77,26 @@ fn faults() -> &'static [(&'static [u32], ReplyFault)] {
     &FAULTS
 }
 
-fn see_fault(rt: &impl Abort, alloc: Global, words: &[u32], fault: ReplyFault) -> Result<(), Fail> {
-    let record = bytes_of(alloc, words)?;
-    match read_reply(&record, 9) {
-        Ok(_) => assert!(rt; false, "{words:?} has results"),
-        Err(found) => assert_eq!(rt; found, fault, "{words:?}"),
+/// Why a record has no results for call 9.
+fn fault_in(record: &[u8]) -> Option<ReplyFault> {
+    match reply(record) {
+        Ok(_) => None,
+        Err(fault) => Some(fault),
     }
-    Ok(())
+}
+
+fn fault_of(alloc: Global, words: &[u32]) -> Option<ReplyFault> {
+    match bytes_of(alloc, words) {
+        Ok(record) => fault_in(&record),
+        Err(_) => None,
+    }
 }
 
 #[test]
-fn replies_without_results(rt: HostRuntime) -> Result<(), Fail> {
+fn replies_without_results(rt: HostRuntime) {
     for (words, fault) in faults() {
-        see_fault(&rt, rt.alloc(), words, *fault)?;
+        assert!(rt; fault_of(rt.alloc(), words) == Some(*fault), "{words:?}");
     }
-    Ok(())
 }
 
 static TEXTS: [(ReplyFault, &str); 9] = [
@@ -108,10 +121,13 @@ fn texts() -> &'static [(ReplyFault, &'static str)] {
     &TEXTS
 }
 
+fn is_shown(alloc: Global, fault: ReplyFault, text: &str) -> bool {
+    is_text(format!(in alloc; "{fault}"), text)
+}
+
 #[test]
-fn texts_of_faults(rt: HostRuntime) -> Result<(), Fail> {
+fn texts_of_faults(rt: HostRuntime) {
     for (fault, text) in texts() {
-        assert_eq!(rt; format!(in rt.alloc(); "{fault}")?.as_str(), *text);
+        assert!(rt; is_shown(rt.alloc(), *fault, text), "{text}");
     }
-    Ok(())
 }

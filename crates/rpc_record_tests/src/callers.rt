@@ -1,10 +1,10 @@
 //! Callers, by the groups that are sent.
 
+use crate::words::is_text;
 use rpc_record::{Caller, GroupSet, MOST_FURTHER, MOST_GROUPS};
-use std::alloc::Global;
+use std::alloc::{AllocError, Global};
 use std::collections::HashMap;
 use std::process::Abort;
-use std::test::Fail;
 
 /// A group, the further ones, and the groups that they come to.
 type Sent = (u32, &'static [u32], &'static [u32]);
@@ -36,24 +36,35 @@ fn caller(rt: &impl Abort, uid: u32, gid: u32, further: &[u32]) -> Caller {
     Caller::new(uid, gid, further)
 }
 
-/// Whether the caller is a member of the group, and whether the group is among these.
-fn membership(caller: Caller, groups: &[u32], group: u32) -> (bool, bool) {
-    (caller.is_member(group), groups.contains(&group))
+fn is_member(caller: Caller, group: u32) -> bool {
+    caller.is_member(group)
+}
+
+fn is_among(groups: &[u32], group: u32) -> bool {
+    groups.contains(&group)
 }
 
 /// Checks that the caller is a member of just those groups below 400 that are among these.
 fn see_members(rt: &impl Abort, caller: Caller, groups: &[u32]) {
     for group in 0..400u32 {
-        let (is_member, is_among) = membership(caller, groups, group);
-        assert_eq!(rt; is_member, is_among, "{group} of {groups:?}");
+        let is_right = is_member(caller, group) == is_among(groups, group);
+        assert!(rt; is_right, "{group} of {groups:?}");
     }
+}
+
+/// A caller's uid and gid.
+fn ids_of(caller: Caller) -> (u32, u32) {
+    (caller.uid(), caller.gid())
+}
+
+fn has_groups(caller: Caller, groups: &[u32]) -> bool {
+    caller.groups() == groups
 }
 
 fn see_groups(rt: &impl Abort, gid: u32, further: &[u32], groups: &[u32]) {
     let caller = caller(rt, 1001, gid, further);
-    assert_eq!(rt; caller.uid(), 1001);
-    assert_eq!(rt; caller.gid(), gid);
-    assert_eq!(rt; caller.groups(), groups, "{gid} and {further:?}");
+    assert!(rt; ids_of(caller) == (1001, gid));
+    assert!(rt; has_groups(caller, groups), "{gid} and {further:?}");
     see_members(rt, caller, groups);
 }
 
@@ -77,10 +88,14 @@ fn others() -> &'static [(u32, u32, &'static [u32])] {
     &OTHERS
 }
 
+fn is_equal(caller: Caller, other: Caller) -> bool {
+    caller == other
+}
+
 fn see_others(rt: &impl Abort, sent: Caller) {
     for (uid, gid, further) in others() {
         let other = caller(rt, *uid, *gid, further);
-        assert!(rt; sent != other, "{other:?}");
+        assert!(rt; !is_equal(sent, other), "{uid}, {gid}, {further:?}");
     }
 }
 
@@ -90,7 +105,7 @@ fn found(
     sent: Caller,
     again: Caller,
     other: Caller,
-) -> Result<(Option<u32>, Option<u32>), Fail> {
+) -> Result<(Option<u32>, Option<u32>), AllocError> {
     let mut seen = HashMap::new(alloc);
     seen.insert((7u64, sent), 1u32)?;
     Ok((
@@ -99,32 +114,36 @@ fn found(
     ))
 }
 
-fn see_shown(rt: &impl Abort, alloc: Global, caller: Caller) -> Result<(), Fail> {
-    let shown = format!(in alloc; "{caller:?}")?;
-    assert_eq!(rt;
-        shown.as_str(),
-        "Caller { uid: 1001, gid: 100, groups: [100, 200, 300] }"
-    );
-    Ok(())
+fn is_shown(alloc: Global, caller: Caller, text: &str) -> bool {
+    is_text(format!(in alloc; "{caller:?}"), text)
 }
 
 #[test]
-fn callers_are_equal_where_their_groups_are(rt: HostRuntime) -> Result<(), Fail> {
+fn callers_are_equal_where_their_groups_are(rt: HostRuntime) {
     let sent = caller(&rt, 1001, 100, &[300, 200]);
     let again = caller(&rt, 1001, 100, &[200, 100, 300, 200]);
-    assert_eq!(rt; sent, again);
+    assert!(rt; is_equal(sent, again));
     see_others(&rt, sent);
     let alone = caller(&rt, 1001, 100, &[]);
-    assert_eq!(rt; found(rt.alloc(), sent, again, alone)?, (Some(1), None));
-    see_shown(&rt, rt.alloc(), again)
+    assert!(rt; found(rt.alloc(), sent, again, alone) == Ok((Some(1), None)));
+    let text = "Caller { uid: 1001, gid: 100, groups: [100, 200, 300] }";
+    assert!(rt; is_shown(rt.alloc(), again, text));
+}
+
+/// Puts a group into a set that isn't full.
+fn put(set: &mut GroupSet, group: u32) -> bool {
+    if set.len() < MOST_GROUPS {
+        set.insert(group);
+        return true;
+    }
+    false
 }
 
 /// The set of some groups, of which there are at most 17.
 fn set_of(rt: &impl Abort, groups: &[u32]) -> GroupSet {
     let mut set = GroupSet::new();
     for group in groups {
-        assert!(rt; set.len() < MOST_GROUPS);
-        set.insert(*group);
+        assert!(rt; put(&mut set, *group));
     }
     set
 }
@@ -145,19 +164,39 @@ fn put_table() -> &'static [(&'static [u32], &'static [u32])] {
     &PUT
 }
 
+fn is_row(set: GroupSet, groups: &[u32]) -> bool {
+    set.as_slice() == groups
+}
+
+fn size_of(set: GroupSet) -> (usize, bool) {
+    (set.len(), set.is_empty())
+}
+
+fn is_same(set: GroupSet, other: GroupSet) -> bool {
+    set == other
+}
+
+fn is_in(set: GroupSet, group: u32) -> bool {
+    set.contains(group)
+}
+
+/// Checks that a set has just those groups below 20 that are among these.
+fn see_contents(rt: &impl Abort, set: GroupSet, groups: &[u32]) {
+    for group in 0..20u32 {
+        let is_right = is_in(set, group) == is_among(groups, group);
+        assert!(rt; is_right, "{group} of {groups:?}");
+    }
+}
+
 fn see_set(rt: &impl Abort, put: &[u32], groups: &[u32]) {
     let set = set_of(rt, put);
-    assert_eq!(rt; set.as_slice(), groups, "{put:?}");
-    assert_eq!(rt; set.len(), groups.len(), "{put:?}");
-    assert_eq!(rt; set.is_empty(), groups.is_empty(), "{put:?}");
-    assert_eq!(rt; set, set_of(rt, groups), "{put:?}");
-    for group in 0..20u32 {
-        assert_eq!(rt;
-            set.contains(group),
-            groups.contains(&group),
-            "{group} of {put:?}"
-        );
-    }
+    assert!(rt; is_row(set, groups), "{put:?}");
+    assert!(rt;
+        size_of(set) == (groups.len(), groups.is_empty()),
+        "{put:?}"
+    );
+    assert!(rt; is_same(set, set_of(rt, groups)), "{put:?}");
+    see_contents(rt, set, groups);
 }
 
 #[test]
@@ -167,25 +206,21 @@ fn sets_are_of_what_is_put_in(rt: HostRuntime) {
     }
 }
 
-fn see_shown_set(rt: &impl Abort, alloc: Global, set: GroupSet) -> Result<(), Fail> {
-    let shown = format!(in alloc; "{set:?}")?;
-    assert_eq!(rt; shown.as_str(), "{100, 200}");
-    Ok(())
+fn is_set_shown(alloc: Global, set: GroupSet, text: &str) -> bool {
+    is_text(format!(in alloc; "{set:?}"), text)
 }
 
 /// A caller can have groups without its gid.
 #[test]
-fn callers_have_the_groups_given(rt: HostRuntime) -> Result<(), Fail> {
+fn callers_have_the_groups_given(rt: HostRuntime) {
     let groups = set_of(&rt, &[200, 100]);
     let given = Caller::with_groups(1001, 7, groups);
-    assert_eq!(rt; (given.uid(), given.gid()), (1001, 7));
-    assert_eq!(rt; given.groups(), [100u32, 200].as_slice());
-    assert!(rt; !given.is_member(7));
-    assert!(rt; given.is_member(100));
-    assert!(rt; given != caller(&rt, 1001, 7, &[100, 200]));
-    assert_eq!(rt;
-        Caller::with_groups(1001, 100, groups),
-        caller(&rt, 1001, 100, &[200])
-    );
-    see_shown_set(&rt, rt.alloc(), groups)
+    assert!(rt; ids_of(given) == (1001, 7));
+    assert!(rt; has_groups(given, &[100, 200]));
+    assert!(rt; !is_member(given, 7));
+    assert!(rt; is_member(given, 100));
+    assert!(rt; !is_equal(given, caller(&rt, 1001, 7, &[100, 200])));
+    let sent = caller(&rt, 1001, 100, &[200]);
+    assert!(rt; is_equal(Caller::with_groups(1001, 100, groups), sent));
+    assert!(rt; is_set_shown(rt.alloc(), groups, "{100, 200}"));
 }

@@ -1,10 +1,9 @@
 //! The headers of calls, as a client writes them.
 
-use crate::words::{NULL_CALL, bytes_of, lookup_record};
+use crate::words::{NULL_CALL, bytes_of, bytes_of_lookup};
 use rpc_record::{CALL_HEADER_LIMIT, Caller, MOST_FURTHER, record_mark, write_call};
 use std::alloc::{AllocError, Global};
 use std::process::Abort;
-use std::test::Fail;
 use xdr_wire::Writer;
 
 /// A caller's gid and further groups, and the words of its COMPOUND's header: transaction 3, uid 1001.
@@ -49,93 +48,128 @@ fn caller(gid: u32, further: &[u32]) -> Caller {
     Caller::new(1001, gid, &further[..most])
 }
 
-/// Whether the header of a call by uid 1001, or by nobody, is written in a room, the room that is left, and the bytes.
-fn written_in(
-    alloc: Global,
-    groups: Option<(u32, &[u32])>,
-    room: usize,
-) -> Result<(bool, usize, Vec<u8>), AllocError> {
-    let mut writer = Writer::new(alloc, room)?;
-    let is_written = match groups {
-        None => write_call(1, None, &mut writer).is_ok(),
-        Some((gid, further)) => {
-            let caller = caller(gid, further);
-            if caller.is_member(caller.gid()) {
-                write_call(3, Some(caller), &mut writer).is_ok()
-            } else {
-                false
-            }
-        }
-    };
-    let left = writer.room();
-    Ok((is_written, left, writer.into_bytes()))
+/// Whether the header of a call by nobody is written.
+fn write_null(writer: &mut Writer<Global>, xid: u32) -> bool {
+    write_call(xid, None, writer).is_ok()
 }
 
-fn see_in_room(
-    rt: &impl Abort,
+/// Whether the header of a call by this caller is written.
+fn write_by(writer: &mut Writer<Global>, xid: u32, caller: Caller) -> bool {
+    if caller.is_member(caller.gid()) {
+        return write_call(xid, Some(caller), writer).is_ok();
+    }
+    false
+}
+
+/// Whether the header of a call by uid 1001, or by nobody, is written.
+fn write(writer: &mut Writer<Global>, groups: Option<(u32, &[u32])>) -> bool {
+    match groups {
+        None => write_null(writer, 1),
+        Some((gid, further)) => write_by(writer, 3, caller(gid, further)),
+    }
+}
+
+/// Whether a writer holds these bytes, and its room.
+fn state_of(writer: &Writer<Global>, bytes: &[u8]) -> (bool, usize) {
+    (writer.bytes() == bytes, writer.room())
+}
+
+/// Whether a header is written in a room, whether the buffer holds these bytes then, and the room that is left.
+fn written_in(
     alloc: Global,
     groups: Option<(u32, &[u32])>,
     bytes: &[u8],
     room: usize,
-) -> Result<(), Fail> {
-    let (is_written, left, written) = written_in(alloc, groups, room)?;
-    assert_eq!(rt; is_written, room >= bytes.len(), "in {room}");
-    if is_written {
-        assert_eq!(rt; written.as_slice(), bytes, "in {room}");
-    } else {
-        assert_eq!(rt; left, room, "in {room}");
-        assert_eq!(rt; written.len(), 0, "in {room}");
+) -> Option<(bool, (bool, usize))> {
+    match Writer::new(alloc, room) {
+        Ok(mut writer) => {
+            let is_written = write(&mut writer, groups);
+            Some((is_written, state_of(&writer, bytes)))
+        }
+        Err(_) => None,
     }
-    Ok(())
 }
 
-fn see_in_each_room(
+/// Whether a header of these bytes is written whole in a room that is as large, and in a smaller one not at all.
+fn is_right_in(alloc: Global, groups: Option<(u32, &[u32])>, bytes: &[u8], room: usize) -> bool {
+    match room.checked_sub(bytes.len()) {
+        Some(left) => written_in(alloc, groups, bytes, room) == Some((true, (true, left))),
+        None => written_in(alloc, groups, &[], room) == Some((false, (true, room))),
+    }
+}
+
+fn see_in_each_room(rt: &impl Abort, alloc: Global, groups: Option<(u32, &[u32])>, bytes: &[u8]) {
+    for room in 0..=CALL_HEADER_LIMIT {
+        assert!(rt;
+            is_right_in(alloc, groups, bytes, room),
+            "{groups:?} in {room}"
+        );
+    }
+}
+
+fn see_words(
     rt: &impl Abort,
     alloc: Global,
     groups: Option<(u32, &[u32])>,
     words: &[u32],
-) -> Result<(), Fail> {
+) -> Result<(), AllocError> {
     let bytes = bytes_of(alloc, words)?;
-    for room in 0..=CALL_HEADER_LIMIT {
-        see_in_room(rt, alloc, groups, &bytes, room)?;
-    }
+    see_in_each_room(rt, alloc, groups, &bytes);
     Ok(())
 }
 
 /// In each room the header of a call is written whole, or not at all.
 #[test]
-fn calls_in_each_room(rt: HostRuntime) -> Result<(), Fail> {
-    see_in_each_room(&rt, rt.alloc(), None, &NULL_CALL)?;
+fn calls_in_each_room(rt: HostRuntime) {
+    assert!(rt; see_words(&rt, rt.alloc(), None, &NULL_CALL).is_ok());
     for (gid, further, words) in written() {
-        see_in_each_room(&rt, rt.alloc(), Some((*gid, further)), words)?;
+        let groups = Some((*gid, *further));
+        assert!(rt; see_words(&rt, rt.alloc(), groups, words).is_ok());
     }
-    assert_eq!(rt; CALL_HEADER_LIMIT, 124);
-    Ok(())
+    assert!(rt; CALL_HEADER_LIMIT == 124);
 }
 
-/// The record of a COMPOUND by uid 1002 in group 100: its mark, its header and these arguments.
-fn record_of(alloc: Global, arguments: &[u8]) -> Result<Vec<u8>, AllocError> {
+/// Adds the mark of a record of a header and arguments.
+fn add_mark(record: &mut Vec<u8>, header: usize, arguments: usize) -> Result<(), AllocError> {
+    let len = header.min(1000) + arguments.min(1000);
+    record.extend_from_slice(&record_mark(len))
+}
+
+fn add_record(record: &mut Vec<u8>, header: &[u8], arguments: &[u8]) -> Result<(), AllocError> {
+    add_mark(record, header.len(), arguments.len())?;
+    record.extend_from_slice(header)?;
+    record.extend_from_slice(arguments)
+}
+
+/// The header of a COMPOUND by uid 1002 in group 100.
+fn write_header(writer: &mut Writer<Global>) -> bool {
+    write_by(writer, 2, Caller::new(1002, 100, &[]))
+}
+
+/// Adds the record of that COMPOUND: its mark, its header and these arguments.
+fn add_call(record: &mut Vec<u8>, alloc: Global, arguments: &[u8]) -> Result<bool, AllocError> {
     let mut writer = Writer::new(alloc, CALL_HEADER_LIMIT)?;
-    let caller = Caller::new(1002, 100, &[]);
-    let _is_written = write_call(2, Some(caller), &mut writer).is_ok();
-    let header = writer.into_bytes();
-    let len = (header.len().min(1000)) + arguments.len().min(1000);
+    let is_written = write_header(&mut writer);
+    add_record(record, writer.bytes(), arguments)?;
+    Ok(is_written)
+}
+
+/// Whether the record of these arguments is these bytes.
+fn is_record(alloc: Global, arguments: &[u8], want: &[u8]) -> bool {
     let mut record = Vec::new(alloc);
-    record.extend_from_slice(&record_mark(len))?;
-    record.extend_from_slice(&header)?;
-    record.extend_from_slice(arguments)?;
-    Ok(record)
+    let is_added = add_call(&mut record, alloc, arguments) == Ok(true);
+    is_added & (record.as_slice() == want)
+}
+
+/// The arguments of the call of LOOKUP stand behind 60 bytes of header and the four bytes of the mark.
+fn is_whole_call(alloc: Global) -> Result<(bool, usize), AllocError> {
+    let call = bytes_of_lookup(alloc)?;
+    let (_, arguments) = call.split_at(call.len().min(64));
+    Ok((is_record(alloc, arguments, &call), call.len()))
 }
 
 /// Behind its mark a call is header and arguments.
 #[test]
-fn a_whole_call(rt: HostRuntime) -> Result<(), Fail> {
-    let call = bytes_of(rt.alloc(), lookup_record())?;
-    assert_eq!(rt; call.len(), 100);
-    let record = record_of(rt.alloc(), &call[60..])?;
-    assert_eq!(rt; record.len(), 104);
-    let (mark, content) = record.split_at(4);
-    assert_eq!(rt; mark, [0x80, 0, 0, 0x64].as_slice());
-    assert_eq!(rt; content, call.as_slice());
-    Ok(())
+fn a_whole_call(rt: HostRuntime) {
+    assert!(rt; is_whole_call(rt.alloc()) == Ok((true, 104)));
 }

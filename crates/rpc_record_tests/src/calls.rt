@@ -1,10 +1,8 @@
 //! The calls of records, and their faults.
 
-use crate::words::{NULL_CALL, bytes_of, lookup_record};
+use crate::words::{NULL_CALL, add_words, bytes_of, lookup_record};
 use rpc_record::{CallFault, Caller, MOST_FURTHER, Procedure, read_call};
 use std::alloc::{AllocError, Global};
-use std::process::Abort;
-use std::test::Fail;
 
 /// The words of records that are no calls, and their faults.
 static FAULTS: [(&[u32], CallFault); 18] = [
@@ -43,21 +41,35 @@ fn faults() -> &'static [(&'static [u32], CallFault)] {
     &FAULTS
 }
 
-fn see_fault(rt: &impl Abort, alloc: Global, words: &[u32], fault: CallFault) -> Result<(), Fail> {
-    let record = bytes_of(alloc, words)?;
-    match read_call(&record) {
-        Ok(_) => assert!(rt; false, "{words:?} is a call"),
-        Err(found) => assert_eq!(rt; found, fault, "{words:?}"),
+/// A call's transaction, procedure, caller and arguments, without the contract of what reads them.
+type Found<'a> = (u32, Procedure, Option<Caller>, &'a [u8]);
+
+fn found(record: &[u8]) -> Result<Found<'_>, CallFault> {
+    match read_call(record) {
+        Ok(call) => Ok((call.xid, call.procedure(), call.caller, call.arguments)),
+        Err(fault) => Err(fault),
     }
-    Ok(())
+}
+
+fn fault_in(record: &[u8]) -> Option<CallFault> {
+    match found(record) {
+        Ok(_) => None,
+        Err(fault) => Some(fault),
+    }
+}
+
+fn fault_of(alloc: Global, words: &[u32]) -> Option<CallFault> {
+    match bytes_of(alloc, words) {
+        Ok(record) => fault_in(&record),
+        Err(_) => None,
+    }
 }
 
 #[test]
-fn records_that_are_no_calls(rt: HostRuntime) -> Result<(), Fail> {
+fn records_that_are_no_calls(rt: HostRuntime) {
     for (words, fault) in faults() {
-        see_fault(&rt, rt.alloc(), words, *fault)?;
+        assert!(rt; fault_of(rt.alloc(), words) == Some(*fault), "{words:?}");
     }
-    Ok(())
 }
 
 /// The words of NULL calls, their transactions and the bytes of their arguments.
@@ -75,56 +87,75 @@ fn null_calls() -> &'static [(&'static [u32], u32, &'static [u8])] {
     &NULL_CALLS
 }
 
-fn see_null(
-    rt: &impl Abort,
-    alloc: Global,
-    words: &[u32],
-    xid: u32,
-    arguments: &[u8],
-) -> Result<(), Fail> {
-    let record = bytes_of(alloc, words)?;
-    match read_call(&record) {
-        Ok(call) => {
-            assert_eq!(rt; call.xid, xid);
-            assert_eq!(rt; call.arguments, arguments);
-            assert_eq!(rt; call.procedure(), Procedure::Null);
-            assert!(rt; call.caller.is_none());
+/// Whether a record is a call of NULL.
+fn is_null(record: &[u8], xid: u32, arguments: &[u8]) -> bool {
+    match found(record) {
+        Ok((found_xid, procedure, caller, found_arguments)) => {
+            (found_xid == xid)
+                & (procedure == Procedure::Null)
+                & caller.is_none()
+                & (found_arguments == arguments)
         }
-        Err(fault) => assert!(rt; false, "{words:?}: {fault}"),
+        Err(_) => false,
     }
-    Ok(())
+}
+
+fn is_null_of(alloc: Global, words: &[u32], xid: u32, arguments: &[u8]) -> bool {
+    match bytes_of(alloc, words) {
+        Ok(record) => is_null(&record, xid, arguments),
+        Err(_) => false,
+    }
 }
 
 #[test]
-fn calls_of_null(rt: HostRuntime) -> Result<(), Fail> {
+fn calls_of_null(rt: HostRuntime) {
     for (words, xid, arguments) in null_calls() {
-        see_null(&rt, rt.alloc(), words, *xid, arguments)?;
+        assert!(rt; is_null_of(rt.alloc(), words, *xid, arguments), "{words:?}");
     }
-    Ok(())
 }
 
-fn see_compound(rt: &impl Abort, record: &[u8]) {
-    assert_eq!(rt; record.len(), 100);
-    match read_call(record) {
-        Ok(call) => {
-            assert_eq!(rt; call.xid, 2);
-            assert_eq!(rt; call.arguments, &record[60..]);
-            assert_eq!(rt; call.procedure(), Procedure::Compound);
-            assert_eq!(rt; call.caller, Some(Caller::new(1002, 100, &[])));
+fn is_equal(caller: Caller, other: Caller) -> bool {
+    caller == other
+}
+
+/// Whether there is a caller, and it is of this credential.
+fn is_caller(caller: Option<Caller>, uid: u32, gid: u32, further: &[u32]) -> bool {
+    match caller {
+        Some(caller) => {
+            let most = further.len().min(MOST_FURTHER);
+            is_equal(caller, Caller::new(uid, gid, &further[..most]))
         }
-        Err(fault) => assert!(rt; false, "{fault}"),
+        None => false,
     }
+}
+
+/// Whether a record is a call of COMPOUND, of transaction 2 and uid 1002 in group 100.
+fn is_compound(record: &[u8], arguments: &[u8]) -> bool {
+    match found(record) {
+        Ok((xid, procedure, caller, found_arguments)) => {
+            (xid == 2)
+                & (procedure == Procedure::Compound)
+                & is_caller(caller, 1002, 100, &[])
+                & (found_arguments == arguments)
+        }
+        Err(_) => false,
+    }
+}
+
+/// The arguments of the call of LOOKUP stand behind 60 bytes of header.
+fn is_lookup(alloc: Global) -> Result<(bool, usize), AllocError> {
+    let record = bytes_of(alloc, lookup_record())?;
+    let (_, arguments) = record.split_at(record.len().min(60));
+    Ok((is_compound(&record, arguments), record.len()))
 }
 
 #[test]
-fn a_call_of_compound(rt: HostRuntime) -> Result<(), Fail> {
-    let record = bytes_of(rt.alloc(), lookup_record())?;
-    see_compound(&rt, &record);
-    Ok(())
+fn a_call_of_compound(rt: HostRuntime) {
+    assert!(rt; is_lookup(rt.alloc()) == Ok((true, 100)));
 }
 
 /// The parts of a COMPOUND's credential.
-#[derive(Debug, Drop)]
+#[derive(Clone, Copy, Debug)]
 struct Credential {
     stamp: u32,
     name: usize,
@@ -140,17 +171,10 @@ fn add_byte(bytes: &mut Vec<u8>, byte: u8, count: usize) -> Result<(), AllocErro
     Ok(())
 }
 
-fn add_words(bytes: &mut Vec<u8>, words: &[u32]) -> Result<(), AllocError> {
-    for word in words {
-        bytes.extend_from_slice(&word.to_be_bytes())?;
-    }
-    Ok(())
-}
-
 /// 16 and down.
 fn add_groups(bytes: &mut Vec<u8>, groups: u32) -> Result<(), AllocError> {
     for i in 0..groups {
-        bytes.extend_from_slice(&16u32.saturating_sub(i).to_be_bytes())?;
+        add_words(bytes, &[16u32.saturating_sub(i)])?;
     }
     Ok(())
 }
@@ -187,163 +211,72 @@ fn compound(alloc: Global, credential: &Credential) -> Result<Vec<u8>, AllocErro
     Ok(record)
 }
 
+macro_rules! credential {
+    ($stamp:expr, $name:expr, $groups:expr, $more:expr) => {
+        Credential {
+            stamp: $stamp,
+            name: $name,
+            groups: $groups,
+            more: $more,
+        }
+    };
+}
+
 /// Credentials, and the number of the fault that each comes to, or 0. The last ones have 400 bytes and 401.
 static CREDENTIALS: [(Credential, u32); 13] = [
-    (
-        Credential {
-            stamp: 0,
-            name: 0,
-            groups: 0,
-            more: 0,
-        },
-        0,
-    ),
-    (
-        Credential {
-            stamp: 0xffff_ffff,
-            name: 1,
-            groups: 0,
-            more: 0,
-        },
-        0,
-    ),
-    (
-        Credential {
-            stamp: 7,
-            name: 4,
-            groups: 0,
-            more: 0,
-        },
-        0,
-    ),
-    (
-        Credential {
-            stamp: 0,
-            name: 255,
-            groups: 0,
-            more: 0,
-        },
-        0,
-    ),
-    (
-        Credential {
-            stamp: 0,
-            name: 256,
-            groups: 0,
-            more: 0,
-        },
-        4,
-    ),
-    (
-        Credential {
-            stamp: 0,
-            name: 0,
-            groups: 16,
-            more: 0,
-        },
-        0,
-    ),
-    (
-        Credential {
-            stamp: 9,
-            name: 255,
-            groups: 16,
-            more: 0,
-        },
-        0,
-    ),
-    (
-        Credential {
-            stamp: 0,
-            name: 0,
-            groups: 17,
-            more: 0,
-        },
-        4,
-    ),
-    (
-        Credential {
-            stamp: 0,
-            name: 0,
-            groups: 0,
-            more: 1,
-        },
-        4,
-    ),
-    (
-        Credential {
-            stamp: 0,
-            name: 0,
-            groups: 0,
-            more: 4,
-        },
-        4,
-    ),
-    (
-        Credential {
-            stamp: 0,
-            name: 0,
-            groups: 16,
-            more: 4,
-        },
-        4,
-    ),
-    (
-        Credential {
-            stamp: 0,
-            name: 0,
-            groups: 0,
-            more: 380,
-        },
-        4,
-    ),
-    (
-        Credential {
-            stamp: 0,
-            name: 0,
-            groups: 0,
-            more: 381,
-        },
-        1,
-    ),
+    (credential!(0, 0, 0, 0), 0),
+    (credential!(0xffff_ffff, 1, 0, 0), 0),
+    (credential!(7, 4, 0, 0), 0),
+    (credential!(0, 255, 0, 0), 0),
+    (credential!(0, 256, 0, 0), 4),
+    (credential!(0, 0, 16, 0), 0),
+    (credential!(9, 255, 16, 0), 0),
+    (credential!(0, 0, 17, 0), 4),
+    (credential!(0, 0, 0, 1), 4),
+    (credential!(0, 0, 0, 4), 4),
+    (credential!(0, 0, 16, 4), 4),
+    (credential!(0, 0, 0, 380), 4),
+    (credential!(0, 0, 0, 381), 1),
 ];
 
 fn credentials_and_faults() -> &'static [(Credential, u32)] {
     &CREDENTIALS
 }
 
-static SIXTEEN: [u32; 16] = [1, 2, 3, 4, 5, 6, 7, 8, 9, 10, 11, 12, 13, 14, 15, 16];
-
-fn sixteen() -> &'static [u32; 16] {
-    &SIXTEEN
+/// The further groups of a credential.
+fn groups_of(count: usize) -> &'static [u32] {
+    static SIXTEEN: [u32; 16] = [1, 2, 3, 4, 5, 6, 7, 8, 9, 10, 11, 12, 13, 14, 15, 16];
+    SIXTEEN.get(..count).unwrap_or(&[])
 }
 
-fn see_credential(
-    rt: &impl Abort,
-    alloc: Global,
-    credential: &Credential,
-    number: u32,
-) -> Result<(), Fail> {
-    let record = compound(alloc, credential)?;
-    match read_call(&record) {
-        Ok(call) => {
-            assert_eq!(rt; number, 0, "{credential:?}");
-            assert!(rt; credential.groups <= MOST_FURTHER);
-            let caller = Caller::new(1001, 100, &sixteen()[..credential.groups]);
-            assert_eq!(rt; call.caller, Some(caller), "{credential:?}");
-            assert_eq!(rt; call.arguments, [0x55; 4].as_slice(), "{credential:?}");
+/// The number of the fault of a record, or 0 where it is the call of a credential with so many further groups.
+fn number_of(record: &[u8], groups: usize) -> Option<u32> {
+    match found(record) {
+        Ok((_, _, caller, arguments)) => {
+            let is_right = is_caller(caller, 1001, 100, groups_of(groups));
+            if is_right & (arguments == [0x55; 4].as_slice()) {
+                Some(0)
+            } else {
+                None
+            }
         }
-        Err(fault) => assert_eq!(rt; fault.number(), number, "{credential:?}"),
+        Err(fault) => Some(fault.number()),
     }
-    Ok(())
+}
+
+fn number_of_credential(alloc: Global, credential: &Credential) -> Option<u32> {
+    match compound(alloc, credential) {
+        Ok(record) => number_of(&record, credential.groups),
+        Err(_) => None,
+    }
 }
 
 #[test]
-fn credentials(rt: HostRuntime) -> Result<(), Fail> {
+fn credentials(rt: HostRuntime) {
     for (credential, number) in credentials_and_faults() {
-        see_credential(&rt, rt.alloc(), credential, *number)?;
+        let found = number_of_credential(rt.alloc(), credential);
+        assert!(rt; found == Some(*number), "{credential:?}");
     }
-    Ok(())
 }
 
 static NUMBERS: [(CallFault, u32); 7] = [
@@ -363,6 +296,6 @@ fn numbers() -> &'static [(CallFault, u32)] {
 #[test]
 fn numbers_of_faults(rt: HostRuntime) {
     for (fault, number) in numbers() {
-        assert_eq!(rt; fault.number(), *number);
+        assert!(rt; fault.number() == *number, "{number}");
     }
 }

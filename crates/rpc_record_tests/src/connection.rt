@@ -1,9 +1,8 @@
 //! A connection to a server that answers each call with the header of SUCCESS.
 ghost use Rattle.std.specs.Prelude.{◌≤◌, length};
 
-use rpc_record::{CallFault, Framer, Reply, Step, read_call, record_mark, write_reply};
-use std::alloc::Global;
-use std::test::Fail;
+use rpc_record::{Framer, REPLY_HEADER_LIMIT, Reply, Step, read_call, record_mark, write_reply};
+use std::alloc::{AllocError, Global};
 use xdr_wire::Writer;
 
 /// The place in a stream, the record that it is in, and the replies so far.
@@ -32,8 +31,8 @@ impl Connection {
         self.framer.is_inside()
     }
 
-    /// Takes the next piece of the stream.
-    pub fn feed(&mut self, alloc: Global, piece: &[u8]) -> Result<(), Fail> {
+    /// Takes the next piece of the stream, where there is memory for it.
+    pub fn feed(&mut self, alloc: Global, piece: &[u8]) -> Result<(), AllocError> {
         let mut at = 0usize;
         for _ in 0..=piece.len() {
             match self.framer.feed(piece, at) {
@@ -60,24 +59,45 @@ impl Connection {
     }
 
     /// Answers the record that is whole, and begins the next one.
-    fn answer(&mut self, alloc: Global) -> Result<(), Fail> {
+    fn answer(&mut self, alloc: Global) -> Result<(), AllocError> {
         self.records = self.records.saturating_add(1);
-        let reply = match read_call(&self.record) {
-            Ok(call) => Some((call.xid, Reply::Success)),
-            Err(fault) => fault.reply(),
-        };
+        let reply = reply_of(&self.record);
         self.record.clear();
-        let Some((xid, reply)) = reply else {
-            self.broken = true;
-            return Ok(());
-        };
-        let mut writer = Writer::new(alloc, reply.header_len())?;
-        write_reply(xid, reply, &mut writer)?;
-        let bytes = writer.bytes();
-        if bytes.len() <= 32 {
-            self.out.extend_from_slice(&record_mark(bytes.len()))?;
-            self.out.extend_from_slice(bytes)?;
+        match reply {
+            Some((xid, reply)) => add_reply(&mut self.out, alloc, xid, reply),
+            None => {
+                self.broken = true;
+                Ok(())
+            }
         }
-        Ok(())
     }
+}
+
+/// The transaction of a record, and the reply to it.
+fn reply_of(record: &[u8]) -> Option<(u32, Reply)> {
+    match read_call(record) {
+        Ok(call) => Some((call.xid, Reply::Success)),
+        Err(fault) => fault.reply(),
+    }
+}
+
+/// The header of a reply, without the contract of what writes it.
+fn write(writer: &mut Writer<Global>, xid: u32, reply: Reply) -> bool {
+    write_reply(xid, reply, writer).is_ok()
+}
+
+/// Adds a record of these bytes.
+fn add_record(out: &mut Vec<u8>, bytes: &[u8]) -> Result<(), AllocError> {
+    if bytes.len() > REPLY_HEADER_LIMIT {
+        return Ok(());
+    }
+    out.extend_from_slice(&record_mark(bytes.len()))?;
+    out.extend_from_slice(bytes)
+}
+
+/// Adds the record of a reply.
+fn add_reply(out: &mut Vec<u8>, alloc: Global, xid: u32, reply: Reply) -> Result<(), AllocError> {
+    let mut writer = Writer::new(alloc, REPLY_HEADER_LIMIT)?;
+    let _is_written = write(&mut writer, xid, reply);
+    add_record(out, writer.bytes())
 }

@@ -10,6 +10,8 @@ mod calling;
 #[cfg(test)]
 mod calls;
 #[cfg(test)]
+mod cases;
+#[cfg(test)]
 mod connection;
 #[cfg(test)]
 mod replies;

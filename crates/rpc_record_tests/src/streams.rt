@@ -1,231 +1,19 @@
 //! Streams of records, in every cut.
 
+use crate::cases::{Case, cases};
 use crate::connection::Connection;
-use crate::words::{bytes_of, lookup_call};
+use crate::words::{bytes_of, bytes_of_lookup};
 use rpc_record::{Framer, RECORD_LIMIT, Step};
-use std::alloc::Global;
+use std::alloc::{AllocError, Global};
 use std::process::Abort;
-use std::test::Fail;
 
-/// A stream, the answers to it, and whether it breaks.
-struct Case {
-    name: &'static str,
-    stream: &'static [u32],
-    reply: &'static [u32],
-    broken: bool,
-}
-
-static CASES: [Case; 21] = [
-    Case {
-        name: "NULL",
-        stream: &[0x8000_0028, 1, 0, 2, 0x0001_86a3, 4, 0, 0, 0, 0, 0],
-        reply: &[0x8000_0018, 1, 1, 0, 0, 0, 0],
-        broken: false,
-    },
-    Case {
-        name: "version 3",
-        stream: &[0x8000_0028, 1, 0, 2, 0x0001_86a3, 3, 0, 0, 0, 0, 0],
-        reply: &[0x8000_0020, 1, 1, 0, 0, 0, 2, 4, 4],
-        broken: false,
-    },
-    Case {
-        name: "rpcvers 3",
-        stream: &[0x8000_0028, 1, 0, 3, 0x0001_86a3, 4, 0, 0, 0, 0, 0],
-        reply: &[0x8000_0018, 1, 1, 1, 0, 2, 2],
-        broken: false,
-    },
-    Case {
-        name: "rpcvers 3 in 12 bytes",
-        stream: &[0x8000_000c, 1, 0, 3],
-        reply: &[0x8000_0018, 1, 1, 1, 0, 2, 2],
-        broken: false,
-    },
-    Case {
-        name: "another program",
-        stream: &[0x8000_0028, 7, 0, 2, 0x0001_86a4, 9, 9, 0, 0, 0, 0],
-        reply: &[0x8000_0018, 7, 1, 0, 0, 0, 1],
-        broken: false,
-    },
-    Case {
-        name: "procedure 2",
-        stream: &[0x8000_0028, 7, 0, 2, 0x0001_86a3, 4, 2, 0, 0, 0, 0],
-        reply: &[0x8000_0018, 7, 1, 0, 0, 0, 3],
-        broken: false,
-    },
-    Case {
-        name: "COMPOUND under AUTH_NONE",
-        stream: &[0x8000_0028, 7, 0, 2, 0x0001_86a3, 4, 1, 0, 0, 0, 0],
-        reply: &[0x8000_0014, 7, 1, 1, 1, 5],
-        broken: false,
-    },
-    Case {
-        name: "4 more bytes in the credential",
-        stream: &[
-            0x8000_0044,
-            2,
-            0,
-            2,
-            0x0001_86a3,
-            4,
-            1,
-            1,
-            0x18,
-            0,
-            0,
-            0x3ea,
-            0x64,
-            0,
-            0,
-            0,
-            0,
-            0,
-        ],
-        reply: &[0x8000_0014, 2, 1, 1, 1, 1],
-        broken: false,
-    },
-    Case {
-        name: "two empty fragments, then NULL",
-        stream: &[0, 0, 0x8000_0028, 1, 0, 2, 0x0001_86a3, 4, 0, 0, 0, 0, 0],
-        reply: &[0x8000_0018, 1, 1, 0, 0, 0, 0],
-        broken: false,
-    },
-    Case {
-        name: "NULL in five fragments",
-        stream: &[
-            8,
-            1,
-            0,
-            0,
-            4,
-            2,
-            20,
-            0x0001_86a3,
-            4,
-            0,
-            0,
-            0,
-            0x8000_0008,
-            0,
-            0,
-        ],
-        reply: &[0x8000_0018, 1, 1, 0, 0, 0, 0],
-        broken: false,
-    },
-    Case {
-        name: "NULL that ends with an empty fragment",
-        stream: &[40, 1, 0, 2, 0x0001_86a3, 4, 0, 0, 0, 0, 0, 0x8000_0000],
-        reply: &[0x8000_0018, 1, 1, 0, 0, 0, 0],
-        broken: false,
-    },
-    Case {
-        name: "two calls",
-        stream: &[
-            0x8000_0028,
-            1,
-            0,
-            2,
-            0x0001_86a3,
-            4,
-            0,
-            0,
-            0,
-            0,
-            0,
-            0x8000_0028,
-            9,
-            0,
-            2,
-            0x0001_86a3,
-            4,
-            0,
-            0,
-            0,
-            0,
-            0,
-        ],
-        reply: &[0x8000_0018, 1, 1, 0, 0, 0, 0, 0x8000_0018, 9, 1, 0, 0, 0, 0],
-        broken: false,
-    },
-    Case {
-        name: "a call, and a header above the limit",
-        stream: &[
-            0x8000_0028,
-            1,
-            0,
-            2,
-            0x0001_86a3,
-            4,
-            0,
-            0,
-            0,
-            0,
-            0,
-            0x8002_0001,
-        ],
-        reply: &[0x8000_0018, 1, 1, 0, 0, 0, 0],
-        broken: true,
-    },
-    Case {
-        name: "a header at the limit",
-        stream: &[0x8002_0000],
-        reply: &[],
-        broken: false,
-    },
-    Case {
-        name: "a header above the limit",
-        stream: &[0x8002_0001],
-        reply: &[],
-        broken: true,
-    },
-    Case {
-        name: "an open header above the limit",
-        stream: &[0x0002_0001],
-        reply: &[],
-        broken: true,
-    },
-    Case {
-        name: "the empty record",
-        stream: &[0x8000_0000],
-        reply: &[],
-        broken: true,
-    },
-    Case {
-        name: "8 bytes",
-        stream: &[0x8000_0008, 1, 0],
-        reply: &[],
-        broken: true,
-    },
-    Case {
-        name: "a reply in place of a call",
-        stream: &[0x8000_0018, 1, 1, 0, 0, 0, 0],
-        reply: &[],
-        broken: true,
-    },
-    Case {
-        name: "a reply of another version",
-        stream: &[0x8000_000c, 1, 1, 3],
-        reply: &[],
-        broken: true,
-    },
-    Case {
-        name: "a header that ends too soon",
-        stream: &[0x8000_0024, 1, 0, 2, 0x0001_86a4, 4, 0, 0, 0, 0],
-        reply: &[],
-        broken: true,
-    },
-];
-
-fn cases() -> &'static [Case] {
-    &CASES
-}
-
-/// Feeds the stream in pieces of `cut` bytes.
+/// Feeds the stream in pieces of `cut` bytes, until it breaks.
 fn feed_in_pieces(
     alloc: Global,
     connection: &mut Connection,
     stream: &[u8],
     cut: usize,
-) -> Result<(), Fail> {
+) -> Result<(), AllocError> {
     if cut == 0 {
         return Ok(());
     }
@@ -237,59 +25,34 @@ fn feed_in_pieces(
     Ok(())
 }
 
-/// The answers to a stream that comes in pieces of `cut` bytes, and whether it breaks.
-fn answered(alloc: Global, stream: &[u8], cut: usize) -> Result<(Vec<u8>, bool), Fail> {
+/// Whether a stream that comes in pieces of `cut` bytes is answered so, and whether it breaks.
+fn answers(alloc: Global, stream: &[u8], reply: &[u8], cut: usize) -> Option<(bool, bool)> {
     let mut connection = Connection::new(alloc);
-    feed_in_pieces(alloc, &mut connection, stream, cut)?;
-    let Connection { out, broken, .. } = connection;
-    Ok((out, broken))
-}
-
-/// Checks the answers to a case's stream that comes in pieces of `cut` bytes.
-fn see_cut(
-    rt: &impl Abort,
-    alloc: Global,
-    case: &Case,
-    stream: &[u8],
-    reply: &[u8],
-    cut: usize,
-) -> Result<(), Fail> {
-    let (out, broken) = answered(alloc, stream, cut)?;
-    assert_eq!(rt;
-        out.as_slice(),
-        reply,
-        "{} cut every {cut} bytes",
-        case.name
-    );
-    assert_eq!(rt; broken, case.broken, "{} cut every {cut} bytes", case.name);
-    Ok(())
-}
-
-fn see_each_cut(
-    rt: &impl Abort,
-    alloc: Global,
-    case: &Case,
-    stream: &[u8],
-    reply: &[u8],
-) -> Result<(), Fail> {
-    for cut in 1..=stream.len() {
-        see_cut(rt, alloc, case, stream, reply, cut)?;
+    match feed_in_pieces(alloc, &mut connection, stream, cut) {
+        Ok(()) => Some((connection.out.as_slice() == reply, connection.broken)),
+        Err(_) => None,
     }
-    Ok(())
 }
 
-fn see_case(rt: &impl Abort, alloc: Global, case: &Case) -> Result<(), Fail> {
+fn see_each_cut(rt: &impl Abort, alloc: Global, case: &Case, stream: &[u8], reply: &[u8]) {
+    for cut in 1..=stream.len() {
+        let is_right = answers(alloc, stream, reply, cut) == Some((true, case.broken));
+        assert!(rt; is_right, "{} cut every {cut} bytes", case.name);
+    }
+}
+
+fn see_case(rt: &impl Abort, alloc: Global, case: &Case) -> Result<(), AllocError> {
     let stream = bytes_of(alloc, case.stream)?;
     let reply = bytes_of(alloc, case.reply)?;
-    see_each_cut(rt, alloc, case, &stream, &reply)
+    see_each_cut(rt, alloc, case, &stream, &reply);
+    Ok(())
 }
 
 #[test]
-fn streams_in_every_cut(rt: HostRuntime) -> Result<(), Fail> {
+fn streams_in_every_cut(rt: HostRuntime) {
     for case in cases() {
-        see_case(&rt, rt.alloc(), case)?;
+        assert!(rt; see_case(&rt, rt.alloc(), case).is_ok());
     }
-    Ok(())
 }
 
 /// Where a connection is: its records, and whether it is inside one.
@@ -302,7 +65,7 @@ fn places(
     alloc: Global,
     front: &[u8],
     rest: &[u8],
-) -> Result<((usize, bool), (usize, bool), bool), Fail> {
+) -> Result<((usize, bool), (usize, bool), bool), AllocError> {
     let mut connection = Connection::new(alloc);
     connection.feed(alloc, front)?;
     let first = place(&connection);
@@ -310,57 +73,80 @@ fn places(
     Ok((first, place(&connection), connection.broken))
 }
 
-fn see_front(rt: &impl Abort, alloc: Global, front: &[u8], rest: &[u8]) -> Result<(), Fail> {
-    let len = front.len();
-    let (first, second, broken) = places(alloc, front, rest)?;
-    assert_eq!(rt; first.0, 0, "{len} bytes");
-    assert_eq!(rt; first.1, len > 0, "{len} bytes");
-    assert_eq!(rt; second.0, 1, "{len} bytes");
-    assert!(rt; !second.1, "{len} bytes");
-    assert!(rt; !broken, "{len} bytes");
-    Ok(())
+/// Whether a call is answered just where it is whole, and its connection is inside a record where a part of it came.
+fn is_right_front(alloc: Global, front: &[u8], rest: &[u8]) -> bool {
+    places(alloc, front, rest) == Ok(((0, !front.is_empty()), (1, false), false))
 }
 
-fn see_each_front(rt: &impl Abort, alloc: Global, stream: &[u8]) -> Result<(), Fail> {
+fn see_each_front(rt: &impl Abort, alloc: Global, stream: &[u8]) {
     for len in 0..stream.len() {
-        see_front(rt, alloc, &stream[..len], &stream[len..])?;
+        let (front, rest) = stream.split_at(len);
+        assert!(rt; is_right_front(alloc, front, rest), "{len} bytes");
     }
-    Ok(())
 }
 
 /// A call that isn't whole is not answered, and its connection is inside a record unless nothing came.
 #[test]
-fn each_front_of_a_call(rt: HostRuntime) -> Result<(), Fail> {
-    let stream = bytes_of(rt.alloc(), lookup_call())?;
-    see_each_front(&rt, rt.alloc(), &stream)
+fn each_front_of_a_call(rt: HostRuntime) -> Result<(), AllocError> {
+    let stream = bytes_of_lookup(rt.alloc())?;
+    see_each_front(&rt, rt.alloc(), &stream);
+    Ok(())
 }
 
 /// The step of a framer, with no contract, so that the prover doesn't compute on a test's bytes.
-fn step(rt: &impl Abort, framer: &mut Framer, piece: &[u8], at: usize) -> Step {
-    assert!(rt; at <= piece.len());
-    framer.feed(piece, at)
+fn step(framer: &mut Framer, piece: &[u8], at: usize) -> Option<Step> {
+    if at > piece.len() {
+        return None;
+    }
+    Some(framer.feed(piece, at))
 }
 
-/// Checks a record of two fragments, the first of 65,536 bytes and the second with this mark.
-fn see_second_mark(rt: &impl Abort, half: &[u8], mark: u32, broken: bool) {
+/// The steps of a record of two fragments, the first of 65,536 bytes and the second with this mark, and whether the
+/// framer is inside a record then.
+fn steps_with(half: &[u8], mark: u32) -> ([Option<Step>; 4], bool) {
     let mut framer = Framer::new();
-    assert_eq!(rt; step(rt, &mut framer, &[0, 1, 0, 0], 0), Step::NeedMore);
-    assert_eq!(rt; step(rt, &mut framer, half, 0), Step::Part(0, 65_536));
-    let second = step(rt, &mut framer, &mark.to_be_bytes(), 0);
-    assert_eq!(rt; second == Step::Broken, broken, "{mark:x}");
-    if !broken {
-        assert_eq!(rt; step(rt, &mut framer, half, 0), Step::Record(0, 65_536));
-        assert!(rt; !framer.is_inside());
+    let steps = [
+        step(&mut framer, &[0, 1, 0, 0], 0),
+        step(&mut framer, half, 0),
+        step(&mut framer, &mark.to_be_bytes(), 0),
+        step(&mut framer, half, 0),
+    ];
+    (steps, framer.is_inside())
+}
+
+/// The steps of a record at the limit, and of one above it, at which the framer breaks.
+static SECOND_MARKS: [(u32, Step, Step); 2] = [
+    (0x8001_0000, Step::NeedMore, Step::Record(0, 65_536)),
+    (0x8001_0001, Step::Broken, Step::Broken),
+];
+
+fn second_marks() -> &'static [(u32, Step, Step)] {
+    &SECOND_MARKS
+}
+
+/// Whether the second mark and what follows it come to these steps, and leave no record that isn't whole.
+fn is_second(half: &[u8], mark: u32, third: Step, fourth: Step) -> bool {
+    let (steps, is_inside) = steps_with(half, mark);
+    let [first_found, second_found, third_found, fourth_found] = steps;
+    (first_found == Some(Step::NeedMore))
+        & (second_found == Some(Step::Part(0, 65_536)))
+        & (third_found == Some(third))
+        & (fourth_found == Some(fourth))
+        & ((third == Step::Broken) | !is_inside)
+}
+
+fn see_second_marks(rt: &impl Abort, half: &[u8]) {
+    for (mark, third, fourth) in second_marks() {
+        assert!(rt; is_second(half, *mark, *third, *fourth), "{mark:x}");
     }
 }
 
 /// The limit is the record's: its second header takes it above.
 #[test]
-fn a_record_above_the_limit_in_two_fragments(rt: HostRuntime) -> Result<(), Fail> {
+fn a_record_above_the_limit_in_two_fragments(rt: HostRuntime) -> Result<(), AllocError> {
     let half = vec![in rt.alloc(); 0u8; 65_536]?;
-    see_second_mark(&rt, &half, 0x8001_0000, false);
-    see_second_mark(&rt, &half, 0x8001_0001, true);
-    assert_eq!(rt; RECORD_LIMIT, 131_072);
+    see_second_marks(&rt, &half);
+    assert!(rt; RECORD_LIMIT == 131_072);
     Ok(())
 }
 
@@ -384,17 +170,20 @@ fn steps() -> &'static [Fed] {
     &STEPS
 }
 
-fn see_step(rt: &impl Abort, framer: &mut Framer, fed: &Fed) {
+/// Whether a piece comes to its step, and to its place in a record.
+fn is_step(framer: &mut Framer, fed: &Fed) -> bool {
     let (piece, at, want, inside) = fed;
-    assert_eq!(rt; step(rt, framer, piece, *at), *want);
-    if let Some(inside) = inside {
-        assert_eq!(rt; framer.is_inside(), *inside);
-    }
+    let found = step(framer, piece, *at);
+    let is_place = match inside {
+        Some(inside) => *inside == framer.is_inside(),
+        None => true,
+    };
+    is_place & (found == Some(*want))
 }
 
 fn see_steps(rt: &impl Abort, framer: &mut Framer) {
     for fed in steps() {
-        see_step(rt, framer, fed);
+        assert!(rt; is_step(framer, fed), "{fed:?}");
     }
 }
 

@@ -5,9 +5,8 @@ use std::alloc::{AllocError, Global};
 /// A call of NULL under AUTH_NONE, without its mark: transaction 1.
 pub const NULL_CALL: [u32; 10] = [1, 0, 2, 100_003, 4, 0, 0, 0, 0, 0];
 
-/// A call of COMPOUND by uid 1002 in group 100, with its mark: transaction 2, three operations in 40 bytes.
-static LOOKUP_CALL: [u32; 26] = [
-    0x8000_0064,
+/// A call of COMPOUND by uid 1002 in group 100, without its mark: transaction 2, three operations in 40 bytes.
+static LOOKUP_RECORD: [u32; 25] = [
     2,
     0,
     2,
@@ -35,21 +34,40 @@ static LOOKUP_CALL: [u32; 26] = [
     0x2d,
 ];
 
-/// The call of LOOKUP, with its mark.
-pub fn lookup_call() -> &'static [u32] {
-    &LOOKUP_CALL
-}
-
 /// The call of LOOKUP without its mark.
 pub fn lookup_record() -> &'static [u32] {
-    &LOOKUP_CALL[1..]
+    &LOOKUP_RECORD
+}
+
+/// The bytes of the call of LOOKUP, with its mark.
+pub fn bytes_of_lookup(alloc: Global) -> Result<Vec<u8>, AllocError> {
+    let mut bytes = bytes_of(alloc, &[0x8000_0064])?;
+    add_words(&mut bytes, lookup_record())?;
+    Ok(bytes)
+}
+
+fn add_word(bytes: &mut Vec<u8>, word: u32) -> Result<(), AllocError> {
+    bytes.extend_from_slice(&word.to_be_bytes())
+}
+
+pub fn add_words(bytes: &mut Vec<u8>, words: &[u32]) -> Result<(), AllocError> {
+    for word in words {
+        add_word(bytes, *word)?;
+    }
+    Ok(())
 }
 
 /// The bytes of words.
 pub fn bytes_of(alloc: Global, words: &[u32]) -> Result<Vec<u8>, AllocError> {
     let mut bytes = Vec::new(alloc);
-    for word in words {
-        bytes.extend_from_slice(&word.to_be_bytes())?;
-    }
+    add_words(&mut bytes, words)?;
     Ok(bytes)
+}
+
+/// Whether a value is shown as this text, where there is memory for it.
+pub fn is_text(shown: Result<String, AllocError>, text: &str) -> bool {
+    match shown {
+        Ok(shown) => shown.as_str() == text,
+        Err(_) => false,
+    }
 }
