@@ -1,9 +1,7 @@
 //! Filehandles, stateids, bitmaps and moments, word by word.
 use crate::given;
 use nfs_types::{Bitmap, Handle, Moment, StateId, Status};
-use std::alloc::Global;
-use std::process::Abort;
-use std::test::Fail;
+use std::alloc::{AllocError, Global};
 use xdr_wire::XdrFault;
 
 static HANDLES: [(&[u32], Result<u64, Status>); 6] = [
@@ -19,44 +17,48 @@ fn cases_of_handles() -> &'static [(&'static [u32], Result<u64, Status>)] {
     &HANDLES
 }
 
-/// Checks the object of a handle of these bytes, and how it is written where it is this server's own.
-fn see_handle(
-    rt: &impl Abort,
-    alloc: Global,
-    words: &[u32],
-    names: Result<u64, Status>,
-) -> Result<(), Fail> {
-    let bytes = given::bytes(alloc, words)?;
-    let (handle, left) = given::read::<Handle>(&bytes);
-    assert_eq!(rt; left, 0, "{words:?}");
-    assert_eq!(rt;
-        handle.map(|handle| handle.object()),
-        Ok(names),
-        "{words:?}"
-    );
-    if let Ok(number) = names {
-        let own = Handle::Object(number);
-        assert_eq!(rt; own.object(), Ok(number));
-        given::see_written(rt, alloc, 20, own, &bytes)?;
-    }
-    Ok(())
+fn object_of(handle: Handle<'_>) -> Result<u64, Status> {
+    handle.object()
 }
 
-fn see_long_handle(rt: &impl Abort, alloc: Global) -> Result<(), Fail> {
-    let long = given::bytes(alloc, &[129; 40])?;
-    let (handle, left) = given::read::<Handle>(&long);
-    assert_eq!(rt; handle.err(), Some(XdrFault::TooLong));
-    assert_eq!(rt; left, 160);
-    Ok(())
+/// The object that a handle of all these bytes is of, or the fault of its bytes and how many are left.
+fn object_in(bytes: &[u8]) -> Result<Result<u64, Status>, (XdrFault, usize)> {
+    match given::read::<Handle>(bytes) {
+        (Ok(handle), 0) => Ok(object_of(handle)),
+        (Ok(_), left) => Err((XdrFault::TooLong, left)),
+        (Err(fault), left) => Err((fault, left)),
+    }
+}
+
+fn object(alloc: Global, words: &[u32]) -> Option<Result<Result<u64, Status>, (XdrFault, usize)>> {
+    match given::bytes(alloc, words) {
+        Ok(bytes) => Some(object_in(&bytes)),
+        Err(_) => None,
+    }
+}
+
+/// Whether this server's own handle of an object is of it, and is written as these words.
+fn is_own(alloc: Global, number: u64, words: &[u32]) -> bool {
+    let own = Handle::Object(number);
+    (object_of(own) == Ok(number)) & given::is_written_as(alloc, 20, own, words)
+}
+
+/// Whether a handle of these words is of this object, and is written where it is this server's own.
+fn is_handle(alloc: Global, words: &[u32], names: Result<u64, Status>) -> bool {
+    let is_read = object(alloc, words) == Some(Ok(names));
+    match names {
+        Ok(number) => is_read & is_own(alloc, number, words),
+        Err(_) => is_read,
+    }
 }
 
 /// Handles that are sent are of these objects, and this server's own are written.
 #[test]
-fn handles(rt: HostRuntime) -> Result<(), Fail> {
+fn handles(rt: HostRuntime) {
     for (words, names) in cases_of_handles() {
-        see_handle(&rt, rt.alloc(), words, *names)?;
+        assert!(rt; is_handle(rt.alloc(), words, *names), "{words:?}");
     }
-    see_long_handle(&rt, rt.alloc())
+    assert!(rt; object(rt.alloc(), &[129; 40]) == Some(Err((XdrFault::TooLong, 160))));
 }
 
 static STATEIDS: [([u32; 4], bool, Option<u64>); 6] = [
@@ -72,32 +74,52 @@ fn cases_of_stateids() -> &'static [([u32; 4], bool, Option<u64>)] {
     &STATEIDS
 }
 
-fn see_stateid(
-    rt: &impl Abort,
-    alloc: Global,
-    words: &[u32],
-    special: bool,
-    open: Option<u64>,
-) -> Result<(), Fail> {
-    let bytes = given::bytes(alloc, words)?;
-    let (read, left) = given::read::<StateId>(&bytes);
-    assert_eq!(rt; left, 0);
-    let stateid = read?;
-    assert_eq!(rt; stateid.is_special(), special, "{words:?}");
-    assert_eq!(rt; stateid.open_number(), open, "{words:?}");
-    given::see_written(rt, alloc, 16, stateid, &bytes)
+/// Whether a stateid is special, and the number of its open.
+fn parts_of(stateid: StateId) -> (bool, Option<u64>) {
+    (stateid.is_special(), stateid.open_number())
+}
+
+fn stateid_in(bytes: &[u8]) -> Option<StateId> {
+    match given::read::<StateId>(bytes) {
+        (Ok(stateid), 0) => Some(stateid),
+        _ => None,
+    }
+}
+
+fn stateid(alloc: Global, words: &[u32]) -> Option<StateId> {
+    match given::bytes(alloc, words) {
+        Ok(bytes) => stateid_in(&bytes),
+        Err(_) => None,
+    }
+}
+
+/// Whether a stateid of these words has these parts, and is written as them.
+fn is_stateid(alloc: Global, words: &[u32], parts: (bool, Option<u64>)) -> bool {
+    match stateid(alloc, words) {
+        Some(stateid) => {
+            (parts_of(stateid) == parts) & given::is_written_as(alloc, 16, stateid, words)
+        }
+        None => false,
+    }
+}
+
+fn open_of(seqid: u32, number: u64) -> Option<u64> {
+    StateId::of_open(seqid, number).open_number()
 }
 
 /// The special stateids, and the opens of the others.
 #[test]
-fn stateids(rt: HostRuntime) -> Result<(), Fail> {
+fn stateids(rt: HostRuntime) {
     for (words, special, open) in cases_of_stateids() {
-        see_stateid(&rt, rt.alloc(), words, *special, *open)?;
+        assert!(rt;
+            is_stateid(rt.alloc(), words, (*special, *open)),
+            "{words:?}"
+        );
     }
-    assert_eq!(rt; StateId::of_open(3, 9).open_number(), Some(9));
-    assert_eq!(rt; StateId::closed().seqid, u32::MAX);
-    assert!(rt; StateId::anonymous().is_special() && StateId::read_bypass().is_special());
-    Ok(())
+    assert!(rt; open_of(3, 9) == Some(9));
+    assert!(rt; StateId::closed().seqid == u32::MAX);
+    assert!(rt; parts_of(StateId::anonymous()).0);
+    assert!(rt; parts_of(StateId::read_bypass()).0);
 }
 
 /// A bitmap that is read, and the words that are written of it.
@@ -116,45 +138,61 @@ fn cases_of_bitmaps() -> &'static [(&'static [u32], &'static [u32])] {
     &BITMAPS
 }
 
-fn see_bitmap(rt: &impl Abort, alloc: Global, sent: &[u32], written: &[u32]) -> Result<(), Fail> {
-    let bytes = given::bytes(alloc, sent)?;
-    let want = given::bytes(alloc, written)?;
-    let (read, left) = given::read::<Bitmap>(&bytes);
-    assert_eq!(rt; left, 0, "{sent:?}");
-    let (again, answer) = given::written(alloc, 64, read?)?;
-    assert_eq!(rt; answer, Ok(()));
-    assert_eq!(rt; again, want, "{sent:?}");
-    Ok(())
+/// The set of all these bytes, or the fault and how many are left.
+fn bitmap_in(bytes: &[u8]) -> Result<Bitmap, (XdrFault, usize)> {
+    match given::read::<Bitmap>(bytes) {
+        (Ok(bitmap), 0) => Ok(bitmap),
+        (Ok(_), left) => Err((XdrFault::TooLong, left)),
+        (Err(fault), left) => Err((fault, left)),
+    }
 }
 
-fn see_nine_words(rt: &impl Abort, alloc: Global) -> Result<(), Fail> {
-    let nine = given::bytes(alloc, &[9, 0, 0, 0, 0, 0, 0, 0, 0, 0])?;
-    assert_eq!(rt; given::read::<Bitmap>(&nine), (Err(XdrFault::TooLong), 40));
-    Ok(())
+fn bitmap(alloc: Global, words: &[u32]) -> Result<Result<Bitmap, (XdrFault, usize)>, AllocError> {
+    let bytes = given::bytes(alloc, words)?;
+    Ok(bitmap_in(&bytes))
+}
+
+/// Whether a set is read of the words sent, and written as these.
+fn is_bitmap(alloc: Global, sent: &[u32], written: &[u32]) -> bool {
+    match bitmap(alloc, sent) {
+        Ok(Ok(bitmap)) => given::is_written_as(alloc, 64, bitmap, written),
+        _ => false,
+    }
+}
+
+fn fault_of_bitmap(alloc: Global, words: &[u32]) -> Option<(XdrFault, usize)> {
+    match bitmap(alloc, words) {
+        Ok(bitmap) => bitmap.err(),
+        Err(_) => None,
+    }
+}
+
+fn has(set: &Bitmap, number: u32) -> bool {
+    set.has(number)
 }
 
 /// Zero words at the end are read and not written, and nine words are too many.
 #[test]
-fn bitmaps(rt: HostRuntime) -> Result<(), Fail> {
+fn bitmaps(rt: HostRuntime) {
     for (sent, written) in cases_of_bitmaps() {
-        see_bitmap(&rt, rt.alloc(), sent, written)?;
+        assert!(rt; is_bitmap(rt.alloc(), sent, written), "{sent:?}");
     }
-    see_nine_words(&rt, rt.alloc())?;
+    let nine = fault_of_bitmap(rt.alloc(), &[9, 0, 0, 0, 0, 0, 0, 0, 0, 0]);
+    assert!(rt; nine == Some((XdrFault::TooLong, 40)));
     let three = given::only(33);
-    assert!(rt; three.has(33) && !three.has(32) && !three.has(1) && !three.has(289));
-    Ok(())
+    assert!(rt; has(&three, 33));
+    for number in [1, 32, 289] {
+        assert!(rt; !has(&three, number), "{number}");
+    }
 }
 
 /// A moment before the epoch.
 #[test]
-fn moments(rt: HostRuntime) -> Result<(), Fail> {
+fn moments(rt: HostRuntime) {
     let moment = Moment {
         seconds: -2,
         nanoseconds: 999_999_999,
     };
-    let (bytes, answer) = given::written(rt.alloc(), 12, moment)?;
-    assert_eq!(rt; answer, Ok(()));
-    let want = given::bytes(rt.alloc(), &[u32::MAX, 0xffff_fffe, 0x3b9a_c9ff])?;
-    assert_eq!(rt; bytes, want);
-    Ok(())
+    let words = [u32::MAX, 0xffff_fffe, 0x3b9a_c9ff];
+    assert!(rt; given::is_written_as(rt.alloc(), 12, moment, &words));
 }

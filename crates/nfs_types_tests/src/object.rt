@@ -2,11 +2,9 @@
 use crate::given;
 use acl_list::{Entry, EntryKind, Kind, Who};
 use nfs_types::{Bitmap, GivenAttributes, Moment, ObjectFacts, Status};
-use std::alloc::Global;
+use std::alloc::{AllocError, Global};
 use std::process::Abort;
-use std::test::Fail;
 use who_book::Book;
-use xdr_wire::Full;
 
 static LIST: [Entry; 2] = [
     Entry {
@@ -105,204 +103,124 @@ fn values() -> &'static [(u32, &'static [u32])] {
     &VALUES
 }
 
-/// An attribute alone, with its set and its length before it; with a byte less of room, nothing.
-fn see_attribute(
-    rt: &impl Abort,
+/// The set of one number, in words.
+fn words_of_only(alloc: Global, number: u32) -> Result<Vec<u8>, AllocError> {
+    let bit = 1 << (number % 32);
+    match number / 32 {
+        0 => given::bytes(alloc, &[1, bit]),
+        1 => given::bytes(alloc, &[2, 0, bit]),
+        _ => given::bytes(alloc, &[3, 0, 0, bit]),
+    }
+}
+
+/// An attribute alone: its set, its length and the words of its value.
+fn bytes_of_only(alloc: Global, number: u32, words: &[u32]) -> Result<Vec<u8>, AllocError> {
+    let mut bytes = words_of_only(alloc, number)?;
+    let length = words.len().min(1000) as u32 * 4;
+    given::add_words(alloc, &mut bytes, &[length])?;
+    given::add_words(alloc, &mut bytes, words)?;
+    Ok(bytes)
+}
+
+/// Whether attributes are written as these bytes, and in a byte less of room nothing.
+fn is_just(alloc: Global, given: GivenAttributes<'_>, bytes: &[u8]) -> bool {
+    let is_written = given::is_written(alloc, 256, given, bytes);
+    is_written & given::is_refused(alloc, bytes.len().saturating_sub(1), given)
+}
+
+fn is_attribute(
     alloc: Global,
     book: &Book,
     number: u32,
     words: &[u32],
-) -> Result<(), Fail> {
-    let facts = facts();
+) -> Result<bool, AllocError> {
+    let bytes = bytes_of_only(alloc, number, words)?;
     let given = GivenAttributes {
         book,
-        facts: &facts,
+        facts: &facts(),
         asked: given::only(number),
     };
-    let (bytes, answer) = given::written(alloc, 256, given)?;
-    assert_eq!(rt; answer, Ok(()), "{number}");
-    see_parts(rt, alloc, number, words, &bytes)?;
-    let (nothing, refused) = given::written(alloc, bytes.len().saturating_sub(1), given)?;
-    assert_eq!(rt; refused, Err(Full), "{number}");
-    assert!(rt; nothing.is_empty(), "{number}");
-    Ok(())
+    Ok(is_just(alloc, given, &bytes))
 }
 
-/// Checks that the bytes are the set of the number, a length and the words of its value.
-fn see_parts(
-    rt: &impl Abort,
-    alloc: Global,
-    number: u32,
-    words: &[u32],
-    bytes: &[u8],
-) -> Result<(), Fail> {
-    let value = given::bytes(alloc, words)?;
-    assert!(rt; bytes.ends_with(value.as_slice()), "{number}");
-    let (set, _) = given::written(alloc, 36, given::only(number))?;
-    assert!(rt; bytes.starts_with(set.as_slice()), "{number}");
-    assert_eq!(rt;
-        bytes.len(),
-        set.len().saturating_add(4).saturating_add(value.len()),
-        "{number}"
-    );
-    Ok(())
-}
-
-fn see_each_attribute(rt: &impl Abort, alloc: Global, book: &Book) -> Result<(), Fail> {
+fn see_each_attribute(rt: &impl Abort, alloc: Global, book: &Book) {
     for (number, words) in values() {
-        see_attribute(rt, alloc, book, *number, words)?;
+        assert!(rt;
+            is_attribute(alloc, book, *number, words) == Ok(true),
+            "{number}"
+        );
     }
-    Ok(())
 }
 
 /// Each attribute alone, with its set and its length before it; with a byte less of room, nothing.
 #[test]
-fn each_attribute(rt: HostRuntime) -> Result<(), Fail> {
+fn each_attribute(rt: HostRuntime) {
     let book = Book::default(rt.alloc());
-    see_each_attribute(&rt, rt.alloc(), &book)
+    see_each_attribute(&rt, rt.alloc(), &book);
+}
+
+fn add_values(alloc: Global, bytes: &mut Vec<u8>) -> Result<(), AllocError> {
+    for (_, words) in values() {
+        given::add_words(alloc, bytes, words)?;
+    }
+    Ok(())
 }
 
 /// Behind the head, the values of all attributes, in the order of their numbers.
-fn all_values(alloc: Global, head: &[u32]) -> Result<Vec<u8>, Fail> {
+fn all_values(alloc: Global, head: &[u32]) -> Result<Vec<u8>, AllocError> {
     let mut all = given::bytes(alloc, head)?;
-    for (_, words) in values() {
-        add_words(alloc, &mut all, words)?;
-    }
+    add_values(alloc, &mut all)?;
     Ok(all)
 }
 
-fn add_words(alloc: Global, bytes: &mut Vec<u8>, words: &[u32]) -> Result<(), Fail> {
-    let more = given::bytes(alloc, words)?;
-    bytes.extend_from_slice(more.as_slice())?;
-    Ok(())
+fn with(set: Bitmap, number: u32) -> Bitmap {
+    if number < 256 {
+        return set.with(number);
+    }
+    set
 }
 
 /// The numbers of all attributes, and of an unsupported one.
 fn all_numbers() -> Bitmap {
     let mut asked = given::only(14);
     for (number, _) in values() {
-        if *number < 256 {
-            asked = asked.with(*number);
-        }
+        asked = with(asked, *number);
     }
     asked
 }
 
-fn see_asked(
-    rt: &impl Abort,
+/// Whether the attributes asked are written as these bytes.
+pub fn is_given(
     alloc: Global,
     room: usize,
+    facts: &ObjectFacts<'_>,
     asked: Bitmap,
     want: &[u8],
-) -> Result<(), Fail> {
+) -> bool {
     let book = Book::default(alloc);
-    let facts = facts();
     let given = GivenAttributes {
         book: &book,
-        facts: &facts,
+        facts,
         asked,
     };
-    given::see_written(rt, alloc, room, given, want)
+    given::is_written(alloc, room, given, want)
+}
+
+fn is_all(alloc: Global, asked: Bitmap) -> Result<bool, AllocError> {
+    let want = all_values(alloc, &[3, 0xe818_3fff, 0x0cb0_003a, 0x0000_0800, 308])?;
+    Ok(is_given(alloc, 1024, &facts(), asked, &want))
+}
+
+fn is_within(set: &Bitmap, other: &Bitmap) -> bool {
+    set.is_within(other)
 }
 
 /// All attributes at once, in the order of their numbers, and none of those that aren't supported.
 #[test]
-fn all_attributes(rt: HostRuntime) -> Result<(), Fail> {
+fn all_attributes(rt: HostRuntime) {
     let asked = all_numbers();
-    let head = [3, 0xe818_3fff, 0x0cb0_003a, 0x0000_0800, 308];
-    let want = all_values(rt.alloc(), &head)?;
-    see_asked(&rt, rt.alloc(), 1024, asked, &want)?;
-    let nothing = given::bytes(rt.alloc(), &[0, 0])?;
-    see_asked(&rt, rt.alloc(), 8, given::only(255), &nothing)?;
-    assert!(rt; asked.is_within(&asked) && !asked.is_within(&Bitmap::supported()));
-    Ok(())
-}
-
-/// `A:00:00060001:OWNER@`, `U:20:00000001:EVERYONE@`, `D:00:00000002:1002`.
-static MIXED: [Entry; 3] = [
-    Entry {
-        kind: EntryKind::Allow,
-        flags: 0,
-        mask: 0x6_0001,
-        who: Who::Owner,
-    },
-    Entry {
-        kind: EntryKind::Audit,
-        flags: 0x20,
-        mask: 1,
-        who: Who::Everyone,
-    },
-    Entry {
-        kind: EntryKind::Deny,
-        flags: 0,
-        mask: 2,
-        who: Who::User(1002),
-    },
-];
-
-fn mixed() -> &'static [Entry; 3] {
-    &MIXED
-}
-
-/// Checks the value of a part of the mixed list.
-fn see_part(rt: &impl Abort, alloc: Global, number: u32, words: &[u32]) -> Result<(), Fail> {
-    let book = Book::default(alloc);
-    let mut facts = facts();
-    facts.entries = mixed();
-    let given = GivenAttributes {
-        book: &book,
-        facts: &facts,
-        asked: given::only(number),
-    };
-    let want = given::bytes(alloc, words)?;
-    given::see_written(rt, alloc, 128, given, &want)
-}
-
-/// A dacl has the ALLOW and DENY entries of the list in their order, a sacl the AUDIT and ALARM entries; neither has flags.
-#[test]
-fn parts_of_a_mixed_list(rt: HostRuntime) -> Result<(), Fail> {
-    see_part(
-        &rt,
-        rt.alloc(),
-        58,
-        &[
-            2,
-            0,
-            0x0400_0000,
-            52,
-            0,
-            2,
-            0,
-            0,
-            0x6_0001,
-            6,
-            0x4f57_4e45,
-            0x5240_0000,
-            1,
-            0,
-            2,
-            4,
-            0x3130_3032,
-        ],
-    )?;
-    see_part(
-        &rt,
-        rt.alloc(),
-        59,
-        &[
-            2,
-            0,
-            0x0800_0000,
-            36,
-            0,
-            1,
-            2,
-            0x20,
-            1,
-            9,
-            0x4556_4552,
-            0x594f_4e45,
-            0x4000_0000,
-        ],
-    )
+    assert!(rt; is_all(rt.alloc(), asked) == Ok(true));
+    assert!(rt; is_given(rt.alloc(), 8, &facts(), given::only(255), &[0; 8]));
+    assert!(rt; is_within(&asked, &asked));
+    assert!(rt; !is_within(&asked, &Bitmap::supported()));
 }

@@ -4,11 +4,10 @@ use nfs_types::{
     Ace, Aces, Acl41, Attributes, Bitmap, GivenAttributes, SeenAttributes, ShownAttributes, Status,
     read_given, write_given,
 };
-use std::alloc::{AllocError, Global};
+use std::alloc::Global;
 use std::process::Abort;
-use std::test::Fail;
 use who_book::Book;
-use xdr_wire::{Array, Full, Opaque, Writer, XdrFault};
+use xdr_wire::{Array, Opaque, Spell, Writer, XdrFault};
 
 /// An `fattr4` as a client sees it.
 fn seen(bytes: &[u8]) -> Result<SeenAttributes<'_>, XdrFault> {
@@ -16,17 +15,6 @@ fn seen(bytes: &[u8]) -> Result<SeenAttributes<'_>, XdrFault> {
         (Ok(sent), _) => read_given(&sent),
         (Err(fault), _) => Err(fault),
     }
-}
-
-/// The bytes that a client writes into a buffer of this room, with its set before it.
-fn shown(
-    alloc: Global,
-    room: usize,
-    values: &ShownAttributes<'_>,
-) -> Result<(Vec<u8>, Result<(), Full>), AllocError> {
-    let mut writer = Writer::new(alloc, room)?;
-    let answer = write_given(values, &mut writer);
-    Ok((writer.into_bytes(), answer))
 }
 
 /// The text of the first who in a list that is seen.
@@ -46,18 +34,45 @@ fn part<'a>(
     Some((part.flags, count, who))
 }
 
-fn see_seen(rt: &impl Abort, bytes: &[u8]) -> Result<(), Fail> {
-    let seen = seen(bytes)?;
-    assert_eq!(rt; seen.kind, Some(1));
-    assert_eq!(rt; seen.size, Some(2));
-    assert_eq!(rt; seen.error, Some(13));
-    assert_eq!(rt; seen.mode, Some(0o640));
-    assert_eq!(rt; seen.owner.map(|text| text.bytes), Some(b"1001".as_slice()));
-    assert_eq!(rt; seen.group.map(|text| text.bytes), Some(b"100".as_slice()));
-    assert_eq!(rt; first_who(seen.entries), Some(b"OWNER@".as_slice()));
-    assert_eq!(rt; part(seen.dacl), Some((0, 1, b"OWNER@".as_slice())));
-    assert_eq!(rt; part(seen.sacl), Some((0, 1, b"100".as_slice())));
-    Ok(())
+/// The numbers among the attributes seen: type, size, rdattr_error and mode.
+fn numbers_of(seen: &SeenAttributes<'_>) -> [Option<u64>; 4] {
+    [
+        seen.kind.map(u64::from),
+        seen.size,
+        seen.error.map(u64::from),
+        seen.mode.map(u64::from),
+    ]
+}
+
+fn is_text(text: Option<Opaque<'_, 0xffff_ffff>>, want: &[u8]) -> bool {
+    match text {
+        Some(text) => text.bytes == want,
+        None => false,
+    }
+}
+
+fn is_part<'a>(found: Option<Acl41<Array<'a, Ace<'a>, 0xffff_ffff>>>, who: &[u8]) -> bool {
+    part(found) == Some((0, 1, who))
+}
+
+fn are_lists(seen: SeenAttributes<'_>) -> [bool; 3] {
+    [
+        first_who(seen.entries) == Some(b"OWNER@".as_slice()),
+        is_part(seen.dacl, b"OWNER@"),
+        is_part(seen.sacl, b"100"),
+    ]
+}
+
+/// Whether the values of a file of two bytes are seen, behind the fault of its attributes.
+fn is_seen(bytes: &[u8]) -> bool {
+    match seen(bytes) {
+        Ok(seen) => {
+            let numbers = numbers_of(&seen) == [Some(1), Some(2), Some(13), Some(0o640)];
+            let names = is_text(seen.owner, b"1001") & is_text(seen.group, b"100");
+            numbers & names & (are_lists(seen) == [true; 3])
+        }
+        Err(_) => false,
+    }
 }
 
 /// The numbers of type, size, rdattr_error, acl, mode, owner, group, dacl and sacl.
@@ -69,10 +84,9 @@ fn nine_numbers() -> Bitmap {
     asked
 }
 
-/// A client reads the values that a server returns.
-#[test]
-fn what_is_given_is_seen(rt: HostRuntime) -> Result<(), Fail> {
-    let book = Book::default(rt.alloc());
+/// Whether the nine values that a server returns of a file are seen.
+fn are_returned_seen(alloc: Global) -> bool {
+    let book = Book::default(alloc);
     let mut facts = object::facts();
     facts.error = Status::Access;
     let given = GivenAttributes {
@@ -80,8 +94,16 @@ fn what_is_given_is_seen(rt: HostRuntime) -> Result<(), Fail> {
         facts: &facts,
         asked: nine_numbers(),
     };
-    let (bytes, _) = given::written(rt.alloc(), 512, given)?;
-    see_seen(&rt, &bytes)
+    match Writer::new(alloc, 512) {
+        Ok(mut writer) => given.write(&mut writer).is_ok() & is_seen(writer.bytes()),
+        Err(_) => false,
+    }
+}
+
+/// A client reads the values that a server returns.
+#[test]
+fn what_is_given_is_seen(rt: HostRuntime) {
+    assert!(rt; are_returned_seen(rt.alloc()));
 }
 
 /// Attributes that a client refuses, and why.
@@ -98,21 +120,28 @@ fn cases_of_unseen() -> &'static [(&'static [u32], XdrFault)] {
     &UNSEEN
 }
 
-fn see_unseen(rt: &impl Abort, alloc: Global, words: &[u32], fault: XdrFault) -> Result<(), Fail> {
-    let bytes = given::bytes(alloc, words)?;
-    assert_eq!(rt; seen(&bytes).err(), Some(fault), "{words:?}");
-    Ok(())
+fn fault_in(bytes: &[u8]) -> Option<XdrFault> {
+    match seen(bytes) {
+        Ok(_) => None,
+        Err(fault) => Some(fault),
+    }
+}
+
+fn fault_of(alloc: Global, words: &[u32]) -> Option<XdrFault> {
+    match given::bytes(alloc, words) {
+        Ok(bytes) => fault_in(&bytes),
+        Err(_) => None,
+    }
 }
 
 #[test]
-fn what_is_not_seen(rt: HostRuntime) -> Result<(), Fail> {
+fn what_is_not_seen(rt: HostRuntime) {
     for (words, fault) in cases_of_unseen() {
-        see_unseen(&rt, rt.alloc(), words, *fault)?;
+        assert!(rt; fault_of(rt.alloc(), words) == Some(*fault), "{words:?}");
     }
-    Ok(())
 }
 
-static SHOWN: [u32; 24] = [
+static SHOWN: &[u32] = &[
     2,
     0,
     5,
@@ -140,49 +169,59 @@ static SHOWN: [u32; 24] = [
 ];
 
 fn words_shown() -> &'static [u32] {
-    &SHOWN
+    SHOWN
 }
 
-fn see_shown(rt: &impl Abort, alloc: Global, all: &ShownAttributes<'_>) -> Result<(), Fail> {
-    let want = given::bytes(alloc, words_shown())?;
-    assert_eq!(rt; shown(alloc, 96, all)?, (want, Ok(())));
-    Ok(())
+/// Whether a client's values are written as these words into a buffer of this room.
+fn is_shown(alloc: Global, room: usize, all: &ShownAttributes<'_>, want: &[u8]) -> (bool, bool) {
+    match Writer::new(alloc, room) {
+        Ok(mut writer) => {
+            let is_taken = write_given(all, &mut writer).is_ok();
+            (is_taken, writer.bytes() == want)
+        }
+        Err(_) => (false, false),
+    }
 }
 
-fn see_without_room(rt: &impl Abort, alloc: Global, all: &ShownAttributes<'_>) -> Result<(), Fail> {
-    let (nothing, refused) = shown(alloc, 95, all)?;
-    assert!(rt; nothing.is_empty() && refused.is_err());
-    Ok(())
+fn is_shown_as(alloc: Global, all: &ShownAttributes<'_>, words: &[u32]) -> bool {
+    match given::bytes(alloc, words) {
+        Ok(want) => is_shown(alloc, 96, all, &want) == (true, true),
+        Err(_) => false,
+    }
 }
 
-fn see_set(rt: &impl Abort, alloc: Global, all: &ShownAttributes<'_>) -> Result<(), Fail> {
-    let want = given::bytes(alloc, &[2, 0x1812, 0x0c00_0032])?;
-    let (set, _) = given::written(alloc, 12, all.set())?;
-    assert_eq!(rt; set, want);
-    Ok(())
+/// The values that a client writes. Each list has these entries, and the sacl none.
+fn values_of<'a>(aces: &'a [Ace<'a>]) -> ShownAttributes<'a> {
+    ShownAttributes {
+        kind: Some(2),
+        size: Some(5),
+        error: Some(13),
+        entries: Aces::new(aces),
+        mode: Some(0o640),
+        owner: Opaque::new(b"0"),
+        group: Opaque::new(b"100"),
+        dacl: Aces::new(aces).map(|entries| Acl41 { flags: 0, entries }),
+        sacl: Aces::new(&[]).map(|entries| Acl41 { flags: 1, entries }),
+    }
+}
+
+fn see_shown(rt: &impl Abort, alloc: Global, all: &ShownAttributes<'_>) {
+    assert!(rt; is_shown_as(alloc, all, words_shown()));
+    assert!(rt; is_shown(alloc, 95, all, b"") == (false, true));
+    assert!(rt; given::is_written_as(alloc, 12, all.set(), &[2, 0x1812, 0x0c00_0032]));
 }
 
 /// A client writes values in the order of their numbers; with a byte less of room, nothing.
 #[test]
-fn what_is_shown(rt: HostRuntime) -> Result<(), Fail> {
+fn what_is_shown(rt: HostRuntime) {
+    let Some(who) = Opaque::new(b"7") else {
+        return assert!(rt; false);
+    };
     let aces = [Ace {
         kind: 1,
         flags: 2,
         mask: 3,
-        who: Opaque::new(b"7").ok_or(XdrFault::TooLong)?,
+        who,
     }];
-    let all = ShownAttributes {
-        kind: Some(2),
-        size: Some(5),
-        error: Some(13),
-        entries: Aces::new(&aces),
-        mode: Some(0o640),
-        owner: Opaque::new(b"0"),
-        group: Opaque::new(b"100"),
-        dacl: Aces::new(&aces).map(|entries| Acl41 { flags: 0, entries }),
-        sacl: Aces::new(&[]).map(|entries| Acl41 { flags: 1, entries }),
-    };
-    see_shown(&rt, rt.alloc(), &all)?;
-    see_without_room(&rt, rt.alloc(), &all)?;
-    see_set(&rt, rt.alloc(), &all)
+    see_shown(&rt, rt.alloc(), &values_of(&aces));
 }
