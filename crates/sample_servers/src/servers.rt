@@ -70,7 +70,8 @@ pub fn run_record(
     }
 }
 
-/// The results of these arguments in a record of so many bytes where sessions are in use, or `None` where they are garbage.
+/// The results of these arguments where sessions are in use, or `None` where they are garbage. Their record has so many bytes, and at least as many as
+/// the arguments.
 pub fn run_record_in_session(
     alloc: Global,
     server: &mut Server,
@@ -84,6 +85,7 @@ pub fn run_record_in_session(
         seconds,
         nanoseconds: 0,
     };
+    let record_len = record_len.max(bytes.len());
     let mut out = Writer::new(alloc, MAX_RESULTS)?;
     match server.run(Args { bytes, record_len }, &caller, now, &mut out) {
         RunEnd::Replied => Ok(Some(out.into_bytes())),
