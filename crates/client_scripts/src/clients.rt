@@ -105,7 +105,7 @@ fn run_lines(
     for (index, line) in lines.iter().enumerate() {
         let words = split_word(line);
         if !is_silent(words.0) {
-            run_line(text, fills, client, words, behind(lines, index))?;
+            run_line(text, fills, client, words, behind(&*lines, index))?;
             count = count.saturating_add(1);
         }
     }

@@ -121,7 +121,7 @@ pub fn play_scenes<R: Print>(
     let text = Text { alloc, lines };
     for (index, line) in lines.iter().enumerate() {
         if let Some(title) = line.strip_prefix("scene ") {
-            let scene = up_to(behind(lines, index), "scene ");
+            let scene = up_to(behind(&*lines, index), "scene ");
             let count = play_scene(text, hasher, scene)?;
             let counted = counted(scene);
             println!(rt; "{file}: {title}: {count} {counted}")?;

@@ -155,7 +155,7 @@ fn put_scene(
     lines: &[&str],
 ) -> Result<(), Fail> {
     for (index, line) in lines.iter().enumerate() {
-        step(text, fills, out, line, behind(lines, index))?;
+        step(text, fills, out, line, behind(&*lines, index))?;
     }
     Ok(())
 }
