@@ -119,10 +119,8 @@ fn words_of_parts() -> &'static [u32] {
 
 /// Whether attributes of these words set the parts alone, and lists of these lengths.
 fn are_parts(alloc: Global, kind: Kind, words: &[u32], lengths: [Option<usize>; 3]) -> bool {
-    match set(alloc, kind, words) {
-        Ok((_, found)) => found == lengths,
-        Err(_) => false,
-    }
+    let found = set(alloc, kind, words);
+    found == Ok(([None; 4], lengths))
 }
 
 /// Each part is set without the other's help, and no list with it.
