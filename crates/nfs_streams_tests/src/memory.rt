@@ -106,6 +106,14 @@ impl<'a> Memory<'a> {
         self.streams.get(..self.count).unwrap_or(&[])
     }
 
+    /// The wait behind which the next stream comes that isn't admitted.
+    fn next_comes(&self) -> Option<u64> {
+        match self.all().get(self.admitted) {
+            Some(stream) => Some(stream.script.comes),
+            None => None,
+        }
+    }
+
     /// The stream at a place.
     fn at(&mut self, place: usize) -> Option<&mut Stream> {
         let index = self.all().iter().position(|stream| stream.is_at(place))?;
@@ -144,8 +152,8 @@ impl<A: Allocator + Copy> Streams<A> for Memory<'_> {
     }
 
     fn knocks(&mut self) -> bool {
-        match self.all().get(self.admitted) {
-            Some(stream) => stream.script.comes < self.waits,
+        match self.next_comes() {
+            Some(comes) => comes < self.waits,
             None => false,
         }
     }
