@@ -4,6 +4,12 @@
 #[cfg(test)]
 mod books;
 #[cfg(test)]
+mod given;
+#[cfg(test)]
+mod groups;
+#[cfg(test)]
 mod members;
 #[cfg(test)]
 mod spelled;
+#[cfg(test)]
+mod tables;

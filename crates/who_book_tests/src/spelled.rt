@@ -1,8 +1,8 @@
 //! The contents of books, and how users, groups and whos are spelled by them.
+use crate::given::{joined, push_times};
 use acl_list::Who;
 use std::alloc::{AllocError, Global};
 use std::process::Abort;
-use std::test::Fail;
 use who_book::{Book, BookFault, IDENTIFIER_GROUP, NameKind};
 
 /// The book that the tests ask.
@@ -19,25 +19,28 @@ fn numbers_of(book: &Book) -> (u32, u32, u32) {
     (book.root_owner(), book.root_group(), book.root_mode())
 }
 
-/// A book has these settings.
-fn has_settings(rt: &impl Abort, book: &Book, domain: &str, numbers: (u32, u32, u32)) {
-    assert_eq!(rt; book.domain(), domain);
-    assert_eq!(rt; numbers_of(book), numbers);
+fn has_domain(book: &Book, domain: &str) -> bool {
+    book.domain() == domain
 }
 
-/// The book where there is none.
-fn local(alloc: Global) -> Book {
-    Book::default(alloc)
+fn see_settings(rt: &impl Abort, book: &Book, domain: &str, numbers: (u32, u32, u32)) {
+    assert!(rt; has_domain(book, domain));
+    assert!(rt; numbers_of(book) == numbers);
 }
 
 #[test]
-fn settings(rt: HostRuntime) -> Result<(), Fail> {
+fn settings(rt: HostRuntime) -> Result<(), BookFault> {
     let book = book(rt.alloc())?;
-    has_settings(&rt, &book, "example.org", (1001, 100, 0o1750));
-    let local = local(rt.alloc());
-    has_settings(&rt, &local, "localdomain", (0, 0, 0o755));
-    assert_eq!(rt; name_of(&local, NameKind::User, 0), None);
+    see_settings(&rt, &book, "example.org", (1001, 100, 0o1750));
     Ok(())
+}
+
+/// The book where there is none.
+#[test]
+fn settings_where_there_is_no_book(rt: HostRuntime) {
+    let local = Book::default(rt.alloc());
+    see_settings(&rt, &local, "localdomain", (0, 0, 0o755));
+    assert!(rt; !has_name(&local, NameKind::User, 0));
 }
 
 /// The number of a name.
@@ -45,9 +48,14 @@ fn number_of(book: &Book, kind: NameKind, name: &str) -> Option<u32> {
     book.number_of(kind, name.as_bytes())
 }
 
-/// The name of a number.
-fn name_of(book: &Book, kind: NameKind, number: u32) -> Option<&str> {
-    book.name_of(kind, number)
+/// Whether a number has a name.
+fn has_name(book: &Book, kind: NameKind, number: u32) -> bool {
+    book.name_of(kind, number).is_some()
+}
+
+/// Whether a number has this name.
+fn is_name(book: &Book, kind: NameKind, number: u32, name: &str) -> bool {
+    book.name_of(kind, number) == Some(name)
 }
 
 /// Names with their numbers.
@@ -66,24 +74,27 @@ fn numbers() -> &'static [(NameKind, &'static str, Option<u32>)] {
     &NUMBERS
 }
 
-/// Asks for each name, and back for each number.
-fn look_up_each(rt: &impl Abort, book: &Book) {
-    for row in numbers() {
-        let (kind, name, number) = *row;
-        assert_eq!(rt; number_of(book, kind, name), number, "number of {name}");
-        if let Some(number) = number {
-            let back = name_of(book, kind, number);
-            assert_eq!(rt; back, Some(name), "name of {number}");
-        }
+/// Asks for a name, and back for its number.
+fn is_numbered(book: &Book, kind: NameKind, name: &str, number: Option<u32>) -> bool {
+    let is_found = number_of(book, kind, name) == number;
+    match number {
+        Some(number) => is_found & is_name(book, kind, number, name),
+        None => is_found,
     }
 }
 
+fn look_up_each(rt: &impl Abort, book: &Book) {
+    for (kind, name, number) in numbers() {
+        assert!(rt; is_numbered(book, *kind, name, *number), "{name}");
+    }
+    assert!(rt; !has_name(book, NameKind::User, 100));
+    assert!(rt; !has_name(book, NameKind::Group, 1001));
+}
+
 #[test]
-fn look_ups(rt: HostRuntime) -> Result<(), Fail> {
+fn look_ups(rt: HostRuntime) -> Result<(), BookFault> {
     let book = book(rt.alloc())?;
     look_up_each(&rt, &book);
-    assert_eq!(rt; name_of(&book, NameKind::User, 100), None);
-    assert_eq!(rt; name_of(&book, NameKind::Group, 1001), None);
     Ok(())
 }
 
@@ -125,17 +136,20 @@ fn principal(book: &Book, kind: NameKind, text: &str) -> Option<u32> {
 }
 
 fn read_each(rt: &impl Abort, book: &Book) {
-    for row in read_table() {
-        let (text, user, group) = *row;
-        let got = principal(book, NameKind::User, text);
-        assert_eq!(rt; got, user, "user {text}");
-        let got = principal(book, NameKind::Group, text);
-        assert_eq!(rt; got, group, "group {text}");
+    for (text, user, group) in read_table() {
+        assert!(rt;
+            principal(book, NameKind::User, text) == *user,
+            "user {text}"
+        );
+        assert!(rt;
+            principal(book, NameKind::Group, text) == *group,
+            "group {text}"
+        );
     }
 }
 
 #[test]
-fn principals_are_read(rt: HostRuntime) -> Result<(), Fail> {
+fn principals_are_read(rt: HostRuntime) -> Result<(), BookFault> {
     let book = book(rt.alloc())?;
     read_each(&rt, &book);
     Ok(())
@@ -155,22 +169,20 @@ fn written_table() -> &'static [(NameKind, u32, &'static str)] {
     &WRITTEN
 }
 
-fn write_one(rt: &impl Abort, book: &Book, kind: NameKind, number: u32, text: &str) {
+/// Whether a number is spelled as this text.
+fn is_spelled(book: &Book, kind: NameKind, number: u32, text: &str) -> bool {
     let spelling = book.spell_principal(kind, number);
-    assert_eq!(rt; spelling.as_bytes(), text.as_bytes(), "{text}");
-    assert_eq!(rt; spelling.len(), text.len(), "length of {text}");
-    assert!(rt; !spelling.is_empty(), "{text}");
+    (spelling.as_bytes() == text.as_bytes()) & (spelling.len() == text.len()) & !spelling.is_empty()
 }
 
 fn write_each(rt: &impl Abort, book: &Book) {
-    for row in written_table() {
-        let (kind, number, text) = *row;
-        write_one(rt, book, kind, number, text);
+    for (kind, number, text) in written_table() {
+        assert!(rt; is_spelled(book, *kind, *number, text), "{text}");
     }
 }
 
 #[test]
-fn principals_are_written(rt: HostRuntime) -> Result<(), Fail> {
+fn principals_are_written(rt: HostRuntime) -> Result<(), BookFault> {
     let book = book(rt.alloc())?;
     write_each(&rt, &book);
     Ok(())
@@ -219,49 +231,45 @@ fn who(book: &Book, flags: u32, text: &str) -> Option<Who> {
 }
 
 fn read_whos(rt: &impl Abort, book: &Book) {
-    for row in whos_table() {
-        let (text, plain, group) = *row;
-        assert_eq!(rt; who(book, 0, text), plain, "{text}");
-        assert_eq!(rt; who(book, 0xbf, text), plain, "{text} under other flags");
-        let got = who(book, IDENTIFIER_GROUP, text);
-        assert_eq!(rt; got, group, "group {text}");
+    for (text, plain, group) in whos_table() {
+        assert!(rt; who(book, 0, text) == *plain, "{text}");
+        assert!(rt; who(book, 0xbf, text) == *plain, "{text} under other flags");
+        assert!(rt; who(book, IDENTIFIER_GROUP, text) == *group, "group {text}");
     }
 }
 
-fn write_who(rt: &impl Abort, book: &Book, who: Who, text: &str) {
-    assert_eq!(rt; book.spell_who(who).as_bytes(), text.as_bytes(), "{text}");
+fn is_who_spelled(book: &Book, who: Who, text: &str) -> bool {
+    book.spell_who(who).as_bytes() == text.as_bytes()
 }
 
 fn write_whos(rt: &impl Abort, book: &Book) {
-    for row in spelled_table() {
-        let (who, text) = *row;
-        write_who(rt, book, who, text);
+    for (who, text) in spelled_table() {
+        assert!(rt; is_who_spelled(book, *who, text), "{text}");
     }
 }
 
 #[test]
-fn whos(rt: HostRuntime) -> Result<(), Fail> {
+fn whos(rt: HostRuntime) -> Result<(), BookFault> {
     let book = book(rt.alloc())?;
     read_whos(&rt, &book);
     write_whos(&rt, &book);
     Ok(())
 }
 
-fn push_times(text: &mut String, piece: &str, times: u32) -> Result<(), AllocError> {
-    for _ in 0..times {
-        text.push_str(piece)?;
-    }
-    Ok(())
+fn push_longest(text: &mut String) -> Result<(), AllocError> {
+    push_times(text, "d", 128)?;
+    text.push_str("'\n[groups]\n[users]\n")?;
+    push_times(text, "n", 64)?;
+    text.push_str(" = 5\n")
 }
 
 /// A book whose domain has 128 bytes, with a user whose name has 64.
 fn longest_words(alloc: Global) -> Result<String, AllocError> {
-    let mut text = String::new(alloc);
-    text.push_str("root_owner=0\nroot_group=0\nroot_mode=0\ndomain='")?;
-    push_times(&mut text, "d", 128)?;
-    text.push_str("'\n[groups]\n[users]\n")?;
-    push_times(&mut text, "n", 64)?;
-    text.push_str(" = 5\n")?;
+    let mut text = joined(
+        alloc,
+        &["root_owner=0\nroot_group=0\nroot_mode=0\ndomain='"],
+    )?;
+    push_longest(&mut text)?;
     Ok(text)
 }
 
@@ -269,11 +277,17 @@ fn spelled_length(book: &Book, number: u32) -> usize {
     book.spell_principal(NameKind::User, number).len()
 }
 
+fn spelled_length_in(alloc: Global, text: &str, number: u32) -> Option<usize> {
+    match Book::read(alloc, text) {
+        Ok(book) => Some(spelled_length(&book, number)),
+        Err(_) => None,
+    }
+}
+
 /// The longest text: a name of 64 bytes and a domain of 128.
 #[test]
-fn longest(rt: HostRuntime) -> Result<(), Fail> {
+fn longest(rt: HostRuntime) -> Result<(), AllocError> {
     let text = longest_words(rt.alloc())?;
-    let book = Book::read(rt.alloc(), text.as_str())?;
-    assert_eq!(rt; spelled_length(&book, 5), 193);
-    Ok(())
+    let length = spelled_length_in(rt.alloc(), text.as_str(), 5);
+    Ok(assert!(rt; length == Some(193)))
 }
