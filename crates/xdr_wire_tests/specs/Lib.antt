@@ -1,4 +1,1 @@
 pub mod Forms
-pub mod Views
-pub mod ClaimView
-pub mod StableView

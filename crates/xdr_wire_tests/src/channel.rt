@@ -2,7 +2,7 @@ use std::alloc::Allocator;
 use xdr_wire::{AtMostOne, Full, Reader, Spell, Wire, Writer, XdrFault};
 
 /// One direction of a session (RFC 8881, section 18.36, `channel_attrs4`): a struct of seven fields.
-#[derive(Clone, Copy, Debug, PartialEq, Eq)]
+#[derive(Clone, Copy, PartialEq, Eq)]
 pub struct Channel {
     pub padding: u32,
     pub request_size: u32,
@@ -16,11 +16,11 @@ pub struct Channel {
 impl Spell for Channel {
     ghost use Rattle.std.specs.Prelude.{None};
     ghost use Rattle.xdr_wire_tests.specs.Forms.{channel};
-    ghost use Rattle.xdr_wire_tests.specs.Views.{channel_value};
+    ghost use Rattle.xdr_wire.specs.Wire.{at_most_one};
 
     ghost form = { channel };
 
-    ghost view = { channel_value };
+    ghost view = { λ c. (c.padding, (c.request_size, (c.reply_size, (c.cached_size, (c.operations, (c.slots, at_most_one (λ n. n) c.rdma)))))) };
 
     ghost normal = { None };
 

@@ -2,7 +2,7 @@ use std::alloc::Allocator;
 use xdr_wire::{Full, Opaque, Reader, Spell, Wire, Writer, XdrFault};
 
 /// How the file of an OPEN is named (RFC 8881, section 18.16, `open_claim4`): a union of two arms.
-#[derive(Clone, Copy, Debug)]
+#[derive(Clone, Copy)]
 pub enum Claim<'a> {
     ByName(Opaque<'a, 0xffff_ffff>),
     ByHandle,
@@ -11,11 +11,12 @@ pub enum Claim<'a> {
 impl<'a> Spell for Claim<'a> {
     ghost use Rattle.std.specs.Prelude.{None};
     ghost use Rattle.xdr_wire_tests.specs.Forms.{claim};
-    ghost use Rattle.xdr_wire_tests.specs.ClaimView.{claim_value};
+    ghost use Rattle.std.proofs.Common.{inl, inr};
+    ghost use Rattle.xdr_wire_tests.specs.declared.claim.Claim.TheVariants.{ByName, ByHandle};
 
     ghost form = { claim };
 
-    ghost view = { claim_value };
+    ghost view = { elim [ ByName name ↦ inl name.bytes.now | ByHandle ↦ inr (inl tt) ] };
 
     ghost normal = { None };
 
@@ -41,7 +42,7 @@ impl<'a> Wire<'a> for Claim<'a> {
 }
 
 /// How far a WRITE is to reach (section 18.32, `stable_how4`): an enum.
-#[derive(Clone, Copy, Debug, PartialEq, Eq)]
+#[derive(Clone, Copy, PartialEq, Eq)]
 pub enum Stable {
     Unstable,
     Data,
@@ -51,11 +52,12 @@ pub enum Stable {
 impl Spell for Stable {
     ghost use Rattle.std.specs.Prelude.{None};
     ghost use Rattle.xdr_wire_tests.specs.Forms.{stable};
-    ghost use Rattle.xdr_wire_tests.specs.StableView.{stable_value};
+    ghost use Rattle.std.proofs.Common.{inl, inr};
+    ghost use Rattle.xdr_wire_tests.specs.declared.claim.Stable.TheVariants.{Unstable, Data, File};
 
     ghost form = { stable };
 
-    ghost view = { stable_value };
+    ghost view = { elim [ Unstable ↦ inl tt | Data ↦ inr (inl tt) | File ↦ inr (inr (inl tt)) ] };
 
     ghost normal = { None };
 
@@ -83,7 +85,7 @@ impl<'a> Wire<'a> for Stable {
 }
 
 /// A number that a reader ignores, and a time where there is one: an ignored field, and optional data.
-#[derive(Clone, Copy, Debug, PartialEq, Eq)]
+#[derive(Clone, Copy, PartialEq, Eq)]
 pub struct Mark {
     pub time: Option<i64>,
 }
@@ -91,11 +93,10 @@ pub struct Mark {
 impl Spell for Mark {
     ghost use Rattle.std.specs.Prelude.{Some};
     ghost use Rattle.xdr_wire_tests.specs.Forms.{mark, without_number};
-    ghost use Rattle.xdr_wire_tests.specs.Views.{mark_value};
 
     ghost form = { mark };
 
-    ghost view = { mark_value };
+    ghost view = { λ m. (0, m.time) };
 
     ghost normal = { Some without_number };
 

@@ -2,7 +2,7 @@ use std::alloc::Allocator;
 use xdr_wire::{Chain, Full, Opaque, Reader, Spell, Wire, Writer, XdrFault};
 
 /// A name of a directory (RFC 8881, section 18.23, `entry4`, without its attributes).
-#[derive(Clone, Copy, Debug)]
+#[derive(Clone, Copy)]
 pub struct Entry<'a> {
     pub cookie: u64,
     pub name: Opaque<'a, 0xffff_ffff>,

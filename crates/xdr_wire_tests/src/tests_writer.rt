@@ -1,6 +1,6 @@
+//! Tests of the items that a writer puts, and of the room for them.
 use crate::given;
-use std::alloc::{AllocError, Global};
-use std::test::Fail;
+use std::alloc::Global;
 use xdr_wire::{Full, Opaque, Writer};
 
 /// The file of RFC 4506, section 7, by hand: its name, EXEC with its interpretor, its owner and its data.
@@ -13,46 +13,67 @@ fn file_bytes() -> &'static [u8] {
 
 type Text<'a> = Opaque<'a, 255>;
 
-fn put_fields(writer: &mut Writer<Global>) -> bool {
-    writer.put_opaque(b"sillyprog").is_ok()
-        && writer.put_u32(2).is_ok()
-        && writer.put_opaque(b"lisp").is_ok()
-        && writer.put_opaque(b"john").is_ok()
-        && writer.put_opaque(b"(quit)").is_ok()
+/// The texts of that file: its name, its interpretor, its owner and its data.
+static TEXTS: [&[u8]; 4] = [b"sillyprog", b"lisp", b"john", b"(quit)"];
+
+fn texts() -> &'static [&'static [u8]; 4] {
+    &TEXTS
 }
 
-/// That file's fields as it is written, in a buffer of this room.
-fn put_file(alloc: Global, room: usize) -> Result<(Vec<u8>, bool), AllocError> {
-    let mut writer = Writer::new(alloc, room)?;
-    let whole = put_fields(&mut writer);
-    Ok((writer.into_bytes(), whole))
+fn put(writer: &mut Writer<Global>, text: &[u8]) -> bool {
+    if text.len() > 255 {
+        return false;
+    }
+    writer.put_opaque(text).is_ok()
+}
+
+fn put_kind(writer: &mut Writer<Global>, kind: u32) -> bool {
+    writer.put_u32(kind).is_ok()
+}
+
+fn put_fields(writer: &mut Writer<Global>) -> bool {
+    let [name, interpretor, owner, data] = *texts();
+    put(writer, name)
+        && put_kind(writer, 2)
+        && put(writer, interpretor)
+        && put(writer, owner)
+        && put(writer, data)
+}
+
+/// Whether that file's fields go into a buffer of this room, and whether its bytes are these then.
+fn put_file(alloc: Global, room: usize, want: &[u8]) -> (bool, bool) {
+    match Writer::new(alloc, room) {
+        Ok(mut writer) => {
+            let is_whole = put_fields(&mut writer);
+            (is_whole, writer.bytes() == want)
+        }
+        Err(_) => (false, false),
+    }
 }
 
 /// The example of RFC 4506, section 7, written item by item.
 #[test]
-fn file_is_written(rt: HostRuntime) -> Result<(), Fail> {
-    let (bytes, whole) = put_file(rt.alloc(), 48)?;
-    assert!(rt; whole);
-    assert_eq!(rt; bytes.as_slice(), file_bytes());
-    let (_, whole) = put_file(rt.alloc(), 47)?;
-    assert!(rt; !whole);
-    Ok(())
+fn file_is_written(rt: HostRuntime) {
+    assert!(rt; put_file(rt.alloc(), 48, file_bytes()) == (true, true));
+    assert!(rt; !put_file(rt.alloc(), 47, file_bytes()).0);
+}
+
+/// The texts and the kind in the bytes of a file, and how many bytes are left.
+fn file_in(bytes: &[u8]) -> Option<([&[u8]; 4], u32, usize)> {
+    let (read, left) = given::read::<(Text, (u32, (Text, (Text, Text))))>(bytes);
+    match read {
+        Ok((name, (kind, (interpretor, (owner, data))))) => {
+            let texts = [name.bytes, interpretor.bytes, owner.bytes, data.bytes];
+            Some((texts, kind, left))
+        }
+        Err(_) => None,
+    }
 }
 
 /// The example of RFC 4506, section 7, read item by item.
 #[test]
-fn file_is_read(rt: HostRuntime) -> Result<(), Fail> {
-    let (read, left) = given::read::<(Text, (u32, (Text, (Text, Text))))>(file_bytes());
-    assert_eq!(rt; left, 0);
-    let Ok((name, (kind, (interpretor, (owner, data))))) = read else {
-        return Ok(assert!(rt; false));
-    };
-    assert_eq!(rt; name.bytes, b"sillyprog".as_slice());
-    assert_eq!(rt; kind, 2);
-    assert_eq!(rt; interpretor.bytes, b"lisp".as_slice());
-    assert_eq!(rt; owner.bytes, b"john".as_slice());
-    assert_eq!(rt; data.bytes, b"(quit)".as_slice());
-    Ok(())
+fn file_is_read(rt: HostRuntime) {
+    assert!(rt; file_in(file_bytes()) == Some((*texts(), 2, 0)));
 }
 
 fn put_numbers(writer: &mut Writer<Global>) -> bool {
@@ -69,10 +90,15 @@ fn put_rows(writer: &mut Writer<Global>) -> bool {
         && writer.put_opaque(b"a").is_ok()
 }
 
-fn put_items(alloc: Global) -> Result<(Vec<u8>, bool), AllocError> {
-    let mut writer = Writer::new(alloc, 52)?;
-    let whole = put_numbers(&mut writer) && put_rows(&mut writer);
-    Ok((writer.into_bytes(), whole))
+/// Whether the items go into a buffer with just room for them, and are these bytes then.
+fn put_items(alloc: Global, want: &[u8]) -> bool {
+    match Writer::new(alloc, 52) {
+        Ok(mut writer) => {
+            let is_whole = put_numbers(&mut writer) && put_rows(&mut writer);
+            is_whole & (writer.bytes() == want)
+        }
+        Err(_) => false,
+    }
 }
 
 /// The bytes of these items by hand.
@@ -85,37 +111,68 @@ fn items_bytes() -> &'static [u8] {
 
 /// Each item, where there is just room for it.
 #[test]
-fn items(rt: HostRuntime) -> Result<(), Fail> {
-    let (bytes, whole) = put_items(rt.alloc())?;
-    assert!(rt; whole);
-    assert_eq!(rt; bytes.as_slice(), items_bytes());
-    Ok(())
+fn items(rt: HostRuntime) {
+    assert!(rt; put_items(rt.alloc(), items_bytes()));
+}
+
+/// Whether an item of each kind that is longer than the room is refused, whether the writer is empty then, and its room.
+fn refuse_items(writer: &mut Writer<Global>) -> ([bool; 4], bool, usize) {
+    let refused = [
+        writer.put_u64(1).is_err(),
+        writer.put_fixed(b"abcde").is_err(),
+        writer.put_opaque(b"a").is_err(),
+        writer.put_words(&[1, 2]).is_err(),
+    ];
+    (refused, writer.is_empty(), writer.room())
+}
+
+/// What a writer of seven bytes makes of them.
+fn refused_by_seven(alloc: Global) -> Option<([bool; 4], bool, usize)> {
+    match Writer::new(alloc, 7) {
+        Ok(mut writer) => Some(refuse_items(&mut writer)),
+        Err(_) => None,
+    }
 }
 
 /// With a byte too few nothing is written.
 #[test]
-fn full(rt: HostRuntime) -> Result<(), Fail> {
-    let mut writer = Writer::new(rt.alloc(), 7)?;
-    assert_eq!(rt; writer.put_u64(1), Err(Full));
-    assert_eq!(rt; writer.put_fixed(b"abcde"), Err(Full));
-    assert_eq!(rt; writer.put_opaque(b"a"), Err(Full));
-    assert_eq!(rt; writer.put_words(&[1, 2]), Err(Full));
-    assert!(rt; writer.is_empty());
-    assert_eq!(rt; writer.room(), 7);
-    Ok(())
+fn full(rt: HostRuntime) {
+    assert!(rt; refused_by_seven(rt.alloc()) == Some(([true; 4], true, 7)));
+}
+
+/// Whether one byte is left of a number that goes into the writer and is cut there, and the room then.
+fn cut(writer: &mut Writer<Global>) -> (bool, usize) {
+    let is_put = writer.put_u32(3).is_ok();
+    if writer.is_empty() {
+        return (false, 0);
+    }
+    writer.truncate(1);
+    (is_put & (writer.bytes() == b"\0".as_slice()), writer.room())
+}
+
+/// What a writer of seven bytes makes of it.
+fn cut_in_seven(alloc: Global) -> Option<(bool, usize)> {
+    match Writer::new(alloc, 7) {
+        Ok(mut writer) => Some(cut(&mut writer)),
+        Err(_) => None,
+    }
 }
 
 /// Bytes that were written are cut off, and there is room for them again.
 #[test]
-fn truncated(rt: HostRuntime) -> Result<(), Fail> {
-    let mut writer = Writer::new(rt.alloc(), 7)?;
-    assert_eq!(rt; writer.put_u32(3), Ok(()));
-    writer.truncate(1);
-    assert_eq!(rt; writer.bytes(), b"\0".as_slice());
-    assert_eq!(rt; writer.room(), 6);
-    assert_eq!(rt;
-        format!(in rt.alloc(); "{}", Full)?.as_str(),
-        "there is less room than the item takes"
-    );
-    Ok(())
+fn truncated(rt: HostRuntime) {
+    assert!(rt; cut_in_seven(rt.alloc()) == Some((true, 6)));
+}
+
+/// Whether the refusal is shown as this text.
+fn is_full_shown(alloc: Global, text: &str) -> bool {
+    match format!(in alloc; "{}", Full) {
+        Ok(shown) => shown.as_str() == text,
+        Err(_) => false,
+    }
+}
+
+#[test]
+fn text_of_the_refusal(rt: HostRuntime) {
+    assert!(rt; is_full_shown(rt.alloc(), "there is less room than the item takes"));
 }
