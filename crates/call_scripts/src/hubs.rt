@@ -320,7 +320,7 @@ pub fn in_pieces(
 ) -> Result<u32, Fail> {
     let mut count = 0u32;
     for size in sizes_in(lines).split_whitespace() {
-        let more = on_hub(text, hasher, what, lines, size)?;
+        let more = on_hub(text, hasher, what, &*lines, size)?;
         count = count.saturating_add(more);
     }
     Ok(count)

@@ -114,7 +114,7 @@ fn play(
 ) -> Result<(), Fail> {
     for (index, line) in lines.iter().enumerate() {
         let words = split_word(line);
-        step(text, server, past, again, words, behind(lines, index))?;
+        step(text, server, past, again, words, behind(&*lines, index))?;
     }
     Ok(())
 }

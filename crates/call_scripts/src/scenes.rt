@@ -32,10 +32,13 @@ pub fn play_scenes<R: Print>(
     file: &str,
     lines: &[&str],
 ) -> Result<(), Fail> {
-    let text = Text { alloc, lines };
+    let text = Text {
+        alloc,
+        lines: &*lines,
+    };
     for (index, line) in lines.iter().enumerate() {
         if let Some(title) = line.strip_prefix("scene ") {
-            let scene = up_to(behind(lines, index), "scene ");
+            let scene = up_to(behind(&*lines, index), "scene ");
             let count = play_scene(text, hasher, scene)?;
             println!(rt; "{file}: {title}: {count} calls")?;
         }

@@ -184,7 +184,7 @@ fn act_all<H: House>(
     lines: &[&str],
 ) -> Result<(), Fail> {
     for (index, line) in lines.iter().enumerate() {
-        act(text, stage, house, split_word(line), behind(lines, index))?;
+        act(text, stage, house, split_word(line), behind(&*lines, index))?;
     }
     Ok(())
 }
@@ -248,7 +248,7 @@ fn play<H: House>(
     lines: &[&str],
 ) -> Result<(), Fail> {
     for (index, line) in lines.iter().enumerate() {
-        step(text, stage, house, split_word(line), behind(lines, index))?;
+        step(text, stage, house, split_word(line), behind(&*lines, index))?;
     }
     house.settle(text)
 }
