@@ -87,7 +87,7 @@ impl Write for Paper {
     fn write(&mut self, buf: &[u8]) -> io::Result<usize> {
         if self.writes_left > 0 {
             self.writes_left -= 1;
-            return Ok(self.add(buf));
+            return Ok(self.add(buf).min(buf.len()));
         }
         if self.fails {
             return Err(io::Error::from(ErrorKind::Interrupted));

@@ -45,7 +45,7 @@ impl Disk {
 impl Write for Disk {
     fn write(&mut self, buf: &[u8]) -> io::Result<usize> {
         self.writes = self.writes.saturating_add(1);
-        let n = self.add(buf);
+        let n = self.add(buf).min(buf.len());
         if n == 0 {
             return Err(ErrorKind::StorageFull.into());
         }
