@@ -42,7 +42,12 @@ fn rows_table() -> &'static [(&'static str, u8)] {
 }
 
 /// The answer of a text with a table of some rows, and an empty one.
-fn table(alloc: Global, table: &str, rows: &str, empty: &str) -> Result<u8, AllocError> {
+fn table<'a>(
+    alloc: Global,
+    table: &'a str,
+    rows: &'a str,
+    empty: &'a str,
+) -> Result<u8, AllocError> {
     answer(alloc, &[settings(), table, rows, empty])
 }
 
