@@ -41,23 +41,13 @@ fn rows_table() -> &'static [(&'static str, u8)] {
     &ROWS
 }
 
-/// The answer of a text with a table of some rows, and an empty one.
-fn table<'a>(
-    alloc: Global,
-    table: &'a str,
-    rows: &'a str,
-    empty: &'a str,
-) -> Result<u8, AllocError> {
-    answer(alloc, &[settings(), table, rows, empty])
-}
-
 /// Rows of a table of names, as users and as groups.
 #[test]
 fn rows(rt: HostRuntime) {
     for (rows, want) in rows_table() {
-        let users = table(rt.alloc(), "[users]\n", rows, "[groups]\n");
+        let users = answer(rt.alloc(), &[settings(), "[users]\n", *rows, "[groups]\n"]);
         assert!(rt; users == Ok(*want), "users {rows}");
-        let groups = table(rt.alloc(), "[groups]\n", rows, "[users]\n");
+        let groups = answer(rt.alloc(), &[settings(), "[groups]\n", *rows, "[users]\n"]);
         assert!(rt; groups == Ok(*want), "groups {rows}");
     }
 }
