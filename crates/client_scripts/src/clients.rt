@@ -36,7 +36,7 @@ fn put_line(
     }
 }
 
-/// What comes of a line.
+/// The outcome of a line, as bytes.
 fn came_of(
     alloc: Global,
     client: &mut Player<'_, '_>,

@@ -16,7 +16,7 @@ pub const NO_CELLS: Cells<'static> = Cells {
     values: "",
 };
 
-/// What a scene's lines are filled in with: a row of each of two tables, and the number of a `repeat`.
+/// The texts that a scene's places are filled in with: a row of each of two tables, and the number of a `repeat`.
 #[derive(Clone, Copy)]
 pub struct Fills<'a> {
     pub first: Cells<'a>,

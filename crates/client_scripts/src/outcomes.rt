@@ -1,4 +1,4 @@
-//! What comes of a command, as bytes: its text behind `=`; or the number of its fault behind `!`, and of a refusal the numbers of the
+//! The outcome of a command, as bytes: its text behind `=`; or the number of its fault behind `!`, and of a refusal the numbers of the
 //! operation and of the status.
 
 use crate::repetitions::put_bytes;

@@ -44,7 +44,7 @@ static BEFORE: [Row; 4] = [
     ),
 ];
 
-/// The same with their answers afterwards.
+/// These reads with their answers behind the loading of the book.
 static AFTER: [Row; 4] = [
     (
         SENT,
@@ -131,7 +131,7 @@ fn put_given(
     Ok(put_trail(alloc, given, hub)?)
 }
 
-/// The same over a new hub of the sample tree.
+/// Puts the replies and lines that come from a new hub of the sample tree where the book is loaded at this place.
 fn put_given_new(
     alloc: Global,
     hasher: RandomState,

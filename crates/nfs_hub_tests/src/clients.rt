@@ -145,7 +145,7 @@ fn tell(
     Ok((count, hub.server().guard().total()))
 }
 
-/// The same on a new hub.
+/// Puts what is told on a new hub, and its picture then.
 fn tell_new(
     alloc: Global,
     hasher: RandomState,
@@ -180,7 +180,7 @@ fn compared(
     compare(alloc, hasher, script, &mut many, &mut one)
 }
 
-/// The same with these calls by which the sessions are created.
+/// Whether many connections and one are told the same, behind these calls by which the sessions are created.
 fn compared_behind(
     alloc: Global,
     hasher: RandomState,

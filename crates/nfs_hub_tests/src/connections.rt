@@ -60,7 +60,7 @@ fn full(hub: &mut Hub) -> Result<(Option<HubFault>, usize), HubFault> {
     Ok((refused, taken))
 }
 
-/// What is told of connections that are closed, that break, and that are as many as may be.
+/// The faults of connections that are closed, that break, and that are as many as may be.
 #[derive(Clone, Copy)]
 struct Told {
     closed: [Option<HubFault>; 6],

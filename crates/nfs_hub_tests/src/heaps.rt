@@ -11,7 +11,7 @@ use std::hash::RandomState;
 use std::test::Fail;
 use who_book::Book;
 
-/// What is done on a hub.
+/// An act on a hub.
 #[derive(Clone, Copy, PartialEq, Eq)]
 pub enum Act {
     /// The calls of a run are made on the sample tree, without sessions.
@@ -24,7 +24,7 @@ pub enum Act {
     Smaller,
 }
 
-/// What is done, with which calls.
+/// An act with its calls.
 #[derive(Clone, Copy)]
 pub struct Case<'a> {
     pub act: Act,

@@ -12,7 +12,7 @@ pub fn first_record(stream: &[u8]) -> Option<(&[u8], &[u8])> {
     Some((stream.get(..len)?, stream.get(len..)?))
 }
 
-/// What is behind so many records.
+/// The bytes behind so many records.
 pub fn behind(stream: &[u8], count: usize) -> &[u8] {
     let mut rest = stream;
     for _ in 0..count {

@@ -62,7 +62,7 @@ impl Paper {
         }
     }
 
-    /// One that takes all.
+    /// A paper that takes all bytes, and fails no write.
     pub fn ample() -> Self {
         Paper::new(1024, usize::MAX, false)
     }
@@ -154,7 +154,7 @@ fn serve_on(hub: &mut Hub, source: Source<'_>, paper: &mut Paper, turns: u64) ->
     }
 }
 
-/// The same on a new hub of the sample tree, or with sessions.
+/// Serves a source on a new hub, of the sample tree without sessions or of a root alone with them.
 pub fn serve_new(
     alloc: Global,
     hasher: RandomState,

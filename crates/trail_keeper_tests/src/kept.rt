@@ -31,7 +31,7 @@ fn lines() -> &'static [u8] {
 /// How many bytes the first line has.
 const FIRST: usize = 61;
 
-/// What a keeper says at first, of which nothing was refused yet; and behind each of two refusals, each time twice.
+/// The answers of a keeper: before any refusal, and twice behind each of two refusals.
 type Said = [bool; 5];
 
 /// Keeps the trail of a server before two refusals, and behind each. `None`: a call has no results.
@@ -54,7 +54,7 @@ fn keep_all(
     Ok(None)
 }
 
-/// What a keeper says, and the disk then.
+/// The answers of a keeper, and its disk then.
 type Told = (Option<Said>, Disk);
 
 fn tell(alloc: Global, server: &mut Server, disk: Disk, call: &[u8]) -> Result<Told, AllocError> {
@@ -63,7 +63,7 @@ fn tell(alloc: Global, server: &mut Server, disk: Disk, call: &[u8]) -> Result<T
     Ok((said, keeper.into_inner()))
 }
 
-/// The same of a new server.
+/// The answers of a keeper of a new server's trail.
 fn tell_new(
     alloc: Global,
     hasher: RandomState,
@@ -74,7 +74,7 @@ fn tell_new(
     tell(alloc, &mut server, disk, call)
 }
 
-/// The same where the call is a CREATE of a directory in the root.
+/// The answers of a keeper over a disk, where the call is a CREATE of a directory in the root.
 fn told_of(alloc: Global, hasher: RandomState, room: usize, piece: usize) -> Result<Told, Fail> {
     let call = call_of(alloc, "PUTROOTFH CREATE 2 'x 0 0")?;
     Ok(tell_new(alloc, hasher, Disk::new(room, piece), &call)?)
