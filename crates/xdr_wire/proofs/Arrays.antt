@@ -1,4 +1,4 @@
--- How many items an array has.
+-- The number of items of an array.
 use Rattle.std.proofs.Common.{◌≡◌, ℕ, true, is_ok, List, length, Ok, Err, refl, ap, ◌∙◌}
 use Rattle.std.proofs.lemmas.List.{length-map}
 use Rattle.xdr_wire.specs.Xdr.{Xdr, Value, Spells}

@@ -88,7 +88,7 @@ abbrev mutual
       if d == n then (read_at t bytes >>= λ x. Ok (inl x.0, x.1)) else (read_arm others d bytes >>= λ x. Ok (inr x.0, x.1))
   read_arm (otherwise t) d bytes = read_at t bytes >>= λ x. Ok ((d, x.0), x.1)
 
--- What a call gave is what reading gives, and where it gave a fault the bytes are left as they were.
+-- A call gives the value that reading gives, or its fault; then the bytes are left as they were.
 abbrev pub Gives : {X V : Type 0} → (X → V) → List ℕ → List ℕ → Result X XdrFault → Read V → Type 0
 Gives view old new (Ok x) read = read ≡ Ok (view x, new)
 Gives view old new (Err e) read = (read ≡ Err e) × (new ≡ old)

@@ -1,4 +1,4 @@
--- What it is that a Rust value spells.
+-- The value that a Rust value spells.
 use Rattle.std.specs.Prelude.{◌≡◌, ◌∷◌, [], List, ℕ, Ok, Err, Option, Some, None, option_map, map}
 use Rattle.xdr_wire.specs.Xdr.{Xdr, Value, chain}
 use Rattle.xdr_wire.specs.Reading.{◌>>=◌, Read, read_at, items_at}
@@ -49,7 +49,7 @@ array_values t normal n bytes = normalized (each normal) (values_of (items_at (r
 abbrev pub chain_values : (t : Xdr) → Normal (Value t) → List ℕ → List (Value t)
 chain_values t normal bytes = normalized (each normal) (values_of (read_at (chain t) bytes))
 
--- What was taken from the front of a list, and what is left. There is nothing only where the list was empty.
+-- The value taken from the front of a list, and the values that are left. There is none only where the list was empty.
 abbrev pub TakesFirst : {X V : Type 0} → (X → V) → Option X → List V → List V → Type 0
 TakesFirst view (Some x) old new = old ≡ view x ∷ new
 TakesFirst view None old new = (old ≡ []) × (new ≡ [])

@@ -47,7 +47,7 @@ impl<'a, T: Wire<'a>> Wire<'a> for AtMostOne<T> {
 /// An array of at most `MAX` items (section 4.13) where it stands in the bytes: each item is read as it is taken.
 #[derive(Drop)]
 pub struct Array<'a, T: Wire<'a>, const MAX: u32> {
-    /// How many items are left.
+    /// The number of items that are left.
     pub count: u32,
     /// Their spellings, one behind the other, and maybe more bytes.
     pub bytes: &'a [u8],
@@ -57,7 +57,7 @@ pub struct Array<'a, T: Wire<'a>, const MAX: u32> {
 }
 
 impl<'a, T: Wire<'a>, const MAX: u32> Array<'a, T, MAX> {
-    /// How many items are left.
+    /// The number of items that are left.
     pub fn len(&self) -> usize
         ensures { result ≡ length (array_values T.form T.normal self.now.count self.now.bytes.now) }
     {

@@ -1,6 +1,6 @@
 use thiserror::Error;
 
-/// Why bytes spell no value of a type: the first fault from the left (RFC 4506).
+/// The fault of bytes that spell no value of a type: the first from the left (RFC 4506).
 #[derive(Clone, Copy, Debug, PartialEq, Eq, Error)]
 pub enum XdrFault {
     /// The bytes end inside an item, or inside the padding behind it.

@@ -12,7 +12,7 @@ pub fn fault_is_no_spelling()
     ensures { (t : Xdr) (bytes : List ℕ) → (IsErr (read_at t bytes)) ↔ ((v : Value t) (rest : List ℕ) → ¬ Begins t v bytes rest) }
 {}
 
-/// What is written spells the value.
+/// The bytes written spell the value.
 pub fn writing_is_spelling()
     ensures { (t : Xdr) (v : Value t) → HasSpelling t v → Spells t v (spelling t v) }
 {}
@@ -27,7 +27,7 @@ pub fn a_value_has_one_spelling()
     ensures { (t : Xdr) (v : Value t) (bytes : List ℕ) → AreBytes bytes → Spells t v bytes → bytes ≡ spelling t v }
 {}
 
-/// What is written is read again, whatever stands behind it.
+/// The bytes written are read again as the value, whatever stands behind them.
 pub fn what_is_written_is_read()
     ensures { (t : Xdr) (v : Value t) (rest : List ℕ) → HasSpelling t v → read_at t (spelling t v ++ rest) ≡ Ok (v, rest) }
 {}

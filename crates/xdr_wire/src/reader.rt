@@ -21,7 +21,7 @@ impl<'a> Model for Reader<'a> {
     ghost view = { λ r. r.rest.now };
 }
 
-/// How many zero bytes stand behind an item of this many bytes (RFC 4506, section 3).
+/// The number of zero bytes behind an item of this many bytes (RFC 4506, section 3).
 pub(crate) fn padding_of(len: usize) -> usize
     ensures { result ≡ padding len }
 {
@@ -78,7 +78,7 @@ impl<'a> Reader<'a> {
         self.rest
     }
 
-    /// How many bytes are left.
+    /// The number of bytes that are left.
     pub fn len(&self) -> usize
         ensures { result ≡ length self.now }
     {

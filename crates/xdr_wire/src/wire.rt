@@ -23,7 +23,7 @@ pub trait Spell: Sized + Drop {
     ghost normal: { Normal (Value form) };
 
     /// Writes the spelling of the value, or nothing: `Full` exactly where the room is less than the spelling takes.
-    /// What is written spells the value, and is in normal form, so that it is read again.
+    /// The bytes written spell the value, which is in normal form, so that it is read again.
     fn write<A: Allocator>(self, writer: &mut Writer<A>) -> Result<(), Full>
         ensures has_spelling { OnOk result (HasSpelling form (view self)) }
         ensures in_normal_form { OnOk result (normalized normal (view self) ≡ view self) }
