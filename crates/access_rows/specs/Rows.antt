@@ -5,6 +5,8 @@ use Rattle.std.specs.Option.{option_map_or}
 use Rattle.acl_list.specs.declared.entry.Kind.{Kind}
 use Rattle.acl_list.specs.declared.entry.Kind.TheVariants.{File, Directory, Link as LinkKind}
 use Rattle.acl_list.specs.declared.mask.TheConstants.{READ_DATA, LIST_DIRECTORY, WRITE_DATA, ADD_FILE, APPEND_DATA, ADD_SUBDIRECTORY, EXECUTE, READ_ATTRIBUTES, READ_ACL, WRITE_ACL, WRITE_OWNER}
+use Rattle.nfs_types.specs.Attributes.{supported_words}
+use Rattle.nfs_types.specs.Common.{without}
 use Rattle.nfs_types.specs.Sets.{has_number}
 use Rattle.nfs_ops.specs.Operations.{Operation, Known}
 use Rattle.nfs_ops.specs.Parts as parts
@@ -80,6 +82,15 @@ list_giving = 12 ∷ 58 ∷ 59 ∷ []
 -- all other attributes can be read by everyone
 abbrev pub reading_mask : List ℕ → ℕ
 reading_mask set = bit_or (if has_any set governed then READ_ATTRIBUTES else 0) (if has_any set list_giving then READ_ACL else 0)
+
+-- the words of a set, without these attributes where the bit that governs them isn't granted
+abbrev pub kept_where : Bool → List ℕ → List ℕ → List ℕ
+kept_where true numbers words = words
+kept_where false numbers words = without words numbers
+
+-- the supported attributes that are returned of an object where READ_ATTRIBUTES and READ_ACL are granted, each or not
+abbrev pub granted_words : (attributes list : Bool) → List ℕ
+granted_words attributes list = kept_where list list_giving (kept_where attributes governed supported_words)
 
 -- the attributes set by WRITE_ACL: acl, mode, dacl, sacl
 abbrev pub list_setting : List ℕ

@@ -9,4 +9,4 @@ mod rows;
 pub use demand::Demand;
 pub use facts::{First, Object, Second};
 pub use rights::{Rights, rights_of};
-pub use rows::{entry_demands, first_demands, second_demands};
+pub use rows::{entry_demands, first_demands, granted_attributes, second_demands};

@@ -170,6 +170,21 @@ fn reading_mask(set: &Bitmap) -> u32
     attributes_mask(set) | list_mask(set)
 }
 
+/// The supported attributes that are returned of an object where READ_ATTRIBUTES and READ_ACL are granted, each or not: without
+/// a bit's grant none that it governs (RFC 8881, section 6.2.1.3.1).
+pub fn granted_attributes(attributes: bool, list: bool) -> Bitmap
+    ensures { bitmap_value result ≡ specs.granted_words attributes list }
+{
+    let mut set = Bitmap::supported();
+    if !attributes {
+        set = set.without(&GOVERNED);
+    }
+    if !list {
+        set = set.without(&LIST_GIVING);
+    }
+    set
+}
+
 /// Whether one of these attributes is in the set.
 fn has_any(set: &Bitmap, numbers: &[u32]) -> bool
     ensures { result ≡ specs.has_any (bitmap_value set.now) numbers.now }

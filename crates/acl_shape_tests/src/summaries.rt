@@ -34,7 +34,7 @@ fn sum(list: &AclList, person: Person) -> (u32, u32, u32) {
     (granted, watch_ok, watch_fail)
 }
 
-/// What the mixed list grants to callers, and what it watches where that is refused.
+/// The bits that the mixed list grants to callers, and those that it watches where they are refused.
 static SUMS: [(Person, u32, u32); 5] = [
     (Alice, 0x27, 0x8000_0002),
     (AliceInside, 0x27, 0x8000_0002),
@@ -43,7 +43,7 @@ static SUMS: [(Person, u32, u32); 5] = [
     (Dave, 0x23, 0x8000_0002),
 ];
 
-/// What the mixed list grants to classes.
+/// The bits that the mixed list grants to classes.
 static CLASSES: [(Who, u32); 4] = [
     (Owner, 0x27),
     (Group, 0x20),

@@ -27,7 +27,7 @@ macro_rules! case {
     };
 }
 
-/// Whom an entry is about.
+/// The who of an entry.
 static CASES_OF_WHOS: [Case; 17] = [
     case!(
         "owner, group, everyone",

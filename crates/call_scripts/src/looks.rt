@@ -6,7 +6,7 @@ use compound_run::Server;
 use sample_servers::{list_text, see_trail, trail_text, tree_text};
 use std::test::Fail;
 
-/// What an earlier look found.
+/// The find of an earlier look.
 #[derive(Drop)]
 pub struct Kept {
     picture: Vec<u8>,

@@ -9,7 +9,7 @@ use compound_run::Server;
 use sample_servers::Turn;
 use std::test::Fail;
 
-/// What answers the calls of a scene.
+/// The server or the hub that answers the calls of a scene.
 pub trait House {
     /// Makes a call, and sees its answer now or when it settles.
     fn call(&mut self, text: Text<'_>, way: Way, row: Row<'_>) -> Result<(), Fail>;

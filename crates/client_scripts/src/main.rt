@@ -18,51 +18,33 @@ mod scripts;
 mod talks;
 
 use crate::scenes::play_scenes;
-use call_texts::joined;
+use call_texts::{Player, play_files};
 use std::alloc::Global;
+use std::env;
 use std::hash::RandomState;
-use std::rt::Files;
 use std::test::Fail;
-use std::{env, fs};
 
-/// Plays a text.
-fn play_text<R: Print>(
-    rt: &R,
-    alloc: Global,
+/// Plays the scenes of texts, each over a client or a hub of its own.
+struct Scenes {
     hasher: RandomState,
-    file: &str,
-    text: &str,
-) -> Result<(), Fail> {
-    let lines: Vec<&str> = text.lines().collect(alloc)?;
-    play_scenes(rt, alloc, hasher, file, &lines)
 }
 
-/// Plays a file.
-fn play_file<R: Files + Alloc + Print>(
-    rt: &R,
-    alloc: Global,
-    hasher: RandomState,
-    file: &str,
-) -> Result<(), Fail> {
-    let text = joined(alloc, fs::read_to_string(rt, file)?.as_str())?;
-    play_text(rt, alloc, hasher, file, text.as_str())
-}
-
-fn play_files<R: Files + Alloc + Print>(
-    rt: &R,
-    alloc: Global,
-    hasher: RandomState,
-    files: &[String],
-) -> Result<(), Fail> {
-    for file in files {
-        play_file(rt, alloc, hasher, file.as_str())?;
+impl Player for Scenes {
+    fn play<R: Print>(
+        &self,
+        rt: &R,
+        alloc: Global,
+        file: &str,
+        lines: &[&str],
+    ) -> Result<(), Fail> {
+        play_scenes(rt, alloc, self.hasher, file, lines)
     }
-    Ok(())
 }
 
 fn main(rt: HostRuntime) -> Result<(), Fail> {
     let alloc = rt.alloc();
     let words: Vec<String> = env::args(&rt)?.collect(alloc)?;
     let files = words.get(1..).unwrap_or(&[]);
-    play_files(&rt, alloc, RandomState::new(&rt)?, files)
+    let hasher = RandomState::new(&rt)?;
+    play_files(&rt, alloc, &Scenes { hasher }, files)
 }

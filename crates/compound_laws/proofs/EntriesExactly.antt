@@ -26,7 +26,7 @@ use Rattle.nfs_ops.proofs.Listings.{refused_listing, listing_is}
 use Rattle.node_tree.specs.World.{World, Name, kind_of, names_in}
 use Rattle.node_tree.specs.Sound.{IsIn, IsSound}
 use Rattle.node_tree.proofs.Names.{from_filter}
-use Rattle.access_rows.specs.Rows.{bits, has_any, governed, list_giving, entry_demands, first_demands}
+use Rattle.access_rows.specs.Rows.{bits, has_any, governed, list_giving, entry_demands, first_demands, granted_words}
 use Rattle.access_rows.specs.declared.demand.Demand.{Demand}
 use Rattle.access_rows.specs.declared.demand.Demand.TheVariants.{Bits}
 use Rattle.access_guard.specs.Lists.{Lists}
@@ -38,7 +38,7 @@ use Rattle.compound_run.specs.Questions.{Holds, Valid, Row, failure, all_granted
 use Rattle.compound_run.specs.Rows.{object_of, first_facts, first_row}
 use Rattle.compound_run.specs.Meaning.{here}
 use Rattle.compound_run.specs.Operations.{meaning}
-use Rattle.compound_run.specs.Readdir.{allows, first_refused, granted_words, permitted, judgment, entry_of, entry_by, judged_entry, judged_above, names_above, listed, refused_in, given_in, refuses_none, fits_some}
+use Rattle.compound_run.specs.Readdir.{allows, first_refused, permitted, judgment, entry_of, entry_by, judged_entry, judged_above, names_above, listed, refused_in, given_in, refuses_none, fits_some}
 use Rattle.compound_run.specs.Runs.{outcome}
 use Rattle.compound_run.specs.Exact.{ArePassed, FailsFirst}
 use Rattle.compound_laws.specs.EntriesExact.{IsExact, AreExact, GivesExactly, before_row, IsUnlisted, MeetsRefused}

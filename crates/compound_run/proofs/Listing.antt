@@ -28,7 +28,7 @@ use Rattle.nfs_ops.specs.declared.listing.ListFault.TheVariants.{Refused, TooSma
 use Rattle.node_tree.specs.Judged as world
 use Rattle.node_tree.specs.World.{World, Name, name_after}
 use Rattle.node_tree.specs.Sound.{Rises, IsIn, IsSound}
-use Rattle.access_rows.specs.Rows.{bits, has_any, governed, list_giving, entry_demands, Demands}
+use Rattle.access_rows.specs.Rows.{bits, has_any, governed, list_giving, entry_demands, granted_words, Demands}
 use Rattle.access_rows.specs.declared.demand.Demand.{Demand}
 use Rattle.access_rows.specs.declared.demand.Demand.TheVariants.{Bits}
 use Rattle.access_rows.specs.declared.facts.Object.{Object}
@@ -37,7 +37,7 @@ use Rattle.access_guard.specs.Decisions.{decision, is_granted, answer}
 use Rattle.compound_run.specs.Context.{Context}
 use Rattle.compound_run.specs.Sight.{Sight}
 use Rattle.compound_run.specs.Rows.{object_of}
-use Rattle.compound_run.specs.Readdir.{allows, first_refused, permitted, granted_words, judgment, judgment_of, entry_of, entry_by, judged_entry, names_above, judged_above, listed, listing_of, refused_in, fits_some}
+use Rattle.compound_run.specs.Readdir.{allows, first_refused, permitted, judgment, judgment_of, entry_of, entry_by, judged_entry, names_above, judged_above, listed, listing_of, refused_in, fits_some}
 use Rattle.compound_run.specs.declared.context.Context as code
 use Rattle.compound_run.specs.declared.export.Export.{Export}
 use Rattle.compound_run.specs.declared.filehandles.FileHandles.{FileHandles}

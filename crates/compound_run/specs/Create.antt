@@ -9,7 +9,7 @@ use Rattle.acl_list.specs.declared.entry.Kind.TheVariants as kinds
 use Rattle.acl_shape.specs.Permissions.{created_high}
 use Rattle.nfs_types.specs.declared.status.Status.{Status}
 use Rattle.nfs_types.specs.declared.status.Status.TheVariants as statuses
-use Rattle.nfs_types.specs.Sent.{Wanted, wanted_of}
+use Rattle.nfs_types.specs.Sent.{Wanted, nothing, wanted_of}
 use Rattle.nfs_ops.specs.Forms.{create_args}
 use Rattle.nfs_ops.specs.Operations.{Known}
 use Rattle.nfs_ops.specs.Parts as parts
@@ -78,10 +78,6 @@ sent c v = wanted_of c.book (draft v).kind (set_of (created_attributes v)) (valu
 
 pub sent_may : (c : Context) (v : Value create_args) → MayFault (fault_in (sent c v))
 sent_may c v = fault_in_may (sent c v) (wanted_may c.book (draft v).kind (set_of (created_attributes v)) (values_of (created_attributes v)))
-
--- no attribute
-abbrev pub nothing : Wanted
-nothing = record { size = None; list = None; mode = None; owner = None; group = None; dacl = None; sacl = None }
 
 abbrev pub wanted_in : Result Wanted Status → Wanted
 wanted_in (Ok wanted) = wanted

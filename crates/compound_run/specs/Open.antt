@@ -13,7 +13,7 @@ use Rattle.nfs_types.specs.Name.{name_fault}
 use Rattle.nfs_types.specs.StateIds.{open_stateid}
 use Rattle.nfs_types.specs.declared.status.Status.{Status}
 use Rattle.nfs_types.specs.declared.status.Status.TheVariants as statuses
-use Rattle.nfs_types.specs.Sent.{Wanted, wanted_of}
+use Rattle.nfs_types.specs.Sent.{Wanted, nothing, wanted_of}
 use Rattle.nfs_ops.specs.Forms.{change_info, open_args, open_result}
 use Rattle.nfs_ops.specs.Operations.{Known}
 use Rattle.nfs_ops.specs.Parts.{How, NoCreate, Unchecked, Guarded, Claim, ByName, ByHandle, open_access, open_deny, open_owner, how_of, claim_of, set_of, values_of}
@@ -33,7 +33,7 @@ use Rattle.compound_run.specs.Faults.{MayFault, IsValueOrFault, fault_in, fault_
 use Rattle.compound_run.specs.ArgumentFaults.{name_may, wanted_may}
 use Rattle.compound_run.specs.Questions.{Question, Holds, Valid, is_valid}
 use Rattle.compound_run.specs.Stateids.{client_of}
-use Rattle.compound_run.specs.Create.{Draft, nothing, wanted_in, is_own, can_make, created, list_at}
+use Rattle.compound_run.specs.Create.{Draft, wanted_in, is_own, can_make, created, list_at}
 use Rattle.compound_run.specs.Setattr.{size_fits}
 use Rattle.compound_run.specs.Rows.{first_row, opening_row}
 use Rattle.compound_run.specs.Meaning.{Meaning, at, changed, unchanged, with_handle, here}

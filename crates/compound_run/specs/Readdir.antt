@@ -18,7 +18,7 @@ use Rattle.nfs_ops.specs.declared.listing.ListFault.TheVariants.{Refused, TooSma
 use Rattle.nfs_ops.specs.declared.op_kind.OpKind.TheVariants as kinds
 use Rattle.nfs_ops.specs.Rows.{row}
 use Rattle.node_tree.specs.World.{Name}
-use Rattle.access_rows.specs.Rows.{Demands, entry_demands}
+use Rattle.access_rows.specs.Rows.{Demands, entry_demands, granted_words}
 use Rattle.access_rows.specs.declared.facts.Object.{Object}
 use Rattle.access_rows.specs.declared.demand.Demand.{Demand}
 use Rattle.access_rows.specs.declared.demand.Demand.TheVariants.{Bits}
@@ -43,14 +43,6 @@ abbrev pub first_refused : Lists → Identity → Demands → Option Demand
 first_refused lists caller [] = None
 first_refused lists caller (None ∷ demands) = first_refused lists caller demands
 first_refused lists caller (Some d ∷ demands) = if is_granted (decision lists caller d) then first_refused lists caller demands else Some d
-
--- The supported attributes that are returned of an object: all where READ_ATTRIBUTES and READ_ACL are granted, else without those that
--- READ_ATTRIBUTES governs (3, 4, 33, 35, 36, 37, 52 and 53), or without acl, dacl and sacl (12, 58 and 59), or without all of these.
-abbrev pub granted_words : (attributes list : Bool) → List ℕ
-granted_words true true = 0xe818_3fff ∷ 0x0cb0_003a ∷ 0x0000_0800 ∷ []
-granted_words true false = 0xe818_2fff ∷ 0x00b0_003a ∷ 0x0000_0800 ∷ []
-granted_words false true = 0xe818_3fe7 ∷ 0x0c80_0000 ∷ 0x0000_0800 ∷ []
-granted_words false false = 0xe818_2fe7 ∷ 0x0080_0000 ∷ 0x0000_0800 ∷ []
 
 -- the attributes requested that the object's list permits
 abbrev pub permitted : Lists → Identity → ℕ → List ℕ → List ℕ

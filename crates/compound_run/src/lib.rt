@@ -46,7 +46,6 @@ mod sequence;
 mod server;
 mod sessions;
 mod setattr;
-mod sets;
 mod stateids;
 mod values;
 mod verify;

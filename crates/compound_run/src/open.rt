@@ -28,7 +28,6 @@ use crate::filehandles::FileHandles;
 use crate::opens::Place;
 use crate::results::put_result;
 use crate::setattr::size_fits;
-use crate::sets::size_alone;
 use nfs_ops::{ChangeInfo, Op, OpResult, OpenArgs, OpenClaim, OpenHow, OpenResult};
 use nfs_types::{Attrs, Bitmap, Status};
 use node_tree::{Kind, NewObject};
@@ -124,7 +123,7 @@ fn truncated_set(truncates: bool) -> Bitmap
     ensures { bitmap_value result ≡ (if truncates then 16 ∷ [] else []) }
 {
     if truncates {
-        size_alone()
+        Bitmap::size()
     } else {
         Bitmap::empty()
     }
@@ -137,15 +136,7 @@ impl<A: Allocator + Copy> Export<A> {
         ensures bounded { IfOk result (λ wanted. IfSome wanted.list IsBounded) }
     {
         match how {
-            OpenHow::NoCreate => Ok(Attrs {
-                size: None,
-                list: None,
-                mode: None,
-                owner: None,
-                group: None,
-                dacl: None,
-                sacl: None,
-            }),
+            OpenHow::NoCreate => Ok(Attrs::none()),
             OpenHow::Unchecked(attributes) | OpenHow::Guarded(attributes) => {
                 self.wanted(Kind::File, attributes)
             }

@@ -19,9 +19,8 @@ ghost use Rattle.who_book.specs.Members.{member};
 use crate::context::Context;
 use crate::export::Export;
 use crate::filehandles::FileHandles;
-use crate::sets::spelled_set;
 use access_guard::Demand;
-use access_rows::{Object, entry_demands};
+use access_rows::{Object, entry_demands, granted_attributes};
 use acl_list::mask;
 use nfs_ops::{
     Bytes, Entries, GivenEntry, ListFault, Next, OP_READDIR, Op, ReadDirArgs, write_entry,
@@ -36,27 +35,6 @@ use xdr_wire::{Full, Writer};
 
 /// The number of the attribute rdattr_error.
 const RDATTR_ERROR: u32 = 11;
-
-/// The supported attributes without acl, dacl and sacl, as a bitmap is spelled.
-const WITHOUT_LIST: &[u8] = b"\0\0\0\x03\xe8\x18\x2f\xff\0\xb0\0\x3a\0\0\x08\0";
-
-/// The attributes that READ_ATTRIBUTES doesn't govern.
-const UNGOVERNED: &[u8] = b"\0\0\0\x03\xe8\x18\x3f\xe7\x0c\x80\0\0\0\0\x08\0";
-
-/// These attributes without acl, dacl and sacl.
-const UNGOVERNED_WITHOUT_LIST: &[u8] = b"\0\0\0\x03\xe8\x18\x2f\xe7\0\x80\0\0\0\0\x08\0";
-
-/// The supported attributes that are returned of an object where READ_ATTRIBUTES and READ_ACL are granted, each or not.
-fn granted_set(attributes: bool, list: bool) -> Bitmap
-    ensures { bitmap_value result ≡ specs.granted_words attributes list }
-{
-    match (attributes, list) {
-        (true, true) => Bitmap::supported(),
-        (true, false) => spelled_set(WITHOUT_LIST),
-        (false, true) => spelled_set(UNGOVERNED),
-        (false, false) => spelled_set(UNGOVERNED_WITHOUT_LIST),
-    }
-}
 
 /// Whether all bits of the mask are granted.
 fn has_all(granted: u32, mask: u32) -> bool
@@ -139,7 +117,8 @@ impl<A: Allocator + Copy> Export<A> {
         if !asked.has(RDATTR_ERROR) {
             return Err(demand);
         }
-        Ok((Status::Access, asked.common(&granted_set(attributes, list))))
+        let given = asked.common(&granted_attributes(attributes, list));
+        Ok((Status::Access, given))
     }
 
     /// Writes the next entry of a directory above a cookie behind its link, with these attributes of its object and this status as

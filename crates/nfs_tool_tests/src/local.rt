@@ -45,7 +45,7 @@ fn call_in_pieces(hub: &mut Hub, conn: ConnId, buf: &mut [u8]) -> [Moved; 5] {
     ]
 }
 
-/// What comes of a call in two pieces, and of the reads behind it; and the bytes of its reads.
+/// The outcome of a call in two pieces, and of the reads behind it; and the bytes of its reads.
 #[derive(Clone, Copy)]
 struct Pieces {
     told: [Moved; 5],
@@ -187,7 +187,7 @@ fn put_at(alloc: Global, stream: Local<'_>) -> Result<(), ToolFault> {
     }
 }
 
-/// What comes of putting a file at second 77, and the second of its last change.
+/// The outcome of putting a file at second 77, and the second of its last change.
 type Put = (Result<(), ToolFault>, Option<i64>);
 
 fn put_on_new(alloc: Global, hub: &mut Hub) -> Result<Put, HubFault> {

@@ -62,7 +62,7 @@ struct Seen {
     done: u32,
 }
 
-/// What is seen with one answer more, if it may come behind these.
+/// The answers seen with one more, if it may come behind these.
 fn seen_with(seen: Seen, told: Told) -> Option<Seen> {
     match told {
         (Err(ToolFault::Memory), Err(ToolFault::Path)) if seen.done == 0 => Some(Seen {

@@ -2,6 +2,7 @@ pub mod Utf8
 pub mod Trim
 pub mod Refusing
 pub mod Shared
+pub mod Cleared
 pub mod Showing
 pub mod Tables
 pub mod Within

@@ -66,6 +66,10 @@ pub record Wanted : Type 0 where
   pub dacl : Option (List Entry)
   pub sacl : Option (List Entry)
 
+-- no value is set
+abbrev pub nothing : Wanted
+nothing = record { size = None; list = None; mode = None; owner = None; group = None; dacl = None; sacl = None }
+
 abbrev pub made : Option ℕ → Option (List Entry) → Option ℕ → Option ℕ → Option ℕ → Option (List Entry) → Option (List Entry) → Wanted
 made size list mode owner group dacl sacl =
     record { size = size; list = list; mode = mode; owner = owner; group = group; dacl = dacl; sacl = sacl }
@@ -109,9 +113,18 @@ abbrev pub taken_name : Content → NameKind → Option (List ℕ) → Result (O
 taken_name book kind None = Ok None
 taken_name book kind (Some name) = known (principal_in kind book name)
 
--- the values behind the list
+-- the values behind the list: the mode, the owner and the group
 abbrev pub Plain : Type 0
 Plain = Option ℕ × (Option ℕ × Option ℕ)
+
+abbrev pub mode_of : Plain → Option ℕ
+mode_of plain = plain.0
+
+abbrev pub owner_of : Plain → Option ℕ
+owner_of plain = plain.1.0
+
+abbrev pub group_of : Plain → Option ℕ
+group_of plain = plain.1.1
 
 abbrev pub taken_plain : Content → Option ℕ → Option (List ℕ) → Option (List ℕ) → Result Plain Status
 taken_plain book mode owner group =
@@ -138,7 +151,7 @@ taken_each book kind sent =
     taken_list book kind sent.entries >> λ list.
     taken_plain book sent.mode sent.owner sent.group >> λ plain.
     taken_parts book kind sent.dacl sent.sacl >> λ parts.
-    Ok (made sent.size list plain.0 plain.1.0 plain.1.1 parts.0 parts.1)
+    Ok (made sent.size list (mode_of plain) (owner_of plain) (group_of plain) parts.0 parts.1)
 
 -- whether a list is set, and beside it a part of a list
 abbrev pub is_set_twice : Sent → Bool

@@ -48,6 +48,23 @@ pub struct Attrs<A: Allocator = Global> {
     pub sacl: Option<AclList<A>>,
 }
 
+impl<A: Allocator> Attrs<A> {
+    /// No value is set.
+    pub fn none() -> Self
+        ensures { result ≡ record { size = None; list = None; mode = None; owner = None; group = None; dacl = None; sacl = None } }
+    {
+        Attrs {
+            size: None,
+            list: None,
+            mode: None,
+            owner: None,
+            group: None,
+            dacl: None,
+            sacl: None,
+        }
+    }
+}
+
 /// The fault for which attributes aren't set.
 #[derive(Clone, Copy, Debug, PartialEq, Eq, Error)]
 pub enum AttrsFault {

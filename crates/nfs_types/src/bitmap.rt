@@ -26,7 +26,7 @@ fn trimmed(words: &[u32]) -> &[u32]
 impl Bitmap {
     ghost use Rattle.std.specs.Prelude.{not};
     ghost use Rattle.nfs_types.specs.Attributes as specs;
-    ghost use Rattle.nfs_types.specs.Common.{common};
+    ghost use Rattle.nfs_types.specs.Common.{common, without};
     ghost use Rattle.nfs_types.specs.Seen.{seen_words};
     ghost use Rattle.nfs_types.specs.Sets.{has_number};
     ghost use Rattle.nfs_types.specs.Views.{bitmap_value};
@@ -79,6 +79,20 @@ impl Bitmap {
         Bitmap { words }
     }
 
+    /// The set without these numbers.
+    pub fn without(self, numbers: &[u32]) -> Self
+        ensures { bitmap_value result ≡ forms.trimmed (without (bitmap_value self) numbers.now) }
+    {
+        let mut words = self.words;
+        for number in numbers {
+            let index = (*number / 32) as usize;
+            if index < 8 {
+                words[index] &= !(1 << (*number % 32));
+            }
+        }
+        Bitmap { words }
+    }
+
     /// The attributes that are supported.
     pub fn supported() -> Self
         ensures { bitmap_value result ≡ specs.supported_words }
@@ -103,6 +117,15 @@ impl Bitmap {
     {
         Bitmap {
             words: [0x0000_1812, 0x0c00_0032, 0, 0, 0, 0, 0, 0],
+        }
+    }
+
+    /// The attribute size alone.
+    pub fn size() -> Self
+        ensures { bitmap_value result ≡ 16 ∷ [] }
+    {
+        Bitmap {
+            words: [0x0000_0010, 0, 0, 0, 0, 0, 0, 0],
         }
     }
 

@@ -186,6 +186,19 @@ fn bitmaps(rt: HostRuntime) {
     }
 }
 
+/// Numbers that a set doesn't have, and such as no set can have, are taken away in vain.
+#[test]
+fn sets_without_numbers(rt: HostRuntime) {
+    let set = Bitmap::settable().without(&[12, 58, 3, 300]);
+    for number in [4, 33, 36, 37, 59] {
+        assert!(rt; has(&set, number), "{number}");
+    }
+    for number in [3, 12, 58] {
+        assert!(rt; !has(&set, number), "{number}");
+    }
+    assert!(rt; Bitmap::size() == given::only(4));
+}
+
 /// A moment before the epoch.
 #[test]
 fn moments(rt: HostRuntime) {

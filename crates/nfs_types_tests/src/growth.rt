@@ -15,8 +15,8 @@ fn lengths(heap: &LocalHeap, book: &Book, bytes: &[u8]) -> Result<[Option<usize>
     }
 }
 
-/// What sent attributes come to over a heap of this size: the lengths of their lists, or the fault; and whether anything
-/// is left behind in the heap.
+/// The outcome of sent attributes over a heap of this size: the lengths of their lists, or the fault; and whether anything is
+/// left behind in the heap.
 fn lengths_at(
     alloc: Global,
     book: &Book,

@@ -48,7 +48,7 @@ fn numbers_of(attrs: &Attrs) -> [Option<u64>; 4] {
     ]
 }
 
-/// What sent attributes set on an object: the numbers, and the lengths of the list, the dacl and the sacl.
+/// The values that sent attributes set on an object: the numbers, and the lengths of the list, the dacl and the sacl.
 type Set = ([Option<u64>; 4], [Option<usize>; 3]);
 
 fn set_of(attrs: &Attrs) -> Set {
@@ -63,7 +63,7 @@ fn set_by(alloc: Global, kind: Kind, bytes: &[u8]) -> Result<Set, AttrsFault> {
     }
 }
 
-/// What attributes of these words set, or the fault.
+/// The values that attributes of these words set, or the fault.
 fn set(alloc: Global, kind: Kind, words: &[u32]) -> Result<Set, AttrsFault> {
     match given::bytes(alloc, words) {
         Ok(bytes) => set_by(alloc, kind, &bytes),

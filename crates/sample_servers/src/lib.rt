@@ -8,8 +8,8 @@ mod turns;
 
 pub use pictures::{list_text, trail_text, tree_text};
 pub use servers::{
-    book_of, reload, run, run_in_session, run_record, run_record_in_session, sample_server,
-    see_bytes, see_trail, server_of,
+    book_of, reload, run, run_record, run_record_in_session, sample_server, see_bytes, see_trail,
+    server_of,
 };
 pub use trees::{ALL, add, fill, link, link_often, one_file, root_of, set_list};
 pub use turns::{Turn, see_turn};

@@ -105,7 +105,7 @@ pub fn run(
 }
 
 /// The results of these arguments where sessions are in use, or `None` where they are garbage.
-pub fn run_in_session(
+pub(crate) fn run_in_session(
     alloc: Global,
     server: &mut Server,
     who: Caller,

@@ -24,5 +24,5 @@ returns-clause-judged g c =
     let demands = c.entry_demands-demands.ensures.value in
     let first = c.first_refused.ensures in
     judged_permitted (judged_of c.args.self.now.tree.world) (member c.args.self.now.tree.book c.args.caller.now) c.args.child (bitmap_value c.args.asked.now) c.has_all-attributes.result c.has_all-list.result c.entry_demands-demands.result c.first_refused.result c.in-Some.demand
-    (bitmap_value c.common.result)
+    (bitmap_value c.common-given.result)
     (search rules) (search rules) demands first (search rules) (search rules) (search rules)
