@@ -16,34 +16,10 @@ mod stages;
 mod trees;
 mod views;
 
-use crate::scenes::play_scenes;
-use call_texts::{Player, play_files};
-use std::alloc::Global;
-use std::env;
-use std::hash::RandomState;
+use crate::scenes::Scenes;
+use call_texts::play_words;
 use std::test::Fail;
 
-/// Plays the scenes of texts, each over a server or a hub of its own.
-struct Scenes {
-    hasher: RandomState,
-}
-
-impl Player for Scenes {
-    fn play<R: Print>(
-        &self,
-        rt: &R,
-        alloc: Global,
-        file: &str,
-        lines: &[&str],
-    ) -> Result<(), Fail> {
-        play_scenes(rt, alloc, self.hasher, file, lines)
-    }
-}
-
 fn main(rt: HostRuntime) -> Result<(), Fail> {
-    let alloc = rt.alloc();
-    let words: Vec<String> = env::args(&rt)?.collect(alloc)?;
-    let files = words.get(1..).unwrap_or(&[]);
-    let hasher = RandomState::new(&rt)?;
-    play_files(&rt, alloc, &Scenes { hasher }, files)
+    play_words(&rt, rt.alloc(), &Scenes)
 }

@@ -6,7 +6,7 @@ mod lines;
 mod rows;
 mod words;
 
-pub use files::{Player, play_files};
+pub use files::{Player, play_words};
 pub use lines::{Text, behind, joined, line_of, lines_of, split_word, up_to};
 pub use rows::{ALICE, BOB, CAROL, Caller, ROOT, Row, calls_of, put_call_record, reply_of};
 pub use words::{answer_of, bytes_of, call_of, spell};

@@ -1,11 +1,10 @@
-//! Scenes: the lines from one that begins with `scene` to the next.
+//! Scenes, each over a client or a hub.
 
 use crate::clients::play_client;
 use crate::fills::{Cells, Fills, NO_CELLS};
 use crate::lines::bars_of;
 use crate::scripts::play_script;
-use call_texts::{Text, behind, line_of, split_word, up_to};
-use std::alloc::Global;
+use call_texts::{Player, Text, line_of, split_word};
 use std::hash::RandomState;
 use std::test::Fail;
 
@@ -86,49 +85,30 @@ fn play_second(
     Ok(count)
 }
 
-/// Plays a scene for each row of its first table, and each of its second.
-fn play_scene(text: Text<'_>, hasher: RandomState, scene: &[&str]) -> Result<u32, Fail> {
-    let first = each_in(text, line_at(scene, 1))?;
-    let second = each_in(text, line_at(scene, 2))?;
-    let mut count = 0u32;
-    for row in first.rows {
-        let cells = Cells {
-            names: first.names,
-            values: row.strip_prefix('|').unwrap_or(""),
-        };
-        count = count.saturating_add(play_second(text, hasher, cells, second, scene)?);
-    }
-    Ok(count)
-}
+/// Scenes of a client's commands, or of scripts.
+pub struct Scenes;
 
-/// The word for what a scene's number counts.
-fn counted(scene: &[&str]) -> &'static str {
-    if line_at(scene, 0).starts_with("script") {
-        "lines"
-    } else {
-        "commands"
+impl Player for Scenes {
+    /// Plays a scene for each row of its first table, and each of its second.
+    fn play_scene(&self, text: Text<'_>, hasher: RandomState, scene: &[&str]) -> Result<u32, Fail> {
+        let first = each_in(text, line_at(scene, 1))?;
+        let second = each_in(text, line_at(scene, 2))?;
+        let mut count = 0u32;
+        for row in first.rows {
+            let cells = Cells {
+                names: first.names,
+                values: row.strip_prefix('|').unwrap_or(""),
+            };
+            count = count.saturating_add(play_second(text, hasher, cells, second, scene)?);
+        }
+        Ok(count)
     }
-}
 
-/// Plays the scenes of a file, and prints a line for each.
-pub fn play_scenes<R: Print>(
-    rt: &R,
-    alloc: Global,
-    hasher: RandomState,
-    file: &str,
-    lines: &[&str],
-) -> Result<(), Fail> {
-    let text = Text {
-        alloc,
-        lines: &*lines,
-    };
-    for (index, line) in lines.iter().enumerate() {
-        if let Some(title) = line.strip_prefix("scene ") {
-            let scene = up_to(behind(&*lines, index), "scene ");
-            let count = play_scene(text, hasher, scene)?;
-            let counted = counted(scene);
-            println!(rt; "{file}: {title}: {count} {counted}")?;
+    fn counted(&self, scene: &[&str]) -> &'static str {
+        if line_at(scene, 0).starts_with("script") {
+            "lines"
+        } else {
+            "commands"
         }
     }
-    Ok(())
 }
