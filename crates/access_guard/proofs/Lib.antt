@@ -3,3 +3,4 @@ pub mod Telling
 pub mod Remembering
 pub mod Calls
 pub mod Hits
+pub mod Hashing

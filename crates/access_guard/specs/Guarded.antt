@@ -12,7 +12,7 @@ pub record Guarded : Type 0 where
   -- the epoch of the book, counted from 1
   pub epoch : ℕ
   pub log : Log
-  -- how many summaries are remembered at most
+  -- the most summaries that are remembered
   pub capacity : ℕ
 
 -- a tree and its first book, beside a guard that has decided nothing yet

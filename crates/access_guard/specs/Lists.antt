@@ -47,7 +47,7 @@ sum_at lists caller object = option_map (λ j. sum_of j caller) (lists object)
 abbrev pub granted_at : Lists → Identity → ℕ → ℕ
 granted_at lists caller object = option_map_or (λ j. (sum_of j caller).granted) (lists object) 0
 
--- how many entries an object's list has
+-- the number of entries that an object's list has
 abbrev pub entries_of : Option Judged → ℕ
 entries_of o = option_map_or (λ j. length j.list) o 0
 

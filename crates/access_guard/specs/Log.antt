@@ -8,10 +8,10 @@ pub record Log : Type 0 where
   pub held : List Line
   -- the last lines of the operations before it, in order
   pub trail : List Line
-  -- how many lines there were in all, as far as 64 bits count
+  -- the number of lines there were in all, as far as 64 bits count
   pub total : ℕ
 
--- how many lines the trail keeps at most
+-- the most lines that the trail keeps
 abbrev pub MOST_KEPT : ℕ
 MOST_KEPT = 4096
 

@@ -17,11 +17,11 @@ use Rattle.access_guard.specs.Keys.{is_key}
 use Rattle.access_guard.specs.Lists.{Lists, sum_of, sum_at, entries_at, grants, is_quiet}
 
 pub record Memory : Type 0 where
-  -- how many summaries are remembered at most
+  -- the most summaries that are remembered
   pub capacity : ℕ
   -- the summaries by book, list and caller, the last one used first
   pub remembered : List (Key × Summary)
-  -- how many entries of lists were looked at, as far as 64 bits count
+  -- the number of entries of lists that were looked at, as far as 64 bits count
   pub examined : ℕ
 
 -- ---- agreement

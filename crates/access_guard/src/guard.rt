@@ -225,7 +225,7 @@ impl<A: Allocator + Copy> Guard<A> {
         self.memory.iter()
     }
 
-    /// How many entries of lists were looked at. It stays at 2^64 - 1. A list counts whole where a look-up doesn't find its
+    /// The number of entries of lists that were looked at. It stays at 2^64 - 1. A list counts whole where a look-up doesn't find its
     /// summary, and once more where a decision walks it.
     pub fn examined(&self) -> u64
         ensures { result ≡ self.now.memory.examined }
@@ -241,7 +241,7 @@ impl<A: Allocator + Copy> Guard<A> {
         self.trail.lines()
     }
 
-    /// How many lines the trail had in all. It stays at 2^64 - 1.
+    /// The number of lines that the trail had in all. It stays at 2^64 - 1.
     pub fn total(&self) -> u64
         ensures { result ≡ self.now.log.total }
     {

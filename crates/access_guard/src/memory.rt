@@ -61,25 +61,24 @@ impl Eq for Key {
     ghost laws = { Prim.search (comparing, rules) };
 }
 
+/// Of a key each number is hashed as a word of 64 bits, which a hasher takes faster than its bytes. The epoch isn't hashed: few
+/// keys differ in it alone.
 impl Hash for Key {
-    ghost use Rattle.std.specs.Prelude.{◌++◌};
     ghost use Rattle.std.specs.Cmp.Rules.{hashing};
-    ghost use Rattle.std.specs.Hash as fed;
     ghost use Rattle.std.proofs.Common.{rules};
+    ghost use Rattle.access_guard.specs.Keys.{hashed};
 
-    ghost hash_input = { λ k. fed.u64 k.epoch ++ fed.u64 k.stamp ++ fed.u32 k.caller.uid ++ fed.u32 k.caller.gid ++ fed.slice fed.u32 k.caller.groups };
+    ghost hash_input = { hashed };
 
     ghost respects_eq = { Prim.search (hashing, rules) };
 
     fn hash<H: Hasher>(&self, state: &mut H) {
-        let Key {
-            epoch,
-            stamp,
-            caller,
-        } = self;
-        epoch.hash(state);
-        stamp.hash(state);
-        caller.hash(state);
+        state.write_u64(self.stamp);
+        state.write_u64(self.caller.uid().into());
+        state.write_u64(self.caller.gid().into());
+        for group in self.caller.groups() {
+            state.write_u64((*group).into());
+        }
     }
 }
 
@@ -150,7 +149,7 @@ impl<A: Allocator + Copy> Summaries<A> {
         self.pairs.iter()
     }
 
-    /// How many entries were looked at. It stays at 2^64 - 1.
+    /// The number of entries that were looked at. It stays at 2^64 - 1.
     pub(crate) fn examined(&self) -> u64
         ensures { result ≡ self.now.examined }
     {

@@ -74,7 +74,7 @@ impl<A: Allocator + Copy> Trail<A> {
         self.kept.iter()
     }
 
-    /// How many lines there were in all. It stays at 2^64 - 1.
+    /// The number of lines there were in all. It stays at 2^64 - 1.
     pub(crate) fn total(&self) -> u64
         ensures { result ≡ self.now.total }
     {

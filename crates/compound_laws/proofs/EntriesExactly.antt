@@ -41,7 +41,7 @@ use Rattle.compound_run.specs.Operations.{meaning}
 use Rattle.compound_run.specs.Readdir.{allows, first_refused, permitted, judgment, entry_of, entry_by, judged_entry, judged_above, names_above, listed, refused_in, given_in, refuses_none, fits_some}
 use Rattle.compound_run.specs.Runs.{outcome}
 use Rattle.compound_run.specs.Exact.{ArePassed, FailsFirst}
-use Rattle.compound_laws.specs.EntriesExact.{IsExact, AreExact, GivesExactly, before_row, IsUnlisted, MeetsRefused}
+use Rattle.compound_laws.specs.EntriesExact.{ungoverned, IsExact, AreExact, GivesExactly, before_row, IsUnlisted, MeetsRefused}
 use Rattle.compound_run.proofs.Exactly.{refused_by_row, by_row}
 use Rattle.compound_run.proofs.Listing.{what_refuses}
 
@@ -92,6 +92,18 @@ list_words true false = (refl, (refl, (refl, tt)))
 list_words false true = (refl, (refl, (refl, tt)))
 list_words false false = (refl, (refl, (refl, tt)))
 
+others_are_supported : AllByRecursion IsSupported ungoverned
+unfolding has_number
+others_are_supported = (refl, (refl, (refl, (refl, (refl, (refl, (refl, (refl, (refl, (refl, (refl, (refl, (refl, (refl, (refl, (refl, (refl, (refl, (refl, tt)))))))))))))))))))
+
+-- the attributes that everyone can read among the permitted ones
+other_words : (a l : Bool) → AllByRecursion (λ n. has_number (granted_words a l) n ≡ true) ungoverned
+unfolding has_number
+other_words true true = (refl, (refl, (refl, (refl, (refl, (refl, (refl, (refl, (refl, (refl, (refl, (refl, (refl, (refl, (refl, (refl, (refl, (refl, (refl, tt)))))))))))))))))))
+other_words true false = (refl, (refl, (refl, (refl, (refl, (refl, (refl, (refl, (refl, (refl, (refl, (refl, (refl, (refl, (refl, (refl, (refl, (refl, (refl, tt)))))))))))))))))))
+other_words false true = (refl, (refl, (refl, (refl, (refl, (refl, (refl, (refl, (refl, (refl, (refl, (refl, (refl, (refl, (refl, (refl, (refl, (refl, (refl, tt)))))))))))))))))))
+other_words false false = (refl, (refl, (refl, (refl, (refl, (refl, (refl, (refl, (refl, (refl, (refl, (refl, (refl, (refl, (refl, (refl, (refl, (refl, (refl, tt)))))))))))))))))))
+
 given_all : (set : List ℕ) (a : ℕ) → has_number supported_words a ≡ true → has_number (given_set set) a ≡ has_number set a
 given_all set a is = shared set supported_words a ∙ ap (λ b. has_number set a && b) is ∙ and_true (has_number set a)
 
@@ -132,6 +144,8 @@ module _ (c : Context) (asked : List ℕ) (s : Sight) (n : Name) where
     name = refl;
     attributes = each_permitted governed A are_supported (governed_words A L);
     acls = each_permitted list_giving L lists_are_supported (list_words A L);
+    others = each_two IsSupported (λ a. has_number (granted_words A L) a ≡ true) (λ a. has_number (given_set (permitted s.lists c.caller n.child asked)) a ≡ has_number asked a) ungoverned
+        (λ a supported is. given_all (permitted s.lists c.caller n.child asked) a supported ∙ shared asked (granted_words A L) a ∙ ap (λ b. has_number asked a && b) is ∙ and_true (has_number asked a)) others_are_supported (other_words A L);
   }
 
   of_asked : (has_any asked governed ≡ true → A ≡ true) → (has_any asked list_giving ≡ true → L ≡ true) → IsExact s.lists c.caller asked n (entry_of c s n statuses.Ok asked)
@@ -140,6 +154,7 @@ module _ (c : Context) (asked : List ℕ) (s : Sight) (n : Name) where
     name = refl;
     attributes = each_asked governed A are_supported attributes;
     acls = each_asked list_giving L lists_are_supported list;
+    others = each IsSupported (λ a. has_number (given_set asked) a ≡ has_number asked a) ungoverned (λ a supported. given_all asked a supported) others_are_supported;
   }
 
   -- no demand on an object is refused

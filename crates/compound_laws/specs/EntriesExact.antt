@@ -30,13 +30,20 @@ use Rattle.compound_run.specs.Exact.{ArePassed}
 abbrev pub attributes_in : Value entry → List ℕ
 attributes_in e = set_of (entry_attributes e)
 
+-- the supported attributes that everyone can read
+abbrev pub ungoverned : List ℕ
+ungoverned =
+    0 ∷ 1 ∷ 2 ∷ 5 ∷ 6 ∷ 7 ∷ 8 ∷ 9 ∷ 10 ∷ 11 ∷ 13 ∷ 19 ∷ 20 ∷ 27 ∷ 29 ∷ 30 ∷ 31 ∷ 55 ∷ 75 ∷ []
+
 -- The entry is of this name. An attribute that READ_ATTRIBUTES governs is in it exactly where it is requested and the list of the
--- name's object grants READ_ATTRIBUTES; acl, dacl and sacl are each in it exactly where requested and the list grants READ_ACL.
+-- name's object grants READ_ATTRIBUTES; acl, dacl and sacl are each in it exactly where requested and the list grants READ_ACL; and
+-- one that everyone can read is in it exactly where it is requested.
 pub record IsExact (lists : Lists) (caller : Identity) (asked : List ℕ) (n : Name) (e : Value entry) : Type 0 where
   pub cookie : entry_cookie e ≡ n.cookie
   pub name : entry_name e ≡ n.name
   pub attributes : AllByRecursion (λ a. has_number (attributes_in e) a ≡ has_number asked a && allows lists caller n.child READ_ATTRIBUTES) governed
   pub acls : AllByRecursion (λ a. has_number (attributes_in e) a ≡ has_number asked a && allows lists caller n.child READ_ACL) list_giving
+  pub others : AllByRecursion (λ a. has_number (attributes_in e) a ≡ has_number asked a) ungoverned
 
 -- the entries are those of the first of these names, in their order
 abbrev pub AreExact : Lists → Identity → List ℕ → List Name → List (Value entry) → Type 0

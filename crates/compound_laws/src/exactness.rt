@@ -49,7 +49,7 @@ pub fn others_never_delay()
 {}
 
 /// In each entry that READDIR returns an attribute that a bit governs is there exactly where it is requested, and the list of the
-/// entry's object grants that bit.
+/// entry's object grants that bit. Every other supported attribute is there exactly where it is requested.
 pub fn readdir_gives_exactly()
     ensures { (c : Context) (h : Handles) (v : Value readdir_args) (r : Realm) (o : Outcome) → IsSound r.world → outcome (meaning c h (Known kinds.ReadDir v)) r ≡ Ok o → GivesExactly c h v (whole r) o }
 {}

@@ -1,6 +1,6 @@
 -- The answers to a CREATE behind its row.
 use Rattle.std.proofs.Common.{◌≡◌, ◌∙◌, ℕ, Bool, cond, true, false, refl, sym, ap, append-nil}
-use Rattle.std.specs.Prelude.{◌≢◌, List, [], ◌++◌, Some, None, Result, Ok, Err, IsOkUnless, unwrap_or}
+use Rattle.std.specs.Prelude.{List, [], ◌++◌, Some, None, Result, Err, IsOkUnless, unwrap_or}
 use Rattle.xdr_wire.specs.Buffer.{Buffer}
 use Rattle.xdr_wire.specs.Xdr.{Value}
 use Rattle.acl_shape.specs.Permissions.{created_high}

@@ -36,7 +36,7 @@ pub record Stand (A : Type 0) : Type 0 where
   pub rest : List ℕ
   pub position : ℕ
 
--- how many bytes the next result may take
+-- the most bytes that the next result may take
 abbrev pub room_at : {A : Type 0} → Begun A → Stand A → ℕ
 room_at b s = length b.out.bytes + b.context.room - length s.out.bytes
 

@@ -1,7 +1,7 @@
 -- The answers where attributes are set.
 use Rattle.std.proofs.Common.{◌≡◌, ℕ, Bool, List, cond, ◌≤◌, ◌+◌, true, false, refl, append-nil, length, ap, sym, ◌∙◌, subst}
 use Rattle.access_guard.specs.declared.line.Line.{Line}
-use Rattle.std.specs.Prelude.{[], ◌≢◌, if◌then◌else◌, is_some, Option, Some, None, Result, Ok, Err, unwrap_or, IsSome, IfSome}
+use Rattle.std.specs.Prelude.{[], ◌≢◌, if◌then◌else◌, is_some, Option, Some, None, Ok, Err, unwrap_or, IsSome, IfSome}
 use Rattle.std.specs.Option.{option_map, option_map_or}
 use Rattle.acl_shape.specs.declared.permissions.Permissions.{Permissions}
 use Rattle.acl_shape.specs.Permissions.{changed_high}
@@ -25,7 +25,7 @@ use Rattle.compound_run.specs.declared.filehandles.FileHandles.{FileHandles}
 use Rattle.compound_run.specs.Asking.{sight_of}
 use Rattle.compound_run.specs.Context.{Context}
 use Rattle.compound_run.specs.Create.{list_at, wanted_in}
-use Rattle.compound_run.specs.Lists.{IsFit, set_fits, set_list}
+use Rattle.compound_run.specs.Lists.{set_fits, set_list}
 use Rattle.compound_run.specs.Permits.{Permits, permitted, entitled}
 use Rattle.node_tree.specs.declared.at.At.{At}
 use Rattle.node_tree.specs.Changes.{with_list}

@@ -24,7 +24,7 @@ head_form = fields (uint ∷ opaque MAX_TAG ∷ uint ∷ [])
 abbrev pub head : Status → List ℕ → ℕ → List ℕ
 head s tag count = spelling head_form (status_number s, (tag, count))
 
--- how many bytes the header of a reply has, with the head
+-- the number of bytes that the header of a reply has, with the head
 abbrev pub before_results : List ℕ → ℕ
 before_results tag = REPLY_HEADER + 12 + length (padded tag)
 

@@ -14,7 +14,7 @@ pub record Context : Type 0 where
   pub book : Content
   -- the client of the session, and whether its reply is to be cached; none where there is no session
   pub calling : Option Calling
-  -- how many operations are before it, and how many the COMPOUND has
+  -- the number of operations that are before it, and of those that the COMPOUND has
   pub position : ℕ
   pub count : ℕ
   -- the most bytes of its result

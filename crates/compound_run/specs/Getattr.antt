@@ -20,7 +20,7 @@ use Rattle.compound_run.specs.Meaning.{Meaning, stays, with_handle, here, has_ro
 unfoldable pub told : Context → ℕ → List ℕ → Sight → Value attributes
 told c number asked s = attributes_at c.book s number statuses.Ok asked
 
--- how many bytes the result has
+-- the number of bytes that the result has
 abbrev pub told_size : Value attributes → ℕ
 told_size v = getattr_size (length (set_of v)) (length (values_of v))
 

@@ -9,7 +9,7 @@ MAX_TAG = 1024
 abbrev pub MINOR_VERSION : ℕ
 MINOR_VERSION = 1
 
--- how many operations a COMPOUND may have where there is no session
+-- the most operations that a COMPOUND may have where there is no session
 abbrev pub MAX_OPERATIONS : ℕ
 MAX_OPERATIONS = 16
 
@@ -37,6 +37,6 @@ REFUSAL_ROOM = 16
 abbrev pub MAX_READ : ℕ
 MAX_READ = 32768
 
--- how many files may be open at once
+-- the most files that may be open at once
 abbrev pub MAX_OPENS : ℕ
 MAX_OPENS = 4096

@@ -115,7 +115,7 @@ has_no_child directory name = Holds (λ s. not (is_some (child s directory name)
 
 -- ---- space
 
--- how many names a directory has
+-- the number of names that a directory has
 abbrev pub names_at : Sight → ℕ → ℕ
 names_at s directory = length (s.names directory)
 

@@ -47,7 +47,7 @@ with_book book s = record s { settings = reloaded_settings book s.settings }
 
 pub record Call : Type 0 where
   pub arguments : List ℕ
-  -- how many bytes its record has
+  -- the number of bytes that its record has
   pub record_len : ℕ
   -- the caller, as sent
   pub caller : Identity

@@ -27,7 +27,7 @@ impl<A: Allocator + Copy> Export<A> {
         })
     }
 
-    /// How many bytes a file has, or the text of a link; 0 where it isn't there.
+    /// The number of bytes that a file has, or the text of a link; 0 where it isn't there.
     pub fn size(&self, number: u64) -> u64
         ensures { result ≡ length (bytes_of self.now.tree.world number) }
     {

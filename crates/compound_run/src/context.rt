@@ -22,9 +22,9 @@ pub(crate) struct Context<'t> {
     pub now: Moment,
     /// The session, if there is one.
     pub calling: Option<Calling>,
-    /// How many operations are before it.
+    /// The number of operations that are before it.
     pub position: u32,
-    /// How many operations its COMPOUND has.
+    /// The number of operations that its COMPOUND has.
     pub count: u32,
     /// The most bytes of its result.
     pub room: usize,

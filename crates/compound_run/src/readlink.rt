@@ -69,7 +69,7 @@ fn put_text<A: Allocator + Copy>(tree: &GuardedTree<A>, link: u64, len: usize, o
 }
 
 impl<A: Allocator + Copy> Export<A> {
-    /// How many bytes the text of a link has.
+    /// The number of bytes that the text of a link has.
     #[tactic(auto, using(crate::proofs::Texts::text_is_short))]
     fn text_length(&self, link: u64) -> u64
         requires { kind_of self.now.tree.world link ≡ Some Kind.Link }

@@ -31,7 +31,7 @@ use xdr_wire::Writer;
 pub struct Args<'a> {
     /// The bytes behind the call's header.
     pub bytes: &'a [u8],
-    /// How many bytes the call's record has.
+    /// The number of bytes that the call's record has.
     pub record_len: usize,
 }
 

@@ -69,7 +69,7 @@ fn is_either(first: Option<u32>, second: Option<u32>) -> bool
     first.is_some() || second.is_some()
 }
 
-/// How many stamps are taken.
+/// The number of stamps that are taken.
 fn stamps<A: Allocator>(wanted: &Attrs<A>) -> u64
     ensures value { result ≡ stamps (wanted_view wanted.now) }
     ensures few { result ≤ 2 }

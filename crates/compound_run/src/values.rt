@@ -13,7 +13,7 @@ use nfs_types::{ObjectFacts, Status};
 use node_tree::Node;
 use std::alloc::Allocator;
 
-/// How many bytes a file has, or the text of a link; a directory has none.
+/// The number of bytes that a file has, or the text of a link; a directory has none.
 fn size_told<A: Allocator>(node: &Node<A>) -> u64
     ensures { result ≡ if is_directory node.now.kind then 0 else length node.now.bytes }
 {
@@ -21,7 +21,7 @@ fn size_told<A: Allocator>(node: &Node<A>) -> u64
 }
 
 impl<A: Allocator + Copy> Export<A> {
-    /// How many names an object has; a directory counts as having one, also the root.
+    /// The number of names that an object has; a directory counts as having one, also the root.
     fn links_told(&self, number: u64, is_directory: bool) -> u32
         requires { is_directory ≡ is_directory_in (sight_of self.now).kinds number }
         ensures { result ≡ links_at (sight_of self.now) number }

@@ -83,7 +83,7 @@ conn_at (Kept state ∷ acts) place = conn_at acts place
 conn_at (Lost ∷ acts) place = conn_at acts place
 conn_at (Loaded book ∷ acts) place = conn_at acts place
 
--- how many connections are at places
+-- the number of connections that are at places
 abbrev pub open_in : List Act → ℕ
 open_in [] = 0
 open_in (Waited well ∷ acts) = open_in acts
@@ -98,7 +98,7 @@ open_in (Kept state ∷ acts) = open_in acts
 open_in (Lost ∷ acts) = open_in acts
 open_in (Loaded book ∷ acts) = open_in acts
 
--- how many waits there were
+-- the number of waits there were
 abbrev pub waits : List Act → ℕ
 waits [] = 0
 waits (Waited well ∷ acts) = waits acts + 1
@@ -113,7 +113,7 @@ waits (Kept state ∷ acts) = waits acts
 waits (Lost ∷ acts) = waits acts
 waits (Loaded book ∷ acts) = waits acts
 
--- how many streams were admitted
+-- the number of streams that were admitted
 abbrev pub admitted : List Act → ℕ
 admitted [] = 0
 admitted (Waited well ∷ acts) = admitted acts

@@ -11,7 +11,7 @@ use Rattle.nfs_streams.specs.Acts.{Act, conn_at, open_in}
 abbrev pub place_at : List (Option Peer) → ℕ → Option Peer
 place_at places index = get_or places index None
 
--- how many places are taken
+-- the number of places that are taken
 abbrev pub taken : List (Option Peer) → ℕ
 taken places = count_by is_some places
 

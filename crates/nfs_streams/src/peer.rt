@@ -15,7 +15,7 @@ use std::alloc::Allocator;
 /// The most bytes of one read.
 const PIECE: usize = 4096;
 
-/// How many times bytes of one connection are written in a turn, at most.
+/// The most times that bytes of one connection are written in a turn.
 const ROUNDS: u32 = 32;
 
 /// A connection at a place.

@@ -18,9 +18,9 @@ const QUIET: u64 = 2;
 /// The limits of the connections that may still be opened.
 #[derive(Drop)]
 pub(crate) struct Door {
-    /// How many connections may still be opened.
+    /// The number of connections that may still be opened.
     pub(crate) left: u64,
-    /// How many connections may be open at once.
+    /// The most connections that may be open at once.
     pub(crate) places: usize,
     /// The hub had no memory for the stream that came last.
     pub(crate) refused: bool,

@@ -15,11 +15,11 @@ use std::alloc::Allocator;
 /// How far streams are served.
 #[derive(Clone, Copy, Debug)]
 pub struct Limits {
-    /// How many connections are open at once. More than 16 count as 16.
+    /// The most connections that are open at once. More than 16 count as 16.
     pub places: usize,
-    /// How many connections are opened in all.
+    /// The number of connections that are opened in all.
     pub connections: u64,
-    /// How many turns there are.
+    /// The number of turns.
     pub turns: u64,
 }
 

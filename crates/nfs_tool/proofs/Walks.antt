@@ -92,7 +92,7 @@ far_is start left rest handle is = ap (route_of (Object handle)) is ∙ ap (with
 pub nearest_of : (done : ℕ) (names left first : List (Bor (List ℕ))) → first ≡ take most_names left → left ≡ drop done names → first ≡ take most_names (drop done names)
 nearest_of done names left first is so = is ∙ ap (take most_names) so
 
--- how many of the names left an approach walks, behind so many names
+-- the number of names left that an approach walks, behind so many names
 pub near_length : (done : ℕ) (names first : List (Bor (List ℕ))) → first ≡ take most_names (drop done names) → length first ≡ min most_names (length (drop done names))
 near_length done names first is = ap length is ∙ length-take most_names (drop done names)
 
@@ -116,7 +116,7 @@ pub arrived : {S A : Type 0} (contents remaining : S → Option (List ℕ)) (mos
 arrived contents remaining most names old new handles start done all left goes so is few =
     (handles, goes, ap (route_of start) is ∙ so, subst (λ (n : ℕ). n ≤ most) (sym (length-map left (λ n. n.now) ∙ ap length is ∙ length-drop done all)) few)
 
--- how many names of the first of two lent paths are left
+-- the number of names of the first of two lent paths that are left
 pub first_left : (names others : List (Bor (List ℕ))) (n : ℕ) → n ≡ left_of_first (length names) (length others) → n ≡ left_of_first (length (map (λ n. n.now) names)) (length (map (λ n. n.now) others))
 first_left names others n is =
     is ∙ ap (λ (k : ℕ). left_of_first k (length others)) (sym (length-map names (λ n. n.now)))
@@ -190,7 +190,7 @@ module _ {S A X V : Type 0} (contents remaining : S → Option (List ℕ)) (take
 
 -- ---- a command of two paths
 
--- how many names of the first path may be left at the end of its approaches
+-- the most names of the first path that may be left at the end of its approaches
 abbrev first_most : List (List ℕ) → List (List ℕ) → ℕ
 first_most names others = left_of_first (length names) (length others)
 

@@ -19,7 +19,7 @@ most_before_two = 12
 abbrev pub most_of_both : ℕ
 most_of_both = 11
 
--- How many names of the first of two paths, of so many names and so many, may be left at the end of its approaches: where one COMPOUND can
+-- The most names of the first of two paths, of so many names and so many, that may be left at the end of its approaches: where one COMPOUND can
 -- walk both paths there is no approach. Else the first is walked to its end, before a name of the second is.
 abbrev pub left_of_first : ℕ → ℕ → ℕ
 left_of_first names others = if nat_le (names + others) most_of_both then most_of_both else 0

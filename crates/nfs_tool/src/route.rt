@@ -23,7 +23,7 @@ pub(crate) const MOST_BEFORE_TWO: usize = 12;
 /// The most names of two paths that a COMPOUND walks before one operation, with SAVEFH between them.
 pub(crate) const MOST_OF_BOTH: usize = 11;
 
-/// How many names of the first of two paths, of so many names and so many, may be left at the end of its approaches. Where one COMPOUND
+/// The most names of the first of two paths, of so many names and so many, that may be left at the end of its approaches. Where one COMPOUND
 /// can walk both paths there is no approach; else the first is walked to its end, before a name of the second is.
 pub(crate) fn left_of_first(names: usize, others: usize) -> usize
     ensures { result ≡ left_of_first names others }

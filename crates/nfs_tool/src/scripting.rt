@@ -31,7 +31,7 @@ const MOST_READS: u32 = 1_000_000;
 struct Progress<A: Allocator> {
     /// The bytes of the line that isn't whole yet.
     line: Vec<u8, A>,
-    /// How many lines were whole.
+    /// The number of lines that were whole.
     lines: u32,
     /// Whether each line with a wish got it, or was refused by the server.
     is_good: bool,

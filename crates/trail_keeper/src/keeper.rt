@@ -11,7 +11,7 @@ use trail_lines::append_new;
 #[derive(Drop)]
 pub struct TrailKeeper<W> {
     out: W,
-    /// How many lines of the trail are appended, or told as missing.
+    /// The number of lines of the trail that are appended, or told as missing.
     seen: u64,
     has_failed: bool,
 }

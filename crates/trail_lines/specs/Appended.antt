@@ -16,7 +16,7 @@ text_of lines = flat_map line_bytes lines
 abbrev pub new_lines : ℕ → Log → List Line
 new_lines seen log = drop (length log.trail - (log.total - seen)) log.trail
 
--- how many lines behind the first so many the trail no longer keeps
+-- the number of lines behind the first so many that the trail no longer keeps
 abbrev pub lost_lines : ℕ → Log → ℕ
 lost_lines seen log = (log.total - seen) - length log.trail
 

@@ -17,7 +17,7 @@ use Rattle.compound_run.specs.Rows.{first_facts}
 use Rattle.compound_run.specs.Questions.{demand_lines}
 use Rattle.compound_run.specs.Meaning.{number_in, there}
 use Rattle.compound_run.specs.Link.{link, is_nameable}
-use Rattle.compound_run.specs.Views.{context_at, realm_of}
+use Rattle.compound_run.specs.Views.{realm_of}
 use Rattle.compound_run.proofs.Behind.{behind_at}
 use Rattle.compound_run.proofs.export.Export.link.Goals as goal
 

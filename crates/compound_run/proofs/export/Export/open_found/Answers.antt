@@ -9,7 +9,7 @@ use Rattle.compound_run.specs.Asking.{sight_of}
 use Rattle.compound_run.specs.Open.{file_in, has_space_for, joined, opening}
 use Rattle.compound_run.specs.Opening.{placed_stateid}
 use Rattle.compound_run.specs.Runs.{waits}
-use Rattle.compound_run.specs.Views.{GivesSo, context_at, realm_of, settings_in, settings_of}
+use Rattle.compound_run.specs.Views.{GivesSo, context_at, realm_of, settings_in}
 use Rattle.compound_run.proofs.Opening.{refused, given, fails_by, wanting, there_is, change_kept, realm_placed, placed_stateid_so}
 use Rattle.compound_run.proofs.Writing.{written_as}
 use Rattle.compound_run.proofs.export.Export.open_found.Goals as goal

@@ -1,8 +1,7 @@
-use Rattle.std.proofs.Common.{rules, ◌≡◌, ◌∙◌, ap}
+use Rattle.std.proofs.Common.{rules, ◌≡◌}
 use Rattle.std.specs.Prelude.{Some}
 use Rattle.node_tree.specs.World.{object}
-use Rattle.compound_run.specs.Permits.{permitted, entitled}
-use Rattle.compound_run.specs.Views.{wanted_view, with_world}
+use Rattle.compound_run.specs.Views.{wanted_view}
 use Rattle.compound_run.proofs.Setting.{set_by_parts}
 use Rattle.compound_run.proofs.export.Export.set_all.Goals as goal
 

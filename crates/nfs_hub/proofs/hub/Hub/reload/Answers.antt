@@ -1,6 +1,4 @@
-use Rattle.std.proofs.Common.{rules, refl, ◌∙◌, ap}
-use Rattle.nfs_hub.specs.Answer.{reloaded}
-use Rattle.nfs_hub.specs.Machine.{Reload, State}
+use Rattle.nfs_hub.specs.Machine.{Reload}
 use Rattle.nfs_hub.proofs.Hubs.{leads_on, reloads}
 use Rattle.nfs_hub.proofs.hub.Hub.reload.Goals as goal
 
