@@ -4,9 +4,10 @@
     calls.py NFSD bare|net FIRST SEEDS CALLS [BOOK]
 
 Each seed from FIRST on begins a server, over standard input and output (bare) or over 127.0.0.1 with sessions (net), and makes that many calls. A reply that
-differs in a byte is printed, and the status is 1. Times aren't asked for, since the server's clock is its own.
+differs in a byte is printed, and the status is 1; with net so is the first line in which the audit trail's file differs. Both have the names and members of
+the file BOOK, where it is given. Times aren't asked for, since the server's clock is its own.
 """
-import random, socket, subprocess, sys, time, os
+import random, socket, subprocess, sys, tempfile, time, os, tomllib
 sys.path.insert(0, os.path.dirname(os.path.abspath(__file__)))
 import model
 from model import u, U, I, o, M, Rd
@@ -52,7 +53,7 @@ class Gen:
             return {1, 11, 33}
         if x < 0.4:
             return model.SUPP - {52, 53}
-        return {a for a in r.sample(range(0, 80), r.randint(1, 8)) if a not in (52, 53)} | ({11} if r.random() < 0.4 else set()) | ({12} if r.random() < 0.2 else set()) | ({33} if r.random() < 0.3 else set())
+        return {a for a in r.sample(range(0, 80), r.randint(1, 8)) if a not in (52, 53)} | ({11} if r.random() < 0.4 else set()) | ({12} if r.random() < 0.2 else set()) | ({33} if r.random() < 0.3 else set()) | {a for a in (58, 59) if r.random() < 0.08}
 
     def ace(self):
         r = self.r
@@ -72,6 +73,15 @@ class Gen:
             es.append(u(0) + u(r.choice([0, 3])) + u(0x1f01ff & model.DEFINED) + o(b'EVERYONE@'))
         return u(len(es)) + b''.join(es)
 
+    def part(self, types):
+        """the list of dacl or sacl, mostly of its types alone"""
+        r = self.r
+        n = r.choice([0, 1, 1, 2, 3]) if r.random() < 0.95 else r.choice([40, 58, 59, 60])
+        es = [(u(r.choice(types)) if r.random() < 0.98 else b'') + self.ace()[4:] for _ in range(n)]
+        if 0 in types and r.random() < 0.6:
+            es.append(u(0) + u(r.choice([0, 3])) + u(0x1f01ff & model.DEFINED) + o(b'EVERYONE@'))
+        return u(0 if r.random() < 0.97 else 1) + u(len(es)) + b''.join(es)
+
     def F(self, size=0.1):
         r = self.r
         d = {}
@@ -85,6 +95,10 @@ class Gen:
             d[36] = o(r.choice([b'1001', b'0', b'1002', b'alice@example.org', b'x']))
         if r.random() < 0.08:
             d[37] = o(r.choice([b'100', b'0', b'7', b'staff@example.org', b'x']))
+        if r.random() < 0.1:
+            d[58] = self.part([0, 0, 0, 1])
+        if r.random() < 0.1:
+            d[59] = self.part([2, 3])
         if r.random() < 0.03:
             d[r.choice([3, 1, 14, 54, 75, 58])] = u(1)
         b = b''.join((d[k] for k in sorted(d)))
@@ -274,9 +288,15 @@ def caller_of(rec):
     return (uid, frozenset([gid] + g), gid)
 
 
+def book_of(path):
+    with open(path, 'rb') as f:
+        b = tomllib.load(f)
+    return model.Book(b['domain'], b['users'], b['groups'], b['root_owner'], b['root_group'], b['root_mode'], b.get('members'))
+
+
 def run(seed, n, nfsd, bare, book=None, trailfile=None):
     rng = random.Random(seed)
-    bk = model.Book('example.org', {'root': 0, 'alice': 1001}, {'wheel': 0, 'staff': 100}, 0, 0, 0o755) if book else model.Book()
+    bk = book_of(book) if book else model.Book()
     srv = model.Server(bk, bare)
     g = Gen(rng, srv)
     g.hist = {}
@@ -351,13 +371,14 @@ if __name__ == '__main__':
     tot = {}
     bad = 0
     t0 = time.time()
-    for s in range(first, first + seeds):
-        c, ok = run(s, n, nfsd, mode == 'bare', book)
-        bad += not ok
-        for k, v in c.items():
-            tot[k] = tot.get(k, 0) + v
-        if bad > 3:
-            break
+    with tempfile.TemporaryDirectory(prefix='judge-') as folder:
+        for s in range(first, first + seeds):
+            c, ok = run(s, n, nfsd, mode == 'bare', book, None if mode == 'bare' else f'{folder}/{s}')
+            bad += not ok
+            for k, v in c.items():
+                tot[k] = tot.get(k, 0) + v
+            if bad > 3:
+                break
     inv = {v: k for k, v in model.ST.items()}
     print(seeds, 'seeds of', n, 'calls,', bad, 'differ,', round(time.time() - t0), 's;', {inv.get(k, k): v for k, v in sorted(tot.items())})
     sys.exit(1 if bad else 0)

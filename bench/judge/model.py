@@ -196,14 +196,36 @@ def admit(raws, kind):
     return [(t, f & 0xf0, m, w) for t, f, m, w in raws if not f & 8]
 
 
+def kept(e):
+    """whether a change of mode keeps an entry"""
+    return e[0] >= 2 or e[1] & 11 or e[3] not in (OWNER, GROUP, EVERYONE)
+
+
+def combine(lst, dacl, sacl):
+    d = lst if dacl is None else dacl
+    s = lst if sacl is None else sacl
+    out = [e for e in d if e[0] <= 1] + [e for e in s if e[0] >= 2]
+    need(len(out) <= 64 and sum((1 for e in out if kept(e))) <= 59, 'NOSPC')
+    return out
+
+
 class Book:
-    def __init__(self, domain='localdomain', users={}, groups={}, owner=0, group=0, mode=0o755):
+    def __init__(self, domain='localdomain', users={}, groups={}, owner=0, group=0, mode=0o755, members=None):
         self.domain = domain
         self.users = users
         self.groups = groups
         self.owner = owner
         self.group = group
         self.mode = mode
+        self.members = members
+
+    def member(self, c):
+        """the caller with the groups that the book gives it"""
+        if self.members is None:
+            return c
+        names = [k for k, v in self.users.items() if v == c[0]]
+        have = {self.groups[g] for g, us in self.members.items() if any((n in us for n in names))}
+        return (c[0], frozenset(have), c[2] if c[2] in have else min(have, default=65534))
 
     def number(self, g, text):
         try:
@@ -238,8 +260,8 @@ class Book:
 
 class Obj:
     pass
-SUPP = {n for n in range(96) if [0xe8183fff, 0x00b0003a, 0x800][n // 32] >> n % 32 & 1}
-SETTABLE = {4, 12, 33, 36, 37}
+SUPP = {n for n in range(96) if [0xe8183fff, 0x0cb0003a, 0x800][n // 32] >> n % 32 & 1}
+SETTABLE = {4, 12, 33, 36, 37, 58, 59}
 OPS = {3, 4, 5, 6, 9, 10, 11, 15, 16, 17, 18, 22, 24, 25, 26, 27, 28, 29, 31, 32, 34, 37, 38, 42, 43, 44, 53, 57, 58}
 NAMES = {3: 'ACCESS', 4: 'CLOSE', 5: 'COMMIT', 6: 'CREATE', 9: 'GETATTR', 10: 'GETFH', 11: 'LINK', 15: 'LOOKUP', 16: 'LOOKUPP', 17: 'NVERIFY', 18: 'OPEN', 22: 'PUTFH', 24: 'PUTROOTFH', 25: 'READ', 26: 'READDIR', 27: 'READLINK', 28: 'REMOVE', 29: 'RENAME', 31: 'RESTOREFH', 32: 'SAVEFH', 34: 'SETATTR', 37: 'VERIFY', 38: 'WRITE'}
 
@@ -522,6 +544,8 @@ class Server:
             return u(err)
         if a == 12:
             return self.raws(x.lst)
+        if a in (58, 59):
+            return u(0) + self.raws([e for e in x.lst if (e[0] >= 2) == (a == 59)])
         if a == 13:
             return u(15)
         if a == 19:
@@ -557,7 +581,7 @@ class Server:
         return M(s) + o(b''.join((self.value(x, a, err) for a in sorted(s))))
 
     def given(self, F, kind):
-        """attributes to be set: {4: size, 12: list, 33: mode, 36: uid, 37: gid}"""
+        """attributes to be set: {4: size, 12: list, 33: mode, 36: uid, 37: gid, 58: dacl, 59: sacl}"""
         s, data = F
         need(s <= SUPP, 'ATTRNOTSUPP')
         need(s <= SETTABLE, 'INVAL')
@@ -567,8 +591,9 @@ class Server:
             for a in sorted(s):
                 if a == 4:
                     raw[4] = r.U()
-                elif a == 12:
-                    raw[12] = [(r.u(), r.u(), r.u(), r.o()) for _ in range(self.count(r))]
+                elif a in (12, 58, 59):
+                    fl = r.u() if a != 12 else 0
+                    raw[a] = (fl, [(r.u(), r.u(), r.u(), r.o()) for _ in range(self.count(r))])
                 elif a == 33:
                     raw[33] = r.u()
                 else:
@@ -577,11 +602,12 @@ class Server:
                 raise Short()
         except Short:
             raise Fail('BADXDR')
+        need(12 not in raw or not {58, 59} & raw.keys(), 'INVAL')
         got = {}
         if 4 in raw:
             got[4] = raw[4]
         if 12 in raw:
-            got[12] = admit([(t, f, m, self.book.who(f, w)) for t, f, m, w in raw[12]], kind)
+            got[12] = self.admitted(raw[12], kind)
         if 33 in raw:
             need(raw[33] <= 0o7777, 'INVAL')
             got[33] = raw[33]
@@ -589,7 +615,15 @@ class Server:
             if a in raw:
                 got[a] = self.book.number(a == 37, raw[a])
                 need(got[a] is not None, 'BADOWNER')
+        for a in (58, 59):
+            if a in raw:
+                got[a] = self.admitted(raw[a], kind)
+                need(all(((e[0] >= 2) == (a == 59) for e in got[a])), 'INVAL')
         return got
+
+    def admitted(self, raw, kind):
+        need(not raw[0], 'ATTRNOTSUPP')
+        return admit([(t, f, m, self.book.who(f, w)) for t, f, m, w in raw[1]], kind)
 
     def count(self, r):
         n = r.u()
@@ -598,6 +632,11 @@ class Server:
         return n
 
     def born(self, p, kind, got):
+        if 58 in got:
+            return (combine([], got[58], got.get(59)), got.get(33, 0) & 0o7000)
+        if 59 in got:
+            lst, high = self.born(p, kind, {k: v for k, v in got.items() if k != 59})
+            return (combine(lst, None, got[59]), high)
         if 12 in got and 33 in got:
             return (got[12], got[33] & 0o7000)
         if 12 in got:
@@ -655,7 +694,7 @@ class Server:
         return op
 
     def attr_rows(self, want):
-        return (RATTR if want & {3, 4, 33, 35, 36, 37, 52, 53} else 0, RACL if 12 in want else 0)
+        return (RATTR if want & {3, 4, 33, 35, 36, 37, 52, 53} else 0, RACL if want & {12, 58, 59} else 0)
 
     def compound(self, args, reclen, caller, now):
         """Gives the results' bytes (status, tag, count, results), or None for garbage."""
@@ -674,7 +713,8 @@ class Server:
             return u(0) + o(tag) + u(0)
         self.fh = self.sfh = None
         self.now = now
-        self.c = caller
+        self.c = self.book.member(caller)
+        self.sent = caller
         self.cl = 0
         self.cache = False
         self.limit = 65536
@@ -811,7 +851,7 @@ class Server:
             ra, rl = self.attr_rows(want)
             err = 0
             w = set(want)
-            for m, gone in ((ra, {3, 4, 33, 35, 36, 37, 52, 53}), (rl, {12})):
+            for m, gone in ((ra, {3, 4, 33, 35, 36, 37, 52, 53}), (rl, {12, 58, 59})):
                 if m and (not self.grants(y, self.c, m)):
                     if 11 not in want:
                         self.bits(y, m, self.c, 26)
@@ -909,21 +949,25 @@ class Server:
         if 4 in got:
             need(x.kind == 1, 'INVAL')
             self.state(S, x, 2, self.cl)
-        mask = (2 | (4 if got[4] > len(x.data) else 0) if 4 in got else 0) | (WACL if {12, 33} & got.keys() else 0) | (WOWN if {36, 37} & got.keys() else 0)
+        mask = (2 | (4 if got[4] > len(x.data) else 0) if 4 in got else 0) | (WACL if {12, 33, 58, 59} & got.keys() else 0) | (WOWN if {36, 37} & got.keys() else 0)
         self.bits(x, mask, self.c, 34)
         if 4 in got:
             need(got[4] <= LIMITS['file'], 'FBIG')
+        lst = x.lst
+        if 12 in got:
+            lst = got[12]
+        elif 33 in got:
+            lst = set_mode(lst, x.kind, got[33] & 0o777)
+        if {58, 59} & got.keys():
+            lst = combine(lst, got.get(58), got.get(59))
         if got:
             t = self.tick
             self.tick += 1
             x.change = t
             x.tc = self.now
-            if 12 in got:
-                x.lst = got[12]
+            x.lst = lst
             if 33 in got:
                 x.high = got[33] & 0o7000
-                if 12 not in got:
-                    x.lst = set_mode(x.lst, x.kind, got[33] & 0o777)
             if 36 in got:
                 x.ow = got[36]
             if 37 in got:
@@ -1236,7 +1280,7 @@ class Server:
         need(high < k, 'BAD_HIGH_SLOT')
         q = s['slots'][slot]
         if q['used'] and num == q['last']:
-            need(q['args'] == self.args and q['caller'][:2] == self.c[:2] and (q['caller'][2] == self.c[2]), 'SEQ_FALSE_RETRY')
+            need(q['args'] == self.args and q['caller'] == self.sent, 'SEQ_FALSE_RETRY')
             self.again = q['rep']
             return b''
         need(num == (q['last'] + 1) % 2 ** 32, 'SEQ_MISORDERED')
