@@ -1,7 +1,7 @@
 """The server as a plain program in Python: records in, replies out.
 
 It was written from the profile of the protocol alone, by one who had neither the definitions nor the code before them, and shares nothing with
-either. It is slow and simple: a map of objects, a map of names a directory, lists walked bit by bit. `calls.py` sends random calls to it and to
+either. dacl, sacl and a book's members were added later from the same profile, but by one who knew the definitions and the code. It is slow and simple: a map of objects, a map of names a directory, lists walked bit by bit. `calls.py` sends random calls to it and to
 `nfsd`, and compares the replies byte for byte.
 
 The letters of the items are those of XDR here: u is a u32, U a u64, I an i64, o variable opaque data, M a bitmap (`bitmap4`), F attributes
