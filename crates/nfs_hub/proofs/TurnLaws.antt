@@ -1,6 +1,8 @@
 -- Serving a connection, one turn after another.
 use Rattle.std.proofs.Common.{◌≡◌, ◌≢◌, ◌↔◌, ℕ, ◌+◌, Bool, true, false, List, [], ◌∷◌, ◌++◌, length, take, drop, Option, Some, None, option_map, Ok, Err, refl, sym, ap, subst, ◌∙◌, inl, inr, append_assoc, arith}
-use Rattle.std.specs.Prelude.{◌≤◌, Result, IsTrue, IfSome, IsSome}
+use Rattle.std.specs.Prelude.{◌≤◌, Result, IsTrue, IfSome, IsSome, IfOk, MatchOption, min}
+use Rattle.std.specs.Option.{unwrap_or}
+use Rattle.std.specs.Borrow.{Bor}
 use Rattle.std.specs.Ordering.{nat_cmp}
 use Rattle.std.specs.BTreeMap.{get}
 use Rattle.std.specs.Io.KnownBytes.{Appends, Consumes, Keeps}
@@ -11,12 +13,13 @@ use Rattle.nfs_hub.specs.declared.connection.Connection.{Connection}
 use Rattle.nfs_hub.specs.declared.hub.Hub.{Hub}
 use Rattle.nfs_hub.specs.declared.serving.ServeEnd.{ServeEnd}
 use Rattle.nfs_hub.specs.declared.serving.ServeEnd.TheVariants as end
-use Rattle.nfs_hub.specs.Machine.{Connected, State, Event, Connect, Piece, Take, Close, CameToBreak, Step}
+use Rattle.nfs_hub.specs.Machine.{Connected, State, Event, Connect, Piece, Take, Close, CameToBreak}
 use Rattle.nfs_hub.specs.declared.fault.HubFault.{HubFault}
 use Rattle.nfs_hub.specs.declared.fault.HubFault.TheVariants as fault
 use Rattle.nfs_hub.specs.Answer.{Served}
-use Rattle.nfs_hub.specs.Hub.{IsHub, Goes, LeadsTo, ConnectGives, BreaksSo, SameConnection, broken_at, pending_at, next_number}
-use Rattle.nfs_hub.specs.Served.{Read_at, IsPending, Turn, Turns, Passes, PassGives, TurnsRun, TurnsEnd, IsLeft, BreaksIn, Writes, Serves, AreShort, MAX_PIECE, broken_end, refused_end, bytes_of}
+use Rattle.nfs_hub.specs.Hub.{IsHub, Goes, LeadsTo, ConnectGives, ConsumeGives, BreaksSo, IsUnchanged, SameConnection, broken_at, pending_at, next_number}
+use Rattle.nfs_hub.proofs.Hubs.{pending_is}
+use Rattle.nfs_hub.specs.Served.{Read_at, Turn, Turns, Passes, PassGives, TurnsRun, TurnsEnd, IsLeft, BreaksIn, Writes, Serves, AreShort, MAX_PIECE, broken_end, refused_end, bytes_of}
 
 pub appends_trans : (a b c : Option (List ℕ)) (bs cs : List ℕ) → Appends a b bs → Appends b c cs → Appends a c (bs ++ cs)
 appends_trans None b c bs cs p q = tt
@@ -63,32 +66,51 @@ front_written a b c done bytes p q = (take done bytes, drop done bytes, sym (tak
     keeps (Some x) (Some y) None bs p q = absurd q
     keeps (Some x) (Some y) (Some z) bs p q = q ∙ p
 
+-- whether a connection is broken behind a piece that came while it was whole
+pub told_at : (o o' : Option Bool) (b : Bool) → o ≡ Some false → o' ≡ option_map (λ was. b) o → o' ≡ Some b
+told_at o o' b whole is = is ∙ ap (λ (x : Option Bool). option_map (λ was. b) x) whole
+
+-- the bytes that an open connection lends are those that are pending on it
+pub lent_at : {A : Type 0} (hub : Hub A) (id : ℕ) (lent : Option (Bor (List ℕ))) (d bytes : Bor (List ℕ)) → bytes ≡ unwrap_or lent d → option_map (λ b. b.now) lent ≡ pending_at hub id → IsSome (pending_at hub id) → pending_at hub id ≡ Some bytes.now
+lent_at hub id None d bytes same is some = absurd (none_is (pending_at hub id) is some)
+  where
+    none_is : (o : Option (List ℕ)) → None ≡ o → IsSome o → ⊥
+    none_is None e some = cc
+    none_is (Some x) e some = cc
+lent_at hub id (Some b) d bytes same is some = sym is ∙ ap (λ (x : Bor (List ℕ)). Some x.now) (sym same)
+
+-- what consuming all pending bytes of an open connection gives
+pub record AllConsumed {A : Type 0} (id : ℕ) (out : List ℕ) (old new : Hub A) : Type 0 where
+  pub goes : Goes (Take id (length out)) old new
+  pub broken : broken_at new id ≡ broken_at old id
+  pub served : new.service ≡ old.service
+
+pub all_consumed : {A : Type 0} (id : ℕ) (out : List ℕ) (old new : Hub A) (result : Result ℕ HubFault) → pending_at old id ≡ Some out → ConsumeGives id (length out) result old new → IfOk result (λ n. Goes (Take id n) old new) → AllConsumed id out old new
+all_consumed {A = A} id out old new result at gives goes =
+    let h = subst (λ (o : Option (List ℕ)). MatchOption o ((result ≡ Err fault.NoSuch) × IsUnchanged old new) (λ pending. (n : ℕ) × (result ≡ Ok n) × (n ≡ min (length out) (length pending)) × (pending_at new id ≡ Some (drop n pending)) × (broken_at new id ≡ broken_at old id) × (new.service ≡ old.service))) at gives in
+    let n : h.0 ≡ length out = omega (arith, h.2) in
+    record {
+      goes = subst (λ (n : ℕ). Goes (Take id n) old new) n (subst (λ (r : Result ℕ HubFault). IfOk r (λ n. Goes (Take id n) old new)) h.1 goes);
+      broken = h.4;
+      served = h.5;
+    }
+
 -- a piece that goes through the hub, whose pending bytes are taken
-pub passes : {A : Type 0} (id : ℕ) (piece : List ℕ) (now : Moment) (old fed new : Hub A) (out : List ℕ) → Goes (Piece id piece now) old fed
-    → ((s : State) → IsHub fed s → IsPending (s.connection id) out × ((t : State) × Step (Take id (length out)) s t × IsHub new t)) → Passes id (piece, now) old new out
-passes id piece now old fed new out goes takes s is =
+pub passes : {A : Type 0} (id : ℕ) (piece : List ℕ) (now : Moment) (old fed new : Hub A) (out : List ℕ) → Goes (Piece id piece now) old fed → pending_at fed id ≡ Some out → Goes (Take id (length out)) fed new → Passes id (piece, now) old new out
+passes id piece now old fed new out goes at takes s is =
     let a = goes s is in
     let b = takes a.0 a.2 in
-    (b.1.0, record { fed = a.0; comes = a.1; pending = b.0; taken = b.1.1 }, b.1.2)
+    (b.0, record { fed = a.0; comes = a.1; pending = pending_is fed id out at a.0 a.2; taken = b.1 }, b.2)
 
 -- the bytes that are pending behind a break are taken
-pub breaks_in : {A : Type 0} (id : ℕ) (piece : List ℕ) (now : Moment) (old fed new : Hub A) (out : List ℕ) → BreaksSo id piece now old fed
-    → IfSome (pending_at fed id) (λ pending. out ≡ pending) → IsSome (pending_at fed id) → new.service ≡ fed.service
+pub breaks_in : {A : Type 0} (id : ℕ) (piece : List ℕ) (now : Moment) (old fed new : Hub A) (out : List ℕ) → BreaksSo id piece now old fed → pending_at fed id ≡ Some out → new.service ≡ fed.service
     → (s : State) → IsHub old s → BreaksIn (piece, now) s id new.service out
-breaks_in id piece now old fed new out breaks given some served s is = of (s.connection id) (breaks s is)
+breaks_in id piece now old fed new out breaks at served s is = of (s.connection id) (breaks s is)
   where
-    take_it : (c : Connected) (o : Option (List ℕ)) → IsSome o → IfSome o (λ pending. out ≡ pending)
-        → IfSome o (λ pending. CameToBreak now s.served c.pending (c.rest ++ piece) fed.service pending) → CameToBreak now s.served c.pending (c.rest ++ piece) new.service out
-    take_it c None some given came = absurd (none_is some)
-      where
-        none_is : IsSome {T = List ℕ} None → ⊥
-        none_is e = cc
-    take_it c (Some pending) some given came = rw (served, given) came
-
     of : (o : Option Connected) → IfSome o (λ c. IfSome (pending_at fed id) (λ pending. CameToBreak now s.served c.pending (c.rest ++ piece) fed.service pending))
         → IfSome o (λ c. CameToBreak now s.served c.pending (c.rest ++ piece) new.service out)
     of None came = tt
-    of (Some c) came = take_it c (pending_at fed id) some given came
+    of (Some c) came = rw served (subst (λ (o : Option (List ℕ)). IfSome o (λ pending. CameToBreak now s.served c.pending (c.rest ++ piece) fed.service pending)) at came)
 
 -- a front of a buffer is as short as the buffer
 pub short_take : (n : ℕ) (buf : List ℕ) → n ≤ length buf → length buf ≤ MAX_PIECE → length (take n buf) ≤ MAX_PIECE

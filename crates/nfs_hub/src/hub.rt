@@ -46,9 +46,8 @@ pub struct Hub<A: Allocator + Copy = Global> {
 }
 
 impl<A: Allocator + Copy> Hub<A> {
-    ghost use Rattle.nfs_hub.specs.Machine.{State, Step};
-    ghost use Rattle.nfs_hub.specs.Served.{IsPending};
-    ghost use Rattle.nfs_hub.specs.Hub.{IsHub, LeadsTo, Goes, ConnectGives, ReloadGives, TakeGives, BreaksSo, broken_at, pending_at};
+    ghost use Rattle.nfs_hub.specs.Machine.{State};
+    ghost use Rattle.nfs_hub.specs.Hub.{IsHub, LeadsTo, Goes, ConnectGives, ReloadGives, TakeGives, ConsumeGives, BreaksSo, broken_at, pending_at};
 
     /// A hub of this server, with no connection open.
     fn over(alloc: A, service: Service<A>) -> Self
@@ -141,17 +140,25 @@ impl<A: Allocator + Copy> Hub<A> {
         Ok(connection.take(buf))
     }
 
-    /// Takes all pending bytes of a connection; none where the number is no open connection's.
-    pub(crate) fn take_all(&mut self, conn: ConnId) -> Vec<u8, A>
-        ensures goes { (s : State) → IsHub self.old s → IsPending (s.connection conn) result.items × ((t : State) × Step (Take conn (length result.items)) s t × IsHub self.new t) }
-        ensures broken { broken_at self.new conn ≡ broken_at self.old conn }
-        ensures given { IfSome (pending_at self.old conn) (λ pending. result.items ≡ pending) }
-        ensures served { self.new.service ≡ self.old.service }
+    /// Lends the pending bytes of a connection. `None` exactly where the number is no open connection's.
+    pub fn pending(&self, conn: ConnId) -> Option<&[u8]>
+        ensures { option_map (λ bytes. bytes.now) result ≡ pending_at self.now conn }
     {
-        match self.connections.get_mut(&conn.number) {
-            Some(connection) => connection.take_all(self.alloc),
-            None => Vec::new(self.alloc),
-        }
+        let connection = self.connections.get(&conn.number)?;
+        Some(connection.pending.bytes())
+    }
+
+    /// Drops the first `most` pending bytes of a connection, or all where there are fewer, and says how many. `NoSuch` exactly where
+    /// the number is no open connection's. The memory of the bytes stays with the connection, for other replies.
+    pub fn consume(&mut self, conn: ConnId, most: usize) -> Result<usize, HubFault>
+        ensures leads { IfOk result (λ n. (first : Served) (events : List Event) → LeadsTo first events self.old → LeadsTo first (Take conn n ∷ events) self.new) }
+        ensures goes { IfOk result (λ n. Goes (Take conn n) self.old self.new) }
+        ensures gives { ConsumeGives conn most result self.old self.new }
+    {
+        let Some(connection) = self.connections.get_mut(&conn.number) else {
+            return Err(HubFault::NoSuch);
+        };
+        Ok(connection.consume(most))
     }
 
     /// Whether a connection that isn't broken is inside a record.

@@ -86,8 +86,11 @@ fn pass<A: Allocator + Copy, W: Write>(
     ensures { PassGives result conn (piece.now, now) hub.old hub.new (W.contents writer.old) (W.contents writer.new) }
 {
     let fed = hub.feed(conn, piece, now);
-    let pending = hub.take_all(conn);
-    if !write_out(writer, &pending) {
+    let pending = hub.pending(conn).unwrap_or(&[]);
+    let count = pending.len();
+    let written = write_out(writer, pending);
+    let _ = hub.consume(conn, count);
+    if !written {
         return Some(ServeEnd::Write);
     }
     match fed {

@@ -1,6 +1,6 @@
 //! Connections: closed, broken, and as many as may be open at once.
 
-use crate::plain::{bare, close, connect, feed, take_out};
+use crate::plain::{bare, close, connect, consume, feed, take_out};
 use crate::words::{NULL, bytes_of};
 use nfs_hub::{ConnId, Hub, HubFault, MAX_CONNECTIONS};
 use std::alloc::Global;
@@ -23,7 +23,7 @@ fn closed(hub: &mut Hub) -> Result<[Option<HubFault>; 6], HubFault> {
     Ok([closed, again, fed, taken, other, last])
 }
 
-/// The faults of a call with a record behind it that breaks the connection, and of a call then; and how many bytes come out of it, in pieces of 20.
+/// The faults of a call with a record behind it that breaks the connection, and of a call then; and how many bytes come out of it, by 20: the first are taken, and the others dropped.
 fn broken(hub: &mut Hub) -> Result<([Option<HubFault>; 2], [usize; 3]), HubFault> {
     let mut out = [0u8; 20];
     let mut stream = bytes_of(NULL);
@@ -32,8 +32,8 @@ fn broken(hub: &mut Hub) -> Result<([Option<HubFault>; 2], [usize; 3]), HubFault
     let first = feed(hub, conn, stream.as_slice()).err();
     let again = feed(hub, conn, bytes_of(NULL).as_slice()).err();
     let a = take_out(hub, conn, &mut out)?;
-    let b = take_out(hub, conn, &mut out)?;
-    let c = take_out(hub, conn, &mut out)?;
+    let b = consume(hub, conn, 20)?;
+    let c = consume(hub, conn, 20)?;
     close(hub, conn)?;
     Ok(([first, again], [a, b, c]))
 }

@@ -84,15 +84,24 @@ pub fn take_out<A: Allocator + Copy>(
     hub.take_out(conn, buf)
 }
 
-/// Whether these bytes and nothing more are pending on a connection.
+/// Drops the first pending bytes of a connection.
+pub fn consume<A: Allocator + Copy>(
+    hub: &mut Hub<A>,
+    conn: ConnId,
+    most: usize,
+) -> Result<usize, HubFault> {
+    hub.consume(conn, most)
+}
+
+/// Whether these bytes and nothing more were pending on a connection, which are dropped then.
 pub fn is_pending<A: Allocator + Copy>(
     hub: &mut Hub<A>,
     conn: ConnId,
     wanted: &[u8],
 ) -> Result<bool, HubFault> {
-    let mut out = [0u8; 4096];
-    let taken = take_out(hub, conn, &mut out)?;
-    Ok(out.get(..taken) == Some(wanted))
+    let is_wanted = hub.pending(conn) == Some(wanted);
+    let dropped = consume(hub, conn, wanted.len())?;
+    Ok(is_wanted && dropped == wanted.len())
 }
 
 /// Whether calls are answered so on a new connection, which is closed then.

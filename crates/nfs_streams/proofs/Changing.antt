@@ -1,5 +1,5 @@
 -- One place and one connection change, and the others stay.
-use Rattle.std.proofs.Common.{◌≡◌, ◌≢◌, ◌<◌, ℕ, cond, eqb, List, ◌++◌, length, Option, Some, None, refl, sym, ap, subst, ◌∙◌, inl, inr, arith}
+use Rattle.std.proofs.Common.{◌≡◌, ◌≢◌, ◌<◌, ℕ, cond, eqb, List, length, Option, Some, None, refl, sym, ap, subst, ◌∙◌, inl, inr, arith}
 use Rattle.std.specs.Prelude.{set}
 use Rattle.std.proofs.lemmas.Bool.{cases_eq, eq-eqb, ne_eqb}
 use Rattle.nfs_hub.specs.declared.hub.Hub.{Hub}
@@ -22,32 +22,27 @@ owner_there : (owner : ℕ → ℕ) (id i k : ℕ) → k ≢ id → owner_with o
 owner_there owner id i k ne = rw (ne_eqb k id ne) refl
 
 -- The places `ps` with `x` at `i` become those with `y` there, and with them the connection of number `id`.
-pub record Change {A : Type 0} (start : ℕ) (hub' : Hub A) (ps : List (Option Peer)) (i : ℕ) (x y : Option Peer) (acts acts' : List Act) (t s t' s' : State) (id : ℕ) : Type 0 where
+pub record Change {A : Type 0} (start : ℕ) (hub' : Hub A) (ps : List (Option Peer)) (i : ℕ) (x y : Option Peer) (acts acts' : List Act) (s s' : State) (id : ℕ) : Type 0 where
   pub was : (p : Peer) → x ≡ Some p → p.conn ≡ id
   pub alone : (j : ℕ) (p : Peer) → j ≢ i → place_at ps j ≡ Some p → p.conn ≢ id
-  pub is : IsHub hub' t'
-  pub fresh : IsFresh t'
-  pub served : s'.served ≡ t'.served
-  pub next : s'.next ≡ t'.next
-  pub in_hub : (k : ℕ) → k ≢ id → t'.connection k ≡ t.connection k
-  pub in_machine : (k : ℕ) → k ≢ id → s'.connection k ≡ s.connection k
-  pub seat : Seat start id y (t'.connection id) (s'.connection id)
+  pub is : IsHub hub' s'
+  pub fresh : IsFresh s'
+  pub others : (k : ℕ) → k ≢ id → s'.connection k ≡ s.connection k
+  pub seat : Seat start id y (s'.connection id)
   pub now : (p : Peer) → y ≡ Some p → (p.conn ≡ id) × (p.place ≡ i) × (conn_at acts' i ≡ Some id)
   pub gone : y ≡ None → conn_at acts' i ≡ None
   pub conns : (j : ℕ) → j ≢ i → conn_at acts' j ≡ conn_at acts j
   pub count : open_in acts' ≡ taken (set ps i y)
 
-seat_move : (start k : ℕ) (at at' : Option Peer) (h h' m m' : Option Connected) → at' ≡ at → h' ≡ h → m' ≡ m → Seat start k at h m → Seat start k at' h' m'
-seat_move start k at at' h h' m m' e f g seat =
-    subst (λ (o : Option Peer). Seat start k o h' m') (sym e)
-    (subst (λ (o : Option Connected). Seat start k at o m') (sym f) (subst (λ (o : Option Connected). Seat start k at h o) (sym g) seat))
+seat_move : (start k : ℕ) (at at' : Option Peer) (c c' : Option Connected) → at' ≡ at → c' ≡ c → Seat start k at c → Seat start k at' c'
+seat_move start k at at' c c' e f seat = subst (λ (o : Option Peer). Seat start k o c') (sym e) (subst (λ (o : Option Connected). Seat start k at o) (sym f) seat)
 
 -- a number of this place that isn't its connection's is elsewhere
-seat_elsewhere : (start id k : ℕ) (x y : Option Peer) (h h' m m' : Option Connected) → k ≢ id → ((p : Peer) → x ≡ Some p → p.conn ≡ id) → ((p : Peer) → y ≡ Some p → p.conn ≡ id) → h' ≡ h → m' ≡ m → Seat start k x h m → Seat start k y h' m'
-seat_elsewhere start id k x y h h' m m' ne was now f g seat =
+seat_elsewhere : (start id k : ℕ) (x y : Option Peer) (c c' : Option Connected) → k ≢ id → ((p : Peer) → x ≡ Some p → p.conn ≡ id) → ((p : Peer) → y ≡ Some p → p.conn ≡ id) → c' ≡ c → Seat start k x c → Seat start k y c'
+seat_elsewhere start id k x y c c' ne was now f seat =
     elim seat [
-      | inl held ↦ absurd (ne (sym held.numbered ∙ was held.peer held.here))
-      | inr other ↦ inr (record { not_here = λ p e same. ne (sym same ∙ now p e); same = g ∙ other.same ∙ sym f; closed = λ le. f ∙ other.closed le })
+      | inl here ↦ absurd (ne (sym here.numbered ∙ was here.peer here.here))
+      | inr other ↦ inr (record { not_here = λ p e same. ne (sym same ∙ now p e); closed = λ le. f ∙ other.closed le })
     ]
 
 seated_here : (owner : ℕ → ℕ) (acts : List Act) (i id : ℕ) (y : Option Peer) → owner id ≡ i → ((p : Peer) → y ≡ Some p → (p.conn ≡ id) × (p.place ≡ i) × (conn_at acts i ≡ Some id)) → (y ≡ None → conn_at acts i ≡ None) → IsSeated owner acts i y
@@ -60,20 +55,20 @@ seated_there : (owner owner' : ℕ → ℕ) (acts acts' : List Act) (j : ℕ) (q
 seated_there owner owner' acts acts' j None same own seated = same ∙ seated
 seated_there owner owner' acts acts' j (Some p) same own seated = (same ∙ seated.0, own p refl ∙ seated.1, seated.2)
 
-module _ {A : Type 0} {start : ℕ} {hub hub' : Hub A} {ps : List (Option Peer)} {i : ℕ} {x y : Option Peer} {acts acts' : List Act} {s t' s' : State} {id : ℕ} (st : Stands start hub (set ps i x) acts s) (lt : i < length ps) (ch : Change start hub' ps i x y acts acts' st.state s t' s' id) where
+module _ {A : Type 0} {start : ℕ} {hub hub' : Hub A} {ps : List (Option Peer)} {i : ℕ} {x y : Option Peer} {acts acts' : List Act} {s s' : State} {id : ℕ} (st : Stands start hub (set ps i x) acts s) (lt : i < length ps) (ch : Change start hub' ps i x y acts acts' s s' id) where
   abbrev owner : ℕ → ℕ
   owner = owner_with st.owner id i
 
-  each_now : (k : ℕ) → Seat start k (place_at (set ps i y) (owner k)) (t'.connection k) (s'.connection k)
+  each_now : (k : ℕ) → Seat start k (place_at (set ps i y) (owner k)) (s'.connection k)
   each_now k = elim (cases_eq k id) [
-    | inl e ↦ subst (λ (j : ℕ). Seat start j (place_at (set ps i y) (owner j)) (t'.connection j) (s'.connection j)) (sym e)
-        (subst (λ (o : Option Peer). Seat start id o (t'.connection id) (s'.connection id)) (sym (ap (λ (j : ℕ). place_at (set ps i y) j) (owner_here st.owner id i) ∙ set_here ps i y lt)) ch.seat)
-    | inr ne ↦ subst (λ (j : ℕ). Seat start k (place_at (set ps i y) j) (t'.connection k) (s'.connection k)) (sym (owner_there st.owner id i k ne))
+    | inl e ↦ subst (λ (j : ℕ). Seat start j (place_at (set ps i y) (owner j)) (s'.connection j)) (sym e)
+        (subst (λ (o : Option Peer). Seat start id o (s'.connection id)) (sym (ap (λ (j : ℕ). place_at (set ps i y) j) (owner_here st.owner id i) ∙ set_here ps i y lt)) ch.seat)
+    | inr ne ↦ subst (λ (j : ℕ). Seat start k (place_at (set ps i y) j) (s'.connection k)) (sym (owner_there st.owner id i k ne))
         (elim (cases_eq (st.owner k) i) [
-          | inl at ↦ seat_move start k y (place_at (set ps i y) (st.owner k)) (t'.connection k) (t'.connection k) (s'.connection k) (s'.connection k) (ap (λ (j : ℕ). place_at (set ps i y) j) at ∙ set_here ps i y lt) refl refl
-              (seat_elsewhere start id k x y (st.state.connection k) (t'.connection k) (s.connection k) (s'.connection k) ne ch.was (λ p e. (ch.now p e).0) (ch.in_hub k ne) (ch.in_machine k ne)
-              (seat_move start k (place_at (set ps i x) (st.owner k)) x (st.state.connection k) (st.state.connection k) (s.connection k) (s.connection k) (sym (ap (λ (j : ℕ). place_at (set ps i x) j) at ∙ set_here ps i x lt)) refl refl (st.each k)))
-          | inr other ↦ seat_move start k (place_at (set ps i x) (st.owner k)) (place_at (set ps i y) (st.owner k)) (st.state.connection k) (t'.connection k) (s.connection k) (s'.connection k) (set_there ps i (st.owner k) y other ∙ sym (set_there ps i (st.owner k) x other)) (ch.in_hub k ne) (ch.in_machine k ne) (st.each k)
+          | inl at ↦ seat_move start k y (place_at (set ps i y) (st.owner k)) (s'.connection k) (s'.connection k) (ap (λ (j : ℕ). place_at (set ps i y) j) at ∙ set_here ps i y lt) refl
+              (seat_elsewhere start id k x y (s.connection k) (s'.connection k) ne ch.was (λ p e. (ch.now p e).0) (ch.others k ne)
+              (seat_move start k (place_at (set ps i x) (st.owner k)) x (s.connection k) (s.connection k) (sym (ap (λ (j : ℕ). place_at (set ps i x) j) at ∙ set_here ps i x lt)) refl (st.each k)))
+          | inr other ↦ seat_move start k (place_at (set ps i x) (st.owner k)) (place_at (set ps i y) (st.owner k)) (s.connection k) (s'.connection k) (set_there ps i (st.owner k) y other ∙ sym (set_there ps i (st.owner k) x other)) (ch.others k ne) (st.each k)
         ])
   ]
 
@@ -85,42 +80,38 @@ module _ {A : Type 0} {start : ℕ} {hub hub' : Hub A} {ps : List (Option Peer)}
   ]
 
   pub changed : Stands start hub' (set ps i y) acts' s'
-  changed = record { state = t'; is = ch.is; fresh = ch.fresh; served = ch.served; next = ch.next; owner = owner; each = each_now; seated = seated_now; count = ch.count }
+  changed = record { is = ch.is; fresh = ch.fresh; owner = owner; each = each_now; seated = seated_now; count = ch.count }
 
 -- ---- the connection of a place
 
-pub record Here (i : ℕ) (p : Peer) (acts : List Act) (t s : State) : Type 0 where
+pub record Here (i : ℕ) (p : Peer) (acts : List Act) (s : State) : Type 0 where
   pub conn : conn_at acts i ≡ Some p.conn
   pub place : p.place ≡ i
   pub connected : Connected
-  pub opened : t.connection p.conn ≡ Some connected
+  pub opened : s.connection p.conn ≡ Some connected
   pub broken : connected.broken ≡ p.broken
-  pub behind : s.connection p.conn ≡ Some (record connected { pending = p.held ++ connected.pending })
 
 pub some_peer : (p q : Peer) → Some p ≡ Some q → p ≡ q
 some_peer p q e = cc
 
-held_here : (start i : ℕ) (p : Peer) (acts : List Act) (t s : State) → conn_at acts i ≡ Some p.conn → p.place ≡ i → Seat start p.conn (Some p) (t.connection p.conn) (s.connection p.conn) → Here i p acts t s
-held_here start i p acts t s conn place seat =
+seated_as : (start i : ℕ) (p : Peer) (acts : List Act) (s : State) → conn_at acts i ≡ Some p.conn → p.place ≡ i → Seat start p.conn (Some p) (s.connection p.conn) → Here i p acts s
+seated_as start i p acts s conn place seat =
     elim seat [
-      | inl held ↦ let same : held.peer ≡ p = sym (some_peer p held.peer held.here) in
-          record {
-            conn = conn;
-            place = place;
-            connected = held.connected;
-            opened = held.opened;
-            broken = subst (λ (q : Peer). held.connected.broken ≡ q.broken) same held.broken;
-            behind = subst (λ (q : Peer). s.connection p.conn ≡ Some (record held.connected { pending = q.held ++ held.connected.pending })) same held.behind;
-          }
+      | inl here ↦ record {
+        conn = conn;
+        place = place;
+        connected = here.connected;
+        opened = here.opened;
+        broken = here.broken ∙ ap (λ (q : Peer). q.broken) (sym (some_peer p here.peer here.here));
+      }
       | inr other ↦ absurd (other.not_here p refl refl)
     ]
 
 -- the connection of a place, of any places
-pub here_at : {A : Type 0} {start : ℕ} {hub : Hub A} {places : List (Option Peer)} {acts : List Act} {s : State} (st : Stands start hub places acts s) (j : ℕ) (q : Peer) → place_at places j ≡ Some q → Here j q acts st.state s
+pub here_at : {A : Type 0} {start : ℕ} {hub : Hub A} {places : List (Option Peer)} {acts : List Act} {s : State} (st : Stands start hub places acts s) (j : ℕ) (q : Peer) → place_at places j ≡ Some q → Here j q acts s
 here_at {start = start} {places = places} {acts = acts} {s = s} st j q at =
     let seated : IsSeated st.owner acts j (Some q) = subst (λ (o : Option Peer). IsSeated st.owner acts j o) at (st.seated j) in
-    held_here start j q acts st.state s seated.0 seated.2
-    (subst (λ (o : Option Peer). Seat start q.conn o (st.state.connection q.conn) (s.connection q.conn)) (ap (λ (k : ℕ). place_at places k) seated.1 ∙ at) (st.each q.conn))
+    seated_as start j q acts s seated.0 seated.2 (subst (λ (o : Option Peer). Seat start q.conn o (s.connection q.conn)) (ap (λ (k : ℕ). place_at places k) seated.1 ∙ at) (st.each q.conn))
 
 -- a connection is at one place
 pub one_place : {A : Type 0} {start : ℕ} {hub : Hub A} {places : List (Option Peer)} {acts : List Act} {s : State} (st : Stands start hub places acts s) (i j : ℕ) (p q : Peer) → place_at places i ≡ Some p → place_at places j ≡ Some q → q.conn ≡ p.conn → j ≡ i
@@ -131,20 +122,17 @@ one_place {acts = acts} st i j p q at at' same =
 
 -- a connection goes on at its place, behind acts that admit and close no stream
 pub stays_at : {A : Type 0} {start : ℕ} {hub : Hub A} {acts : List Act} {s : State} (ps : List (Option Peer)) (i : ℕ) (p p' : Peer) (st : Stands start hub (set ps i (Some p)) acts s) → i < length ps → p'.conn ≡ p.conn → p'.place ≡ p.place
-    → (hub' : Hub A) (acts' : List Act) (t' s' : State) → IsHub hub' t' → ((k : ℕ) → k ≢ p.conn → t'.connection k ≡ st.state.connection k) → t'.next ≡ st.state.next → ((k : ℕ) → k ≢ p.conn → s'.connection k ≡ s.connection k) → s'.next ≡ s.next → s'.served ≡ t'.served
-    → Seat start p.conn (Some p') (t'.connection p.conn) (s'.connection p.conn) → ((j : ℕ) → conn_at acts' j ≡ conn_at acts j) → open_in acts' ≡ open_in acts → Stands start hub' (set ps i (Some p')) acts' s'
-stays_at {acts = acts} {s = s} ps i p p' st lt conn place hub' acts' t' s' is in_hub hub_next in_machine next served seat conns count =
+    → (hub' : Hub A) (acts' : List Act) (s' : State) → IsHub hub' s' → ((k : ℕ) → k ≢ p.conn → s'.connection k ≡ s.connection k) → s'.next ≡ s.next → Seat start p.conn (Some p') (s'.connection p.conn)
+    → ((j : ℕ) → conn_at acts' j ≡ conn_at acts j) → open_in acts' ≡ open_in acts → Stands start hub' (set ps i (Some p')) acts' s'
+stays_at {acts = acts} {s = s} ps i p p' st lt conn place hub' acts' s' is others next seat conns count =
     let at = set_here ps i (Some p) lt in
     let h = here_at st i p at in
     changed st lt (record {
       was = λ q e. ap (λ (r : Peer). r.conn) (sym (some_peer p q e));
       alone = λ j q ne there same. ne (one_place st i j p q at (set_there ps i j (Some p) ne ∙ there) same);
       is = is;
-      fresh = fresh_on st.state t' p.conn h.connected st.fresh h.opened in_hub hub_next;
-      served = served;
-      next = next ∙ st.next ∙ sym hub_next;
-      in_hub = in_hub;
-      in_machine = in_machine;
+      fresh = fresh_on s s' p.conn h.connected st.fresh h.opened others next;
+      others = others;
       seat = seat;
       now = λ q e. let same : q ≡ p' = sym (some_peer p' q e) in (ap (λ (r : Peer). r.conn) same ∙ conn, ap (λ (r : Peer). r.place) same ∙ place ∙ h.place, conns i ∙ h.conn);
       gone = λ e. absurd (cc);
@@ -155,11 +143,8 @@ stays_at {acts = acts} {s = s} ps i p p' st lt conn place hub' acts' t' s' is in
 -- behind acts that admit and close no stream everything stays
 pub stands_as : {A : Type 0} {start : ℕ} {hub : Hub A} {places : List (Option Peer)} {acts : List Act} {s : State} (acts' : List Act) → ((j : ℕ) → conn_at acts' j ≡ conn_at acts j) → open_in acts' ≡ open_in acts → Stands start hub places acts s → Stands start hub places acts' s
 stands_as {places = places} {acts = acts} acts' conns count st = record {
-  state = st.state;
   is = st.is;
   fresh = st.fresh;
-  served = st.served;
-  next = st.next;
   owner = st.owner;
   each = st.each;
   seated = λ j. seated_there st.owner st.owner acts acts' j (place_at places j) (conns j) (λ p e. refl) (st.seated j);
@@ -168,12 +153,9 @@ stands_as {places = places} {acts = acts} acts' conns count st = record {
 
 -- a hub in the state of another
 pub stands_in : {A : Type 0} {start : ℕ} {hub : Hub A} {places : List (Option Peer)} {acts : List Act} {s : State} (hub' : Hub A) → IsUnchanged hub hub' → Stands start hub places acts s → Stands start hub' places acts s
-stands_in {hub = hub} hub' same st = record {
-  state = st.state;
-  is = unchanged hub st.state st.is hub' same;
+stands_in {hub = hub} {s = s} hub' same st = record {
+  is = unchanged hub s st.is hub' same;
   fresh = st.fresh;
-  served = st.served;
-  next = st.next;
   owner = st.owner;
   each = st.each;
   seated = st.seated;

@@ -1,15 +1,18 @@
--- The answers of the hub about a connection that is open in its state, and states with one connection replaced.
-use Rattle.std.proofs.Common.{◌≡◌, ◌≢◌, ◌≤◌, ℕ, Bool, cond, eqb, List, Option, Some, None, option_map, refl, sym, ap, subst, ◌∙◌, inl, inr}
+-- The answers of the hub about a connection that is open in its state.
+use Rattle.std.proofs.Common.{◌≡◌, ◌≢◌, ◌≤◌, ℕ, Bool, List, [], ◌∷◌, length, arith, Option, Some, None, option_map, sym, ap, subst, ◌∙◌, inl, inr}
 use Rattle.std.specs.Prelude.{MatchOption}
+use Rattle.std.specs.Option.{unwrap_or}
+use Rattle.std.specs.Borrow.{Bor}
 use Rattle.std.specs.Ordering.{nat_cmp}
 use Rattle.std.specs.BTreeMap.{get}
-use Rattle.std.proofs.lemmas.Bool.{cases_eq, eq-eqb, ne_eqb}
+use Rattle.std.proofs.lemmas.Bool.{cases_eq}
 use Rattle.nfs_hub.specs.declared.connection.Connection.{Connection}
 use Rattle.nfs_hub.specs.declared.hub.Hub.{Hub}
 use Rattle.nfs_hub.specs.Answer.{Served}
 use Rattle.nfs_hub.specs.Machine.{Connected, State, OnConnection, ChangesConnection}
 use Rattle.nfs_hub.specs.Hub.{IsHub, SameConnection, IsUnchanged, pending_at, broken_at}
-use Rattle.nfs_streams.specs.Seats.{IsFresh}
+use Rattle.nfs_streams.specs.declared.peer.Peer.{Peer}
+use Rattle.nfs_streams.specs.Seats.{IsFresh, AreWaiting}
 
 same_bytes : {A : Type 0} (o : Option (Connection A)) (p : Option Connected) (c : Connected) → SameConnection o p → p ≡ Some c → option_map (λ (x : Connection A). x.pending.bytes) o ≡ Some c.pending
 same_bytes None None c same e = absurd (cc)
@@ -38,27 +41,6 @@ module _ {A : Type 0} (hub : Hub A) (state : State) (is : IsHub hub state) where
     connections = λ id. subst (λ (o : Option (Connection A)). SameConnection o (state.connection id)) (sym (same.connections id)) (is.connections id);
   }
 
-  -- the hub is in each state equal to its own
-  pub also_in : (other : State) → other.served ≡ state.served → other.next ≡ state.next → ((id : ℕ) → other.connection id ≡ state.connection id) → IsHub hub other
-  also_in other served next same = record {
-    served = served ∙ is.served;
-    next = next ∙ is.next;
-    connections = λ id. subst (λ (o : Option Connected). SameConnection (get nat_cmp hub.connections id) o) (sym (same id)) (is.connections id);
-  }
-
--- a state with another connection of a number
-abbrev pub put : State → Served → ℕ → Option Connected → State
-put s served id o = record { served = served; connection = λ k. cond (eqb k id) o (s.connection k); next = s.next }
-
-pub put_here : (s : State) (served : Served) (id : ℕ) (o : Option Connected) → (put s served id o).connection id ≡ o
-put_here s served id o = rw (eq-eqb id id refl) refl
-
-pub put_there : (s : State) (served : Served) (id : ℕ) (o : Option Connected) (k : ℕ) → k ≢ id → (put s served id o).connection k ≡ s.connection k
-put_there s served id o k ne = rw (ne_eqb k id ne) refl
-
-pub put_changes : (s : State) (served : Served) (id : ℕ) (o : Option Connected) → ChangesConnection id o s (put s served id o)
-put_changes s served id o = record { changed = put_here s served id o; others = put_there s served id o }
-
 -- a step on an open connection, and the connection after it
 pub record Stepped (id : ℕ) (on : Served → Connected → Served → Connected → Type 0) (old : State) (c : Connected) (new : State) : Type 0 where
   pub after : Connected
@@ -72,12 +54,6 @@ stepped id step old c new opened on =
     let h = subst (λ (o : Option Connected). MatchOption o (new ≡ old) (λ c. (d : Connected) × step old.served c new.served d × ChangesConnection id (Some d) old new × (new.next ≡ old.next))) opened on in
     record { after = h.0; does = h.1; changed = h.2.changed; others = h.2.others; next = h.3 }
 
--- a step on an open connection of another state
-pub steps : (id : ℕ) (step : Served → Connected → Served → Connected → Type 0) (old : State) (c d : Connected) (served : Served) → old.connection id ≡ Some c → step old.served c served d → OnConnection id step old (put old served id (Some d))
-steps id step old c d served opened does =
-    let new = put old served id (Some d) in
-    subst (λ (o : Option Connected). MatchOption o (new ≡ old) (λ c. (d : Connected) × step old.served c new.served d × ChangesConnection id (Some d) old new × (new.next ≡ old.next))) (sym opened) (d, does, put_changes old served id (Some d), refl)
-
 -- numbers still to come stay so, where an open connection changes
 pub fresh_on : (old new : State) (id : ℕ) (c : Connected) → IsFresh old → old.connection id ≡ Some c → ((k : ℕ) → k ≢ id → new.connection k ≡ old.connection k) → new.next ≡ old.next → IsFresh new
 fresh_on old new id c fresh opened others next k le =
@@ -86,3 +62,19 @@ fresh_on old new id c fresh opened others next k le =
       | inl e ↦ let was : old.connection id ≡ None = subst (λ (j : ℕ). old.connection j ≡ None) e (fresh k le') in absurd (cc)
       | inr ne ↦ others k ne ∙ fresh k le'
     ]
+
+-- the bytes that the hub lends, if there are any, are those that are pending
+pub lent : {A : Type 0} (hub : Hub A) (p : Peer) (bytes : Option (Bor (List ℕ))) (d : Bor (List ℕ)) → option_map (λ b. b.now) bytes ≡ pending_at hub p.conn → AreWaiting hub p (unwrap_or bytes d).now
+lent hub p None d is pending at = absurd (none_is pending (is ∙ at))
+  where
+    none_is : (x : List ℕ) → (let o : Option (List ℕ) = None in o) ≡ Some x → ⊥
+    none_is x e = cc
+lent hub p (Some bytes) d is pending at = same bytes.now pending (is ∙ at)
+  where
+    same : (x y : List ℕ) → Some x ≡ Some y → y ≡ x
+    same x y e = cc
+
+-- no bytes wait
+pub drained : {A : Type 0} (hub : Hub A) (p : Peer) (bytes : List ℕ) → AreWaiting hub p bytes → length bytes ≡ 0 → AreWaiting hub p []
+drained hub p [] waiting none = waiting
+drained hub p (x ∷ bytes) waiting none = absurd (omega (arith, none))

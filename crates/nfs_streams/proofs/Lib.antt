@@ -1,6 +1,5 @@
 pub mod Lists
 pub mod Hubs
-pub mod Filling
 pub mod Changing
 pub mod Steps
 pub mod Whole

@@ -1,6 +1,6 @@
 -- Places, and the known acts.
 use Rattle.std.proofs.Common.{◌≡◌, ◌≢◌, ◌<◌, ◌≤◌, ℕ, zero, suc, ◌+◌, cond, List, [], ◌∷◌, ◌++◌, length, Option, Some, None, refl, sym, ap, subst, ◌∙◌, inl, inr, append_assoc, arith}
-use Rattle.std.specs.Prelude.{is_some, set, get_or}
+use Rattle.std.specs.Prelude.{◌==◌, true, false, is_some, set, get_or}
 use Rattle.std.proofs.lemmas.Bool.{cases_eq, cases_lt, eq-eqb, ne_eqb}
 use Rattle.std.proofs.lemmas.List.{get_or-set_same, get_or-set_other, get_or_default, get_or_past, length-set, set-get_or}
 use Rattle.std.proofs.lemmas.List.Sums.{sum_by-set, sum_by-cons}
@@ -81,3 +81,24 @@ none_past ps n le free k =
 
 pub set_len : (ps ps' : List (Option Peer)) (i : ℕ) (x : Option Peer) → ps' ≡ set ps i x → length ps' ≡ length ps
 set_len ps ps' i x same = ap (λ (l : List (Option Peer)). length l) same ∙ length-set ps i x
+
+-- a list of no items, and one of some, by their test
+pub none_left : (n : ℕ) → true ≡ (n == 0) → n ≡ 0
+none_left n e =
+    elim (cases_eq n 0) [
+      | inl none ↦ none
+      | inr some ↦ absurd (not_both (e ∙ ne_eqb n 0 some))
+    ]
+  where
+    not_both : true ≡ false → ⊥
+    not_both e = cc
+
+pub some_left : (n : ℕ) → false ≡ (n == 0) → 0 < n
+some_left n e =
+    elim (cases_eq n 0) [
+      | inl none ↦ absurd (not_both (e ∙ eq-eqb n 0 none))
+      | inr some ↦ omega (arith, some)
+    ]
+  where
+    not_both : false ≡ true → ⊥
+    not_both e = cc

@@ -1,9 +1,9 @@
 -- Each act of serving, as a step from one stage to the next.
-use Rattle.std.proofs.Common.{◌≡◌, ◌≢◌, ◌≤◌, ◌<◌, ℕ, ◌+◌, Bool, true, false, List, [], ◌∷◌, ◌++◌, length, take, drop, Option, Some, None, refl, sym, ap, subst, ◌∙◌, option_map, inl, inr, arith}
+use Rattle.std.proofs.Common.{◌≡◌, ◌≢◌, ◌≤◌, ◌<◌, ℕ, ◌+◌, Bool, true, false, List, [], ◌∷◌, ◌++◌, length, take, Option, Some, None, refl, sym, ap, subst, ◌∙◌, option_map, inl, inr, arith}
 use Rattle.std.specs.Ordering.{nat_cmp}
 use Rattle.std.specs.BTreeMap.{get}
-use Rattle.std.specs.Prelude.{ℤ, MatchOption, Err, Ok, set}
-use Rattle.std.proofs.lemmas.List.{drop_at, set-set, length-append, length-take-le, take-append-le, drop-append-le}
+use Rattle.std.specs.Prelude.{ℤ, Result, MatchOption, IfOk, Err, Ok, min, set, drop}
+use Rattle.std.proofs.lemmas.List.{set-set, length-append, length-take-le, take-append-le}
 use Rattle.std.proofs.lemmas.Bool.{cases_eq}
 use Rattle.who_book.specs.Content.{Content}
 use Rattle.compound_run.specs.State.{State as ServerState}
@@ -14,94 +14,57 @@ use Rattle.nfs_hub.specs.declared.fault.HubFault.{HubFault}
 use Rattle.nfs_hub.specs.declared.fault.HubFault.TheVariants as fault
 use Rattle.nfs_hub.specs.Answer.{Served as ServedState, reloaded}
 use Rattle.nfs_hub.specs.Machine.{Connected, State, Connect, Piece, Take, Close, Reload, Step, PieceOn, TakeOn, ChangesConnection, fresh}
-use Rattle.nfs_hub.specs.Hub.{IsHub, Goes, ConnectGives, IsUnchanged, SameConnection, pending_at, broken_at}
+use Rattle.nfs_hub.specs.Hub.{IsHub, Goes, ConnectGives, ConsumeGives, IsUnchanged, SameConnection, pending_at, broken_at}
 use Rattle.nfs_streams.specs.declared.peer.Peer.{Peer}
 use Rattle.nfs_streams.specs.declared.serving.AllEnd.TheVariants.{Served, Turns, Wait, Keep}
 use Rattle.nfs_streams.specs.Acts.{Act, JustKnocked, IsSettled, Waited, Knocked, Admitted, Closed, Heard, Ended, Told, Failed, Kept, Lost, Loaded, Adds, Has, conn_at, knocked}
 use Rattle.nfs_streams.specs.Runs.{On, StepAt, CanHear, IsSpent, IsWaiting}
-use Rattle.nfs_streams.specs.Filling.{Fills}
-use Rattle.nfs_streams.specs.Seats.{Stands, Drained, IsSeated, IsFresh, place_at, taken}
-use Rattle.nfs_streams.specs.Standing.{Origin, Stage, Listening, Full, Answering, Stopped, Ending, Way, Standing, Refills, IsClosing, closed_stage}
+use Rattle.nfs_streams.specs.Seats.{Stands, AreWaiting, IsSeated, IsFresh, place_at, taken}
+use Rattle.nfs_streams.specs.Standing.{Origin, Stage, Listening, Full, Answering, Stopped, Ending, Way, Standing, IsClosing, closed_stage}
 use Rattle.nfs_streams.proofs.Lists.{set_here, set_there, set_back, taken_swap, adds_on, closed_here, closed_there, admitted_here, admitted_there}
-use Rattle.nfs_streams.proofs.Hubs.{pending_of, broken_of, put, put_here, put_there, stepped, steps}
-use Rattle.nfs_streams.proofs.Changing.{changed, some_peer, here_at, one_place, stays_at, stands_as, stands_in}
-
--- ---- bytes that wait in the hub are held
-
-abbrev with_pending : Connected → List ℕ → Option Connected
-with_pending c pending = Some (record c { pending = pending })
-
-filled : {A : Type 0} {start : ℕ} {old : Hub A} {acts : List Act} {s : State} (ps : List (Option Peer)) (i : ℕ) (p : Peer) (held : List ℕ) (new : Hub A) (st : Stands start old (set ps i (Some p)) acts s) → i < length ps → p.held ≡ [] → Fills p.conn held old new
-    → Stands start new (set ps i (Some (record p { held = held }))) acts s
-filled {old = old} {acts = acts} {s = s} ps i p held new st lt none fills =
-    let h = here_at st i p (set_here ps i (Some p) lt) in
-    let c = h.connected in
-    let f = subst (λ (o : Option (List ℕ)). MatchOption o (pending_at new p.conn ≡ None) (λ pending. (rest : List ℕ) × (pending ≡ held ++ rest) × (pending_at new p.conn ≡ Some rest) × Goes (Take p.conn (length held)) old new × (held ≡ [] → rest ≡ [])))
-    (pending_of old st.state st.is p.conn c h.opened) fills in
-    let g = f.3 st.state st.is in
-    let u = stepped p.conn (TakeOn (length held)) st.state c g.0 h.opened g.1 in
-    let left : drop (length held) c.pending ≡ f.0 = ap (λ (l : List ℕ). drop (length held) l) f.1 ∙ drop_at held f.0 (length held) refl in
-    let bytes : p.held ++ c.pending ≡ held ++ drop (length held) c.pending = ap (λ (l : List ℕ). l ++ c.pending) none ∙ f.1 ∙ ap (λ (l : List ℕ). held ++ l) (sym left) in
-    stays_at ps i p (record p { held = held }) st lt refl refl new acts g.0 s g.2 u.others u.next (λ k ne. refl) refl (st.served ∙ sym u.does.0)
-    (inl (record {
-      peer = record p { held = held };
-      connected = u.after;
-      here = refl;
-      numbered = refl;
-      opened = u.changed;
-      broken = ap (λ (k : Connected). k.broken) u.does.2 ∙ h.broken;
-      behind = h.behind ∙ ap (λ (l : List ℕ). with_pending c l) bytes ∙ sym (ap (λ (k : Connected). with_pending k (held ++ k.pending)) u.does.2);
-    }))
-    (λ j. refl) refl
-
-pub fills : {A : Type 0} (p : Peer) (held : List ℕ) (old new : Hub A) → p.held ≡ [] → Fills p.conn held old new → Refills old p new (record p { held = held })
-fills p held old new none fill stage now o left i ps lt st = record {
-  acts = st.acts;
-  machine = st.machine;
-  way = st.way;
-  stands = filled ps i p held new st.stands lt none fill;
-  adds = st.adds;
-  fewer = st.fewer;
-}
+use Rattle.nfs_streams.proofs.Hubs.{pending_of, broken_of, stepped}
+use Rattle.nfs_streams.proofs.Changing.{Here, changed, some_peer, here_at, one_place, stays_at, stands_as, stands_in}
 
 -- ---- a piece is read and fed
 
 same_bool : (a b : Bool) → Some a ≡ Some b → a ≡ b
 same_bool a b e = cc
 
+none_some : {X : Type 0} (x : X) → None ≡ Some x → ⊥
+none_some x e = cc
+
+-- the bytes that wait are pending on the connection of the place
+waiting_at : {A : Type 0} {start : ℕ} {hub : Hub A} {places : List (Option Peer)} {acts : List Act} {s : State} (st : Stands start hub places acts s) (i : ℕ) (p : Peer) (h : Here i p acts s) (bytes : List ℕ) → AreWaiting hub p bytes → h.connected.pending ≡ bytes
+waiting_at {hub = hub} {s = s} st i p h bytes waiting = waiting h.connected.pending (pending_of hub s st.is p.conn h.connected h.opened)
+
 module _ {A : Type 0} {n : ℕ} {o : Origin} {hub : Hub A} {left : ℕ} {before : Option (List Act)} (ps : List (Option Peer)) (i : ℕ) (p : Peer) (lt : i < length ps) (st : Standing (Listening n) o hub (set ps i (Some p)) left before) where
   -- the connection can hear
-  abbrev can_hear : Drained hub p → p.broken ≡ false → On st.acts p.place st.machine CanHear
+  abbrev can_hear : AreWaiting hub p [] → p.broken ≡ false → On st.acts p.place st.machine CanHear
   can_hear drained whole =
       let h = here_at st.stands i p (set_here ps i (Some p) lt) in
-      let c = h.connected in
-      (p.conn, c, ap (λ (j : ℕ). conn_at st.acts j) h.place ∙ h.conn, h.behind ∙ ap (λ (l : List ℕ). with_pending c (l ++ c.pending)) drained.0, (h.broken ∙ whole, drained.1 c.pending (pending_of hub st.stands.state st.stands.is p.conn c h.opened)))
+      (p.conn, h.connected, ap (λ (j : ℕ). conn_at st.acts j) h.place ∙ h.conn, h.opened, (h.broken ∙ whole, waiting_at st.stands i p h [] drained))
 
-  pub heard : (hub' : Hub A) (piece : List ℕ) (now : Moment) (b told : Bool) (z : ℤ) (after : Option (List Act)) → Drained hub p → p.broken ≡ false → length piece ≤ 4096 → Goes (Piece p.conn piece now) hub hub' → b ≡ told → broken_at hub' p.conn ≡ option_map (λ was. told) (broken_at hub p.conn)
+  pub heard : (hub' : Hub A) (piece : List ℕ) (now : Moment) (b told : Bool) (z : ℤ) (after : Option (List Act)) → AreWaiting hub p [] → p.broken ≡ false → length piece ≤ 4096 → Goes (Piece p.conn piece now) hub hub' → b ≡ told → broken_at hub' p.conn ≡ option_map (λ was. told) (broken_at hub p.conn)
       → Adds before after (Heard p.place piece ∷ []) → Standing (Listening n) o hub' (set ps i (Some (record p { broken = b; since = z }))) left after
   heard hub' piece now b told z after drained whole short goes same_b broken said =
       let h = here_at st.stands i p (set_here ps i (Some p) lt) in
       let c = h.connected in
       let can = can_hear drained whole in
-      let same : st.machine.connection p.conn ≡ Some c = h.behind ∙ ap (λ (l : List ℕ). with_pending c (l ++ c.pending)) drained.0 in
-      let g = goes st.stands.state st.stands.is in
-      let u = stepped p.conn (PieceOn piece now) st.stands.state c g.0 h.opened g.1 in
-      let s' = put st.machine g.0.served p.conn (Some u.after) in
-      let does = subst (λ (w : ServedState). PieceOn piece now w c g.0.served u.after) (sym st.stands.served) u.does in
+      let g = goes st.machine st.stands.is in
+      let u = stepped p.conn (PieceOn piece now) st.machine c g.0 h.opened g.1 in
       let acts' = Heard p.place piece ∷ st.acts in
       record {
         acts = acts';
-        machine = s';
-        way = ((st.machine, st.way.0, (st.way.2, short, can), (now, (p.conn, can.2, steps p.conn (PieceOn piece now) st.machine c u.after g.0.served same does))), st.way.1, tt);
-        stands = stays_at ps i p (record p { broken = b; since = z }) st.stands lt refl refl hub' acts' g.0 s' g.2 u.others u.next (put_there st.machine g.0.served p.conn (Some u.after)) refl refl
+        machine = g.0;
+        way = ((st.machine, st.way.0, (st.way.2, short, can), (now, (p.conn, can.2, g.1))), st.way.1, tt);
+        stands = stays_at ps i p (record p { broken = b; since = z }) st.stands lt refl refl hub' acts' g.0 g.2 u.others u.next
             (inl (record {
               peer = record p { broken = b; since = z };
               connected = u.after;
               here = refl;
               numbered = refl;
               opened = u.changed;
-              broken = same_bool u.after.broken b (sym (broken_of hub' g.0 g.2 p.conn u.after u.changed) ∙ broken ∙ ap (λ (x : Option Bool). option_map (λ was. told) x) (broken_of hub st.stands.state st.stands.is p.conn c h.opened) ∙ ap (λ (x : Bool). Some x) (sym same_b));
-              behind = put_here st.machine g.0.served p.conn (Some u.after) ∙ sym (ap (λ (l : List ℕ). with_pending u.after (l ++ u.after.pending)) drained.0);
+              broken = same_bool u.after.broken b (sym (broken_of hub' g.0 g.2 p.conn u.after u.changed) ∙ broken ∙ ap (λ (x : Option Bool). option_map (λ was. told) x) (broken_of hub st.machine st.stands.is p.conn c h.opened) ∙ ap (λ (x : Bool). Some x) (sym same_b));
             }))
             (λ j. refl) refl;
         adds = adds_on o.first before after st.acts (Heard p.place piece ∷ []) st.adds said;
@@ -110,66 +73,62 @@ module _ {A : Type 0} {n : ℕ} {o : Origin} {hub : Hub A} {left : ℕ} {before 
 
 -- ---- bytes are written
 
-held_waits : (held pending : List ℕ) → 0 < length held → held ++ pending ≢ []
-held_waits held pending some none = let len : length (held ++ pending) ≡ 0 = ap (λ (l : List ℕ). length l) none in absurd (omega (arith, length-append held pending, len))
-
--- held bytes wait to be written
-abbrev is_waiting : {A : Type 0} {start : ℕ} {hub : Hub A} {acts : List Act} {s : State} (ps : List (Option Peer)) (i : ℕ) (p : Peer) (st : Stands start hub (set ps i (Some p)) acts s) → i < length ps → 0 < length p.held → On acts p.place s IsWaiting
-is_waiting {acts = acts} ps i p st lt some =
+-- bytes wait to be written
+abbrev is_waiting : {A : Type 0} {start : ℕ} {hub : Hub A} {acts : List Act} {s : State} (ps : List (Option Peer)) (i : ℕ) (p : Peer) (st : Stands start hub (set ps i (Some p)) acts s) → i < length ps → (bytes : List ℕ) → AreWaiting hub p bytes → 0 < length bytes → On acts p.place s IsWaiting
+is_waiting {acts = acts} ps i p st lt bytes waiting some =
     let h = here_at st i p (set_here ps i (Some p) lt) in
-    let c = h.connected in
-    (p.conn, record c { pending = p.held ++ c.pending }, ap (λ (j : ℕ). conn_at acts j) h.place ∙ h.conn, h.behind, held_waits p.held c.pending some)
+    (p.conn, h.connected, ap (λ (j : ℕ). conn_at acts j) h.place ∙ h.conn, h.opened, λ none. let len : length bytes ≡ 0 = ap (λ (l : List ℕ). length l) (sym (waiting_at st i p h bytes waiting) ∙ none) in absurd (omega (arith, len, some)))
 
-module _ {A : Type 0} {n : ℕ} {o : Origin} {hub : Hub A} {left : ℕ} {before : Option (List Act)} (ps : List (Option Peer)) (i : ℕ) (p : Peer) (lt : i < length ps) (st : Standing (Answering n) o hub (set ps i (Some p)) left before) where
-  pub told : (k : ℕ) (z : ℤ) (after : Option (List Act)) → 0 < length p.held → k ≤ length p.held → Adds before after (Told p.place (take k p.held) ∷ []) → Standing (Answering n) o hub (set ps i (Some (record p { held = drop k p.held; since = z }))) left after
-  told k z after some le said =
+-- the written bytes, a front of those that were lent, are consumed
+module _ {A : Type 0} (id k : ℕ) (hub hub' : Hub A) (result : Result ℕ HubFault) (bytes front rest : List ℕ) (at : pending_at hub id ≡ Some bytes) (parts : bytes ≡ front ++ rest) (le : k ≤ length front) where
+  consumed : ConsumeGives id k result hub hub' → IfOk result (λ n. Goes (Take id n) hub hub') → Goes (Take id (length (take k front))) hub hub'
+  consumed gives goes =
+      let h = subst (λ (o : Option (List ℕ)). MatchOption o ((result ≡ Err fault.NoSuch) × IsUnchanged hub hub') (λ pending. (n : ℕ) × (result ≡ Ok n) × (n ≡ min k (length pending)) × (pending_at hub' id ≡ Some (drop n pending)) × (broken_at hub' id ≡ broken_at hub id) × (hub'.service ≡ hub.service))) at gives in
+      let all : length bytes ≡ length front + length rest = ap (λ (l : List ℕ). length l) parts ∙ length-append front rest in
+      let n : h.0 ≡ length (take k front) = omega (arith, h.2, all, le, length-take-le k front le) in
+      subst (λ (n : ℕ). Goes (Take id n) hub hub') n (subst (λ (r : Result ℕ HubFault). IfOk r (λ n. Goes (Take id n) hub hub')) h.1 goes)
+
+  front_of : take k front ≡ take (length (take k front)) bytes
+  front_of = sym (take-append-le k front rest le) ∙ ap (λ (l : List ℕ). take k l) (sym parts) ∙ ap (λ (m : ℕ). take m bytes) (sym (length-take-le k front le))
+
+module _ {A : Type 0} {n : ℕ} {o : Origin} {hub : Hub A} {left : ℕ} {before : Option (List Act)} (ps : List (Option Peer)) (i : ℕ) (p : Peer) (lt : i < length ps) (st : Standing (Answering n) o hub (set ps i (Some p)) left before) (bytes : List ℕ) (waiting : AreWaiting hub p bytes) (some : 0 < length bytes) where
+  pub told : (front rest : List ℕ) (k : ℕ) (z : ℤ) (hub' : Hub A) (result : Result ℕ HubFault) (after : Option (List Act)) → bytes ≡ front ++ rest → k ≤ length front → ConsumeGives p.conn k result hub hub' → IfOk result (λ n. Goes (Take p.conn n) hub hub')
+      → Adds before after (Told p.place (take k front) ∷ []) → Standing (Answering n) o hub' (set ps i (Some (record p { since = z }))) left after
+  told front rest k z hub' result after parts le gives goes said =
       let h = here_at st.stands i p (set_here ps i (Some p) lt) in
       let c = h.connected in
-      let e : Connected = record c { pending = p.held ++ c.pending } in
-      let bytes = take k p.held in
-      let len : length bytes ≡ k = length-take-le k p.held le in
+      let is : c.pending ≡ bytes = waiting_at st.stands i p h bytes waiting in
+      let at : pending_at hub p.conn ≡ Some bytes = pending_of hub st.machine st.stands.is p.conn c h.opened ∙ ap (λ (l : List ℕ). Some l) is in
+      let written = take k front in
       let conn : conn_at st.acts p.place ≡ Some p.conn = ap (λ (j : ℕ). conn_at st.acts j) h.place ∙ h.conn in
-      let front : bytes ≡ take (length bytes) e.pending = sym (take-append-le k p.held c.pending le) ∙ ap (λ (m : ℕ). take m e.pending) (sym len) in
-      let rest : drop (length bytes) e.pending ≡ drop k p.held ++ c.pending = ap (λ (m : ℕ). drop m e.pending) len ∙ drop-append-le k p.held c.pending le in
-      let within : length bytes ≤ length e.pending = simp length-append (omega (arith, len)) in
-      let d : Connected = record e { pending = drop (length bytes) e.pending } in
-      let s' = put st.machine st.machine.served p.conn (Some d) in
-      let acts' = Told p.place bytes ∷ st.acts in
+      let is_front : written ≡ take (length written) c.pending = subst (λ (l : List ℕ). written ≡ take (length written) l) (sym is) (front_of p.conn k hub hub' result bytes front rest at parts le) in
+      let g = consumed p.conn k hub hub' result bytes front rest at parts le gives goes st.machine st.stands.is in
+      let u = stepped p.conn (TakeOn (length written)) st.machine c g.0 h.opened g.1 in
+      let acts' = Told p.place written ∷ st.acts in
       record {
         acts = acts';
-        machine = s';
+        machine = g.0;
         way = (
-          (st.machine, st.way.0, (st.way.2, st.way.3, is_waiting ps i p st.stands lt some), ((p.conn, e, conn, h.behind, front), (p.conn, conn, steps p.conn (TakeOn (length bytes)) st.machine e d st.machine.served h.behind (refl, within, refl)))),
+          (st.machine, st.way.0, (st.way.2, st.way.3, is_waiting ps i p st.stands lt bytes waiting some), ((p.conn, c, conn, h.opened, is_front), (p.conn, conn, g.1))),
           st.way.1,
           tt,
-          inr st.way.3,
+          inr (subst (λ (w : ServedState). Has (Kept w.state) st.acts) (sym u.does.0) st.way.3),
         );
-        stands = stays_at ps i p (record p { held = drop k p.held; since = z }) st.stands lt refl refl hub acts' st.stands.state s' st.stands.is (λ j ne. refl) refl (put_there st.machine st.machine.served p.conn (Some d)) refl st.stands.served
+        stands = stays_at ps i p (record p { since = z }) st.stands lt refl refl hub' acts' g.0 g.2 u.others u.next
             (inl (record {
-              peer = record p { held = drop k p.held; since = z };
-              connected = c;
+              peer = record p { since = z };
+              connected = u.after;
               here = refl;
               numbered = refl;
-              opened = h.opened;
-              broken = h.broken;
-              behind = put_here st.machine st.machine.served p.conn (Some d) ∙ ap (λ (l : List ℕ). with_pending c l) rest;
+              opened = u.changed;
+              broken = ap (λ (d : Connected). d.broken) u.does.2 ∙ h.broken;
             }))
             (λ j. refl) refl;
-        adds = adds_on o.first before after st.acts (Told p.place bytes ∷ []) st.adds said;
+        adds = adds_on o.first before after st.acts (Told p.place written ∷ []) st.adds said;
         fewer = st.fewer;
       }
 
--- the bytes were lent, and the written bytes are left out
-pub told_of : {A : Type 0} {n : ℕ} {o : Origin} {hub : Hub A} {left : ℕ} {before : Option (List Act)} (ps : List (Option Peer)) (i : ℕ) (p : Peer) → i < length ps → Standing (Answering n) o hub (set ps i (Some p)) left before → (bytes held : List ℕ) (k : ℕ) (z : ℤ) (after : Option (List Act)) → 0 < length p.held → bytes ≡ p.held → held ≡ drop k p.held → k ≤ length bytes
-    → Adds before after (Told p.place (take k bytes) ∷ []) → Standing (Answering n) o hub (set ps i (Some (record p { held = held; since = z }))) left after
-told_of {n = n} {o = o} {hub = hub} {left = left} {before = before} ps i p lt st bytes held k z after some same rest le said =
-    subst (λ (l : List ℕ). Standing (Answering n) o hub (set ps i (Some (record p { held = l; since = z }))) left after) (sym rest)
-    (told ps i p lt st k z after some (subst (λ (l : List ℕ). k ≤ length l) same le) (subst (λ (l : List ℕ). Adds before after (Told p.place (take k l) ∷ [])) same said))
-
 -- ---- a connection is closed
-
-none_some : {X : Type 0} (x : X) → None ≡ Some x → ⊥
-none_some x e = cc
 
 -- behind the same acts and others that admit and close no stream, a connection is closed
 pub record Shut {A : Type 0} (start : ℕ) (hub' : Hub A) (places' : List (Option Peer)) (place : ℕ) (acts : List Act) (s : State) : Type 0 where
@@ -182,42 +141,33 @@ shut : {A : Type 0} {start : ℕ} {hub : Hub A} {acts : List Act} {s : State} (p
 shut {acts = acts} {s = s} ps i p st lt hub' goes =
     let at = set_here ps i (Some p) lt in
     let h = here_at st i p at in
-    let t = st.state in
-    let g = goes t st.is in
-    let t' = g.0 in
-    let s' = put s s.served p.conn None in
-    let acts' = Closed p.place ∷ acts in
-    let gone : t'.connection p.conn ≡ None = g.1.2.changed in
-    let gone' : s'.connection p.conn ≡ None = put_here s s.served p.conn None in
-    let changes : ChangesConnection p.conn None s s' = record { changed = gone'; others = put_there s s.served p.conn None } in
-    let here' : conn_at acts' i ≡ None = ap (λ (j : ℕ). conn_at (Closed j ∷ acts) i) h.place ∙ closed_here acts i in
+    let g = goes s st.is in
+    let gone : g.0.connection p.conn ≡ None = g.1.2.changed in
+    let here' : conn_at (Closed p.place ∷ acts) i ≡ None = ap (λ (j : ℕ). conn_at (Closed j ∷ acts) i) h.place ∙ closed_here acts i in
     record {
-      machine = s';
-      step = (p.conn, ap (λ (j : ℕ). conn_at acts j) h.place ∙ h.conn, (refl, refl, changes));
+      machine = g.0;
+      step = (p.conn, ap (λ (j : ℕ). conn_at acts j) h.place ∙ h.conn, g.1);
       stands = changed st lt (record {
         was = λ q e. ap (λ (r : Peer). r.conn) (sym (some_peer p q e));
         alone = λ j q ne there same. ne (one_place st i j p q at (set_there ps i j (Some p) ne ∙ there) same);
         is = g.2;
         fresh = λ k le. elim (cases_eq k p.conn) [
-          | inl e ↦ ap (λ (j : ℕ). t'.connection j) e ∙ gone
+          | inl e ↦ ap (λ (j : ℕ). g.0.connection j) e ∙ gone
           | inr ne ↦ g.1.2.others k ne ∙ st.fresh k (subst (λ (m : ℕ). m ≤ k) g.1.1 le)
         ];
-        served = st.served ∙ sym g.1.0;
-        next = st.next ∙ sym g.1.1;
-        in_hub = g.1.2.others;
-        in_machine = put_there s s.served p.conn None;
-        seat = inr (record { not_here = λ q e. absurd (none_some q e); same = gone' ∙ sym gone; closed = λ le. gone });
+        others = g.1.2.others;
+        seat = inr (record { not_here = λ q e. absurd (none_some q e); closed = λ le. gone });
         now = λ q e. absurd (none_some q e);
         gone = λ e. here';
         conns = λ j ne. ap (λ (m : ℕ). conn_at (Closed m ∷ acts) j) h.place ∙ closed_there acts i j ne;
         count = omega (arith, st.count, taken_swap ps i (Some p) None lt);
       });
-      served = refl;
+      served = g.1.0;
     }
 
 module _ {A : Type 0} {n : ℕ} {o : Origin} {hub : Hub A} {left : ℕ} {before : Option (List Act)} (ps : List (Option Peer)) (i : ℕ) (p : Peer) (lt : i < length ps) (st : Standing (Listening n) o hub (set ps i (Some p)) left before) (hub' : Hub A) (after : Option (List Act)) (goes : Goes (Close p.conn) hub hub') where
   -- the stream has ended
-  pub ended : (mid : Option (List Act)) → Drained hub p → p.broken ≡ false → Adds before mid (Ended p.place ∷ []) → Adds mid after (Closed p.place ∷ []) → Standing (Listening n) o hub' (set ps i None) left after
+  pub ended : (mid : Option (List Act)) → AreWaiting hub p [] → p.broken ≡ false → Adds before mid (Ended p.place ∷ []) → Adds mid after (Closed p.place ∷ []) → Standing (Listening n) o hub' (set ps i None) left after
   ended mid drained whole said closed =
       let over = Ended p.place ∷ st.acts in
       let x = shut ps i p (stands_as over (λ j. refl) refl st.stands) lt hub' goes in
@@ -231,16 +181,15 @@ module _ {A : Type 0} {n : ℕ} {o : Origin} {hub : Hub A} {left : ℕ} {before 
       }
 
   -- the connection is broken
-  pub spent : Drained hub p → p.broken ≡ true → Adds before after (Closed p.place ∷ []) → Standing (Listening n) o hub' (set ps i None) left after
+  pub spent : AreWaiting hub p [] → p.broken ≡ true → Adds before after (Closed p.place ∷ []) → Standing (Listening n) o hub' (set ps i None) left after
   spent drained broken closed =
       let h = here_at st.stands i p (set_here ps i (Some p) lt) in
-      let c = h.connected in
       let is_spent : On st.acts p.place st.machine IsSpent = (
         p.conn,
-        c,
+        h.connected,
         ap (λ (j : ℕ). conn_at st.acts j) h.place ∙ h.conn,
-        h.behind ∙ ap (λ (l : List ℕ). with_pending c (l ++ c.pending)) drained.0,
-        (h.broken ∙ broken, drained.1 c.pending (pending_of hub st.stands.state st.stands.is p.conn c h.opened)),
+        h.opened,
+        (h.broken ∙ broken, waiting_at st.stands i p h [] drained),
       ) in
       let x = shut ps i p st.stands lt hub' goes in
       record {
@@ -253,16 +202,16 @@ module _ {A : Type 0} {n : ℕ} {o : Origin} {hub : Hub A} {left : ℕ} {before 
       }
 
 -- writing to the stream has failed
-pub failed : {A : Type 0} {n : ℕ} {o : Origin} {hub : Hub A} {left : ℕ} {before : Option (List Act)} (ps : List (Option Peer)) (i : ℕ) (p : Peer) → i < length ps → Standing (Answering n) o hub (set ps i (Some p)) left before → (hub' : Hub A) (mid after : Option (List Act)) → 0 < length p.held → Goes (Close p.conn) hub hub'
-    → Adds before mid (Failed p.place ∷ []) → Adds mid after (Closed p.place ∷ []) → Standing (Answering n) o hub' (set ps i None) left after
-failed {o = o} {before = before} ps i p lt st hub' mid after some goes said closed =
+pub failed : {A : Type 0} {n : ℕ} {o : Origin} {hub : Hub A} {left : ℕ} {before : Option (List Act)} (ps : List (Option Peer)) (i : ℕ) (p : Peer) → i < length ps → Standing (Answering n) o hub (set ps i (Some p)) left before → (bytes : List ℕ) → AreWaiting hub p bytes → 0 < length bytes
+    → (hub' : Hub A) (mid after : Option (List Act)) → Goes (Close p.conn) hub hub' → Adds before mid (Failed p.place ∷ []) → Adds mid after (Closed p.place ∷ []) → Standing (Answering n) o hub' (set ps i None) left after
+failed {o = o} {before = before} ps i p lt st bytes waiting some hub' mid after goes said closed =
     let over = Failed p.place ∷ st.acts in
     let x = shut ps i p (stands_as over (λ j. refl) refl st.stands) lt hub' goes in
     record {
       acts = Closed p.place ∷ over;
       machine = x.machine;
       way = (
-        (st.machine, (st.machine, st.way.0, (st.way.2, st.way.3, is_waiting ps i p st.stands lt some), refl), inl (inr refl), x.step),
+        (st.machine, (st.machine, st.way.0, (st.way.2, st.way.3, is_waiting ps i p st.stands lt bytes waiting some), refl), inl (inr refl), x.step),
         st.way.1,
         tt,
         inr (inr (subst (λ (w : ServedState). Has (Kept w.state) st.acts) (sym x.served) st.way.3)),
@@ -357,29 +306,23 @@ opened hub hub' t id is is_fresh gives g =
     ]
 
 pub admits : {A : Type 0} {n : ℕ} {o : Origin} {hub : Hub A} {left : ℕ} {before : Option (List Act)} (ps : List (Option Peer)) (i id left' : ℕ) (z : ℤ) (hub' : Hub A) (mid after : Option (List Act)) → i < length ps → i < 16 → Standing (Listening n) o hub (set ps i None) left before → taken (set ps i None) < o.most → left ≡ left' + 1
-    → Adds before mid (Knocked ∷ []) → Goes Connect hub hub' → ConnectGives (Ok id) hub hub' → Adds mid after (Admitted i id ∷ []) → Standing (Listening n) o hub' (set ps i (Some (record { place = i; conn = id; held = []; broken = false; since = z }))) left' after
+    → Adds before mid (Knocked ∷ []) → Goes Connect hub hub' → ConnectGives (Ok id) hub hub' → Adds mid after (Admitted i id ∷ []) → Standing (Listening n) o hub' (set ps i (Some (record { place = i; conn = id; broken = false; since = z }))) left' after
 admits {o = o} {hub = hub} {before = before} ps i id left' z hub' mid after lt below st few less said goes gives let_in =
-    let peer : Peer = record { place = i; conn = id; held = []; broken = false; since = z } in
+    let peer : Peer = record { place = i; conn = id; broken = false; since = z } in
     let at = set_here ps i None lt in
     let was = st.stands in
-    let t = was.state in
-    let g = goes t was.is in
-    let t' = g.0 in
-    let w = opened hub hub' t id was.is was.fresh gives g in
     let s = st.machine in
-    let s_next : id ≡ s.next = w.0 ∙ sym was.next in
-    let s' : State = record { served = s.served; connection = (put s s.served id (Some fresh)).connection; next = s.next + 1 } in
+    let g = goes s was.is in
+    let w = opened hub hub' s id was.is was.fresh gives g in
     let knock = Knocked ∷ st.acts in
     let acts' = Admitted i id ∷ knock in
     let free : conn_at st.acts i ≡ None = subst (λ (x : Option Peer). IsSeated was.owner st.acts i x) at (was.seated i) in
-    let now_hub : t'.connection id ≡ Some fresh = ap (λ (k : ℕ). t'.connection k) w.0 ∙ w.3.changed in
-    let now : s'.connection id ≡ Some fresh = put_here s s.served id (Some fresh) in
-    let in_hub : (k : ℕ) → k ≢ id → t'.connection k ≡ t.connection k = λ k ne. w.3.others k (λ e. ne (e ∙ sym w.0)) in
-    let changes : ChangesConnection s.next (Some fresh) s s' = subst (λ (k : ℕ). ChangesConnection k (Some fresh) s s') s_next (record { changed = now; others = put_there s s.served id (Some fresh) }) in
+    let now : g.0.connection id ≡ Some fresh = ap (λ (k : ℕ). g.0.connection k) w.0 ∙ w.3.changed in
+    let others : (k : ℕ) → k ≢ id → g.0.connection k ≡ s.connection k = λ k ne. w.3.others k (λ e. ne (e ∙ sym w.0)) in
     record {
       acts = acts';
-      machine = s';
-      way = ((s, (s, st.way.0, st.way.2, refl), (refl, free, omega (arith, was.count), below), (s_next, inr (refl, refl, changes), now)), st.way.1, tt);
+      machine = g.0;
+      way = ((s, (s, st.way.0, st.way.2, refl), (refl, free, omega (arith, was.count), below), (w.0, g.1, now)), st.way.1, tt);
       stands = changed was lt (record {
         was = λ q e. absurd (none_some q e);
         alone = λ j q ne there same.
@@ -388,12 +331,9 @@ admits {o = o} {hub = hub} {before = before} ps i id left' z hub' mid after lt b
         is = g.2;
         fresh = λ k le.
             let ne : k ≢ id = λ e. absurd (omega (arith, e, w.0, w.2)) in
-            in_hub k ne ∙ was.fresh k (omega (arith, w.2));
-        served = was.served ∙ sym w.1;
-        next = ap (λ (k : ℕ). k + 1) was.next ∙ sym w.2;
-        in_hub = in_hub;
-        in_machine = put_there s s.served id (Some fresh);
-        seat = inl (record { peer = peer; connected = fresh; here = refl; numbered = refl; opened = now_hub; broken = refl; behind = now });
+            others k ne ∙ was.fresh k (omega (arith, w.2));
+        others = others;
+        seat = inl (record { peer = peer; connected = fresh; here = refl; numbered = refl; opened = now; broken = refl });
         now = λ q e. let same : q ≡ peer = sym (some_peer peer q e) in (ap (λ (r : Peer). r.conn) same, ap (λ (r : Peer). r.place) same, admitted_here knock i id);
         gone = λ e. absurd (none_some peer (sym e));
         conns = λ j ne. admitted_there knock i id j ne;
@@ -426,15 +366,11 @@ refused {hub = hub} hub' why gives st = record {
 pub loads : {A : Type 0} {n : ℕ} {o : Origin} {hub : Hub A} {places : List (Option Peer)} {left : ℕ} {before : Option (List Act)} (hub' : Hub A) (book : Content) (after : Option (List Act)) → Goes (Reload book) hub hub' → Adds before after (Loaded book ∷ []) → Standing (Listening n) o hub places left before → Standing (Listening n) o hub' places left after
 loads {o = o} {places = places} {before = before} hub' book after goes said st =
     let was = st.stands in
-    let g = goes was.state was.is in
-    let t' : State = record was.state { served = reloaded book was.state.served } in
+    let g = goes st.machine was.is in
     let s' : State = record st.machine { served = reloaded book st.machine.served } in
     let now : Stands o.start.next hub' places st.acts s' = record {
-      state = t';
       is = subst (λ (w : State). IsHub hub' w) g.1 g.2;
       fresh = was.fresh;
-      served = ap (λ (w : ServedState). reloaded book w) was.served;
-      next = was.next;
       owner = was.owner;
       each = was.each;
       seated = was.seated;
@@ -474,7 +410,7 @@ module _ {A : Type 0} {n : ℕ} {o : Origin} {hub : Hub A} {places : List (Optio
 
   pub keeps : (state : ServerState) → ((t : State) → IsHub hub t → t.served.state ≡ state) → Adds before after (Kept state ∷ []) → Standing (Answering n) o hub places left after
   keeps state serves said =
-      let is : st.machine.served.state ≡ state = ap (λ (w : ServedState). w.state) st.stands.served ∙ serves st.stands.state st.stands.is in
+      let is : st.machine.served.state ≡ state = serves st.machine st.stands.is in
       record {
         acts = Kept state ∷ st.acts;
         machine = st.machine;
@@ -509,12 +445,11 @@ pub gone_at : {A : Type 0} (stage : Stage) (o : Origin) (new : Hub A) (ps : List
 gone_at stage o new ps i left x y after st = subst (λ (l : List (Option Peer)). Standing stage o new l left after) (sym (set-set ps i x y)) st
 
 -- a stream is admitted at a free place
-pub admits_at : {A : Type 0} {n : ℕ} {o : Origin} {hub : Hub A} {left : ℕ} {before : Option (List Act)} (ps : List (Option Peer)) (i id left' : ℕ) (held : List ℕ) (z : ℤ) (hub' : Hub A) (mid after : Option (List Act)) → i < length ps → i < 16 → place_at ps i ≡ None → held ≡ [] → Standing (Listening n) o hub ps left before → taken ps < o.most → left ≡ left' + 1
-    → Adds before mid (Knocked ∷ []) → Goes Connect hub hub' → ConnectGives (Ok id) hub hub' → Adds mid after (Admitted i id ∷ []) → Standing (Listening n) o hub' (set ps i (Some (record { place = i; conn = id; held = held; broken = false; since = z }))) left' after
-admits_at {n = n} {o = o} {hub = hub} {left = left} {before = before} ps i id left' held z hub' mid after lt below free none st few less said goes gives let_in =
+pub admits_at : {A : Type 0} {n : ℕ} {o : Origin} {hub : Hub A} {left : ℕ} {before : Option (List Act)} (ps : List (Option Peer)) (i id left' : ℕ) (z : ℤ) (hub' : Hub A) (mid after : Option (List Act)) → i < length ps → i < 16 → place_at ps i ≡ None → Standing (Listening n) o hub ps left before → taken ps < o.most → left ≡ left' + 1
+    → Adds before mid (Knocked ∷ []) → Goes Connect hub hub' → ConnectGives (Ok id) hub hub' → Adds mid after (Admitted i id ∷ []) → Standing (Listening n) o hub' (set ps i (Some (record { place = i; conn = id; broken = false; since = z }))) left' after
+admits_at {n = n} {o = o} {hub = hub} {left = left} {before = before} ps i id left' z hub' mid after lt below free st few less said goes gives let_in =
     let same = sym (set_back ps i None free) in
-    subst (λ (l : List ℕ). Standing (Listening n) o hub' (set ps i (Some (record { place = i; conn = id; held = l; broken = false; since = z }))) left' after) (sym none)
-    (admits ps i id left' z hub' mid after lt below (subst (λ (l : List (Option Peer)). Standing (Listening n) o hub l left before) same st) (subst (λ (l : List (Option Peer)). taken l < o.most) same few) less said goes gives let_in)
+    admits ps i id left' z hub' mid after lt below (subst (λ (l : List (Option Peer)). Standing (Listening n) o hub l left before) same st) (subst (λ (l : List (Option Peer)). taken l < o.most) same few) less said goes gives let_in
 
 -- serving stops at its stage
 pub stops_served : {A : Type 0} {n : ℕ} {o : Origin} {hub : Hub A} {places : List (Option Peer)} {left : ℕ} {now : Option (List Act)} → Standing (Listening n) o hub places left now → Standing (Stopped Served n) o hub places left now

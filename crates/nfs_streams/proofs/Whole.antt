@@ -16,7 +16,7 @@ use Rattle.nfs_streams.specs.Seats.{Stands, IsFresh, IsSeated, Seat, place_at, t
 use Rattle.nfs_streams.specs.Standing.{Origin, Listening, Stopped, Ending, Standing, Moves, LeavesSo, RunGives}
 use Rattle.nfs_streams.specs.All.{EndsSo, AreClosed, ServesAll}
 use Rattle.nfs_streams.proofs.Lists.{none_at, adds_none}
-use Rattle.nfs_streams.proofs.Hubs.{also_in, fresh_on}
+use Rattle.nfs_streams.proofs.Hubs.{fresh_on}
 
 -- ---- no connection has a number still to come
 
@@ -51,8 +51,8 @@ fresh_leads first (event ∷ events) s leads = fresh_step event leads.0 s (fresh
 
 -- ---- the beginning
 
-seat_nobody : (start id : ℕ) (at : Option Peer) (o : Option Connected) → at ≡ None → (start ≤ id → o ≡ None) → Seat start id at o o
-seat_nobody start id at o none closed = inr (record { not_here = λ p e. absurd (none_is p (sym none ∙ e)); same = refl; closed = closed })
+seat_nobody : (start id : ℕ) (at : Option Peer) (o : Option Connected) → at ≡ None → (start ≤ id → o ≡ None) → Seat start id at o
+seat_nobody start id at o none closed = inr (record { not_here = λ p e. absurd (none_is p (sym none ∙ e)); closed = closed })
   where
     none_is : (p : Peer) → None ≡ Some p → ⊥
     none_is p e = cc
@@ -67,11 +67,8 @@ begins first events hub places most connections before h none =
       machine = h.state;
       way = (refl, refl, tt);
       stands = record {
-        state = h.state;
         is = h.is;
         fresh = is_fresh;
-        served = refl;
-        next = refl;
         owner = λ id. 0;
         each = λ id. seat_nobody h.state.next id (place_at places 0) (h.state.connection id) (free 0) (is_fresh id);
         seated = λ j. nobody j (place_at places j) (free j);
@@ -87,18 +84,15 @@ begins first events hub places most connections before h none =
 
 -- ---- the end
 
-all_same : {A : Type 0} {start : ℕ} {hub : Hub A} {places : List (Option Peer)} {acts : List Act} {s : State} (st : Stands start hub places acts s) → ((j : ℕ) → place_at places j ≡ None) → (id : ℕ) → (s.connection id ≡ st.state.connection id) × (start ≤ id → st.state.connection id ≡ None)
-all_same st free id =
+all_closed : {A : Type 0} {start : ℕ} {hub : Hub A} {places : List (Option Peer)} {acts : List Act} {s : State} (st : Stands start hub places acts s) → ((j : ℕ) → place_at places j ≡ None) → AreClosed start s
+all_closed st free id le =
     elim (st.each id) [
-      | inl held ↦ absurd (none_is held.peer (sym (free (st.owner id)) ∙ held.here))
-      | inr other ↦ (other.same, other.closed)
+      | inl here ↦ absurd (none_is here.peer (sym (free (st.owner id)) ∙ here.here))
+      | inr other ↦ other.closed le
     ]
   where
     none_is : (p : Peer) → None ≡ Some p → ⊥
     none_is p e = cc
-
-all_closed : {A : Type 0} {start : ℕ} {hub : Hub A} {places : List (Option Peer)} {acts : List Act} {s : State} (st : Stands start hub places acts s) → ((j : ℕ) → place_at places j ≡ None) → AreClosed start s
-all_closed st free id le = let a = all_same st free id in a.0 ∙ a.1 le
 
 ends_so : {A : Type 0} (end : AllEnd) (limits : Limits) {o : Origin} {hub : Hub A} {places : List (Option Peer)} {left n : ℕ} {now : Option (List Act)} (st : Standing (Stopped end n) o hub places left now) → o.connections ≡ limits.connections → LeavesSo end limits.turns n left places → EndsSo end limits o.start st.acts st.machine
 ends_so Served limits {places = places} st same leaves = (omega (arith, same, st.fewer, leaves.0), all_closed st.stands (none_at places leaves.1))
@@ -149,7 +143,6 @@ serves most first events end limits hub ran new places places' places'' left bef
     let same : last.acts ≡ endings ++ st.acts = last.way.1 in
     let a = runs_lead first events o.most st.acts h.state st.machine st.way.0 h.leads in
     let b = ends_lead first (a.0 ++ events) st.acts endings st.machine last.machine last.way.2 a.1 in
-    let t = last.stands in
     record {
       start = h.state;
       leads = h.leads;
@@ -162,9 +155,9 @@ serves most first events end limits hub ran new places places' places'' left bef
       endings = endings;
       last = last.machine;
       closing = last.way.2;
-      closed = all_closed t free;
+      closed = all_closed last.stands free;
       adds = subst (λ (acts : List Act). Adds before after acts) same last.adds;
-      is = also_in new t.state t.is last.machine t.served t.next (λ id. (all_same t free id).0);
+      is = last.stands.is;
       later = b.0 ++ a.0;
       on = subst (λ (es : List Event). Leads first es last.machine) (sym (append_assoc b.0 a.0 events)) b.1;
     }

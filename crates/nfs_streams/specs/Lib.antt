@@ -1,6 +1,5 @@
 pub mod Acts
 pub mod Runs
-pub mod Filling
 pub mod Seats
 pub mod Standing
 pub mod All

@@ -68,10 +68,6 @@ Changes stage old peer new peer' before after =
     (o : Origin) (left index : ℕ) (places : List (Option Peer)) → index < length places
     → Standing stage o old (set places index peer) left before → Standing stage o new (set places index peer') left after
 
--- bytes that wait in the hub are held: no act, at any stage
-abbrev pub Refills : {A : Type 0} → Hub A → Peer → Hub A → Peer → Type 0
-Refills old peer new peer' = (stage : Stage) (now : Option (List Act)) → Changes stage old (Some peer) new (Some peer') now now
-
 -- the connection of a place behind its part of a turn
 abbrev pub stays : Turned → Peer → Option Peer
 stays Idle peer = Some peer

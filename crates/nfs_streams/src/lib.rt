@@ -1,7 +1,6 @@
 //! Many connections to the file server at once, over streams of which some are ready.
 #![tactic(auto)]
 
-mod held;
 mod peer;
 mod places;
 mod serving;

@@ -1,13 +1,11 @@
 //! One connection and its stream.
-ghost use Rattle.std.specs.Prelude.{◌≡◌, ◌<◌, ℕ, [], ◌∷◌, Some, length};
-ghost use Rattle.std.specs.Bool.{OnTrue, OnFalse};
+ghost use Rattle.std.specs.Prelude.{◌≡◌, ℕ, [], ◌∷◌, Some};
 ghost use Rattle.nfs_hub.specs.Machine.{Close};
 ghost use Rattle.nfs_hub.specs.Hub.{Goes};
 ghost use Rattle.nfs_streams.specs.Acts.{Adds, Closed};
-ghost use Rattle.nfs_streams.specs.Seats.{Drained};
-ghost use Rattle.nfs_streams.specs.Standing.{Listening, Answering, Refills, Changes, stays};
+ghost use Rattle.nfs_streams.specs.Seats.{AreWaiting};
+ghost use Rattle.nfs_streams.specs.Standing.{Listening, Answering, Changes, stays};
 
-use crate::held::Held;
 use crate::streams::{Moved, Streams};
 use nfs_hub::{Clock, ConnId, Hub};
 use std::alloc::Allocator;
@@ -15,16 +13,14 @@ use std::alloc::Allocator;
 /// The most bytes of one read.
 const PIECE: usize = 4096;
 
-/// The most times that bytes of one connection are written in a turn.
-const ROUNDS: u32 = 32;
+/// The most bytes of one write.
+const MAX_WRITTEN: usize = 131_072;
 
 /// A connection at a place.
 #[derive(Drop)]
 pub(crate) struct Peer {
     pub(crate) place: usize,
     pub(crate) conn: ConnId,
-    /// The bytes that were taken of the pending bytes of the connection, and aren't written yet.
-    pub(crate) held: Held,
     pub(crate) broken: bool,
     /// The second in which the connection was admitted, or bytes were read or written last.
     pub(crate) since: i64,
@@ -41,17 +37,11 @@ pub(crate) enum Turned {
     Gone,
 }
 
-/// Takes pending bytes where none are held. Whether bytes are held then; if not, none are pending.
-fn refill<A: Allocator + Copy>(hub: &mut Hub<A>, peer: &mut Peer) -> bool
-    ensures refills { Refills hub.old peer.old hub.new peer.new }
-    ensures some { OnTrue result (0 < length peer.new.held) }
-    ensures drained { OnFalse result (Drained hub.new peer.new) }
+/// The bytes of a connection that wait to be written.
+fn waiting<'a, A: Allocator + Copy>(hub: &'a Hub<A>, peer: &Peer) -> &'a [u8]
+    ensures { AreWaiting hub.now peer.now result.now }
 {
-    if !peer.held.is_empty() {
-        return true;
-    }
-    peer.held.fill(hub, peer.conn);
-    !peer.held.is_empty()
+    hub.pending(peer.conn).unwrap_or(&[])
 }
 
 /// Closes a connection and its stream.
@@ -77,7 +67,7 @@ pub(crate) fn listen<A: Allocator + Copy, S: Streams<A>, C: Clock>(
 ) -> Turned
     ensures { (n : ℕ) → Changes (Listening n) hub.old (Some peer.old) hub.new (stays result peer.new) (S.acts streams.old) (S.acts streams.new) }
 {
-    if refill(hub, peer) {
+    if !waiting(hub, peer).is_empty() {
         return Turned::Idle;
     }
     if peer.broken {
@@ -101,8 +91,8 @@ pub(crate) fn listen<A: Allocator + Copy, S: Streams<A>, C: Clock>(
     }
 }
 
-/// Writes the waiting bytes, as far as the stream takes them at once. The connection is closed where writing fails.
-fn tell<A: Allocator + Copy, S: Streams<A>, C: Clock>(
+/// Writes the waiting bytes, at most 131,072 of them, as far as the stream takes them at once. The connection is closed where writing fails.
+pub(crate) fn answer<A: Allocator + Copy, S: Streams<A>, C: Clock>(
     hub: &mut Hub<A>,
     streams: &mut S,
     clock: &C,
@@ -110,12 +100,13 @@ fn tell<A: Allocator + Copy, S: Streams<A>, C: Clock>(
 ) -> Turned
     ensures { (n : ℕ) → Changes (Answering n) hub.old (Some peer.old) hub.new (stays result peer.new) (S.acts streams.old) (S.acts streams.new) }
 {
-    if !refill(hub, peer) {
+    let bytes = waiting(hub, peer);
+    if bytes.is_empty() {
         return Turned::Idle;
     }
-    match streams.write(peer.place, peer.held.as_slice()) {
+    match streams.write(peer.place, &bytes[..bytes.len().min(MAX_WRITTEN)]) {
         Moved::Bytes(n) => {
-            peer.held.skip(n);
+            let _ = hub.consume(peer.conn, n);
             peer.since = clock.now().seconds;
             Turned::Busy
         }
@@ -126,28 +117,4 @@ fn tell<A: Allocator + Copy, S: Streams<A>, C: Clock>(
             Turned::Gone
         }
     }
-}
-
-/// Writes the waiting bytes, a part after another, until the stream takes no more, or so many parts were written.
-pub(crate) fn answer<A: Allocator + Copy, S: Streams<A>, C: Clock>(
-    hub: &mut Hub<A>,
-    streams: &mut S,
-    clock: &C,
-    peer: &mut Peer,
-) -> Turned
-    ensures { (n : ℕ) → Changes (Answering n) hub.old (Some peer.old) hub.new (stays result peer.new) (S.acts streams.old) (S.acts streams.new) }
-{
-    for round in 0..ROUNDS {
-        match tell(hub, streams, clock, peer) {
-            Turned::Busy => {}
-            Turned::Idle => {
-                if round == 0 {
-                    return Turned::Idle;
-                }
-                return Turned::Busy;
-            }
-            Turned::Gone => return Turned::Gone,
-        }
-    }
-    Turned::Busy
 }

@@ -6,7 +6,6 @@ ghost use Rattle.nfs_streams.specs.Acts.{Act};
 ghost use Rattle.nfs_streams.specs.Seats.{place_at, taken};
 ghost use Rattle.nfs_streams.specs.Standing.{Stage, Listening, Full, Answering, Ending, IsClosing, closed_stage, Moves};
 
-use crate::held::Held;
 use crate::peer::{Peer, Turned, answer, listen, shut};
 use crate::streams::{Streams, Wait};
 use nfs_hub::{Clock, Hub};
@@ -74,7 +73,6 @@ fn let_in<A: Allocator + Copy, S: Streams<A>, C: Clock>(
     places[index] = Some(Peer {
         place: index,
         conn,
-        held: Held::new(),
         broken: false,
         since: clock.now().seconds,
     });

@@ -10,4 +10,4 @@ returns-in_default-clause-moves g c = λ n o same st. refused c.connect.new.self
 
 pub returns-clause-moves : goal.returns-clause-moves
 returns-clause-moves g c = λ n o same st.
-    admits_at c.args.places.now c.args.index c.in-Ok.conn (c.args.door.now.left - 1) c.new.result _ c.connect.new.self _ _ c.requires.within (omega (arith, c.requires.within, c.requires.sixteen)) c.requires.free c.new.ensures st (omega (arith, same, c.if-are_taken.ensures.few)) (omega arith) c.if-not-knocks.ensures c.connect.ensures.goes c.in-Ok.ensures.gives c.admit.ensures
+    admits_at c.args.places.now c.args.index c.in-Ok.conn (c.args.door.now.left - 1) _ c.connect.new.self _ _ c.requires.within (omega (arith, c.requires.within, c.requires.sixteen)) c.requires.free st (omega (arith, same, c.if-are_taken.ensures.few)) (omega arith) c.if-not-knocks.ensures c.connect.ensures.goes c.in-Ok.ensures.gives c.admit.ensures
