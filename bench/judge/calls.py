@@ -1,13 +1,15 @@
 #!/usr/bin/env python3
 """Random calls to nfsd and to the plain program of `model.py`, side by side.
 
-    calls.py NFSD bare|net FIRST SEEDS CALLS [BOOK]
+    calls.py NFSD bare|net|many FIRST SEEDS CALLS [BOOK ..]
 
-Each seed from FIRST on begins a server, over standard input and output (bare) or over 127.0.0.1 with sessions (net), and makes that many calls. A reply that
-differs in a byte is printed, and the status is 1; with net so is the first line in which the audit trail's file differs. Both have the names and members of
-the file BOOK, where it is given. Times aren't asked for, since the server's clock is its own.
+Each seed from FIRST on begins a server, over standard input and output (bare), or over 127.0.0.1 with sessions (net, many), and makes that many calls. A reply
+that differs in a byte is printed, and the status is 1; with net and many so is the first line in which the audit trail's file differs. Both have the names and
+members of the file BOOK, where it is given. With many there are four connections at once: a call may come in two parts, between which the others make theirs;
+several may come in one piece; a fifth connection breaks now and then; and where several books are given, one after the other is loaded. Times aren't asked for,
+since the server's clock is its own.
 """
-import random, socket, subprocess, sys, tempfile, time, os, tomllib
+import random, shutil, socket, subprocess, sys, tempfile, time, os, tomllib
 sys.path.insert(0, os.path.dirname(os.path.abspath(__file__)))
 import model
 from model import u, U, I, o, M, Rd
@@ -294,86 +296,178 @@ def book_of(path):
     return model.Book(b['domain'], b['users'], b['groups'], b['root_owner'], b['root_group'], b['root_mode'], b.get('members'))
 
 
-def run(seed, n, nfsd, bare, book=None, trailfile=None):
+def remember(g, srv, rec, cred):
+    """Keeps a call whose results a slot keeps, to make it again."""
+    if len(rec) <= 24:
+        return
+    for k, s in srv.sessions.items():
+        for j, sl in enumerate(s['slots']):
+            if sl.get('args') is not None and sl['args'] == rec[24 + len(cred):]:
+                g.hist[k, j] = (rec, cred)
+
+
+def opening(g, seed, srv):
+    """In three seeds of four the root is opened to all, by its owner, in the first session that takes so many operations."""
+    cred = u(1) + o(u(0) + o(b'h') + u(0) + u(0) + u(0)) + u(0) + u(0)
+    if g.opened or seed % 4 == 0 or not (srv.bare or srv.sessions):
+        return None
+    if srv.bare:
+        g.opened = True
+        return g.call(list(g.open_up()), cred=cred)
+    k = min(srv.sessions)
+    if srv.sessions[k]['ops'] < 3:
+        return None
+    g.opened = True
+    sl = srv.sessions[k]['slots'][0]
+    return g.call([u(53) + bytes(8) + U(k) + u((sl['last'] + 1) % 2 ** 32) + u(0) * 3, *g.open_up()], cred=cred)
+
+
+def next_call(g, seed, srv):
+    """A call, and its credential."""
+    rec = opening(g, seed, srv) or (g.bare_call() if srv.bare else g.session_call())
+    return rec, g.last_cred
+
+
+def count(counts, want):
+    if len(want) > 28:
+        st = int.from_bytes(want[24:28], 'big')
+        counts[st] = counts.get(st, 0) + 1
+
+
+def is_same(rd, seed, i, rec, want):
+    """Whether the next reply is this one."""
+    got = rd.read(int.from_bytes(rd.read(4), 'big') & 0x7fffffff)
+    if got != want:
+        print('seed', seed, 'call', i, 'differs')
+        print('call', rec.hex())
+        print('want', want.hex())
+        print('got ', got.hex())
+    return got == want
+
+
+def is_same_trail(path, seed, srv):
+    with open(path) as f:
+        lines = f.read().split('\n')[:-1]
+    for k, (a, b) in enumerate(zip(lines + [None] * 9, srv.trail + [None] * 9)):
+        if a != b:
+            print('seed', seed, 'trail line', k, 'file', a, 'model', b)
+            break
+    return lines == srv.trail
+
+
+def begun(nfsd, rng, words):
+    """A server that listens, and its port; another port where one is taken."""
+    while True:
+        port = rng.randint(20000, 40000)
+        p = subprocess.Popen([nfsd, '--port', str(port), *words], stdout=subprocess.PIPE, stderr=subprocess.DEVNULL)
+        if p.stdout.readline():
+            return p, port
+        p.wait()
+
+
+def run(seed, n, nfsd, bare, books, trailfile):
     rng = random.Random(seed)
-    bk = book_of(book) if book else model.Book()
-    srv = model.Server(bk, bare)
+    srv = model.Server(book_of(books[0]) if books else model.Book(), bare)
     g = Gen(rng, srv)
-    g.hist = {}
+    g.hist, g.opened = {}, False
     if bare:
         p = subprocess.Popen([nfsd, '--bare'], stdin=subprocess.PIPE, stdout=subprocess.PIPE)
-        wr = p.stdin
-        rd = p.stdout
+        wr, rd = p.stdin, p.stdout
     else:
-        port = rng.randint(20000, 40000)
-        p = subprocess.Popen([nfsd, '--port', str(port), '--connections', '1'] + (['--book', book] if book else []) + (['--trail', trailfile] if trailfile else []), stdout=subprocess.PIPE)
-        p.stdout.readline()
+        p, port = begun(nfsd, random.Random(), ['--connections', '1', '--trail', trailfile] + (['--book', books[0]] if books else []))
         sk = socket.create_connection(('127.0.0.1', port))
-        wr = sk.makefile('wb')
-        rd = sk.makefile('rb')
-    log = []
+        wr, rd = sk.makefile('wb'), sk.makefile('rb')
     counts = {}
-    opened = False
     for i in range(n):
-        rec = g.bare_call() if bare else g.session_call()
-        if bare and i == 0 and seed % 4:
-            rec = g.call(list(g.open_up()), cred=u(1) + o(u(0) + o(b'h') + u(0) + u(0) + u(0)) + u(0) + u(0))
-        if not bare and srv.sessions and (not opened) and seed % 4:
-            k = min(srv.sessions)
-            sl = srv.sessions[k]['slots'][0]
-            opened = True
-            if srv.sessions[k]['ops'] >= 3:
-                rec = g.call([u(53) + bytes(8) + U(k) + u((sl['last'] + 1) % 2 ** 32) + u(0) * 3, *g.open_up()], cred=u(1) + o(u(0) + o(b'h') + u(0) + u(0) + u(0)) + u(0) + u(0))
-            else:
-                opened = False
+        rec, cred = next_call(g, seed, srv)
         want = srv.record(rec, (0, 0))
         wr.write(head(rec))
         wr.flush()
-        h = rd.read(4)
-        m = int.from_bytes(h, 'big') & 0x7fffffff
-        got = rd.read(m)
-        if not bare:
-            for k, s in srv.sessions.items():
-                for j, sl in enumerate(s['slots']):
-                    if sl.get('args') and (k, j) not in g.hist or (sl.get('args') is not None and sl['args'] == rec[24 + len(g.last_cred):] and (len(rec) > 24)):
-                        if sl['args'] == rec[24 + len(g.last_cred):]:
-                            g.hist[k, j] = (rec, g.last_cred)
-        r = Rd(want, 28) if len(want) > 28 else None
-        if r:
-            st = int.from_bytes(want[24:28], 'big')
-            counts[st] = counts.get(st, 0) + 1
-        if got != want:
-            print('seed', seed, 'call', i, 'differs')
-            print('call', rec.hex())
-            print('want', want.hex())
-            print('got ', got.hex())
+        remember(g, srv, rec, cred)
+        count(counts, want)
+        if not is_same(rd, seed, i, rec, want):
             p.kill()
             return (counts, False)
-    if bare:
-        p.stdin.close()
-    else:
-        wr.close()
+    wr.close()
+    if not bare:
         rd.close()
         sk.close()
     p.wait()
-    if trailfile:
-        lines = open(trailfile).read().split('\n')[:-1]
-        if lines != srv.trail:
-            for k, (a, b) in enumerate(zip(lines + [None] * 9, srv.trail + [None] * 9)):
-                if a != b:
-                    print('seed', seed, 'trail line', k, 'file', a, 'model', b)
-                    break
-            return (counts, False)
-    return (counts, True)
+    return (counts, bare or is_same_trail(trailfile, seed, srv))
+
+
+def breaks(port):
+    """Whether a connection whose first record is too long is closed, without a reply."""
+    with socket.create_connection(('127.0.0.1', port)) as sk:
+        sk.sendall(u(0x80020001) + b'more')
+        return sk.recv(1) == b''
+
+
+def run_many(seed, n, nfsd, books, trailfile):
+    rng = random.Random(seed)
+    srv = model.Server(book_of(books[0]) if books else model.Book(), False)
+    g = Gen(rng, srv)
+    g.hist, g.opened = {}, False
+    path = trailfile + '.toml'
+    if books:
+        shutil.copy(books[0], path)
+    p, port = begun(nfsd, random.Random(), ['--concurrent', '--trail', trailfile] + (['--book', path] if books else []))
+    streams = [socket.create_connection(('127.0.0.1', port)) for _ in range(4)]
+    for it in streams:
+        it.setsockopt(socket.IPPROTO_TCP, socket.TCP_NODELAY, 1)
+    readers = [it.makefile('rb') for it in streams]
+    begin = [None] * 4  # for each connection the call of which a part has come: its record, its credential, and the bytes that are left
+    counts, i, ok = {}, 0, True
+    while i < n and ok:
+        if len(books) > 1 and rng.random() < 0.02:
+            book = rng.choice(books)
+            shutil.copy(book, path + '.new')
+            os.replace(path + '.new', path)
+            srv.book = book_of(book)
+        if rng.random() < 0.005:
+            ok = ok and breaks(port)
+        at = rng.randrange(4)
+        if begin[at]:
+            calls, piece = [begin[at][:2]], begin[at][2]
+            wants = [srv.record(calls[0][0], (0, 0))]
+            begin[at] = None
+        elif rng.random() < 0.2:
+            rec, cred = next_call(g, seed, srv)
+            cut = rng.randint(1, len(rec) + 3)
+            streams[at].sendall(head(rec)[:cut])
+            begin[at] = (rec, cred, head(rec)[cut:])
+            continue
+        else:
+            calls, wants, piece = [], [], b''
+            for _ in range(rng.choice([1, 1, 1, 2, 3, 8])):
+                rec, cred = next_call(g, seed, srv)
+                calls.append((rec, cred))
+                wants.append(srv.record(rec, (0, 0)))
+                remember(g, srv, rec, cred)
+                piece += head(rec)
+        streams[at].sendall(piece)
+        for (rec, cred), want in zip(calls, wants):
+            remember(g, srv, rec, cred)
+            count(counts, want)
+            ok = ok and is_same(readers[at], seed, i, rec, want)
+            i += 1
+    p.kill()
+    p.wait()
+    for it in [*readers, *streams]:
+        it.close()
+    return (counts, ok and is_same_trail(trailfile, seed, srv))
+
+
 if __name__ == '__main__':
     nfsd, mode, first, seeds, n = (sys.argv[1], sys.argv[2], int(sys.argv[3]), int(sys.argv[4]), int(sys.argv[5]))
-    book = sys.argv[6] if len(sys.argv) > 6 else None
+    books = sys.argv[6:]
     tot = {}
     bad = 0
     t0 = time.time()
     with tempfile.TemporaryDirectory(prefix='judge-') as folder:
         for s in range(first, first + seeds):
-            c, ok = run(s, n, nfsd, mode == 'bare', book, None if mode == 'bare' else f'{folder}/{s}')
+            trail = f'{folder}/{s}'
+            c, ok = run_many(s, n, nfsd, books, trail) if mode == 'many' else run(s, n, nfsd, mode == 'bare', books, trail)
             bad += not ok
             for k, v in c.items():
                 tot[k] = tot.get(k, 0) + v
