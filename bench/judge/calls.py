@@ -6,7 +6,7 @@
 Each seed from FIRST on begins a server, over standard input and output (bare), or over 127.0.0.1 with sessions (net, many), and makes that many calls. A reply
 that differs in a byte is printed, and the status is 1; with net and many so is the first line in which the audit trail's file differs. Both have the names and
 members of the file BOOK, where it is given. With many there are four connections at once: a call may come in two parts, between which the others make theirs;
-several may come in one piece; a fifth connection breaks now and then; and where several books are given, one after the other is loaded. Times aren't asked for,
+several may be sent at once; a fifth connection breaks now and then; and where several books are given, one after the other is loaded. Times aren't asked for,
 since the server's clock is its own.
 """
 import random, shutil, socket, subprocess, sys, tempfile, time, os, tomllib
@@ -430,6 +430,7 @@ def run_many(seed, n, nfsd, books, trailfile):
         if begin[at]:
             calls, piece = [begin[at][:2]], begin[at][2]
             wants = [srv.record(calls[0][0], (0, 0))]
+            remember(g, srv, *calls[0])
             begin[at] = None
         elif rng.random() < 0.2:
             rec, cred = next_call(g, seed, srv)
@@ -446,8 +447,7 @@ def run_many(seed, n, nfsd, books, trailfile):
                 remember(g, srv, rec, cred)
                 piece += head(rec)
         streams[at].sendall(piece)
-        for (rec, cred), want in zip(calls, wants):
-            remember(g, srv, rec, cred)
+        for (rec, _), want in zip(calls, wants):
             count(counts, want)
             ok = ok and is_same(readers[at], seed, i, rec, want)
             i += 1
