@@ -134,10 +134,12 @@ impl<A: Allocator + Copy> Hub<A> {
         ensures goes { IfOk result (λ n. Goes (Take conn n) self.old self.new) }
         ensures gives { TakeGives conn result self.old self.new buf.old buf.new }
     {
-        let Some(connection) = self.connections.get_mut(&conn.number) else {
+        let Some(bytes) = self.pending(conn) else {
             return Err(HubFault::NoSuch);
         };
-        Ok(connection.take(buf))
+        let n = buf.len().min(bytes.len());
+        buf[..n].copy_from_slice(&bytes[..n]);
+        self.consume(conn, n)
     }
 
     /// Lends the pending bytes of a connection. `None` exactly where the number is no open connection's.
@@ -155,10 +157,18 @@ impl<A: Allocator + Copy> Hub<A> {
         ensures goes { IfOk result (λ n. Goes (Take conn n) self.old self.new) }
         ensures gives { ConsumeGives conn most result self.old self.new }
     {
-        let Some(connection) = self.connections.get_mut(&conn.number) else {
-            return Err(HubFault::NoSuch);
-        };
-        Ok(connection.consume(most))
+        match self.connections.get_mut(&conn.number) {
+            Some(connection) => Ok(connection.consume(most)),
+            None => Err(HubFault::NoSuch),
+        }
+    }
+
+    /// Whether a connection is broken: nothing of its stream is taken any more. `None` exactly where the number is no open
+    /// connection's.
+    pub fn is_broken(&self, conn: ConnId) -> Option<bool>
+        ensures { result ≡ broken_at self.now conn }
+    {
+        Some(self.connections.get(&conn.number)?.broken)
     }
 
     /// Whether a connection that isn't broken is inside a record.

@@ -1,6 +1,6 @@
 //! Connections: closed, broken, and as many as may be open at once.
 
-use crate::plain::{bare, close, connect, consume, feed, take_out};
+use crate::plain::{bare, close, connect, consume, feed, is_broken, take_out};
 use crate::words::{NULL, bytes_of};
 use nfs_hub::{ConnId, Hub, HubFault, MAX_CONNECTIONS};
 use std::alloc::Global;
@@ -38,6 +38,16 @@ fn broken(hub: &mut Hub) -> Result<([Option<HubFault>; 2], [usize; 3]), HubFault
     Ok(([first, again], [a, b, c]))
 }
 
+/// Whether a connection is broken: before its first piece, behind a record that breaks it, and once it is closed.
+fn told_broken(hub: &mut Hub) -> Result<[Option<bool>; 3], HubFault> {
+    let conn = connect(hub)?;
+    let before = is_broken(hub, conn);
+    let _ = feed(hub, conn, &[0x80, 2, 0, 1]);
+    let behind = is_broken(hub, conn);
+    close(hub, conn)?;
+    Ok([before, behind, is_broken(hub, conn)])
+}
+
 /// Opens as many connections as may be, the last of which breaks, and answers its number.
 fn open_all(hub: &mut Hub) -> Result<ConnId, HubFault> {
     let mut last = connect(hub)?;
@@ -66,6 +76,7 @@ struct Told {
     closed: [Option<HubFault>; 6],
     faults: [Option<HubFault>; 2],
     pieces: [usize; 3],
+    broken: [Option<bool>; 3],
     refused: Option<HubFault>,
     answered: usize,
 }
@@ -73,11 +84,13 @@ struct Told {
 fn tell(hub: &mut Hub) -> Result<Told, Fail> {
     let closed = closed(hub)?;
     let (faults, pieces) = broken(hub)?;
+    let broken = told_broken(hub)?;
     let (refused, answered) = full(hub)?;
     Ok(Told {
         closed,
         faults,
         pieces,
+        broken,
         refused,
         answered,
     })
@@ -93,6 +106,7 @@ fn see(rt: &impl Abort, told: &Told) {
     assert!(rt; told.closed == [None, gone, gone, gone, None, gone]);
     assert!(rt; told.faults == [Some(HubFault::Broken); 2]);
     assert!(rt; told.pieces == [20, 8, 0]);
+    assert!(rt; told.broken == [Some(false), Some(true), None]);
     assert!(rt; told.refused == Some(HubFault::TooMany));
     assert!(rt; told.answered == 28);
 }

@@ -84,6 +84,10 @@ pub fn take_out<A: Allocator + Copy>(
     hub.take_out(conn, buf)
 }
 
+pub fn is_broken<A: Allocator + Copy>(hub: &Hub<A>, conn: ConnId) -> Option<bool> {
+    hub.is_broken(conn)
+}
+
 /// Drops the first pending bytes of a connection.
 pub fn consume<A: Allocator + Copy>(
     hub: &mut Hub<A>,

@@ -29,7 +29,7 @@ pub record Change {A : Type 0} (start : ℕ) (hub' : Hub A) (ps : List (Option P
   pub fresh : IsFresh s'
   pub others : (k : ℕ) → k ≢ id → s'.connection k ≡ s.connection k
   pub seat : Seat start id y (s'.connection id)
-  pub now : (p : Peer) → y ≡ Some p → (p.conn ≡ id) × (p.place ≡ i) × (conn_at acts' i ≡ Some id)
+  pub now : (p : Peer) → y ≡ Some p → (p.conn ≡ id) × (conn_at acts' i ≡ Some id)
   pub gone : y ≡ None → conn_at acts' i ≡ None
   pub conns : (j : ℕ) → j ≢ i → conn_at acts' j ≡ conn_at acts j
   pub count : open_in acts' ≡ taken (set ps i y)
@@ -45,15 +45,15 @@ seat_elsewhere start id k x y c c' ne was now f seat =
       | inr other ↦ inr (record { not_here = λ p e same. ne (sym same ∙ now p e); closed = λ le. f ∙ other.closed le })
     ]
 
-seated_here : (owner : ℕ → ℕ) (acts : List Act) (i id : ℕ) (y : Option Peer) → owner id ≡ i → ((p : Peer) → y ≡ Some p → (p.conn ≡ id) × (p.place ≡ i) × (conn_at acts i ≡ Some id)) → (y ≡ None → conn_at acts i ≡ None) → IsSeated owner acts i y
+seated_here : (owner : ℕ → ℕ) (acts : List Act) (i id : ℕ) (y : Option Peer) → owner id ≡ i → ((p : Peer) → y ≡ Some p → (p.conn ≡ id) × (conn_at acts i ≡ Some id)) → (y ≡ None → conn_at acts i ≡ None) → IsSeated owner acts i y
 seated_here owner acts i id None own now gone = gone refl
 seated_here owner acts i id (Some p) own now gone =
     let n = now p refl in
-    (n.2 ∙ ap (λ (k : ℕ). Some k) (sym n.0), ap owner n.0 ∙ own, n.1)
+    (n.1 ∙ ap (λ (k : ℕ). Some k) (sym n.0), ap owner n.0 ∙ own)
 
 seated_there : (owner owner' : ℕ → ℕ) (acts acts' : List Act) (j : ℕ) (q : Option Peer) → conn_at acts' j ≡ conn_at acts j → ((p : Peer) → q ≡ Some p → owner' p.conn ≡ owner p.conn) → IsSeated owner acts j q → IsSeated owner' acts' j q
 seated_there owner owner' acts acts' j None same own seated = same ∙ seated
-seated_there owner owner' acts acts' j (Some p) same own seated = (same ∙ seated.0, own p refl ∙ seated.1, seated.2)
+seated_there owner owner' acts acts' j (Some p) same own seated = (same ∙ seated.0, own p refl ∙ seated.1)
 
 module _ {A : Type 0} {start : ℕ} {hub hub' : Hub A} {ps : List (Option Peer)} {i : ℕ} {x y : Option Peer} {acts acts' : List Act} {s s' : State} {id : ℕ} (st : Stands start hub (set ps i x) acts s) (lt : i < length ps) (ch : Change start hub' ps i x y acts acts' s s' id) where
   abbrev owner : ℕ → ℕ
@@ -86,24 +86,16 @@ module _ {A : Type 0} {start : ℕ} {hub hub' : Hub A} {ps : List (Option Peer)}
 
 pub record Here (i : ℕ) (p : Peer) (acts : List Act) (s : State) : Type 0 where
   pub conn : conn_at acts i ≡ Some p.conn
-  pub place : p.place ≡ i
   pub connected : Connected
   pub opened : s.connection p.conn ≡ Some connected
-  pub broken : connected.broken ≡ p.broken
 
 pub some_peer : (p q : Peer) → Some p ≡ Some q → p ≡ q
 some_peer p q e = cc
 
-seated_as : (start i : ℕ) (p : Peer) (acts : List Act) (s : State) → conn_at acts i ≡ Some p.conn → p.place ≡ i → Seat start p.conn (Some p) (s.connection p.conn) → Here i p acts s
-seated_as start i p acts s conn place seat =
+seated_as : (start i : ℕ) (p : Peer) (acts : List Act) (s : State) → conn_at acts i ≡ Some p.conn → Seat start p.conn (Some p) (s.connection p.conn) → Here i p acts s
+seated_as start i p acts s conn seat =
     elim seat [
-      | inl here ↦ record {
-        conn = conn;
-        place = place;
-        connected = here.connected;
-        opened = here.opened;
-        broken = here.broken ∙ ap (λ (q : Peer). q.broken) (sym (some_peer p here.peer here.here));
-      }
+      | inl here ↦ record { conn = conn; connected = here.connected; opened = here.opened }
       | inr other ↦ absurd (other.not_here p refl refl)
     ]
 
@@ -111,7 +103,7 @@ seated_as start i p acts s conn place seat =
 pub here_at : {A : Type 0} {start : ℕ} {hub : Hub A} {places : List (Option Peer)} {acts : List Act} {s : State} (st : Stands start hub places acts s) (j : ℕ) (q : Peer) → place_at places j ≡ Some q → Here j q acts s
 here_at {start = start} {places = places} {acts = acts} {s = s} st j q at =
     let seated : IsSeated st.owner acts j (Some q) = subst (λ (o : Option Peer). IsSeated st.owner acts j o) at (st.seated j) in
-    seated_as start j q acts s seated.0 seated.2 (subst (λ (o : Option Peer). Seat start q.conn o (s.connection q.conn)) (ap (λ (k : ℕ). place_at places k) seated.1 ∙ at) (st.each q.conn))
+    seated_as start j q acts s seated.0 (subst (λ (o : Option Peer). Seat start q.conn o (s.connection q.conn)) (ap (λ (k : ℕ). place_at places k) seated.1 ∙ at) (st.each q.conn))
 
 -- a connection is at one place
 pub one_place : {A : Type 0} {start : ℕ} {hub : Hub A} {places : List (Option Peer)} {acts : List Act} {s : State} (st : Stands start hub places acts s) (i j : ℕ) (p q : Peer) → place_at places i ≡ Some p → place_at places j ≡ Some q → q.conn ≡ p.conn → j ≡ i
@@ -121,10 +113,10 @@ one_place {acts = acts} st i j p q at at' same =
     sym seated'.1 ∙ ap st.owner same ∙ seated.1
 
 -- a connection goes on at its place, behind acts that admit and close no stream
-pub stays_at : {A : Type 0} {start : ℕ} {hub : Hub A} {acts : List Act} {s : State} (ps : List (Option Peer)) (i : ℕ) (p p' : Peer) (st : Stands start hub (set ps i (Some p)) acts s) → i < length ps → p'.conn ≡ p.conn → p'.place ≡ p.place
+pub stays_at : {A : Type 0} {start : ℕ} {hub : Hub A} {acts : List Act} {s : State} (ps : List (Option Peer)) (i : ℕ) (p p' : Peer) (st : Stands start hub (set ps i (Some p)) acts s) → i < length ps → p'.conn ≡ p.conn
     → (hub' : Hub A) (acts' : List Act) (s' : State) → IsHub hub' s' → ((k : ℕ) → k ≢ p.conn → s'.connection k ≡ s.connection k) → s'.next ≡ s.next → Seat start p.conn (Some p') (s'.connection p.conn)
     → ((j : ℕ) → conn_at acts' j ≡ conn_at acts j) → open_in acts' ≡ open_in acts → Stands start hub' (set ps i (Some p')) acts' s'
-stays_at {acts = acts} {s = s} ps i p p' st lt conn place hub' acts' s' is others next seat conns count =
+stays_at {acts = acts} {s = s} ps i p p' st lt conn hub' acts' s' is others next seat conns count =
     let at = set_here ps i (Some p) lt in
     let h = here_at st i p at in
     changed st lt (record {
@@ -134,7 +126,7 @@ stays_at {acts = acts} {s = s} ps i p p' st lt conn place hub' acts' s' is other
       fresh = fresh_on s s' p.conn h.connected st.fresh h.opened others next;
       others = others;
       seat = seat;
-      now = λ q e. let same : q ≡ p' = sym (some_peer p' q e) in (ap (λ (r : Peer). r.conn) same ∙ conn, ap (λ (r : Peer). r.place) same ∙ place ∙ h.place, conns i ∙ h.conn);
+      now = λ q e. let same : q ≡ p' = sym (some_peer p' q e) in (ap (λ (r : Peer). r.conn) same ∙ conn, conns i ∙ h.conn);
       gone = λ e. absurd (cc);
       conns = λ j ne. conns j;
       count = count ∙ omega (arith, st.count, taken_swap ps i (Some p) (Some p') lt);

@@ -1,5 +1,5 @@
 -- The answers of the hub about a connection that is open in its state.
-use Rattle.std.proofs.Common.{◌≡◌, ◌≢◌, ◌≤◌, ℕ, Bool, List, [], ◌∷◌, length, arith, Option, Some, None, option_map, sym, ap, subst, ◌∙◌, inl, inr}
+use Rattle.std.proofs.Common.{◌≡◌, ◌≢◌, ◌≤◌, ℕ, Bool, false, List, [], ◌∷◌, length, arith, Option, Some, None, option_map, sym, ap, subst, ◌∙◌, inl, inr}
 use Rattle.std.specs.Prelude.{MatchOption}
 use Rattle.std.specs.Option.{unwrap_or}
 use Rattle.std.specs.Borrow.{Bor}
@@ -11,8 +11,8 @@ use Rattle.nfs_hub.specs.declared.hub.Hub.{Hub}
 use Rattle.nfs_hub.specs.Answer.{Served}
 use Rattle.nfs_hub.specs.Machine.{Connected, State, OnConnection, ChangesConnection}
 use Rattle.nfs_hub.specs.Hub.{IsHub, SameConnection, IsUnchanged, pending_at, broken_at}
-use Rattle.nfs_streams.specs.declared.peer.Peer.{Peer}
-use Rattle.nfs_streams.specs.Seats.{IsFresh, AreWaiting}
+use Rattle.nfs_streams.specs.Seats.{IsFresh, AreWaiting, is_broken_at}
+use Rattle.nfs_streams.proofs.Lists.{none_some}
 
 same_bytes : {A : Type 0} (o : Option (Connection A)) (p : Option Connected) (c : Connected) → SameConnection o p → p ≡ Some c → option_map (λ (x : Connection A). x.pending.bytes) o ≡ Some c.pending
 same_bytes None None c same e = absurd (cc)
@@ -30,8 +30,12 @@ module _ {A : Type 0} (hub : Hub A) (state : State) (is : IsHub hub state) where
   pub pending_of : (id : ℕ) (c : Connected) → state.connection id ≡ Some c → pending_at hub id ≡ Some c.pending
   pending_of id c e = same_bytes (get nat_cmp hub.connections id) (state.connection id) c (is.connections id) e
 
-  pub broken_of : (id : ℕ) (c : Connected) → state.connection id ≡ Some c → broken_at hub id ≡ Some c.broken
+  broken_of : (id : ℕ) (c : Connected) → state.connection id ≡ Some c → broken_at hub id ≡ Some c.broken
   broken_of id c e = same_broken (get nat_cmp hub.connections id) (state.connection id) c (is.connections id) e
+
+  -- whether a connection is broken is what the hub tells of it
+  pub told_broken : (id : ℕ) (c : Connected) (b : Bool) → state.connection id ≡ Some c → is_broken_at hub id ≡ b → c.broken ≡ b
+  told_broken id c b e told = ap (λ (o : Option Bool). unwrap_or o false) (sym (broken_of id c e)) ∙ told
 
   -- an unchanged hub is in its state before
   pub unchanged : (new : Hub A) → IsUnchanged hub new → IsHub new state
@@ -64,17 +68,14 @@ fresh_on old new id c fresh opened others next k le =
     ]
 
 -- the bytes that the hub lends, if there are any, are those that are pending
-pub lent : {A : Type 0} (hub : Hub A) (p : Peer) (bytes : Option (Bor (List ℕ))) (d : Bor (List ℕ)) → option_map (λ b. b.now) bytes ≡ pending_at hub p.conn → AreWaiting hub p (unwrap_or bytes d).now
-lent hub p None d is pending at = absurd (none_is pending (is ∙ at))
-  where
-    none_is : (x : List ℕ) → (let o : Option (List ℕ) = None in o) ≡ Some x → ⊥
-    none_is x e = cc
-lent hub p (Some bytes) d is pending at = same bytes.now pending (is ∙ at)
+pub lent : {A : Type 0} (hub : Hub A) (id : ℕ) (bytes : Option (Bor (List ℕ))) (d : Bor (List ℕ)) → option_map (λ b. b.now) bytes ≡ pending_at hub id → AreWaiting hub id (unwrap_or bytes d).now
+lent hub id None d is pending at = absurd (none_some pending (is ∙ at))
+lent hub id (Some bytes) d is pending at = same bytes.now pending (is ∙ at)
   where
     same : (x y : List ℕ) → Some x ≡ Some y → y ≡ x
     same x y e = cc
 
 -- no bytes wait
-pub drained : {A : Type 0} (hub : Hub A) (p : Peer) (bytes : List ℕ) → AreWaiting hub p bytes → length bytes ≡ 0 → AreWaiting hub p []
-drained hub p [] waiting none = waiting
-drained hub p (x ∷ bytes) waiting none = absurd (omega (arith, none))
+pub drained : {A : Type 0} (hub : Hub A) (id : ℕ) (bytes : List ℕ) → AreWaiting hub id bytes → length bytes ≡ 0 → AreWaiting hub id []
+drained hub id [] waiting none = waiting
+drained hub id (x ∷ bytes) waiting none = absurd (omega (arith, none))

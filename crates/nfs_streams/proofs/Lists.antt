@@ -8,6 +8,9 @@ use Rattle.nfs_streams.specs.declared.peer.Peer.{Peer}
 use Rattle.nfs_streams.specs.Acts.{Act, Admitted, Closed, Adds, conn_at}
 use Rattle.nfs_streams.specs.Seats.{place_at, taken}
 
+pub none_some : {X : Type 0} (x : X) → None ≡ Some x → ⊥
+none_some x e = cc
+
 pub set_here : (ps : List (Option Peer)) (i : ℕ) (x : Option Peer) → i < length ps → place_at (set ps i x) i ≡ x
 set_here ps i x lt = get_or-set_same ps i x None lt
 
@@ -82,17 +85,7 @@ none_past ps n le free k =
 pub set_len : (ps ps' : List (Option Peer)) (i : ℕ) (x : Option Peer) → ps' ≡ set ps i x → length ps' ≡ length ps
 set_len ps ps' i x same = ap (λ (l : List (Option Peer)). length l) same ∙ length-set ps i x
 
--- a list of no items, and one of some, by their test
-pub none_left : (n : ℕ) → true ≡ (n == 0) → n ≡ 0
-none_left n e =
-    elim (cases_eq n 0) [
-      | inl none ↦ none
-      | inr some ↦ absurd (not_both (e ∙ ne_eqb n 0 some))
-    ]
-  where
-    not_both : true ≡ false → ⊥
-    not_both e = cc
-
+-- a list of some items, by its test
 pub some_left : (n : ℕ) → false ≡ (n == 0) → 0 < n
 some_left n e =
     elim (cases_eq n 0) [

@@ -19,65 +19,50 @@ use Rattle.nfs_streams.specs.declared.peer.Peer.{Peer}
 use Rattle.nfs_streams.specs.declared.serving.AllEnd.TheVariants.{Served, Turns, Wait, Keep}
 use Rattle.nfs_streams.specs.Acts.{Act, JustKnocked, IsSettled, Waited, Knocked, Admitted, Closed, Heard, Ended, Told, Failed, Kept, Lost, Loaded, Adds, Has, conn_at, knocked}
 use Rattle.nfs_streams.specs.Runs.{On, StepAt, CanHear, IsSpent, IsWaiting}
-use Rattle.nfs_streams.specs.Seats.{Stands, AreWaiting, IsSeated, IsFresh, place_at, taken}
+use Rattle.nfs_streams.specs.Seats.{Stands, AreWaiting, is_broken_at, IsSeated, IsFresh, place_at, taken}
 use Rattle.nfs_streams.specs.Standing.{Origin, Stage, Listening, Full, Answering, Stopped, Ending, Way, Standing, IsClosing, closed_stage}
-use Rattle.nfs_streams.proofs.Lists.{set_here, set_there, set_back, taken_swap, adds_on, closed_here, closed_there, admitted_here, admitted_there}
-use Rattle.nfs_streams.proofs.Hubs.{pending_of, broken_of, stepped}
+use Rattle.nfs_streams.proofs.Lists.{none_some, set_here, set_there, set_back, taken_swap, adds_on, closed_here, closed_there, admitted_here, admitted_there}
+use Rattle.nfs_streams.proofs.Hubs.{pending_of, told_broken, stepped}
 use Rattle.nfs_streams.proofs.Changing.{Here, changed, some_peer, here_at, one_place, stays_at, stands_as, stands_in}
 
 -- ---- a piece is read and fed
 
-same_bool : (a b : Bool) → Some a ≡ Some b → a ≡ b
-same_bool a b e = cc
-
-none_some : {X : Type 0} (x : X) → None ≡ Some x → ⊥
-none_some x e = cc
-
 -- the bytes that wait are pending on the connection of the place
-waiting_at : {A : Type 0} {start : ℕ} {hub : Hub A} {places : List (Option Peer)} {acts : List Act} {s : State} (st : Stands start hub places acts s) (i : ℕ) (p : Peer) (h : Here i p acts s) (bytes : List ℕ) → AreWaiting hub p bytes → h.connected.pending ≡ bytes
+waiting_at : {A : Type 0} {start : ℕ} {hub : Hub A} {places : List (Option Peer)} {acts : List Act} {s : State} (st : Stands start hub places acts s) (i : ℕ) (p : Peer) (h : Here i p acts s) (bytes : List ℕ) → AreWaiting hub p.conn bytes → h.connected.pending ≡ bytes
 waiting_at {hub = hub} {s = s} st i p h bytes waiting = waiting h.connected.pending (pending_of hub s st.is p.conn h.connected h.opened)
 
 module _ {A : Type 0} {n : ℕ} {o : Origin} {hub : Hub A} {left : ℕ} {before : Option (List Act)} (ps : List (Option Peer)) (i : ℕ) (p : Peer) (lt : i < length ps) (st : Standing (Listening n) o hub (set ps i (Some p)) left before) where
   -- the connection can hear
-  abbrev can_hear : AreWaiting hub p [] → p.broken ≡ false → On st.acts p.place st.machine CanHear
+  abbrev can_hear : AreWaiting hub p.conn [] → is_broken_at hub p.conn ≡ false → On st.acts i st.machine CanHear
   can_hear drained whole =
       let h = here_at st.stands i p (set_here ps i (Some p) lt) in
-      (p.conn, h.connected, ap (λ (j : ℕ). conn_at st.acts j) h.place ∙ h.conn, h.opened, (h.broken ∙ whole, waiting_at st.stands i p h [] drained))
+      (p.conn, h.connected, h.conn, h.opened, (told_broken hub st.machine st.stands.is p.conn h.connected false h.opened whole, waiting_at st.stands i p h [] drained))
 
-  pub heard : (hub' : Hub A) (piece : List ℕ) (now : Moment) (b told : Bool) (z : ℤ) (after : Option (List Act)) → AreWaiting hub p [] → p.broken ≡ false → length piece ≤ 4096 → Goes (Piece p.conn piece now) hub hub' → b ≡ told → broken_at hub' p.conn ≡ option_map (λ was. told) (broken_at hub p.conn)
-      → Adds before after (Heard p.place piece ∷ []) → Standing (Listening n) o hub' (set ps i (Some (record p { broken = b; since = z }))) left after
-  heard hub' piece now b told z after drained whole short goes same_b broken said =
+  pub heard : (hub' : Hub A) (piece : List ℕ) (now : Moment) (z : ℤ) (after : Option (List Act)) → AreWaiting hub p.conn [] → is_broken_at hub p.conn ≡ false → length piece ≤ 4096 → Goes (Piece p.conn piece now) hub hub' → Adds before after (Heard i piece ∷ [])
+      → Standing (Listening n) o hub' (set ps i (Some (record p { since = z }))) left after
+  heard hub' piece now z after drained whole short goes said =
       let h = here_at st.stands i p (set_here ps i (Some p) lt) in
-      let c = h.connected in
       let can = can_hear drained whole in
       let g = goes st.machine st.stands.is in
-      let u = stepped p.conn (PieceOn piece now) st.machine c g.0 h.opened g.1 in
-      let acts' = Heard p.place piece ∷ st.acts in
+      let u = stepped p.conn (PieceOn piece now) st.machine h.connected g.0 h.opened g.1 in
+      let acts' = Heard i piece ∷ st.acts in
       record {
         acts = acts';
         machine = g.0;
         way = ((st.machine, st.way.0, (st.way.2, short, can), (now, (p.conn, can.2, g.1))), st.way.1, tt);
-        stands = stays_at ps i p (record p { broken = b; since = z }) st.stands lt refl refl hub' acts' g.0 g.2 u.others u.next
-            (inl (record {
-              peer = record p { broken = b; since = z };
-              connected = u.after;
-              here = refl;
-              numbered = refl;
-              opened = u.changed;
-              broken = same_bool u.after.broken b (sym (broken_of hub' g.0 g.2 p.conn u.after u.changed) ∙ broken ∙ ap (λ (x : Option Bool). option_map (λ was. told) x) (broken_of hub st.machine st.stands.is p.conn c h.opened) ∙ ap (λ (x : Bool). Some x) (sym same_b));
-            }))
-            (λ j. refl) refl;
-        adds = adds_on o.first before after st.acts (Heard p.place piece ∷ []) st.adds said;
+        stands = stays_at ps i p (record p { since = z }) st.stands lt refl hub' acts' g.0 g.2 u.others u.next
+            (inl (record { peer = record p { since = z }; connected = u.after; here = refl; numbered = refl; opened = u.changed })) (λ j. refl) refl;
+        adds = adds_on o.first before after st.acts (Heard i piece ∷ []) st.adds said;
         fewer = st.fewer;
       }
 
 -- ---- bytes are written
 
 -- bytes wait to be written
-abbrev is_waiting : {A : Type 0} {start : ℕ} {hub : Hub A} {acts : List Act} {s : State} (ps : List (Option Peer)) (i : ℕ) (p : Peer) (st : Stands start hub (set ps i (Some p)) acts s) → i < length ps → (bytes : List ℕ) → AreWaiting hub p bytes → 0 < length bytes → On acts p.place s IsWaiting
+abbrev is_waiting : {A : Type 0} {start : ℕ} {hub : Hub A} {acts : List Act} {s : State} (ps : List (Option Peer)) (i : ℕ) (p : Peer) (st : Stands start hub (set ps i (Some p)) acts s) → i < length ps → (bytes : List ℕ) → AreWaiting hub p.conn bytes → 0 < length bytes → On acts i s IsWaiting
 is_waiting {acts = acts} ps i p st lt bytes waiting some =
     let h = here_at st i p (set_here ps i (Some p) lt) in
-    (p.conn, h.connected, ap (λ (j : ℕ). conn_at acts j) h.place ∙ h.conn, h.opened, λ none. let len : length bytes ≡ 0 = ap (λ (l : List ℕ). length l) (sym (waiting_at st i p h bytes waiting) ∙ none) in absurd (omega (arith, len, some)))
+    (p.conn, h.connected, h.conn, h.opened, λ none. let len : length bytes ≡ 0 = ap (λ (l : List ℕ). length l) (sym (waiting_at st i p h bytes waiting) ∙ none) in absurd (omega (arith, len, some)))
 
 -- the written bytes, a front of those that were lent, are consumed
 module _ {A : Type 0} (id k : ℕ) (hub hub' : Hub A) (result : Result ℕ HubFault) (bytes front rest : List ℕ) (at : pending_at hub id ≡ Some bytes) (parts : bytes ≡ front ++ rest) (le : k ≤ length front) where
@@ -91,40 +76,32 @@ module _ {A : Type 0} (id k : ℕ) (hub hub' : Hub A) (result : Result ℕ HubFa
   front_of : take k front ≡ take (length (take k front)) bytes
   front_of = sym (take-append-le k front rest le) ∙ ap (λ (l : List ℕ). take k l) (sym parts) ∙ ap (λ (m : ℕ). take m bytes) (sym (length-take-le k front le))
 
-module _ {A : Type 0} {n : ℕ} {o : Origin} {hub : Hub A} {left : ℕ} {before : Option (List Act)} (ps : List (Option Peer)) (i : ℕ) (p : Peer) (lt : i < length ps) (st : Standing (Answering n) o hub (set ps i (Some p)) left before) (bytes : List ℕ) (waiting : AreWaiting hub p bytes) (some : 0 < length bytes) where
-  pub told : (front rest : List ℕ) (k : ℕ) (z : ℤ) (hub' : Hub A) (result : Result ℕ HubFault) (after : Option (List Act)) → bytes ≡ front ++ rest → k ≤ length front → ConsumeGives p.conn k result hub hub' → IfOk result (λ n. Goes (Take p.conn n) hub hub')
-      → Adds before after (Told p.place (take k front) ∷ []) → Standing (Answering n) o hub' (set ps i (Some (record p { since = z }))) left after
-  told front rest k z hub' result after parts le gives goes said =
+module _ {A : Type 0} {n : ℕ} {o : Origin} {hub : Hub A} {left : ℕ} {before : Option (List Act)} (ps : List (Option Peer)) (i : ℕ) (p : Peer) (lt : i < length ps) (st : Standing (Answering n) o hub (set ps i (Some p)) left before) (bytes : List ℕ) (waiting : AreWaiting hub p.conn bytes) (some : 0 < length bytes) where
+  pub told : (front rest : List ℕ) (k : ℕ) (z : ℤ) (hub' : Hub A) (result : Result ℕ HubFault) (after : Option (List Act)) → bytes ≡ front ++ rest → length front ≤ 131072 → k ≤ length front → ConsumeGives p.conn k result hub hub' → IfOk result (λ n. Goes (Take p.conn n) hub hub')
+      → Adds before after (Told i (take k front) ∷ []) → Standing (Answering n) o hub' (set ps i (Some (record p { since = z }))) left after
+  told front rest k z hub' result after parts short le gives goes said =
       let h = here_at st.stands i p (set_here ps i (Some p) lt) in
       let c = h.connected in
       let is : c.pending ≡ bytes = waiting_at st.stands i p h bytes waiting in
       let at : pending_at hub p.conn ≡ Some bytes = pending_of hub st.machine st.stands.is p.conn c h.opened ∙ ap (λ (l : List ℕ). Some l) is in
       let written = take k front in
-      let conn : conn_at st.acts p.place ≡ Some p.conn = ap (λ (j : ℕ). conn_at st.acts j) h.place ∙ h.conn in
+      let few : length written ≤ 131072 = omega (arith, short, le, length-take-le k front le) in
       let is_front : written ≡ take (length written) c.pending = subst (λ (l : List ℕ). written ≡ take (length written) l) (sym is) (front_of p.conn k hub hub' result bytes front rest at parts le) in
       let g = consumed p.conn k hub hub' result bytes front rest at parts le gives goes st.machine st.stands.is in
       let u = stepped p.conn (TakeOn (length written)) st.machine c g.0 h.opened g.1 in
-      let acts' = Told p.place written ∷ st.acts in
+      let acts' = Told i written ∷ st.acts in
       record {
         acts = acts';
         machine = g.0;
         way = (
-          (st.machine, st.way.0, (st.way.2, st.way.3, is_waiting ps i p st.stands lt bytes waiting some), ((p.conn, c, conn, h.opened, is_front), (p.conn, conn, g.1))),
+          (st.machine, st.way.0, (st.way.2, few, st.way.3, is_waiting ps i p st.stands lt bytes waiting some), ((p.conn, c, h.conn, h.opened, is_front), (p.conn, h.conn, g.1))),
           st.way.1,
           tt,
           inr (subst (λ (w : ServedState). Has (Kept w.state) st.acts) (sym u.does.0) st.way.3),
         );
-        stands = stays_at ps i p (record p { since = z }) st.stands lt refl refl hub' acts' g.0 g.2 u.others u.next
-            (inl (record {
-              peer = record p { since = z };
-              connected = u.after;
-              here = refl;
-              numbered = refl;
-              opened = u.changed;
-              broken = ap (λ (d : Connected). d.broken) u.does.2 ∙ h.broken;
-            }))
-            (λ j. refl) refl;
-        adds = adds_on o.first before after st.acts (Told p.place written ∷ []) st.adds said;
+        stands = stays_at ps i p (record p { since = z }) st.stands lt refl hub' acts' g.0 g.2 u.others u.next
+            (inl (record { peer = record p { since = z }; connected = u.after; here = refl; numbered = refl; opened = u.changed })) (λ j. refl) refl;
+        adds = adds_on o.first before after st.acts (Told i written ∷ []) st.adds said;
         fewer = st.fewer;
       }
 
@@ -137,16 +114,15 @@ pub record Shut {A : Type 0} (start : ℕ) (hub' : Hub A) (places' : List (Optio
   pub stands : Stands start hub' places' (Closed place ∷ acts) machine
   pub served : machine.served ≡ s.served
 
-shut : {A : Type 0} {start : ℕ} {hub : Hub A} {acts : List Act} {s : State} (ps : List (Option Peer)) (i : ℕ) (p : Peer) (st : Stands start hub (set ps i (Some p)) acts s) → i < length ps → (hub' : Hub A) → Goes (Close p.conn) hub hub' → Shut start hub' (set ps i None) p.place acts s
+shut : {A : Type 0} {start : ℕ} {hub : Hub A} {acts : List Act} {s : State} (ps : List (Option Peer)) (i : ℕ) (p : Peer) (st : Stands start hub (set ps i (Some p)) acts s) → i < length ps → (hub' : Hub A) → Goes (Close p.conn) hub hub' → Shut start hub' (set ps i None) i acts s
 shut {acts = acts} {s = s} ps i p st lt hub' goes =
     let at = set_here ps i (Some p) lt in
     let h = here_at st i p at in
     let g = goes s st.is in
     let gone : g.0.connection p.conn ≡ None = g.1.2.changed in
-    let here' : conn_at (Closed p.place ∷ acts) i ≡ None = ap (λ (j : ℕ). conn_at (Closed j ∷ acts) i) h.place ∙ closed_here acts i in
     record {
       machine = g.0;
-      step = (p.conn, ap (λ (j : ℕ). conn_at acts j) h.place ∙ h.conn, g.1);
+      step = (p.conn, h.conn, g.1);
       stands = changed st lt (record {
         was = λ q e. ap (λ (r : Peer). r.conn) (sym (some_peer p q e));
         alone = λ j q ne there same. ne (one_place st i j p q at (set_there ps i j (Some p) ne ∙ there) same);
@@ -158,8 +134,8 @@ shut {acts = acts} {s = s} ps i p st lt hub' goes =
         others = g.1.2.others;
         seat = inr (record { not_here = λ q e. absurd (none_some q e); closed = λ le. gone });
         now = λ q e. absurd (none_some q e);
-        gone = λ e. here';
-        conns = λ j ne. ap (λ (m : ℕ). conn_at (Closed m ∷ acts) j) h.place ∙ closed_there acts i j ne;
+        gone = λ e. closed_here acts i;
+        conns = λ j ne. closed_there acts i j ne;
         count = omega (arith, st.count, taken_swap ps i (Some p) None lt);
       });
       served = g.1.0;
@@ -167,48 +143,43 @@ shut {acts = acts} {s = s} ps i p st lt hub' goes =
 
 module _ {A : Type 0} {n : ℕ} {o : Origin} {hub : Hub A} {left : ℕ} {before : Option (List Act)} (ps : List (Option Peer)) (i : ℕ) (p : Peer) (lt : i < length ps) (st : Standing (Listening n) o hub (set ps i (Some p)) left before) (hub' : Hub A) (after : Option (List Act)) (goes : Goes (Close p.conn) hub hub') where
   -- the stream has ended
-  pub ended : (mid : Option (List Act)) → AreWaiting hub p [] → p.broken ≡ false → Adds before mid (Ended p.place ∷ []) → Adds mid after (Closed p.place ∷ []) → Standing (Listening n) o hub' (set ps i None) left after
+  pub ended : (mid : Option (List Act)) → AreWaiting hub p.conn [] → is_broken_at hub p.conn ≡ false → Adds before mid (Ended i ∷ []) → Adds mid after (Closed i ∷ []) → Standing (Listening n) o hub' (set ps i None) left after
   ended mid drained whole said closed =
-      let over = Ended p.place ∷ st.acts in
+      let over = Ended i ∷ st.acts in
       let x = shut ps i p (stands_as over (λ j. refl) refl st.stands) lt hub' goes in
       record {
-        acts = Closed p.place ∷ over;
+        acts = Closed i ∷ over;
         machine = x.machine;
         way = ((st.machine, (st.machine, st.way.0, (st.way.2, can_hear ps i p lt st drained whole), refl), inl (inl refl), x.step), st.way.1, tt);
         stands = x.stands;
-        adds = adds_on o.first mid after over (Closed p.place ∷ []) (adds_on o.first before mid st.acts (Ended p.place ∷ []) st.adds said) closed;
+        adds = adds_on o.first mid after over (Closed i ∷ []) (adds_on o.first before mid st.acts (Ended i ∷ []) st.adds said) closed;
         fewer = st.fewer;
       }
 
   -- the connection is broken
-  pub spent : AreWaiting hub p [] → p.broken ≡ true → Adds before after (Closed p.place ∷ []) → Standing (Listening n) o hub' (set ps i None) left after
+  pub spent : AreWaiting hub p.conn [] → is_broken_at hub p.conn ≡ true → Adds before after (Closed i ∷ []) → Standing (Listening n) o hub' (set ps i None) left after
   spent drained broken closed =
       let h = here_at st.stands i p (set_here ps i (Some p) lt) in
-      let is_spent : On st.acts p.place st.machine IsSpent = (
-        p.conn,
-        h.connected,
-        ap (λ (j : ℕ). conn_at st.acts j) h.place ∙ h.conn,
-        h.opened,
-        (h.broken ∙ broken, waiting_at st.stands i p h [] drained),
-      ) in
+      let is_spent : On st.acts i st.machine IsSpent =
+      (p.conn, h.connected, h.conn, h.opened, (told_broken hub st.machine st.stands.is p.conn h.connected true h.opened broken, waiting_at st.stands i p h [] drained)) in
       let x = shut ps i p st.stands lt hub' goes in
       record {
-        acts = Closed p.place ∷ st.acts;
+        acts = Closed i ∷ st.acts;
         machine = x.machine;
         way = ((st.machine, st.way.0, inr (inl (st.way.2, is_spent)), x.step), st.way.1, tt);
         stands = x.stands;
-        adds = adds_on o.first before after st.acts (Closed p.place ∷ []) st.adds closed;
+        adds = adds_on o.first before after st.acts (Closed i ∷ []) st.adds closed;
         fewer = st.fewer;
       }
 
 -- writing to the stream has failed
-pub failed : {A : Type 0} {n : ℕ} {o : Origin} {hub : Hub A} {left : ℕ} {before : Option (List Act)} (ps : List (Option Peer)) (i : ℕ) (p : Peer) → i < length ps → Standing (Answering n) o hub (set ps i (Some p)) left before → (bytes : List ℕ) → AreWaiting hub p bytes → 0 < length bytes
-    → (hub' : Hub A) (mid after : Option (List Act)) → Goes (Close p.conn) hub hub' → Adds before mid (Failed p.place ∷ []) → Adds mid after (Closed p.place ∷ []) → Standing (Answering n) o hub' (set ps i None) left after
+pub failed : {A : Type 0} {n : ℕ} {o : Origin} {hub : Hub A} {left : ℕ} {before : Option (List Act)} (ps : List (Option Peer)) (i : ℕ) (p : Peer) → i < length ps → Standing (Answering n) o hub (set ps i (Some p)) left before → (bytes : List ℕ) → AreWaiting hub p.conn bytes → 0 < length bytes
+    → (hub' : Hub A) (mid after : Option (List Act)) → Goes (Close p.conn) hub hub' → Adds before mid (Failed i ∷ []) → Adds mid after (Closed i ∷ []) → Standing (Answering n) o hub' (set ps i None) left after
 failed {o = o} {before = before} ps i p lt st bytes waiting some hub' mid after goes said closed =
-    let over = Failed p.place ∷ st.acts in
+    let over = Failed i ∷ st.acts in
     let x = shut ps i p (stands_as over (λ j. refl) refl st.stands) lt hub' goes in
     record {
-      acts = Closed p.place ∷ over;
+      acts = Closed i ∷ over;
       machine = x.machine;
       way = (
         (st.machine, (st.machine, st.way.0, (st.way.2, st.way.3, is_waiting ps i p st.stands lt bytes waiting some), refl), inl (inr refl), x.step),
@@ -217,7 +188,7 @@ failed {o = o} {before = before} ps i p lt st bytes waiting some hub' mid after 
         inr (inr (subst (λ (w : ServedState). Has (Kept w.state) st.acts) (sym x.served) st.way.3)),
       );
       stands = x.stands;
-      adds = adds_on o.first mid after over (Closed p.place ∷ []) (adds_on o.first before mid st.acts (Failed p.place ∷ []) st.adds said) closed;
+      adds = adds_on o.first mid after over (Closed i ∷ []) (adds_on o.first before mid st.acts (Failed i ∷ []) st.adds said) closed;
       fewer = st.fewer;
     }
 
@@ -231,15 +202,15 @@ closed_way (Ending served at) o place acts s s' may way step =
     (Closed place ∷ way.0, ap (λ (l : List Act). Closed place ∷ l) way.1, (place, s, refl, way.2, subst (λ (l : List Act). StepAt l place Close s s') way.1 step))
 
 pub closes : {A : Type 0} {stage : Stage} {o : Origin} {hub : Hub A} {left : ℕ} {before : Option (List Act)} (ps : List (Option Peer)) (i : ℕ) (p : Peer) → i < length ps → IsClosing stage → Standing stage o hub (set ps i (Some p)) left before → (hub' : Hub A) (after : Option (List Act)) → Goes (Close p.conn) hub hub'
-    → Adds before after (Closed p.place ∷ []) → Standing (closed_stage stage) o hub' (set ps i None) left after
+    → Adds before after (Closed i ∷ []) → Standing (closed_stage stage) o hub' (set ps i None) left after
 closes {stage = stage} {o = o} {before = before} ps i p lt may st hub' after goes closed =
     let x = shut ps i p st.stands lt hub' goes in
     record {
-      acts = Closed p.place ∷ st.acts;
+      acts = Closed i ∷ st.acts;
       machine = x.machine;
-      way = closed_way stage o p.place st.acts st.machine x.machine may st.way x.step;
+      way = closed_way stage o i st.acts st.machine x.machine may st.way x.step;
       stands = x.stands;
-      adds = adds_on o.first before after st.acts (Closed p.place ∷ []) st.adds closed;
+      adds = adds_on o.first before after st.acts (Closed i ∷ []) st.adds closed;
       fewer = st.fewer;
     }
 
@@ -306,9 +277,9 @@ opened hub hub' t id is is_fresh gives g =
     ]
 
 pub admits : {A : Type 0} {n : ℕ} {o : Origin} {hub : Hub A} {left : ℕ} {before : Option (List Act)} (ps : List (Option Peer)) (i id left' : ℕ) (z : ℤ) (hub' : Hub A) (mid after : Option (List Act)) → i < length ps → i < 16 → Standing (Listening n) o hub (set ps i None) left before → taken (set ps i None) < o.most → left ≡ left' + 1
-    → Adds before mid (Knocked ∷ []) → Goes Connect hub hub' → ConnectGives (Ok id) hub hub' → Adds mid after (Admitted i id ∷ []) → Standing (Listening n) o hub' (set ps i (Some (record { place = i; conn = id; broken = false; since = z }))) left' after
+    → Adds before mid (Knocked ∷ []) → Goes Connect hub hub' → ConnectGives (Ok id) hub hub' → Adds mid after (Admitted i id ∷ []) → Standing (Listening n) o hub' (set ps i (Some (record { conn = id; since = z }))) left' after
 admits {o = o} {hub = hub} {before = before} ps i id left' z hub' mid after lt below st few less said goes gives let_in =
-    let peer : Peer = record { place = i; conn = id; broken = false; since = z } in
+    let peer : Peer = record { conn = id; since = z } in
     let at = set_here ps i None lt in
     let was = st.stands in
     let s = st.machine in
@@ -333,8 +304,8 @@ admits {o = o} {hub = hub} {before = before} ps i id left' z hub' mid after lt b
             let ne : k ≢ id = λ e. absurd (omega (arith, e, w.0, w.2)) in
             others k ne ∙ was.fresh k (omega (arith, w.2));
         others = others;
-        seat = inl (record { peer = peer; connected = fresh; here = refl; numbered = refl; opened = now; broken = refl });
-        now = λ q e. let same : q ≡ peer = sym (some_peer peer q e) in (ap (λ (r : Peer). r.conn) same, ap (λ (r : Peer). r.place) same, admitted_here knock i id);
+        seat = inl (record { peer = peer; connected = fresh; here = refl; numbered = refl; opened = now });
+        now = λ q e. let same : q ≡ peer = sym (some_peer peer q e) in (ap (λ (r : Peer). r.conn) same, admitted_here knock i id);
         gone = λ e. absurd (none_some peer (sym e));
         conns = λ j ne. admitted_there knock i id j ne;
         count = omega (arith, was.count, taken_swap ps i None (Some peer) lt);
@@ -446,7 +417,7 @@ gone_at stage o new ps i left x y after st = subst (λ (l : List (Option Peer)).
 
 -- a stream is admitted at a free place
 pub admits_at : {A : Type 0} {n : ℕ} {o : Origin} {hub : Hub A} {left : ℕ} {before : Option (List Act)} (ps : List (Option Peer)) (i id left' : ℕ) (z : ℤ) (hub' : Hub A) (mid after : Option (List Act)) → i < length ps → i < 16 → place_at ps i ≡ None → Standing (Listening n) o hub ps left before → taken ps < o.most → left ≡ left' + 1
-    → Adds before mid (Knocked ∷ []) → Goes Connect hub hub' → ConnectGives (Ok id) hub hub' → Adds mid after (Admitted i id ∷ []) → Standing (Listening n) o hub' (set ps i (Some (record { place = i; conn = id; broken = false; since = z }))) left' after
+    → Adds before mid (Knocked ∷ []) → Goes Connect hub hub' → ConnectGives (Ok id) hub hub' → Adds mid after (Admitted i id ∷ []) → Standing (Listening n) o hub' (set ps i (Some (record { conn = id; since = z }))) left' after
 admits_at {n = n} {o = o} {hub = hub} {left = left} {before = before} ps i id left' z hub' mid after lt below free st few less said goes gives let_in =
     let same = sym (set_back ps i None free) in
     admits ps i id left' z hub' mid after lt below (subst (λ (l : List (Option Peer)). Standing (Listening n) o hub l left before) same st) (subst (λ (l : List (Option Peer)). taken l < o.most) same few) less said goes gives let_in

@@ -15,7 +15,7 @@ use Rattle.nfs_streams.specs.Runs.{Runs, Ends, Does}
 use Rattle.nfs_streams.specs.Seats.{Stands, IsFresh, IsSeated, Seat, place_at, taken}
 use Rattle.nfs_streams.specs.Standing.{Origin, Listening, Stopped, Ending, Standing, Moves, LeavesSo, RunGives}
 use Rattle.nfs_streams.specs.All.{EndsSo, AreClosed, ServesAll}
-use Rattle.nfs_streams.proofs.Lists.{none_at, adds_none}
+use Rattle.nfs_streams.proofs.Lists.{none_some, none_at, adds_none}
 use Rattle.nfs_streams.proofs.Hubs.{fresh_on}
 
 -- ---- no connection has a number still to come
@@ -52,10 +52,7 @@ fresh_leads first (event ∷ events) s leads = fresh_step event leads.0 s (fresh
 -- ---- the beginning
 
 seat_nobody : (start id : ℕ) (at : Option Peer) (o : Option Connected) → at ≡ None → (start ≤ id → o ≡ None) → Seat start id at o
-seat_nobody start id at o none closed = inr (record { not_here = λ p e. absurd (none_is p (sym none ∙ e)); closed = closed })
-  where
-    none_is : (p : Peer) → None ≡ Some p → ⊥
-    none_is p e = cc
+seat_nobody start id at o none closed = inr (record { not_here = λ p e. absurd (none_some p (sym none ∙ e)); closed = closed })
 
 begins : {A : Type 0} (first : ServedState) (events : List Event) (hub : Hub A) (places : List (Option Peer)) (most connections : ℕ) (before : Option (List Act)) (h : LeadsTo first events hub) → taken places ≡ 0
     → Standing (Listening 0) (record { start = h.state; first = before; most = most; connections = connections }) hub places connections before
@@ -87,12 +84,9 @@ begins first events hub places most connections before h none =
 all_closed : {A : Type 0} {start : ℕ} {hub : Hub A} {places : List (Option Peer)} {acts : List Act} {s : State} (st : Stands start hub places acts s) → ((j : ℕ) → place_at places j ≡ None) → AreClosed start s
 all_closed st free id le =
     elim (st.each id) [
-      | inl here ↦ absurd (none_is here.peer (sym (free (st.owner id)) ∙ here.here))
+      | inl here ↦ absurd (none_some here.peer (sym (free (st.owner id)) ∙ here.here))
       | inr other ↦ other.closed le
     ]
-  where
-    none_is : (p : Peer) → None ≡ Some p → ⊥
-    none_is p e = cc
 
 ends_so : {A : Type 0} (end : AllEnd) (limits : Limits) {o : Origin} {hub : Hub A} {places : List (Option Peer)} {left n : ℕ} {now : Option (List Act)} (st : Standing (Stopped end n) o hub places left now) → o.connections ≡ limits.connections → LeavesSo end limits.turns n left places → EndsSo end limits o.start st.acts st.machine
 ends_so Served limits {places = places} st same leaves = (omega (arith, same, st.fewer, leaves.0), all_closed st.stands (none_at places leaves.1))

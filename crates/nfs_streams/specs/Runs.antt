@@ -8,6 +8,10 @@ use Rattle.nfs_streams.specs.Acts.{Act, Waited, Knocked, Admitted, Closed, Heard
 abbrev pub MAX_PIECE : ℕ
 MAX_PIECE = 4096
 
+-- the most bytes of one write
+abbrev pub MAX_WRITTEN : ℕ
+MAX_WRITTEN = 131072
+
 -- the most connections that are open at once, and the number of places
 abbrev pub MOST_PLACES : ℕ
 MOST_PLACES = 16
@@ -58,8 +62,8 @@ MayClose most earlier place s = JustOver earlier place ⊎ (IsSettled earlier ×
 -- The acts that may come behind earlier acts, where so many connections may be open at once. Behind an end or a failure of a stream only
 -- its closing comes, and nothing behind a wait that failed or a trail that couldn't be kept. A stream is admitted only just after a stream
 -- has knocked, at a free place below 16, while fewer connections are open than may be. A piece has at most 4,096 bytes, and is read only
--- of a connection that is whole and on which no bytes are pending. Writing is tried only where bytes are pending on the connection, and
--- the trail of the server in its present state has been kept: behind a book too.
+-- of a connection that is whole and on which no bytes are pending. At most 131,072 bytes are written at once; writing is tried only where
+-- bytes are pending on the connection, and the trail of the server in its present state has been kept: behind a book too.
 abbrev pub Allowed : ℕ → List Act → Act → State → Type 0
 Allowed most earlier (Waited well) s = IsSettled earlier
 Allowed most earlier Knocked s = IsSettled earlier
@@ -67,7 +71,7 @@ Allowed most earlier (Admitted place id) s = JustKnocked earlier × (conn_at ear
 Allowed most earlier (Closed place) s = MayClose most earlier place s
 Allowed most earlier (Heard place piece) s = IsSettled earlier × (length piece ≤ MAX_PIECE) × On earlier place s CanHear
 Allowed most earlier (Ended place) s = IsSettled earlier × On earlier place s CanHear
-Allowed most earlier (Told place bytes) s = IsSettled earlier × Has (Kept s.served.state) earlier × On earlier place s IsWaiting
+Allowed most earlier (Told place bytes) s = IsSettled earlier × (length bytes ≤ MAX_WRITTEN) × Has (Kept s.served.state) earlier × On earlier place s IsWaiting
 Allowed most earlier (Failed place) s = IsSettled earlier × Has (Kept s.served.state) earlier × On earlier place s IsWaiting
 Allowed most earlier (Kept state) s = IsSettled earlier × (state ≡ s.served.state)
 Allowed most earlier Lost s = IsSettled earlier

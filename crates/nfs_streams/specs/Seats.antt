@@ -1,9 +1,10 @@
 -- The connections at all places, as the hub has them.
-use Rattle.std.specs.Prelude.{◌≡◌, ◌≢◌, ◌⊎◌, ◌≤◌, ℕ, List, Option, Some, None, get_or, is_some}
+use Rattle.std.specs.Prelude.{◌≡◌, ◌≢◌, ◌⊎◌, ◌≤◌, ℕ, Bool, false, List, Option, Some, None, get_or, is_some}
+use Rattle.std.specs.Option.{unwrap_or}
 use Rattle.std.specs.List.{count_by}
 use Rattle.nfs_hub.specs.declared.hub.Hub.{Hub}
 use Rattle.nfs_hub.specs.Machine.{Connected, State}
-use Rattle.nfs_hub.specs.Hub.{IsHub, pending_at}
+use Rattle.nfs_hub.specs.Hub.{IsHub, broken_at, pending_at}
 use Rattle.nfs_streams.specs.declared.peer.Peer.{Peer}
 use Rattle.nfs_streams.specs.Acts.{Act, conn_at, open_in}
 
@@ -22,7 +23,6 @@ pub record IsHere (id : ℕ) (at : Option Peer) (now : Option Connected) : Type 
   pub here : at ≡ Some peer
   pub numbered : peer.conn ≡ id
   pub opened : now ≡ Some connected
-  pub broken : connected.broken ≡ peer.broken
 
 -- a connection at no place is closed, if its number came since the start
 pub record IsElsewhere (start id : ℕ) (at : Option Peer) (now : Option Connected) : Type 0 where
@@ -35,7 +35,7 @@ Seat start id at now = IsHere id at now ⊎ IsElsewhere start id at now
 -- behind these acts the connection of a place is the connection that was admitted there, which is at no other place
 abbrev pub IsSeated : (ℕ → ℕ) → List Act → ℕ → Option Peer → Type 0
 IsSeated owner acts index None = conn_at acts index ≡ None
-IsSeated owner acts index (Some peer) = (conn_at acts index ≡ Some peer.conn) × (owner peer.conn ≡ index) × (peer.place ≡ index)
+IsSeated owner acts index (Some peer) = (conn_at acts index ≡ Some peer.conn) × (owner peer.conn ≡ index)
 
 -- no connection has a number still to come
 abbrev pub IsFresh : State → Type 0
@@ -51,6 +51,10 @@ pub record Stands {A : Type 0} (start : ℕ) (hub : Hub A) (places : List (Optio
   pub seated : (index : ℕ) → IsSeated owner acts index (place_at places index)
   pub count : open_in acts ≡ taken places
 
--- these bytes are pending on the connection of a place, if it is open
-abbrev pub AreWaiting : {A : Type 0} → Hub A → Peer → List ℕ → Type 0
-AreWaiting hub peer bytes = (pending : List ℕ) → pending_at hub peer.conn ≡ Some pending → pending ≡ bytes
+-- whether the connection of a number is open and broken
+abbrev pub is_broken_at : {A : Type 0} → Hub A → ℕ → Bool
+is_broken_at hub id = unwrap_or (broken_at hub id) false
+
+-- these bytes are pending on the connection of a number, if it is open
+abbrev pub AreWaiting : {A : Type 0} → Hub A → ℕ → List ℕ → Type 0
+AreWaiting hub id bytes = (pending : List ℕ) → pending_at hub id ≡ Some pending → pending ≡ bytes

@@ -62,11 +62,11 @@ Moves stage stage' most old places left new places' left' before after =
 abbrev pub Loads : {A : Type 0} → Hub A → Hub A → Option (List Act) → Option (List Act) → Type 0
 Loads old new before after = (n most left : ℕ) (places : List (Option Peer)) → Moves (Listening n) (Listening n) most old places left new places left before after
 
--- at any place among any others the connection of the place becomes another one, or goes
-abbrev pub Changes : {A : Type 0} → Stage → Hub A → Option Peer → Hub A → Option Peer → Option (List Act) → Option (List Act) → Type 0
-Changes stage old peer new peer' before after =
-    (o : Origin) (left index : ℕ) (places : List (Option Peer)) → index < length places
-    → Standing stage o old (set places index peer) left before → Standing stage o new (set places index peer') left after
+-- whatever is at the other places, the connection of this place becomes another one, or goes
+abbrev pub Changes : {A : Type 0} → Stage → ℕ → Hub A → Option Peer → Hub A → Option Peer → Option (List Act) → Option (List Act) → Type 0
+Changes stage place old peer new peer' before after =
+    (o : Origin) (left : ℕ) (places : List (Option Peer)) → place < length places
+    → Standing stage o old (set places place peer) left before → Standing stage o new (set places place peer') left after
 
 -- the connection of a place behind its part of a turn
 abbrev pub stays : Turned → Peer → Option Peer

@@ -1,9 +1,10 @@
 //! One connection and its stream.
 ghost use Rattle.std.specs.Prelude.{◌≡◌, ℕ, [], ◌∷◌, Some};
+ghost use Rattle.std.specs.Bool.{OnFalse};
 ghost use Rattle.nfs_hub.specs.Machine.{Close};
 ghost use Rattle.nfs_hub.specs.Hub.{Goes};
 ghost use Rattle.nfs_streams.specs.Acts.{Adds, Closed};
-ghost use Rattle.nfs_streams.specs.Seats.{AreWaiting};
+ghost use Rattle.nfs_streams.specs.Seats.{AreWaiting, is_broken_at};
 ghost use Rattle.nfs_streams.specs.Standing.{Listening, Answering, Changes, stays};
 
 use crate::streams::{Moved, Streams};
@@ -19,9 +20,7 @@ const MAX_WRITTEN: usize = 131_072;
 /// A connection at a place.
 #[derive(Drop)]
 pub(crate) struct Peer {
-    pub(crate) place: usize,
     pub(crate) conn: ConnId,
-    pub(crate) broken: bool,
     /// The second in which the connection was admitted, or bytes were read or written last.
     pub(crate) since: i64,
 }
@@ -38,54 +37,70 @@ pub(crate) enum Turned {
 }
 
 /// The bytes of a connection that wait to be written.
-fn waiting<'a, A: Allocator + Copy>(hub: &'a Hub<A>, peer: &Peer) -> &'a [u8]
-    ensures { AreWaiting hub.now peer.now result.now }
+fn waiting<A: Allocator + Copy>(hub: &Hub<A>, conn: ConnId) -> &[u8]
+    ensures { AreWaiting hub.now conn result.now }
 {
-    hub.pending(peer.conn).unwrap_or(&[])
+    hub.pending(conn).unwrap_or(&[])
 }
 
-/// Closes a connection and its stream.
+/// Whether bytes of a connection wait to be written.
+#[tactic(auto, using(crate::proofs::Hubs::drained))]
+fn is_waiting<A: Allocator + Copy>(hub: &Hub<A>, conn: ConnId) -> bool
+    ensures { OnFalse result (AreWaiting hub.now conn []) }
+{
+    !waiting(hub, conn).is_empty()
+}
+
+/// Whether a connection is broken.
+fn is_broken<A: Allocator + Copy>(hub: &Hub<A>, conn: ConnId) -> bool
+    ensures { result ≡ is_broken_at hub.now conn }
+{
+    hub.is_broken(conn).unwrap_or(false)
+}
+
+/// Closes the connection of a place and its stream.
 pub(crate) fn shut<A: Allocator + Copy, S: Streams<A>>(
     hub: &mut Hub<A>,
     streams: &mut S,
-    peer: &Peer,
+    place: usize,
+    conn: ConnId,
 )
-    ensures goes { Goes (Close peer.now.conn) hub.old hub.new }
-    ensures said { Adds (S.acts streams.old) (S.acts streams.new) (Closed peer.now.place ∷ []) }
+    ensures goes { Goes (Close conn) hub.old hub.new }
+    ensures said { Adds (S.acts streams.old) (S.acts streams.new) (Closed place ∷ []) }
 {
-    streams.close(peer.place);
-    let _ = hub.close(peer.conn);
+    streams.close(place);
+    let _ = hub.close(conn);
 }
 
-/// Where no bytes wait to be written, reads a piece of a connection's stream and feeds it. The connection is closed where the stream has
+/// Where no bytes wait to be written, reads a piece of the stream of a place and feeds it. The connection is closed where the stream has
 /// ended, or the connection is broken.
 pub(crate) fn listen<A: Allocator + Copy, S: Streams<A>, C: Clock>(
     hub: &mut Hub<A>,
     streams: &mut S,
     clock: &C,
+    place: usize,
     peer: &mut Peer,
 ) -> Turned
-    ensures { (n : ℕ) → Changes (Listening n) hub.old (Some peer.old) hub.new (stays result peer.new) (S.acts streams.old) (S.acts streams.new) }
+    ensures { (n : ℕ) → Changes (Listening n) place hub.old (Some peer.old) hub.new (stays result peer.new) (S.acts streams.old) (S.acts streams.new) }
 {
-    if !waiting(hub, peer).is_empty() {
+    if is_waiting(hub, peer.conn) {
         return Turned::Idle;
     }
-    if peer.broken {
-        shut(hub, streams, peer);
+    if is_broken(hub, peer.conn) {
+        shut(hub, streams, place, peer.conn);
         return Turned::Gone;
     }
     let mut buf = [0u8; PIECE];
-    match streams.read(peer.place, &mut buf) {
+    match streams.read(place, &mut buf) {
         Moved::Bytes(n) => {
             let now = clock.now();
-            let fed = hub.feed(peer.conn, &buf[..n], now);
-            peer.broken = fed.is_err();
+            let _ = hub.feed(peer.conn, &buf[..n], now);
             peer.since = now.seconds;
             Turned::Busy
         }
         Moved::NotYet => Turned::Idle,
         Moved::Over => {
-            shut(hub, streams, peer);
+            shut(hub, streams, place, peer.conn);
             Turned::Gone
         }
     }
@@ -96,15 +111,16 @@ pub(crate) fn answer<A: Allocator + Copy, S: Streams<A>, C: Clock>(
     hub: &mut Hub<A>,
     streams: &mut S,
     clock: &C,
+    place: usize,
     peer: &mut Peer,
 ) -> Turned
-    ensures { (n : ℕ) → Changes (Answering n) hub.old (Some peer.old) hub.new (stays result peer.new) (S.acts streams.old) (S.acts streams.new) }
+    ensures { (n : ℕ) → Changes (Answering n) place hub.old (Some peer.old) hub.new (stays result peer.new) (S.acts streams.old) (S.acts streams.new) }
 {
-    let bytes = waiting(hub, peer);
+    let bytes = waiting(hub, peer.conn);
     if bytes.is_empty() {
         return Turned::Idle;
     }
-    match streams.write(peer.place, &bytes[..bytes.len().min(MAX_WRITTEN)]) {
+    match streams.write(place, &bytes[..bytes.len().min(MAX_WRITTEN)]) {
         Moved::Bytes(n) => {
             let _ = hub.consume(peer.conn, n);
             peer.since = clock.now().seconds;
@@ -113,7 +129,7 @@ pub(crate) fn answer<A: Allocator + Copy, S: Streams<A>, C: Clock>(
         Moved::NotYet => Turned::Idle,
         Moved::Over => {
             // Nothing more can be told.
-            shut(hub, streams, peer);
+            shut(hub, streams, place, peer.conn);
             Turned::Gone
         }
     }

@@ -71,9 +71,7 @@ fn let_in<A: Allocator + Copy, S: Streams<A>, C: Clock>(
     };
     streams.admit(index, conn);
     places[index] = Some(Peer {
-        place: index,
         conn,
-        broken: false,
         since: clock.now().seconds,
     });
     door.left -= 1;
@@ -98,7 +96,7 @@ fn listen_at<A: Allocator + Copy, S: Streams<A>, C: Clock>(
     let Some(peer) = &mut places[index] else {
         return let_in(hub, streams, clock, places, index, door);
     };
-    match listen(hub, streams, clock, peer) {
+    match listen(hub, streams, clock, index, peer) {
         Turned::Idle => false,
         Turned::Busy => true,
         Turned::Gone => {
@@ -143,7 +141,7 @@ fn answer_at<A: Allocator + Copy, S: Streams<A>, C: Clock>(
     let Some(peer) = &mut places[index] else {
         return false;
     };
-    match answer(hub, streams, clock, peer) {
+    match answer(hub, streams, clock, index, peer) {
         Turned::Idle => false,
         Turned::Busy => true,
         Turned::Gone => {
@@ -184,7 +182,7 @@ fn shut_at<A: Allocator + Copy, S: Streams<A>>(
     let Some(peer) = &places[index] else {
         return;
     };
-    shut(hub, streams, peer);
+    shut(hub, streams, index, peer.conn);
     places[index] = None;
 }
 
