@@ -1,99 +1,79 @@
 //! EXCHANGE_ID, DESTROY_CLIENTID and RECLAIM_COMPLETE (RFC 8881, sections 18.35, 18.50 and 18.51).
 
-use crate::plain::{
-    asked, call, confirmed_of, create, creation, destroy_client, destroy_session, exchange, new,
-    reclaim_complete, run, session,
+use crate::plain::{ALICE, BY_BOB, CALL, SMALL, create, creation, exchange, new};
+use crate::steps::Outcome::{Confirmed, Done, Made, New, Record, Refused, Session, Unconfirmed};
+use crate::steps::Step::{
+    ConfirmedOf, Create, CreateSmall, DestroyClientId, DestroySession, ExchangeId, ReclaimComplete,
+    Sequence,
 };
-use nfs_types::Status;
-use rpc_record::Caller;
-use session_slots::{Begin, Clients, Exchange, Exchanged};
+use crate::steps::{Outcome, Step, walk};
+use nfs_types::Status::{
+    BadSession, ClidInUse, ClientIdBusy, CompleteAlready, Inval, NoSpc, NotSupp, StaleClientId,
+};
+use session_slots::{Clients, Exchange};
 use std::alloc::Global;
 use std::process::Abort;
 
-fn unconfirmed(client: u64) -> Result<Exchanged, Status> {
-    Ok(Exchanged {
-        client,
-        sequence: 1,
-        is_confirmed: false,
-    })
-}
+const BY_BOB_WITH_OPENS: Exchange<'static> = Exchange {
+    has_opens: true,
+    ..BY_BOB
+};
 
-fn confirmed(client: u64, sequence: u32) -> Result<Exchanged, Status> {
-    Ok(Exchanged {
-        client,
-        sequence,
-        is_confirmed: true,
-    })
-}
+/// The client `alice` has restarted.
+const RESTARTED: Exchange<'static> = Exchange {
+    verifier: 8,
+    ..ALICE
+};
 
-fn by_bob() -> Exchange<'static> {
-    Exchange {
-        uid: 1002,
-        ..asked(b"alice")
-    }
-}
-
-fn restarted() -> Exchange<'static> {
-    Exchange {
-        verifier: 8,
-        ..asked(b"alice")
-    }
-}
+const CAROL: Exchange<'static> = Exchange {
+    owner: b"carol",
+    ..ALICE
+};
 
 /// The owner `alice` has the confirmed client 1, with the session 1.
 fn alice(alloc: Global) -> Clients {
     let mut clients = new(alloc);
-    let _ = exchange(&mut clients, asked(b"alice"));
-    let _ = session(&mut clients, 1, 1);
+    let _ = exchange(&mut clients, ALICE);
+    let _ = create(&mut clients, creation(1, 1));
     clients
 }
 
-fn is_gone(clients: &mut Clients, session: u64) -> bool {
-    let caller = Caller::new(1001, 100, &[]);
-    run(clients, session, call(0, 1, b"", &caller), b"") == Begin::Refused(Status::BadSession)
-}
-
-fn see_a_client_comes_and_is_known(rt: &impl Abort, clients: &mut Clients) {
-    assert_eq!(rt; confirmed_of(clients, b"alice"), None);
-    let first = exchange(clients, asked(b"alice"));
-    assert_eq!(rt; first, unconfirmed(1));
-    assert_eq!(rt; first.map(|e| e.flags()), Ok(0x1_0000));
-    assert_eq!(rt; session(clients, 1, 1), Ok(1));
-    let again = exchange(clients, asked(b"alice"));
-    assert_eq!(rt; again, confirmed(1, 2));
-    assert_eq!(rt; again.map(|e| e.flags()), Ok(0x8001_0000));
-    assert_eq!(rt; confirmed_of(clients, b"alice"), Some(1));
-    assert_eq!(rt; confirmed_of(clients, b"alic"), None);
-    let mut busy = by_bob();
-    busy.has_opens = true;
-    assert_eq!(rt; exchange(clients, busy), Err(Status::ClidInUse));
-    assert_eq!(rt; destroy_client(clients, 1, true), Err(Status::ClientIdBusy));
-    assert_eq!(rt; reclaim_complete(clients, 1), Ok(()));
-    assert_eq!(rt; reclaim_complete(clients, 1), Err(Status::CompleteAlready));
-    assert!(rt; !is_gone(clients, 1));
-    let other = exchange(clients, by_bob());
-    assert_eq!(rt; other, unconfirmed(2));
-    assert_eq!(rt; other.map(|e| e.flags()), Ok(0x1_0000));
-    assert!(rt; is_gone(clients, 1));
-    assert_eq!(rt; confirmed_of(clients, b"alice"), None);
-}
+const A_CLIENT: &[(Step<'_>, Outcome)] = &[
+    (ConfirmedOf(b"alice"), Record(None)),
+    (ExchangeId(ALICE), Unconfirmed(1, 1, 0x1_0000)),
+    (CreateSmall(1, 1), Session(1)),
+    (ExchangeId(ALICE), Confirmed(1, 2, 0x8001_0000)),
+    (ConfirmedOf(b"alice"), Record(Some(1))),
+    (ConfirmedOf(b"alic"), Record(None)),
+    (ExchangeId(BY_BOB_WITH_OPENS), Refused(ClidInUse)),
+    (DestroyClientId(1, true), Refused(ClientIdBusy)),
+    (ReclaimComplete(1), Done),
+    (ReclaimComplete(1), Refused(CompleteAlready)),
+    (Sequence(1, CALL, b""), New(1, 4096, 0)),
+    (ExchangeId(BY_BOB), Unconfirmed(2, 1, 0x1_0000)),
+    (Sequence(1, CALL, b""), Refused(BadSession)),
+    (ConfirmedOf(b"alice"), Record(None)),
+];
 
 #[test]
 fn a_client_comes_and_is_known(rt: HostRuntime) {
     let mut clients = new(rt.alloc());
-    see_a_client_comes_and_is_known(&rt, &mut clients);
+    walk(&rt, &mut clients, A_CLIENT);
 }
 
+/// Flags of an EXCHANGE_ID, each with its outcome.
+const FLAGS: [(u32, Outcome); 4] = [
+    (0x8000_0000, Refused(Inval)),
+    (0x4000_0000, Refused(NotSupp)),
+    (0xc000_0000, Refused(Inval)),
+    (0x3fff_ffff, Unconfirmed(1, 1, 0x1_0000)),
+];
+
 fn see_two_flags_are_refused(rt: &impl Abort, clients: &mut Clients) {
-    let mut flagged = asked(b"alice");
-    flagged.flags = 0x8000_0000;
-    assert_eq!(rt; exchange(clients, flagged), Err(Status::Inval));
-    flagged.flags = 0x4000_0000;
-    assert_eq!(rt; exchange(clients, flagged), Err(Status::NotSupp));
-    flagged.flags = 0xc000_0000;
-    assert_eq!(rt; exchange(clients, flagged), Err(Status::Inval));
-    flagged.flags = 0x3fff_ffff;
-    assert_eq!(rt; exchange(clients, flagged), unconfirmed(1));
+    for (flags, wanted) in FLAGS {
+        let flagged = Exchange { flags, ..ALICE };
+        walk(rt, clients, &[(ExchangeId(flagged), wanted)]);
+    }
 }
 
 #[test]
@@ -102,113 +82,122 @@ fn two_flags_are_refused(rt: HostRuntime) {
     see_two_flags_are_refused(&rt, &mut clients);
 }
 
-fn see_a_new_verifier_gets_a_new_record(rt: &impl Abort, clients: &mut Clients) {
-    assert_eq!(rt; exchange(clients, restarted()), unconfirmed(2));
-    assert_eq!(rt; confirmed_of(clients, b"alice"), Some(1));
-    assert!(rt; !is_gone(clients, 1));
-    let made = create(clients, creation(2, 1));
-    assert_eq!(rt; made.result.map(|c| c.session), Ok(2));
-    assert_eq!(rt; made.gone, Some(1));
-    assert!(rt; is_gone(clients, 1));
-    assert!(rt; !is_gone(clients, 2));
-    assert_eq!(rt; confirmed_of(clients, b"alice"), Some(2));
-    assert_eq!(rt; session(clients, 1, 2), Err(Status::StaleClientId));
-}
+/// The session 2 is created, and the record of the client 1 goes.
+const IN_ITS_PLACE: Outcome = Made(2, 1, SMALL, SMALL, Some(1));
+
+const A_NEW_VERIFIER: &[(Step<'_>, Outcome)] = &[
+    (ExchangeId(RESTARTED), Unconfirmed(2, 1, 0x1_0000)),
+    (ConfirmedOf(b"alice"), Record(Some(1))),
+    (Sequence(1, CALL, b""), New(1, 4096, 0)),
+    (Create(2, 1, 1001, SMALL, SMALL), IN_ITS_PLACE),
+    (Sequence(1, CALL, b""), Refused(BadSession)),
+    (Sequence(2, CALL, b""), New(2, 4096, 0)),
+    (ConfirmedOf(b"alice"), Record(Some(2))),
+    (CreateSmall(1, 2), Refused(StaleClientId)),
+];
 
 /// A client that has restarted keeps its old sessions until its new record is confirmed.
 #[test]
 fn a_new_verifier_gets_a_new_record(rt: HostRuntime) {
     let mut clients = alice(rt.alloc());
-    see_a_new_verifier_gets_a_new_record(&rt, &mut clients);
+    walk(&rt, &mut clients, A_NEW_VERIFIER);
 }
 
-fn see_an_unconfirmed_record_is_replaced(rt: &impl Abort, clients: &mut Clients) {
-    assert_eq!(rt; exchange(clients, asked(b"alice")), unconfirmed(1));
-    assert_eq!(rt; exchange(clients, by_bob()), unconfirmed(2));
-    assert_eq!(rt; session(clients, 1, 1), Err(Status::StaleClientId));
-    assert_eq!(rt; exchange(clients, asked(b"carol")), unconfirmed(3));
-    assert_eq!(rt; destroy_client(clients, 2, false), Ok(()));
-}
+const REPLACED: &[(Step<'_>, Outcome)] = &[
+    (ExchangeId(ALICE), Unconfirmed(1, 1, 0x1_0000)),
+    (ExchangeId(BY_BOB), Unconfirmed(2, 1, 0x1_0000)),
+    (CreateSmall(1, 1), Refused(StaleClientId)),
+    (ExchangeId(CAROL), Unconfirmed(3, 1, 0x1_0000)),
+    (DestroyClientId(2, false), Done),
+];
 
 #[test]
 fn an_unconfirmed_record_is_replaced(rt: HostRuntime) {
     let mut clients = new(rt.alloc());
-    see_an_unconfirmed_record_is_replaced(&rt, &mut clients);
+    walk(&rt, &mut clients, REPLACED);
 }
 
-fn see_a_known_client_loses_its_unconfirmed_record(rt: &impl Abort, clients: &mut Clients) {
-    assert_eq!(rt; exchange(clients, restarted()), unconfirmed(2));
-    assert_eq!(rt; session(clients, 1, 2), Ok(2));
-    assert_eq!(rt; exchange(clients, asked(b"alice")), confirmed(1, 3));
-    assert_eq!(rt; session(clients, 2, 1), Err(Status::StaleClientId));
-    assert!(rt; !is_gone(clients, 1));
-}
+const KNOWN: &[(Step<'_>, Outcome)] = &[
+    (ExchangeId(RESTARTED), Unconfirmed(2, 1, 0x1_0000)),
+    (CreateSmall(1, 2), Session(2)),
+    (ExchangeId(ALICE), Confirmed(1, 3, 0x8001_0000)),
+    (CreateSmall(2, 1), Refused(StaleClientId)),
+    (Sequence(1, CALL, b""), New(1, 4096, 0)),
+];
 
 /// The confirmed record is answered, and the owner's unconfirmed record goes.
 #[test]
 fn a_known_client_loses_its_unconfirmed_record(rt: HostRuntime) {
     let mut clients = alice(rt.alloc());
-    see_a_known_client_loses_its_unconfirmed_record(&rt, &mut clients);
+    walk(&rt, &mut clients, KNOWN);
 }
 
-fn see_a_client_without_sessions_is_destroyed(rt: &impl Abort, clients: &mut Clients) {
-    assert_eq!(rt;
-        destroy_client(clients, 2, true),
-        Err(Status::StaleClientId)
-    );
-    assert_eq!(rt;
-        destroy_client(clients, 1, false),
-        Err(Status::ClientIdBusy)
-    );
-    assert_eq!(rt; destroy_session(clients, 1), Ok(()));
-    assert_eq!(rt; destroy_client(clients, 1, true), Err(Status::ClientIdBusy));
-    assert_eq!(rt; confirmed_of(clients, b"alice"), Some(1));
-    assert_eq!(rt; destroy_client(clients, 1, false), Ok(()));
-    assert_eq!(rt;
-        destroy_client(clients, 1, false),
-        Err(Status::StaleClientId)
-    );
-    assert_eq!(rt; confirmed_of(clients, b"alice"), None);
-    assert_eq!(rt; reclaim_complete(clients, 1), Err(Status::StaleClientId));
-    assert_eq!(rt; exchange(clients, asked(b"alice")), unconfirmed(2));
-}
+const DESTROYED: &[(Step<'_>, Outcome)] = &[
+    (DestroyClientId(2, true), Refused(StaleClientId)),
+    (DestroyClientId(1, false), Refused(ClientIdBusy)),
+    (DestroySession(1), Done),
+    (DestroyClientId(1, true), Refused(ClientIdBusy)),
+    (ConfirmedOf(b"alice"), Record(Some(1))),
+    (DestroyClientId(1, false), Done),
+    (DestroyClientId(1, false), Refused(StaleClientId)),
+    (ConfirmedOf(b"alice"), Record(None)),
+    (ReclaimComplete(1), Refused(StaleClientId)),
+    (ExchangeId(ALICE), Unconfirmed(2, 1, 0x1_0000)),
+];
 
 #[test]
 fn a_client_without_sessions_is_destroyed(rt: HostRuntime) {
     let mut clients = alice(rt.alloc());
-    see_a_client_without_sessions_is_destroyed(&rt, &mut clients);
+    walk(&rt, &mut clients, DESTROYED);
 }
 
-fn see_a_new_record_reclaims_again(rt: &impl Abort, clients: &mut Clients) {
-    assert_eq!(rt; reclaim_complete(clients, 1), Ok(()));
-    assert_eq!(rt; exchange(clients, restarted()), unconfirmed(2));
-    assert_eq!(rt; reclaim_complete(clients, 2), Ok(()));
-    assert_eq!(rt; reclaim_complete(clients, 1), Err(Status::CompleteAlready));
-}
+const RECLAIMED: &[(Step<'_>, Outcome)] = &[
+    (ReclaimComplete(1), Done),
+    (ExchangeId(RESTARTED), Unconfirmed(2, 1, 0x1_0000)),
+    (ReclaimComplete(2), Done),
+    (ReclaimComplete(1), Refused(CompleteAlready)),
+];
 
 /// Each record has its own RECLAIM_COMPLETE.
 #[test]
 fn a_new_record_reclaims_again(rt: HostRuntime) {
     let mut clients = alice(rt.alloc());
-    see_a_new_record_reclaims_again(&rt, &mut clients);
+    walk(&rt, &mut clients, RECLAIMED);
 }
+
+const FIFTH: Exchange<'static> = Exchange {
+    owner: &[5],
+    ..ALICE
+};
+
+const ONE_MORE: Exchange<'static> = Exchange {
+    owner: b"one more",
+    ..ALICE
+};
+
+const WITH_SIXTY_FOUR: &[(Step<'_>, Outcome)] = &[
+    (ExchangeId(ONE_MORE), Refused(NoSpc)),
+    (ExchangeId(RESTARTED), Refused(NoSpc)),
+    (ExchangeId(FIFTH), Unconfirmed(65, 1, 0x1_0000)),
+    (ExchangeId(ALICE), Confirmed(1, 2, 0x8001_0000)),
+    (ExchangeId(BY_BOB), Unconfirmed(66, 1, 0x1_0000)),
+    (Sequence(1, CALL, b""), Refused(BadSession)),
+    (ExchangeId(ONE_MORE), Refused(NoSpc)),
+    (DestroyClientId(2, false), Done),
+    (ExchangeId(ONE_MORE), Unconfirmed(67, 1, 0x1_0000)),
+];
 
 fn see_sixty_four_clients(rt: &impl Abort, clients: &mut Clients) {
     for n in 1..64u8 {
-        assert_eq!(rt;
-            exchange(clients, asked(&[n])),
-            unconfirmed(u64::from(n) + 1)
-        );
+        let owner = [n];
+        let asked = Exchange {
+            owner: &owner,
+            ..ALICE
+        };
+        let wanted = Unconfirmed(u64::from(n) + 1, 1, 0x1_0000);
+        walk(rt, clients, &[(ExchangeId(asked), wanted)]);
     }
-    assert_eq!(rt; exchange(clients, asked(b"one more")), Err(Status::NoSpc));
-    assert_eq!(rt; exchange(clients, restarted()), Err(Status::NoSpc));
-    assert_eq!(rt; exchange(clients, asked(&[5])), unconfirmed(65));
-    assert_eq!(rt; exchange(clients, asked(b"alice")), confirmed(1, 2));
-    assert_eq!(rt; exchange(clients, by_bob()), unconfirmed(66));
-    assert!(rt; is_gone(clients, 1));
-    assert_eq!(rt; exchange(clients, asked(b"one more")), Err(Status::NoSpc));
-    assert_eq!(rt; destroy_client(clients, 2, false), Ok(()));
-    assert_eq!(rt; exchange(clients, asked(b"one more")), unconfirmed(67));
+    walk(rt, clients, WITH_SIXTY_FOUR);
 }
 
 /// 64 records, one of them by another user than its owner's confirmed record: it takes the place of that record.

@@ -11,3 +11,5 @@ mod plain;
 mod sessions;
 #[cfg(test)]
 mod slots;
+#[cfg(test)]
+mod steps;

@@ -1,13 +1,15 @@
 //! Every growth refused.
 
-use crate::plain::{
-    SMALL, asked, call, confirmed_of, create, creation, destroy_client, destroy_session, exchange,
-    keeps, new, reclaim_complete, run, session,
+use crate::plain::{ALICE, BY_BOB, CALL, Call, SMALL, new};
+use crate::steps::Outcome::{Done, Kept, Made, New, Record, Refused, Repeat, Session, Unconfirmed};
+use crate::steps::Step::{
+    ConfirmedOf, Create, CreateSmall, DestroyClientId, DestroySession, ExchangeId, Keeps,
+    ReclaimComplete, Sequence,
 };
+use crate::steps::{Outcome, Step, act, walk};
 use linked_list_allocator::LocalHeap;
-use nfs_types::Status;
-use rpc_record::Caller;
-use session_slots::{Begin, Channel, Clients, Create, Exchange};
+use nfs_types::Status::{BadSession, BadSlot, Delay, SeqMisordered};
+use session_slots::{Channel, Clients};
 use std::alloc::AllocError;
 use std::process::Abort;
 use std::test::Fail;
@@ -20,36 +22,61 @@ fn fill<'a>(heap: &'a LocalHeap, left: usize) -> Result<Vec<u8, &'a LocalHeap>, 
     Vec::with_capacity(heap, SIZE.saturating_sub(taken))
 }
 
-fn is_there<'a>(clients: &mut Clients<&'a LocalHeap>, number: u64) -> bool {
-    let caller = Caller::new(1001, 100, &[]);
-    run(clients, number, call(9, 1, b"", &caller), b"") != Begin::Refused(Status::BadSession)
-}
-
-/// The session and the confirmed record are there, and so many bytes of the heap are taken.
-fn see_nothing_exchanged<'a>(
+/// So many bytes of the heap are taken, and the calls come to these outcomes.
+fn see_unchanged<'a>(
     rt: &impl Abort,
     clients: &mut Clients<&'a LocalHeap>,
     heap: &'a LocalHeap,
     used: usize,
+    rows: &[(Step<'_>, Outcome)],
 ) {
     assert_eq!(rt; heap.used(), used);
-    assert!(rt; is_there(clients, 1));
-    assert_eq!(rt; confirmed_of(clients, b"alice"), Some(1));
+    walk(rt, clients, rows);
 }
 
-/// With so many bytes left, whether an EXCHANGE_ID is refused for memory, with all as it was.
+/// A call on a slot that no session has, so that it begins nowhere.
+const ON_NO_SLOT: Call<'static> = Call {
+    slot: 9,
+    highest: 9,
+    ..CALL
+};
+
+/// The owner `alice` gets the client 1.
+const ALICE_ASKS: &[(Step<'_>, Outcome)] = &[(ExchangeId(ALICE), Unconfirmed(1, 1, 0x1_0000))];
+
+/// The owner `alice` gets the confirmed client 1 and the session 1.
+const ALICE_COMES: &[(Step<'_>, Outcome)] = &[
+    (ExchangeId(ALICE), Unconfirmed(1, 1, 0x1_0000)),
+    (CreateSmall(1, 1), Session(1)),
+];
+
+/// The session and the confirmed record are there.
+const ALICE_STAYS: &[(Step<'_>, Outcome)] = &[
+    (Sequence(1, ON_NO_SLOT, b""), Refused(BadSlot)),
+    (ConfirmedOf(b"alice"), Record(Some(1))),
+];
+
+/// The session and the confirmed record are gone.
+const ALICE_IS_GONE: &[(Step<'_>, Outcome)] = &[
+    (Sequence(1, ON_NO_SLOT, b""), Refused(BadSession)),
+    (ConfirmedOf(b"alice"), Record(None)),
+];
+
+/// The owner `alice` gets the client 2, by another user.
+const BOB_ASKS: &[(Step<'_>, Outcome)] = &[(ExchangeId(BY_BOB), Unconfirmed(2, 1, 0x1_0000))];
+
+/// With so many bytes left, whether an EXCHANGE_ID by another user is refused for memory, with all as it was.
 fn exchange_fails<'a>(
     rt: &impl Abort,
     clients: &mut Clients<&'a LocalHeap>,
     heap: &'a LocalHeap,
-    asked: Exchange<'_>,
     left: usize,
 ) -> Result<bool, AllocError> {
     let _taken = fill(heap, left)?;
     let used = heap.used();
-    let fails = exchange(clients, asked) == Err(Status::Delay);
+    let fails = act(clients, ExchangeId(BY_BOB)) == Refused(Delay);
     if fails {
-        see_nothing_exchanged(rt, clients, heap, used);
+        see_unchanged(rt, clients, heap, used, ALICE_STAYS);
     }
     Ok(fails)
 }
@@ -57,45 +84,29 @@ fn exchange_fails<'a>(
 /// A new user's record in place of `alice`'s confirmed one, with so many bytes left, and where that fails with all the heap.
 fn exchange_within(rt: &impl Abort, heap: &LocalHeap, left: usize) -> Result<bool, AllocError> {
     let mut clients = new(heap);
-    assert_eq!(rt;
-        exchange(&mut clients, asked(b"alice")).map(|e| e.client),
-        Ok(1)
-    );
-    assert_eq!(rt; session(&mut clients, 1, 1), Ok(1));
-    let by_bob = Exchange {
-        uid: 1002,
-        ..asked(b"alice")
-    };
-    let fails = exchange_fails(rt, &mut clients, heap, by_bob, left)?;
+    walk(rt, &mut clients, ALICE_COMES);
+    let fails = exchange_fails(rt, &mut clients, heap, left)?;
     if fails {
-        assert_eq!(rt; exchange(&mut clients, by_bob).map(|e| e.client), Ok(2));
+        walk(rt, &mut clients, BOB_ASKS);
     }
-    assert!(rt; !is_there(&mut clients, 1));
-    assert_eq!(rt; confirmed_of(&clients, b"alice"), None);
+    walk(rt, &mut clients, ALICE_IS_GONE);
     Ok(fails)
 }
 
 /// Three slots, of 64 bytes a request and 4,096 a reply.
-fn three_slots() -> Create {
-    let fore = Channel { slots: 3, ..SMALL };
-    Create {
-        fore,
-        ..creation(1, 1)
-    }
-}
+const THREE_SLOTS: Channel = Channel { slots: 3, ..SMALL };
 
-/// There is no session, no record is confirmed, the first number isn't accepted, and so many bytes of the heap are taken.
-fn see_nothing_created<'a>(
-    rt: &impl Abort,
-    clients: &mut Clients<&'a LocalHeap>,
-    heap: &'a LocalHeap,
-    used: usize,
-) {
-    assert_eq!(rt; heap.used(), used);
-    assert!(rt; !is_there(clients, 1));
-    assert_eq!(rt; confirmed_of(clients, b"alice"), None);
-    assert_eq!(rt; session(clients, 1, 2), Err(Status::SeqMisordered));
-}
+const CREATION: Step<'static> = Create(1, 1, 1001, THREE_SLOTS, SMALL);
+
+/// The session 1 is created.
+const MADE: Outcome = Made(1, 1, THREE_SLOTS, SMALL, None);
+
+/// There is no session, no record is confirmed, and the first number isn't accepted.
+const NOTHING_IS_CREATED: &[(Step<'_>, Outcome)] = &[
+    (Sequence(1, ON_NO_SLOT, b""), Refused(BadSession)),
+    (ConfirmedOf(b"alice"), Record(None)),
+    (CreateSmall(1, 2), Refused(SeqMisordered)),
+];
 
 /// With so many bytes left, whether a CREATE_SESSION is refused for memory, with all as it was and its number not accepted.
 fn create_fails<'a>(
@@ -106,32 +117,53 @@ fn create_fails<'a>(
 ) -> Result<bool, AllocError> {
     let _taken = fill(heap, left)?;
     let used = heap.used();
-    let fails = create(clients, three_slots()).result == Err(Status::Delay);
+    let fails = act(clients, CREATION) == Refused(Delay);
     if fails {
-        see_nothing_created(rt, clients, heap, used);
+        see_unchanged(rt, clients, heap, used, NOTHING_IS_CREATED);
     }
     Ok(fails)
 }
 
+const CREATED: &[(Step<'_>, Outcome)] = &[
+    (CREATION, MADE),
+    (ConfirmedOf(b"alice"), Record(Some(1))),
+];
+
 /// A session with so many bytes left, and where that fails with all the heap.
 fn create_within(rt: &impl Abort, heap: &LocalHeap, left: usize) -> Result<bool, AllocError> {
     let mut clients = new(heap);
-    assert_eq!(rt;
-        exchange(&mut clients, asked(b"alice")).map(|e| e.client),
-        Ok(1)
-    );
+    walk(rt, &mut clients, ALICE_ASKS);
     let fails = create_fails(rt, &mut clients, heap, left)?;
-    assert_eq!(rt;
-        create(&mut clients, three_slots())
-            .result
-            .map(|c| c.session),
-        Ok(1)
-    );
-    assert_eq!(rt; confirmed_of(&clients, b"alice"), Some(1));
+    walk(rt, &mut clients, CREATED);
     if fails {
         without_memory(rt, &mut clients, heap)?;
     }
     Ok(fails)
+}
+
+const RESULTS: &[u8] = &[7; 4072];
+
+const ENDING: &[(Step<'_>, Outcome)] = &[
+    (ReclaimComplete(1), Done),
+    (DestroySession(1), Done),
+    (DestroyClientId(1, false), Done),
+    (ConfirmedOf(b"alice"), Record(None)),
+];
+
+/// A call on a slot, its repeat and its results.
+fn see_slot<'a>(rt: &impl Abort, clients: &mut Clients<&'a LocalHeap>, slot: u32) {
+    let call = Call {
+        slot,
+        highest: slot,
+        arguments: b"arguments",
+        ..CALL
+    };
+    let rows = [
+        (Sequence(1, call, RESULTS), New(1, 4096, 2)),
+        (Sequence(1, call, RESULTS), Repeat),
+        (Keeps(1, slot, RESULTS), Kept(true)),
+    ];
+    walk(rt, clients, &rows);
 }
 
 /// The calls that take no memory, with none left.
@@ -140,19 +172,11 @@ fn without_memory<'a>(
     clients: &mut Clients<&'a LocalHeap>,
     heap: &'a LocalHeap,
 ) -> Result<(), AllocError> {
-    let caller = Caller::new(1001, 100, &[]);
-    let results = [7u8; 4072];
     let _taken = fill(heap, 0)?;
     for slot in 0..3u32 {
-        let asked = call(slot, 1, b"arguments", &caller);
-        assert_ne!(rt; run(clients, 1, asked, &results), Begin::Repeat);
-        assert_eq!(rt; run(clients, 1, asked, &results), Begin::Repeat);
-        assert!(rt; keeps(clients, 1, slot, &results));
+        see_slot(rt, clients, slot);
     }
-    assert_eq!(rt; reclaim_complete(clients, 1), Ok(()));
-    assert_eq!(rt; destroy_session(clients, 1), Ok(()));
-    assert_eq!(rt; destroy_client(clients, 1, false), Ok(()));
-    assert_eq!(rt; confirmed_of(clients, b"alice"), None);
+    walk(rt, clients, ENDING);
     Ok(())
 }
 

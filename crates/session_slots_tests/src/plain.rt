@@ -1,7 +1,7 @@
 //! The calls of `Clients` without their contracts, so that a test's proof doesn't carry them along.
 
 use nfs_types::Status;
-use rpc_record::Caller;
+use rpc_record::{Caller, MOST_FURTHER};
 use session_slots::{
     Begin, Channel, Clients, Create, Exchange, Exchanged, Made, REPLY_HEADER, Sequence,
 };
@@ -17,16 +17,17 @@ pub const SMALL: Channel = Channel {
     slots: 1,
 };
 
-/// A client of the user 1001 and the verifier 7, without opens.
-pub fn asked(owner: &[u8]) -> Exchange<'_> {
-    Exchange {
-        owner,
-        verifier: 7,
-        uid: 1001,
-        flags: 0,
-        has_opens: false,
-    }
-}
+/// A client of the owner `alice`, the user 1001 and the verifier 7, without opens.
+pub const ALICE: Exchange<'static> = Exchange {
+    owner: b"alice",
+    verifier: 7,
+    uid: 1001,
+    flags: 0,
+    has_opens: false,
+};
+
+/// A client of the owner `alice` and the user 1002.
+pub const BY_BOB: Exchange<'static> = Exchange { uid: 1002, ..ALICE };
 
 /// By the user 1001, with small channels.
 pub fn creation(client: u64, sequence: u32) -> Create {
@@ -39,18 +40,31 @@ pub fn creation(client: u64, sequence: u32) -> Create {
     }
 }
 
-/// Two operations in a record of 60 bytes.
-pub fn call<'a>(slot: u32, number: u32, arguments: &'a [u8], caller: &'a Caller) -> Sequence<'a> {
-    Sequence {
-        slot,
-        number,
-        highest: slot,
-        count: 2,
-        record_len: 60,
-        arguments,
-        caller,
-    }
+/// A call on a slot: what SEQUENCE says of it, the bytes behind its header, and its caller.
+#[derive(Clone, Copy, Debug)]
+pub struct Call<'a> {
+    pub slot: u32,
+    pub number: u32,
+    pub highest: u32,
+    pub count: u32,
+    pub record_len: usize,
+    pub arguments: &'a [u8],
+    pub uid: u32,
+    /// The groups of the caller, the group 100 apart.
+    pub groups: &'a [u32],
 }
+
+/// The first call of the slot 0, without arguments: two operations in a record of 60 bytes, by the user 1001.
+pub const CALL: Call<'static> = Call {
+    slot: 0,
+    number: 1,
+    highest: 0,
+    count: 2,
+    record_len: 60,
+    arguments: b"",
+    uid: 1001,
+    groups: &[],
+};
 
 pub fn new<A: Allocator + Copy>(alloc: A) -> Clients<A> {
     Clients::new(alloc)
@@ -69,18 +83,6 @@ pub fn exchange<A: Allocator + Copy>(
 
 pub fn create<A: Allocator + Copy>(clients: &mut Clients<A>, asked: Create) -> Made {
     clients.create_session(asked)
-}
-
-/// The number of the session that is created, or why there is none.
-pub fn session<A: Allocator + Copy>(
-    clients: &mut Clients<A>,
-    client: u64,
-    sequence: u32,
-) -> Result<u64, Status> {
-    match create(clients, creation(client, sequence)).result {
-        Ok(created) => Ok(created.session),
-        Err(status) => Err(status),
-    }
 }
 
 pub fn destroy_session<A: Allocator + Copy>(
@@ -106,7 +108,7 @@ pub fn reclaim_complete<A: Allocator + Copy>(
 }
 
 /// Begins a call, and keeps these results where it is new.
-pub fn run<A: Allocator + Copy>(
+fn begin<A: Allocator + Copy>(
     clients: &mut Clients<A>,
     session: u64,
     asked: Sequence<'_>,
@@ -124,6 +126,29 @@ pub fn run<A: Allocator + Copy>(
         }
         other => other,
     }
+}
+
+/// Makes a call, and keeps these results where it is new.
+pub fn run<A: Allocator + Copy>(
+    clients: &mut Clients<A>,
+    session: u64,
+    call: Call<'_>,
+    results: &[u8],
+) -> Begin {
+    if call.groups.len() > MOST_FURTHER {
+        return Begin::Refused(Status::ServerFault);
+    }
+    let caller = Caller::new(call.uid, 100, call.groups);
+    let asked = Sequence {
+        slot: call.slot,
+        number: call.number,
+        highest: call.highest,
+        count: call.count,
+        record_len: call.record_len,
+        arguments: call.arguments,
+        caller: &caller,
+    };
+    begin(clients, session, asked, results)
 }
 
 /// Whether a slot keeps these results.

@@ -1,19 +1,18 @@
 //! CREATE_SESSION and DESTROY_SESSION (RFC 8881, sections 18.36 and 18.37).
 
-use crate::plain::{
-    SMALL, asked, call, confirmed_of, create, creation, destroy_session, exchange, new, run,
-    session,
-};
-use nfs_types::Status;
-use rpc_record::Caller;
-use session_slots::{Begin, Channel, Clients, Create, Created, Made};
+use crate::plain::{ALICE, CALL, SMALL, exchange, new};
+use crate::steps::Outcome::{Done, Made, New, Record, Refused, Session};
+use crate::steps::Step::{ConfirmedOf, Create, CreateSmall, DestroySession, Sequence};
+use crate::steps::{Outcome, Step, walk};
+use nfs_types::Status::{BadSession, ClidInUse, NoSpc, SeqMisordered, StaleClientId, TooSmall};
+use session_slots::{Channel, Clients};
 use std::alloc::Global;
 use std::process::Abort;
 
 /// The owner `alice` has the unconfirmed client 1.
 fn alice(alloc: Global) -> Clients {
     let mut clients = new(alloc);
-    let _ = exchange(&mut clients, asked(b"alice"));
+    let _ = exchange(&mut clients, ALICE);
     clients
 }
 
@@ -26,156 +25,163 @@ const WIDE: Channel = Channel {
     slots: 64,
 };
 
-fn wide(sequence: u32) -> Create {
-    Create {
-        fore: WIDE,
-        back: WIDE,
-        ..creation(1, sequence)
-    }
-}
+/// What is granted of a wide channel.
+const CUT: Channel = Channel {
+    padding: 0,
+    request_size: 65_536,
+    reply_size: 65_536,
+    cached_size: 65_536,
+    operations: 8,
+    slots: 8,
+};
 
-fn see_sizes_are_cut_and_the_result_is_kept(rt: &impl Abort, clients: &mut Clients) {
-    let made = Made {
-        result: Ok(Created {
-            session: 1,
-            sequence: 1,
-            fore: Channel {
-                padding: 0,
-                request_size: 65_536,
-                reply_size: 65_536,
-                cached_size: 65_536,
-                operations: 8,
-                slots: 8,
-            },
-            back: WIDE,
-        }),
-        gone: None,
-    };
-    assert_eq!(rt; create(clients, wide(1)), made);
-    assert_eq!(rt; create(clients, wide(1)), made);
-    assert_eq!(rt; create(clients, wide(3)).result, Err(Status::SeqMisordered));
-    assert_eq!(rt; create(clients, wide(0)).result, Err(Status::SeqMisordered));
-    let mut stranger = creation(1, 1);
-    stranger.uid = 1002;
-    assert_eq!(rt; create(clients, stranger), made);
-    assert_eq!(rt; destroy_session(clients, 1), Ok(()));
-    assert_eq!(rt; create(clients, wide(1)), made);
-    assert_eq!(rt; destroy_session(clients, 1), Err(Status::BadSession));
-}
+/// The session 1, with these sizes.
+const CREATED: Outcome = Made(1, 1, CUT, WIDE, None);
+
+const SIZES: &[(Step<'_>, Outcome)] = &[
+    (Create(1, 1, 1001, WIDE, WIDE), CREATED),
+    (Create(1, 1, 1001, WIDE, WIDE), CREATED),
+    (Create(1, 3, 1001, WIDE, WIDE), Refused(SeqMisordered)),
+    (Create(1, 0, 1001, WIDE, WIDE), Refused(SeqMisordered)),
+    (Create(1, 1, 1002, SMALL, SMALL), CREATED),
+    (DestroySession(1), Done),
+    (Create(1, 1, 1001, WIDE, WIDE), CREATED),
+    (DestroySession(1), Refused(BadSession)),
+];
 
 #[test]
 fn sizes_are_cut_and_the_result_is_kept(rt: HostRuntime) {
     let mut clients = alice(rt.alloc());
-    see_sizes_are_cut_and_the_result_is_kept(&rt, &mut clients);
+    walk(&rt, &mut clients, SIZES);
 }
 
-fn see_small_numbers_are_raised(rt: &impl Abort, clients: &mut Clients) {
-    let mut few = creation(1, 1);
-    few.fore.operations = 0;
-    few.fore.slots = 0;
-    few.fore.request_size = 0;
-    let created = create(clients, few).result;
-    assert_eq!(rt; created.map(|c| c.fore.operations), Ok(1));
-    assert_eq!(rt; created.map(|c| c.fore.slots), Ok(1));
-    assert_eq!(rt; created.map(|c| c.fore.request_size), Ok(0));
-    let mut many = creation(1, 2);
-    many.fore.operations = 17;
-    many.fore.slots = 9;
-    let created = create(clients, many).result;
-    assert_eq!(rt; created.map(|c| c.fore.operations), Ok(16));
-    assert_eq!(rt; created.map(|c| c.fore.slots), Ok(8));
-}
+/// No operation, no slot, and no byte of a request.
+const FEW: Channel = Channel {
+    request_size: 0,
+    operations: 0,
+    slots: 0,
+    ..SMALL
+};
+
+/// The fewest operations and slots, and no byte of a request.
+const ONE: Channel = Channel {
+    request_size: 0,
+    operations: 1,
+    slots: 1,
+    ..SMALL
+};
+
+/// An operation and a slot more than the most.
+const BIG: Channel = Channel {
+    operations: 17,
+    slots: 9,
+    ..SMALL
+};
+
+/// The most operations and slots.
+const MAX: Channel = Channel {
+    operations: 16,
+    slots: 8,
+    ..SMALL
+};
+
+const NUMBERS: &[(Step<'_>, Outcome)] = &[
+    (Create(1, 1, 1001, FEW, SMALL), Made(1, 1, ONE, SMALL, None)),
+    (Create(1, 2, 1001, BIG, SMALL), Made(2, 2, MAX, SMALL, None)),
+];
 
 #[test]
 fn small_numbers_are_raised(rt: HostRuntime) {
     let mut clients = alice(rt.alloc());
-    see_small_numbers_are_raised(&rt, &mut clients);
+    walk(&rt, &mut clients, NUMBERS);
 }
 
-fn see_a_number_is_due_once(rt: &impl Abort, clients: &mut Clients) {
-    assert_eq!(rt; session(clients, 1, 0), Err(Status::SeqMisordered));
-    assert_eq!(rt; session(clients, 1, 2), Err(Status::SeqMisordered));
-    assert_eq!(rt; session(clients, 2, 1), Err(Status::StaleClientId));
-    assert_eq!(rt; session(clients, 1, 1), Ok(1));
-    assert_eq!(rt; session(clients, 1, 2), Ok(2));
-    assert_eq!(rt; session(clients, 1, 1), Err(Status::SeqMisordered));
-    assert_eq!(rt; session(clients, 1, 2), Ok(2));
-}
+const DUE: &[(Step<'_>, Outcome)] = &[
+    (CreateSmall(1, 0), Refused(SeqMisordered)),
+    (CreateSmall(1, 2), Refused(SeqMisordered)),
+    (CreateSmall(2, 1), Refused(StaleClientId)),
+    (CreateSmall(1, 1), Session(1)),
+    (CreateSmall(1, 2), Session(2)),
+    (CreateSmall(1, 1), Refused(SeqMisordered)),
+    (CreateSmall(1, 2), Session(2)),
+];
 
 #[test]
 fn a_number_is_due_once(rt: HostRuntime) {
     let mut clients = alice(rt.alloc());
-    see_a_number_is_due_once(&rt, &mut clients);
+    walk(&rt, &mut clients, DUE);
 }
 
-fn see_a_refusal_is_kept_with_its_number(rt: &impl Abort, clients: &mut Clients) {
-    let mut small = creation(1, 1);
-    small.fore.reply_size = 4095;
-    assert_eq!(rt; create(clients, small).result, Err(Status::TooSmall));
-    assert_eq!(rt; session(clients, 1, 1), Err(Status::TooSmall));
-    assert_eq!(rt; confirmed_of(clients, b"alice"), None);
-    assert_eq!(rt; session(clients, 1, 2), Ok(1));
-    assert_eq!(rt; confirmed_of(clients, b"alice"), Some(1));
-}
+/// Its reply is too small by a byte.
+const SHORT: Channel = Channel {
+    reply_size: 4095,
+    ..SMALL
+};
+
+const KEPT_REFUSAL: &[(Step<'_>, Outcome)] = &[
+    (Create(1, 1, 1001, SHORT, SMALL), Refused(TooSmall)),
+    (CreateSmall(1, 1), Refused(TooSmall)),
+    (ConfirmedOf(b"alice"), Record(None)),
+    (CreateSmall(1, 2), Session(1)),
+    (ConfirmedOf(b"alice"), Record(Some(1))),
+];
 
 #[test]
 fn a_refusal_is_kept_with_its_number(rt: HostRuntime) {
     let mut clients = alice(rt.alloc());
-    see_a_refusal_is_kept_with_its_number(&rt, &mut clients);
+    walk(&rt, &mut clients, KEPT_REFUSAL);
 }
 
-fn see_another_user_confirms_nothing(rt: &impl Abort, clients: &mut Clients) {
-    let mut stranger = creation(1, 1);
-    stranger.uid = 1002;
-    stranger.fore.reply_size = 0;
-    assert_eq!(rt; create(clients, stranger).result, Err(Status::ClidInUse));
-    assert_eq!(rt; session(clients, 1, 1), Err(Status::ClidInUse));
-    assert_eq!(rt; session(clients, 1, 2), Ok(1));
-    stranger.sequence = 3;
-    stranger.fore = SMALL;
-    assert_eq!(rt; create(clients, stranger).result.map(|c| c.session), Ok(2));
-}
+const WITHOUT_REPLY: Channel = Channel {
+    reply_size: 0,
+    ..SMALL
+};
+
+/// The session 2 is created.
+const SECOND: Outcome = Made(2, 3, SMALL, SMALL, None);
+
+const BY_ANOTHER_USER: &[(Step<'_>, Outcome)] = &[
+    (Create(1, 1, 1002, WITHOUT_REPLY, SMALL), Refused(ClidInUse)),
+    (CreateSmall(1, 1), Refused(ClidInUse)),
+    (CreateSmall(1, 2), Session(1)),
+    (Create(1, 3, 1002, SMALL, SMALL), SECOND),
+];
 
 #[test]
 fn another_user_confirms_nothing(rt: HostRuntime) {
     let mut clients = alice(rt.alloc());
-    see_another_user_confirms_nothing(&rt, &mut clients);
+    walk(&rt, &mut clients, BY_ANOTHER_USER);
 }
 
-fn see_a_session_is_destroyed_once(rt: &impl Abort, clients: &mut Clients) {
-    let caller = Caller::new(1001, 100, &[]);
-    assert_eq!(rt; session(clients, 1, 1), Ok(1));
-    assert_eq!(rt; session(clients, 1, 2), Ok(2));
-    assert_eq!(rt; destroy_session(clients, 1), Ok(()));
-    assert_eq!(rt; destroy_session(clients, 1), Err(Status::BadSession));
-    assert_eq!(rt;
-        run(clients, 1, call(0, 1, b"", &caller), b""),
-        Begin::Refused(Status::BadSession)
-    );
-    assert_ne!(rt;
-        run(clients, 2, call(0, 1, b"", &caller), b""),
-        Begin::Refused(Status::BadSession)
-    );
-    assert_eq!(rt; session(clients, 1, 3), Ok(3));
-}
+const DESTROYED: &[(Step<'_>, Outcome)] = &[
+    (CreateSmall(1, 1), Session(1)),
+    (CreateSmall(1, 2), Session(2)),
+    (DestroySession(1), Done),
+    (DestroySession(1), Refused(BadSession)),
+    (Sequence(1, CALL, b""), Refused(BadSession)),
+    (Sequence(2, CALL, b""), New(1, 4096, 0)),
+    (CreateSmall(1, 3), Session(3)),
+];
 
 #[test]
 fn a_session_is_destroyed_once(rt: HostRuntime) {
     let mut clients = alice(rt.alloc());
-    see_a_session_is_destroyed_once(&rt, &mut clients);
+    walk(&rt, &mut clients, DESTROYED);
 }
+
+const WITH_SIXTY_FOUR: &[(Step<'_>, Outcome)] = &[
+    (Create(1, 65, 1001, SHORT, SMALL), Refused(TooSmall)),
+    (CreateSmall(1, 66), Refused(NoSpc)),
+    (DestroySession(30), Done),
+    (CreateSmall(1, 66), Refused(NoSpc)),
+    (CreateSmall(1, 67), Session(65)),
+];
 
 fn see_sixty_four_sessions(rt: &impl Abort, clients: &mut Clients) {
     for n in 1..65u32 {
-        assert_eq!(rt; session(clients, 1, n), Ok(u64::from(n)));
+        walk(rt, clients, &[(CreateSmall(1, n), Session(u64::from(n)))]);
     }
-    let mut small = creation(1, 65);
-    small.fore.reply_size = 4095;
-    assert_eq!(rt; create(clients, small).result, Err(Status::TooSmall));
-    assert_eq!(rt; session(clients, 1, 66), Err(Status::NoSpc));
-    assert_eq!(rt; destroy_session(clients, 30), Ok(()));
-    assert_eq!(rt; session(clients, 1, 66), Err(Status::NoSpc));
-    assert_eq!(rt; session(clients, 1, 67), Ok(65));
+    walk(rt, clients, WITH_SIXTY_FOUR);
 }
 
 #[test]

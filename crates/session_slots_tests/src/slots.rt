@@ -1,18 +1,20 @@
 //! Calls on slots (RFC 8881, sections 2.10.6.1 and 18.46).
 
-use crate::plain::{SMALL, asked, call, create, creation, exchange, keeps, new, run, session};
-use Begin::{New, Refused, Repeat};
-use nfs_types::Status;
-use rpc_record::Caller;
-use session_slots::{Begin, Channel, Clients, Create, NewCall, due};
+use crate::plain::{ALICE, CALL, Call, SMALL, create, creation, exchange, new};
+use crate::steps::Outcome::{Kept, New, Refused, Repeat, Session};
+use crate::steps::Step::{CreateSmall, Keeps, Sequence};
+use crate::steps::{Outcome, Step, walk};
+use nfs_types::Status::{
+    BadHighSlot, BadSession, BadSlot, ReqTooBig, SeqFalseRetry, SeqMisordered, TooManyOps,
+};
+use session_slots::{Channel, Clients, Create, due};
 use std::alloc::Global;
 use std::process::Abort;
-use std::test::Fail;
 
 /// The client 1 with its session 1: eight slots, of 64 bytes a request and 4,096 a reply, and eight operations.
 fn eight_slots(alloc: Global) -> Clients {
     let mut clients = new(alloc);
-    let _ = exchange(&mut clients, asked(b"alice"));
+    let _ = exchange(&mut clients, ALICE);
     let fore = Channel { slots: 64, ..SMALL };
     let _ = create(
         &mut clients,
@@ -24,11 +26,7 @@ fn eight_slots(alloc: Global) -> Clients {
     clients
 }
 
-const OPENED: Begin = New(NewCall {
-    client: 1,
-    reply_size: 4096,
-    highest_slot: 7,
-});
+const OPENED: Outcome = New(1, 4096, 7);
 
 #[test]
 fn due_goes_round(rt: HostRuntime) {
@@ -37,127 +35,159 @@ fn due_goes_round(rt: HostRuntime) {
     assert_eq!(rt; due(4_294_967_295), 0);
 }
 
-fn see_a_slot_takes_its_calls_in_order(rt: &impl Abort, clients: &mut Clients) {
-    let alice = Caller::new(1001, 100, &[]);
-    let bob = Caller::new(1002, 100, &[]);
-    assert_eq!(rt;
-        run(clients, 1, call(0, 1, b"args", &alice), b"done"),
-        OPENED
-    );
-    assert_eq!(rt;
-        run(clients, 1, call(0, 1, b"args", &alice), b"other"),
-        Repeat
-    );
-    assert!(rt; keeps(clients, 1, 0, b"done"));
-    assert_eq!(rt;
-        run(clients, 1, call(0, 1, b"args", &bob), b"other"),
-        Refused(Status::SeqFalseRetry)
-    );
-    assert_eq!(rt;
-        run(clients, 1, call(0, 1, b"args.", &alice), b"other"),
-        Refused(Status::SeqFalseRetry)
-    );
-    assert_eq!(rt;
-        run(clients, 1, call(0, 3, b"args", &alice), b"other"),
-        Refused(Status::SeqMisordered)
-    );
-    assert!(rt; keeps(clients, 1, 0, b"done"));
-    assert_eq!(rt;
-        run(clients, 1, call(0, 2, b"args", &alice), b"next"),
-        OPENED
-    );
-    assert!(rt; keeps(clients, 1, 0, b"next"));
-    assert_eq!(rt;
-        run(clients, 1, call(0, 1, b"args", &alice), b"other"),
-        Refused(Status::SeqMisordered)
-    );
-}
+const FIRST: Call<'static> = Call {
+    arguments: b"args",
+    ..CALL
+};
+
+const BY_BOB: Call<'static> = Call { uid: 1002, ..FIRST };
+
+const LONGER: Call<'static> = Call {
+    arguments: b"args.",
+    ..FIRST
+};
+
+const SECOND: Call<'static> = Call { number: 2, ..FIRST };
+
+const THIRD: Call<'static> = Call { number: 3, ..FIRST };
+
+const IN_ORDER: &[(Step<'_>, Outcome)] = &[
+    (Sequence(1, FIRST, b"done"), OPENED),
+    (Sequence(1, FIRST, b"other"), Repeat),
+    (Keeps(1, 0, b"done"), Kept(true)),
+    (Sequence(1, BY_BOB, b"other"), Refused(SeqFalseRetry)),
+    (Sequence(1, LONGER, b"other"), Refused(SeqFalseRetry)),
+    (Sequence(1, THIRD, b"other"), Refused(SeqMisordered)),
+    (Keeps(1, 0, b"done"), Kept(true)),
+    (Sequence(1, SECOND, b"next"), OPENED),
+    (Keeps(1, 0, b"next"), Kept(true)),
+    (Sequence(1, FIRST, b"other"), Refused(SeqMisordered)),
+];
 
 #[test]
 fn a_slot_takes_its_calls_in_order(rt: HostRuntime) {
     let mut clients = eight_slots(rt.alloc());
-    see_a_slot_takes_its_calls_in_order(&rt, &mut clients);
+    walk(&rt, &mut clients, IN_ORDER);
 }
 
-fn see_an_unused_slot_has_nothing_to_repeat(rt: &impl Abort, clients: &mut Clients) {
-    let alice = Caller::new(1001, 100, &[]);
-    assert_eq!(rt;
-        run(clients, 1, call(0, 0, b"", &alice), b"other"),
-        Refused(Status::SeqMisordered)
-    );
-    assert_eq!(rt;
-        run(clients, 1, call(0, 2, b"", &alice), b"other"),
-        Refused(Status::SeqMisordered)
-    );
-    assert!(rt; keeps(clients, 1, 0, b""));
-    assert!(rt; keeps(clients, 2, 0, b""));
-}
+const NUMBER_0: Call<'static> = Call { number: 0, ..CALL };
+
+const NUMBER_2: Call<'static> = Call { number: 2, ..CALL };
+
+const UNUSED: &[(Step<'_>, Outcome)] = &[
+    (Sequence(1, NUMBER_0, b"other"), Refused(SeqMisordered)),
+    (Sequence(1, NUMBER_2, b"other"), Refused(SeqMisordered)),
+    (Keeps(1, 0, b""), Kept(true)),
+    (Keeps(2, 0, b""), Kept(true)),
+];
 
 #[test]
 fn an_unused_slot_has_nothing_to_repeat(rt: HostRuntime) {
     let mut clients = eight_slots(rt.alloc());
-    see_an_unused_slot_has_nothing_to_repeat(&rt, &mut clients);
+    walk(&rt, &mut clients, UNUSED);
 }
 
-fn see_groups_are_a_set(rt: &impl Abort, clients: &mut Clients) {
-    let one = Caller::new(1001, 100, &[5, 9]);
-    let other = Caller::new(1001, 100, &[9, 100, 5]);
-    assert_eq!(rt; run(clients, 1, call(0, 1, b"", &one), b"done"), OPENED);
-    assert_eq!(rt; run(clients, 1, call(0, 1, b"", &other), b""), Repeat);
-}
+const IN_GROUPS: Call<'static> = Call {
+    groups: &[5, 9],
+    ..CALL
+};
+
+const IN_THE_SAME_GROUPS: Call<'static> = Call {
+    groups: &[9, 100, 5],
+    ..CALL
+};
+
+const GROUPS: &[(Step<'_>, Outcome)] = &[
+    (Sequence(1, IN_GROUPS, b"done"), OPENED),
+    (Sequence(1, IN_THE_SAME_GROUPS, b""), Repeat),
+];
 
 /// Two calls with equal groups in another order are by equal callers.
 #[test]
 fn groups_are_a_set(rt: HostRuntime) {
     let mut clients = eight_slots(rt.alloc());
-    see_groups_are_a_set(&rt, &mut clients);
+    walk(&rt, &mut clients, GROUPS);
 }
 
-fn see_refusals_come_in_order(rt: &impl Abort, clients: &mut Clients) {
-    let alice = Caller::new(1001, 100, &[]);
-    let mut wrong = call(8, 5, b"", &alice);
-    wrong.count = 9;
-    wrong.record_len = 65;
-    assert_eq!(rt; run(clients, 2, wrong, b""), Refused(Status::BadSession));
-    assert_eq!(rt; run(clients, 1, wrong, b""), Refused(Status::ReqTooBig));
-    wrong.record_len = 64;
-    assert_eq!(rt; run(clients, 1, wrong, b""), Refused(Status::TooManyOps));
-    wrong.count = 8;
-    assert_eq!(rt; run(clients, 1, wrong, b""), Refused(Status::BadSlot));
-    wrong.slot = 7;
-    assert_eq!(rt; run(clients, 1, wrong, b""), Refused(Status::BadHighSlot));
-    wrong.highest = 7;
-    assert_eq!(rt; run(clients, 1, wrong, b""), Refused(Status::SeqMisordered));
-    wrong.number = 1;
-    assert_eq!(rt; run(clients, 1, wrong, b""), OPENED);
-    wrong.record_len = 65;
-    assert_eq!(rt; run(clients, 1, wrong, b""), Refused(Status::ReqTooBig));
-}
+/// Its record is too long, its operations are too many, there is no such slot, and its number isn't due.
+const WRONG: Call<'static> = Call {
+    slot: 8,
+    number: 5,
+    highest: 8,
+    count: 9,
+    record_len: 65,
+    ..CALL
+};
+
+const SHORT_ENOUGH: Call<'static> = Call {
+    record_len: 64,
+    ..WRONG
+};
+
+const FEW_ENOUGH: Call<'static> = Call {
+    count: 8,
+    ..SHORT_ENOUGH
+};
+
+const ON_THE_LAST_SLOT: Call<'static> = Call {
+    slot: 7,
+    ..FEW_ENOUGH
+};
+
+const WITH_HIGHEST_SLOT: Call<'static> = Call {
+    highest: 7,
+    ..ON_THE_LAST_SLOT
+};
+
+const RIGHT: Call<'static> = Call {
+    number: 1,
+    ..WITH_HIGHEST_SLOT
+};
+
+const TOO_LONG: Call<'static> = Call {
+    record_len: 65,
+    ..RIGHT
+};
+
+const REFUSALS: &[(Step<'_>, Outcome)] = &[
+    (Sequence(2, WRONG, b""), Refused(BadSession)),
+    (Sequence(1, WRONG, b""), Refused(ReqTooBig)),
+    (Sequence(1, SHORT_ENOUGH, b""), Refused(TooManyOps)),
+    (Sequence(1, FEW_ENOUGH, b""), Refused(BadSlot)),
+    (Sequence(1, ON_THE_LAST_SLOT, b""), Refused(BadHighSlot)),
+    (Sequence(1, WITH_HIGHEST_SLOT, b""), Refused(SeqMisordered)),
+    (Sequence(1, RIGHT, b""), OPENED),
+    (Sequence(1, TOO_LONG, b""), Refused(ReqTooBig)),
+];
 
 #[test]
 fn refusals_come_in_order(rt: HostRuntime) {
     let mut clients = eight_slots(rt.alloc());
-    see_refusals_come_in_order(&rt, &mut clients);
+    walk(&rt, &mut clients, REFUSALS);
+}
+
+/// The call on another slot.
+fn on<'a>(slot: u32, call: Call<'a>) -> Call<'a> {
+    Call {
+        slot,
+        highest: slot,
+        ..call
+    }
 }
 
 fn see_slots_go_on_their_own(rt: &impl Abort, clients: &mut Clients) {
-    let alice = Caller::new(1001, 100, &[]);
     for slot in [7, 0, 3, 5, 1, 6, 2, 4] {
-        assert_eq!(rt;
-            run(clients, 1, call(slot, 1, b"args", &alice), b"done"),
-            OPENED
-        );
+        let first = on(slot, FIRST);
+        walk(rt, clients, &[(Sequence(1, first, b"done"), OPENED)]);
     }
     for slot in [4, 7, 2, 0, 6, 5, 3, 1] {
-        assert_eq!(rt;
-            run(clients, 1, call(slot, 2, b"args", &alice), b"next"),
-            OPENED
-        );
-        assert_eq!(rt;
-            run(clients, 1, call(slot, 2, b"args", &alice), b"other"),
-            Repeat
-        );
-        assert!(rt; keeps(clients, 1, slot, b"next"));
+        let second = on(slot, SECOND);
+        let rows = [
+            (Sequence(1, second, b"next"), OPENED),
+            (Sequence(1, second, b"other"), Repeat),
+            (Keeps(1, slot, b"next"), Kept(true)),
+        ];
+        walk(rt, clients, &rows);
     }
 }
 
@@ -167,43 +197,43 @@ fn slots_go_on_their_own(rt: HostRuntime) {
     see_slots_go_on_their_own(&rt, &mut clients);
 }
 
-fn see_a_repeat_behind_another_session(rt: &impl Abort, clients: &mut Clients) {
-    let alice = Caller::new(1001, 100, &[]);
-    assert_eq!(rt;
-        run(clients, 1, call(3, 1, b"args", &alice), b"done"),
-        OPENED
-    );
-    assert_eq!(rt; session(clients, 1, 2), Ok(2));
-    assert_eq!(rt;
-        run(clients, 1, call(3, 1, b"args", &alice), b"other"),
-        Repeat
-    );
-    assert!(rt; keeps(clients, 1, 3, b"done"));
-    assert!(rt; keeps(clients, 2, 0, b""));
-}
+const ON_THE_FOURTH_SLOT: Call<'static> = Call {
+    slot: 3,
+    highest: 3,
+    ..FIRST
+};
+
+const BEHIND_ANOTHER_SESSION: &[(Step<'_>, Outcome)] = &[
+    (Sequence(1, ON_THE_FOURTH_SLOT, b"done"), OPENED),
+    (CreateSmall(1, 2), Session(2)),
+    (Sequence(1, ON_THE_FOURTH_SLOT, b"other"), Repeat),
+    (Keeps(1, 3, b"done"), Kept(true)),
+    (Keeps(2, 0, b""), Kept(true)),
+];
 
 /// A slot keeps its call while its client makes another session.
 #[test]
 fn a_repeat_behind_another_session(rt: HostRuntime) {
     let mut clients = eight_slots(rt.alloc());
-    see_a_repeat_behind_another_session(&rt, &mut clients);
+    walk(&rt, &mut clients, BEHIND_ANOTHER_SESSION);
 }
+
+const LONGEST_RESULTS: &[u8] = &[5; 4072];
+
+const LONG_ARGUMENTS: Call<'static> = Call {
+    arguments: &[9; 60],
+    ..CALL
+};
+
+const LONGEST: &[(Step<'_>, Outcome)] = &[
+    (Sequence(1, LONG_ARGUMENTS, LONGEST_RESULTS), OPENED),
+    (Sequence(1, LONG_ARGUMENTS, b""), Repeat),
+    (Keeps(1, 0, LONGEST_RESULTS), Kept(true)),
+];
 
 /// 4,096 bytes of results are kept, and 64 of arguments are compared.
 #[test]
-fn the_longest_results_are_kept(rt: HostRuntime) -> Result<(), Fail> {
-    let alice = Caller::new(1001, 100, &[]);
-    let results = vec![in rt.alloc(); 5u8; 4072]?;
-    let arguments = [9u8; 60];
+fn the_longest_results_are_kept(rt: HostRuntime) {
     let mut clients = eight_slots(rt.alloc());
-    assert_eq!(rt;
-        run(&mut clients, 1, call(0, 1, &arguments, &alice), &results),
-        OPENED
-    );
-    assert_eq!(rt;
-        run(&mut clients, 1, call(0, 1, &arguments, &alice), b""),
-        Repeat
-    );
-    assert!(rt; keeps(&clients, 1, 0, &results));
-    Ok(())
+    walk(&rt, &mut clients, LONGEST);
 }
