@@ -1,101 +1,61 @@
 //! Lines, and the trail that keeps the last.
 ghost use Rattle.std.specs.Prelude.{◌≡◌, []};
+ghost use Rattle.access_guard.specs.Memory.{Agrees};
 
-use crate::trees::{
-    LOOKUP, READ, WRITE, add, allow, decide, decide_on, entry, guard, guarded, mode_755, root,
-    sample, text,
-};
+use crate::entries::{allow, bits, entry, refused};
+use crate::steps::Step::{Decide, Lines, Total};
+use crate::steps::{BOB_IN_0, BOB_IN_7, Step, play};
+use crate::trees::{Child, LOOKUP, MODE_755, READ, SAMPLE, Scene, WRITE, decide_on, guard, tree};
 use Cause::{ByEntry, Missing};
-use Decision::{Granted, Refused};
-use access_guard::{Cause, Decision, Demand, Guard, GuardedTree};
-use acl_list::{EntryKind, Kind, Who};
+use Decision::Granted;
+use access_guard::{Cause, Decision, FIRST_EPOCH, Guard};
+use acl_list::Kind;
 use linked_list_allocator::LocalHeap;
 use node_tree::Tree;
 use rpc_record::Caller;
-use std::alloc::Global;
+use std::alloc::{Allocator, Global};
 use std::hash::RandomState;
 use std::process::Abort;
+use std::random::RandomSource;
 use std::test::Fail;
 use who_book::Book;
 
-fn bits(object: u64, mask: u32) -> Demand {
-    Demand::Bits { object, mask }
-}
-
-/// Checks the decision for user 1002 in this group.
-fn see_decided(
-    rt: &impl Abort,
-    guarded: &mut GuardedTree,
-    asked: (Demand, u32, u32),
-    want: Decision,
-)
-    requires { guarded.old.log.held ≡ [] }
-    ensures { guarded.new.log.held ≡ [] }
-{
-    let (demand, gid, op) = asked;
-    let caller = Caller::new(1002, gid, &[]);
-    assert_eq!(rt; decide(guarded, demand, &caller, op), want);
-}
-
-/// Checks the lines of a trail.
-pub fn see_lines(rt: &impl Abort, alloc: Global, guard: &Guard, wanted: &str) -> Result<(), Fail> {
-    let text = text(alloc, guard)?;
-    assert_eq!(rt; text.as_slice(), wanted.as_bytes());
-    Ok(())
-}
-
-/// Checks how many lines there were.
-fn see_total(rt: &impl Abort, guard: &Guard, want: u64) {
-    assert_eq!(rt; guard.total(), want);
-}
+const A_REFUSAL: &[Step] = &[
+    Decide(BOB_IN_0, bits!(1, 2), LOOKUP, refused!(1, 2, ByEntry(3))),
+    Total(1),
+    Lines("DENY uid=1002 op=LOOKUP obj=1 mask=00000002 entry=3\n"),
+];
 
 #[test]
 fn a_refusal_names_the_entry(rt: HostRuntime) -> Result<(), Fail> {
-    let alloc = rt.alloc();
-    let mut guarded = guarded(alloc, sample(alloc)?, 1, RandomState::new(&rt)?)?;
-    let want = Refused {
-        object: 1,
-        mask: 2,
-        cause: ByEntry(3),
-    };
-    see_decided(&rt, &mut guarded, (bits(1, 2), 0, LOOKUP), want);
-    let line = "DENY uid=1002 op=LOOKUP obj=1 mask=00000002 entry=3\n";
-    see_total(&rt, guarded.guard(), 1);
-    see_lines(&rt, alloc, guarded.guard(), line)
+    play(&rt, rt.alloc(), &SAMPLE, 1, A_REFUSAL)
 }
 
 /// The file `f` of uid 1001, whose list audits and allows that it is read.
-fn audited(alloc: Global) -> Result<Tree, Fail> {
-    let mut tree = root(alloc, &mode_755())?;
-    let audit = entry(EntryKind::Audit, 0x30, 0x1, Who::Everyone);
-    let list = [audit, allow(0x1)];
-    add(alloc, &mut tree, b"f", Kind::File, 1001, &list)?;
-    Ok(tree)
-}
+const AUDITED: Scene<'static> = Scene {
+    name: "audited",
+    root: &MODE_755,
+    children: &[Child {
+        name: b"f",
+        kind: Kind::File,
+        owner: 1001,
+        list: &[entry!(Audit, 0x30, 1, Everyone), allow!(1)],
+    }],
+};
 
-/// Reads the file twice, and doesn't write it.
-fn ask_audited(rt: &impl Abort, guarded: &mut GuardedTree)
-    requires { guarded.old.log.held ≡ [] }
-{
-    see_decided(rt, guarded, (bits(2, 1), 7, READ), Granted);
-    see_decided(rt, guarded, (bits(2, 1), 7, READ), Granted);
-    let want = Refused {
-        object: 2,
-        mask: 2,
-        cause: Missing(2),
-    };
-    see_decided(rt, guarded, (bits(2, 2), 7, WRITE), want);
-}
-
-const AUDITED: &str =
-    "AUDIT uid=1002 op=READ obj=2 mask=00000001 granted entry=0\nAUDIT uid=1002 op=READ obj=2 mask=00000001 granted entry=0\nDENY uid=1002 op=WRITE obj=2 mask=00000002 missing=00000002\n";
+/// The file is read twice, and not written.
+const AUDITED_READS: &[Step] = &[
+    Decide(BOB_IN_7, bits!(2, 1), READ, Granted),
+    Decide(BOB_IN_7, bits!(2, 1), READ, Granted),
+    Decide(BOB_IN_7, bits!(2, 2), WRITE, refused!(2, 2, Missing(2))),
+    Lines(
+        "AUDIT uid=1002 op=READ obj=2 mask=00000001 granted entry=0\nAUDIT uid=1002 op=READ obj=2 mask=00000001 granted entry=0\nDENY uid=1002 op=WRITE obj=2 mask=00000002 missing=00000002\n",
+    ),
+];
 
 #[test]
 fn audited_reads(rt: HostRuntime) -> Result<(), Fail> {
-    let alloc = rt.alloc();
-    let mut guarded = guarded(alloc, audited(alloc)?, 1, RandomState::new(&rt)?)?;
-    ask_audited(&rt, &mut guarded);
-    see_lines(&rt, alloc, guarded.guard(), AUDITED)
+    play(&rt, rt.alloc(), &AUDITED, 1, AUDITED_READS)
 }
 
 /// How far a guard came over a small heap: none could be made, or it decides and may have remembered nothing.
@@ -106,54 +66,82 @@ enum Made {
     Kept,
 }
 
-/// Asks a guard over a heap of this size.
-fn ask(
-    rt: &impl Abort,
-    alloc: Global,
-    hasher: RandomState,
-    sample: (&Tree, &Book),
-    size: usize,
-) -> Result<Made, Fail> {
-    let (tree, book) = sample;
-    let heap = LocalHeap::new(alloc, size)?;
-    let Ok(mut guard) = guard(&heap, hasher) else {
-        return Ok(Made::None);
-    };
+/// The decisions on a look-up in the root and on a write of the file, and the number of the lines.
+fn answers<A: Allocator + Copy>(
+    guard: &mut Guard<A>,
+    tree: &Tree,
+    book: &Book,
+) -> (Decision, Decision, u64)
+    requires none { guard.old.log.held ≡ [] }
+    requires agrees { Agrees guard.old.memory.remembered book.now FIRST_EPOCH tree.now }
+{
     let caller = Caller::new(1002, 100, &[]);
-    assert_eq!(rt;
-        decide_on(&mut guard, bits(1, 0x20), tree, book, &caller, LOOKUP),
-        Granted
-    );
-    let refused = decide_on(&mut guard, bits(2, 0x2), tree, book, &caller, WRITE);
-    assert!(rt; !refused.is_granted());
-    assert_eq!(rt; guard.total(), 1);
-    if guard.remembered().next().is_some() {
-        Ok(Made::Kept)
+    let looked_up = decide_on(guard, bits!(1, 0x20), tree, book, &caller, LOOKUP);
+    let written = decide_on(guard, bits!(2, 2), tree, book, &caller, WRITE);
+    (looked_up, written, guard.total())
+}
+
+/// Checks the answers of a guard over a heap.
+fn see_answers<A: Allocator + Copy>(rt: &impl Abort, guard: &mut Guard<A>, tree: &Tree, book: &Book)
+    requires none { guard.old.log.held ≡ [] }
+    requires agrees { Agrees guard.old.memory.remembered book.now FIRST_EPOCH tree.now }
+{
+    let want = (Granted, refused!(2, 2, ByEntry(3)), 1);
+    assert_eq!(rt; answers(guard, tree, book), want);
+}
+
+fn has_remembered<A: Allocator + Copy>(guard: &Guard<A>) -> bool {
+    guard.remembered().next().is_some()
+}
+
+/// Asks a guard over a heap.
+fn ask(rt: &impl Abort, heap: &LocalHeap, hasher: RandomState, tree: &Tree, book: &Book) -> Made {
+    let Ok(mut guard) = guard(heap, hasher) else {
+        return Made::None;
+    };
+    see_answers(rt, &mut guard, tree, book);
+    if has_remembered(&guard) {
+        Made::Kept
     } else {
-        Ok(Made::Forgot)
+        Made::Forgot
     }
 }
 
-/// Over each size of a heap the decisions and the lines are the same, whether or not there is memory to remember.
-#[test]
-fn a_refused_memory_changes_no_answer(rt: HostRuntime) -> Result<(), Fail> {
-    let (tree, book) = (sample(rt.alloc())?, Book::default(rt.alloc()));
+/// Asks a guard over a heap of this size.
+fn ask_at(
+    rt: &(impl Abort + RandomSource),
+    alloc: Global,
+    tree: &Tree,
+    book: &Book,
+    size: usize,
+) -> Result<Made, Fail> {
+    let hasher = RandomState::new(rt)?;
+    let heap = LocalHeap::new(alloc, size)?;
+    Ok(ask(rt, &heap, hasher, tree, book))
+}
+
+/// Asks guards over heaps of each size, and checks that each comes as far as some do.
+fn see_sizes(
+    rt: &(impl Abort + RandomSource),
+    alloc: Global,
+    tree: &Tree,
+    book: &Book,
+) -> Result<(), Fail> {
     let (mut none, mut forgot, mut kept) = (false, false, false);
     for size in 0..4000usize {
-        match ask(
-            &rt,
-            rt.alloc(),
-            RandomState::new(&rt)?,
-            (&tree, &book),
-            size * 100,
-        )? {
+        match ask_at(rt, alloc, tree, book, size * 100)? {
             Made::None => none = true,
             Made::Forgot => forgot = true,
             Made::Kept => kept = true,
         }
     }
-    assert!(rt; none);
-    assert!(rt; forgot);
-    assert!(rt; kept);
+    assert_eq!(rt; (none, forgot, kept), (true, true, true));
     Ok(())
+}
+
+/// Over each size of a heap the decisions and the lines are the same, whether or not there is memory to remember.
+#[test]
+fn a_refused_memory_changes_no_answer(rt: HostRuntime) -> Result<(), Fail> {
+    let tree = tree(rt.alloc(), &SAMPLE)?;
+    see_sizes(&rt, rt.alloc(), &tree, &Book::default(rt.alloc()))
 }

@@ -4,8 +4,9 @@ ghost use Rattle.who_book.specs.Content.{Content};
 ghost use Rattle.node_tree.specs.World.{World};
 ghost use Rattle.access_guard.specs.Memory.{Agrees};
 
-use access_guard::{Decision, Demand, FIRST_EPOCH, Guard, GuardedTree, write_line};
-use acl_list::{AclList, Entry, EntryKind, Kind, Who};
+use crate::entries::entry;
+use access_guard::{Decision, Demand, FIRST_EPOCH, Guard, GuardedTree};
+use acl_list::{AclList, Entry, Kind};
 use acl_shape::is_bounded;
 use node_tree::{At, EPOCH, NewObject, Tree, TreeFault};
 use rpc_record::Caller;
@@ -22,58 +23,72 @@ pub const REMOVE: u32 = 28;
 
 pub const WRITE: u32 = 38;
 
-pub fn entry(kind: EntryKind, flags: u32, mask: u32, who: Who) -> Entry {
-    Entry {
-        kind,
-        flags,
-        mask,
-        who,
-    }
-}
-
-pub fn allow(mask: u32) -> Entry {
-    entry(EntryKind::Allow, 0, mask, Who::Everyone)
-}
-
-pub fn deny(mask: u32) -> Entry {
-    entry(EntryKind::Deny, 0, mask, Who::Everyone)
-}
-
 /// The list that mode 0755 makes on a directory.
-pub fn mode_755() -> [Entry; 5] {
-    [
-        entry(EntryKind::Allow, 0, 0x1e_01e7, Who::Owner),
-        entry(EntryKind::Deny, 0, 0, Who::Owner),
-        entry(EntryKind::Allow, 0, 0x21, Who::Group),
-        entry(EntryKind::Deny, 0, 0x46, Who::Group),
-        entry(EntryKind::Allow, 0, 0x12_00a1, Who::Everyone),
-    ]
-}
+pub const MODE_755: [Entry; 5] = [
+    entry!(Allow, 0, 0x1e_01e7, Owner),
+    entry!(Deny, 0, 0, Owner),
+    entry!(Allow, 0, 0x21, Group),
+    entry!(Deny, 0, 0x46, Group),
+    entry!(Allow, 0, 0x12_00a1, Everyone),
+];
 
 /// The list that mode 0640 makes on a file.
-pub fn mode_640() -> [Entry; 5] {
-    [
-        entry(EntryKind::Allow, 0, 0x1e_0187, Who::Owner),
-        entry(EntryKind::Deny, 0, 0x20, Who::Owner),
-        entry(EntryKind::Allow, 0, 0x1, Who::Group),
-        entry(EntryKind::Deny, 0, 0x26, Who::Group),
-        entry(EntryKind::Allow, 0, 0x12_0080, Who::Everyone),
-    ]
-}
+const MODE_640: [Entry; 5] = [
+    entry!(Allow, 0, 0x1e_0187, Owner),
+    entry!(Deny, 0, 0x20, Owner),
+    entry!(Allow, 0, 0x1, Group),
+    entry!(Deny, 0, 0x26, Group),
+    entry!(Allow, 0, 0x12_0080, Everyone),
+];
 
 /// The list that mode 0777 makes on a directory.
-pub fn mode_777() -> [Entry; 5] {
-    [
-        entry(EntryKind::Allow, 0, 0x1e_01e7, Who::Owner),
-        entry(EntryKind::Deny, 0, 0, Who::Owner),
-        entry(EntryKind::Allow, 0, 0x67, Who::Group),
-        entry(EntryKind::Deny, 0, 0, Who::Group),
-        entry(EntryKind::Allow, 0, 0x12_00e7, Who::Everyone),
-    ]
+const MODE_777: [Entry; 5] = [
+    entry!(Allow, 0, 0x1e_01e7, Owner),
+    entry!(Deny, 0, 0, Owner),
+    entry!(Allow, 0, 0x67, Group),
+    entry!(Deny, 0, 0, Group),
+    entry!(Allow, 0, 0x12_00e7, Everyone),
+];
+
+/// A file or a directory in the root, of group 100.
+#[derive(Clone, Copy)]
+pub struct Child<'a> {
+    pub name: &'a [u8],
+    pub kind: Kind,
+    pub owner: u32,
+    pub list: &'a [Entry],
 }
 
-/// A root with this list, of owner 0 and group 0.
-pub fn root<A: Allocator + Copy>(alloc: A, list: &[Entry]) -> Result<Tree<A>, TreeFault> {
+/// A tree to be made: the list of the root, which is of owner 0 and group 0, and its children. The root has the number 1, and
+/// they have the next ones, which are their stamps too.
+#[derive(Clone, Copy)]
+pub struct Scene<'a> {
+    pub name: &'a str,
+    pub root: &'a [Entry],
+    pub children: &'a [Child<'a>],
+}
+
+/// A root of mode 0755, a file of mode 0640 and a directory of mode 0777: the numbers 1 to 3.
+pub const SAMPLE: Scene<'static> = Scene {
+    name: "sample",
+    root: &MODE_755,
+    children: &[
+        Child {
+            name: b"notes",
+            kind: Kind::File,
+            owner: 1001,
+            list: &MODE_640,
+        },
+        Child {
+            name: b"pub",
+            kind: Kind::Directory,
+            owner: 0,
+            list: &MODE_777,
+        },
+    ],
+};
+
+fn root<A: Allocator + Copy>(alloc: A, list: &[Entry]) -> Result<Tree<A>, TreeFault> {
     let list = AclList::from_slice(alloc, list)?;
     if !is_bounded(&list) {
         return Err(TreeFault::NoSpc);
@@ -81,24 +96,20 @@ pub fn root<A: Allocator + Copy>(alloc: A, list: &[Entry]) -> Result<Tree<A>, Tr
     Ok(Tree::new(alloc, 0, 0, list, 0)?)
 }
 
-/// Adds a file or a directory to the root.
-pub fn add<A: Allocator + Copy>(
+fn add<A: Allocator + Copy>(
     alloc: A,
     tree: &mut Tree<A>,
-    name: &[u8],
-    kind: Kind,
-    owner: u32,
-    list: &[Entry],
+    child: &Child<'_>,
 ) -> Result<u64, TreeFault> {
-    let list = AclList::from_slice(alloc, list)?;
+    let list = AclList::from_slice(alloc, child.list)?;
     let tick = tree.next_tick();
-    if tick >= 1 << 63 || name.len() > 255 || !is_bounded(&list) {
+    if tick >= 1 << 63 || child.name.len() > 255 || !is_bounded(&list) {
         return Err(TreeFault::NoSpc);
     }
     let new = NewObject {
-        kind,
+        kind: child.kind,
         bytes: Vec::new(alloc),
-        owner,
+        owner: child.owner,
         group: 100,
         list,
         high: 0,
@@ -108,14 +119,24 @@ pub fn add<A: Allocator + Copy>(
         moment: EPOCH,
     };
     let directory = tree.root();
-    tree.add(directory, name, new, at)
+    tree.add(directory, child.name, new, at)
 }
 
-/// A root of mode 0755, a file of mode 0640 and a directory of mode 0777: the numbers 1 to 3, which are their stamps.
-pub fn sample<A: Allocator + Copy>(alloc: A) -> Result<Tree<A>, TreeFault> {
-    let mut tree = root(alloc, &mode_755())?;
-    add(alloc, &mut tree, b"notes", Kind::File, 1001, &mode_640())?;
-    add(alloc, &mut tree, b"pub", Kind::Directory, 0, &mode_777())?;
+fn add_all<A: Allocator + Copy>(
+    alloc: A,
+    tree: &mut Tree<A>,
+    children: &[Child<'_>],
+) -> Result<(), TreeFault> {
+    for child in children {
+        add(alloc, tree, child)?;
+    }
+    Ok(())
+}
+
+/// The tree of a scene.
+pub fn tree<A: Allocator + Copy>(alloc: A, scene: &Scene<'_>) -> Result<Tree<A>, TreeFault> {
+    let mut tree = root(alloc, scene.root)?;
+    add_all(alloc, &mut tree, scene.children)?;
     Ok(tree)
 }
 
@@ -130,21 +151,6 @@ pub fn guarded(
 {
     let capacity = NonZeroUsize::new(capacity).unwrap_or(NonZeroUsize::MIN);
     GuardedTree::new(alloc, tree, Book::default(alloc), capacity, hasher)
-}
-
-/// Decides, and keeps the lines.
-pub fn decide<A: Allocator + Copy>(
-    guarded: &mut GuardedTree<A>,
-    demand: Demand,
-    caller: &Caller,
-    op: u32,
-) -> Decision
-    requires { guarded.old.log.held ≡ [] }
-    ensures { guarded.new.log.held ≡ [] }
-{
-    let decision = guarded.decide(demand, caller, op);
-    guarded.settle(true);
-    decision
 }
 
 /// A guard that remembers one summary.
@@ -172,17 +178,4 @@ pub fn decide_on<A: Allocator + Copy, B: Allocator + Copy>(
     let decision = guard.decide(demand, tree, book, FIRST_EPOCH, caller, op);
     guard.settle(true);
     decision
-}
-
-/// The lines of the trail, each with a newline.
-pub fn text<A: Allocator + Copy, B: Allocator>(
-    alloc: B,
-    guard: &Guard<A>,
-) -> Result<Vec<u8, B>, AllocError> {
-    let mut text = Vec::new(alloc);
-    for line in guard.trail() {
-        text.extend_from_slice(write_line(line).as_bytes())?;
-        text.push(b'\n')?;
-    }
-    Ok(text)
 }
