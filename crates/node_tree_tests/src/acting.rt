@@ -8,7 +8,7 @@ use acl_shape::is_bounded;
 use node_tree::{At, Moment, NewObject, Tree, TreeFault};
 use std::alloc::Allocator;
 
-/// The outcome of a call.
+/// The outcome of a call, or of a look.
 #[derive(Clone, Copy, Debug, PartialEq, Eq)]
 pub enum Outcome {
     /// The call was done.
@@ -19,6 +19,16 @@ pub enum Outcome {
     Refused(TreeFault),
     /// The call's requirements don't hold.
     Misused,
+    /// A number was seen.
+    Is(u64),
+    /// There is none.
+    Absent,
+    /// The seconds in which the data and the metadata of an object were changed last.
+    Changed(i64, i64),
+    /// Two numbers were seen: the cookie and the child of a name, or the next tick and the next stamp.
+    Pair(u64, u64),
+    /// How many bytes were read, and what stands then in a buffer of four nines.
+    Bytes(usize, [u8; 4]),
 }
 
 fn came_to(answer: Result<(), TreeFault>) -> Outcome {
@@ -184,22 +194,23 @@ pub fn set_owner<A: Allocator + Copy>(
 
 /// How many bytes a file has.
 pub fn size<A: Allocator + Copy>(tree: &Tree<A>, number: u64) -> Option<u64> {
-    tree.object(number).map(|node| node.size())
+    Some(tree.object(number)?.size())
 }
 
 /// The tick of the last change.
 pub fn change<A: Allocator + Copy>(tree: &Tree<A>, number: u64) -> Option<u64> {
-    tree.object(number).map(|node| node.change())
+    Some(tree.object(number)?.change())
 }
 
 /// The stamp.
 pub fn stamp<A: Allocator + Copy>(tree: &Tree<A>, number: u64) -> Option<u64> {
-    tree.object(number).map(|node| node.stamp())
+    Some(tree.object(number)?.stamp())
 }
 
 /// The seconds of the two times.
 pub fn times<A: Allocator + Copy>(tree: &Tree<A>, number: u64) -> Option<(i64, i64)> {
-    tree.object(number).map(|node| (node.time_modify().seconds, node.time_metadata().seconds))
+    let node = tree.object(number)?;
+    Some((node.time_modify().seconds, node.time_metadata().seconds))
 }
 
 /// The cookie and the child of the next name of a directory.
@@ -208,6 +219,6 @@ pub fn after<A: Allocator + Copy>(
     directory: u64,
     cookie: u64,
 ) -> Option<(u64, u64)> {
-    tree.list_after(directory, cookie)
-        .map(|entry| (entry.cookie(), entry.child()))
+    let entry = tree.list_after(directory, cookie)?;
+    Some((entry.cookie(), entry.child()))
 }

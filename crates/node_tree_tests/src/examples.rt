@@ -1,76 +1,31 @@
 //! Single changes, by hand from the standard.
 
-use crate::acting::Outcome::{Done, Made, Refused};
-use crate::acting::{Outcome, after, set_list, set_owner, stamp, times};
-use crate::steps::Step::{Create, Link, Mkdir, Rename, Resize, Unlink, Write};
-use crate::steps::{Step, walk};
+use crate::acting::Outcome;
+use crate::acting::Outcome::{Absent, Bytes, Changed, Done, Is, Made, Pair, Refused};
+use crate::steps::Look::{Parent, Size, Stamp, Times};
+use crate::steps::Step::{
+    After, Create, Link, Mkdir, Read, Rename, Resize, See, SetList, SetOwner, Unlink, Write,
+};
+use crate::steps::{Step, sample, walk, walk_sample};
+use node_tree::Tree;
 use node_tree::TreeFault::{Exist, FBig, Inval, NoEnt, NotEmpty};
-use node_tree::{AclList, Tree};
 use std::alloc::Global;
 use std::process::Abort;
-use std::test::Fail;
-
-/// The two times of objects, in seconds: the number of the tick in which each was set.
-fn see_times(
-    rt: &impl Abort,
-    tree: &Tree<Global>,
-    rows: &[(u64, Option<(i64, i64)>)],
-) -> Result<(), Fail> {
-    for (number, want) in rows {
-        assert_eq!(rt; times(tree, *number), *want, "of {number}");
-    }
-    Ok(())
-}
-
-/// The entries that are listed after a cookie of a directory.
-fn see_names(
-    rt: &impl Abort,
-    tree: &Tree<Global>,
-    rows: &[(u64, u64, Option<(u64, u64)>)],
-) -> Result<(), Fail> {
-    for (directory, cookie, want) in rows {
-        assert_eq!(rt;
-            after(tree, *directory, *cookie),
-            *want,
-            "of {directory} after {cookie}"
-        );
-    }
-    Ok(())
-}
-
-/// The bytes that are read of a file at an offset, with zeros behind them.
-fn see_bytes(
-    rt: &impl Abort,
-    tree: &Tree<Global>,
-    rows: &[(u64, usize, [u8; 4])],
-) -> Result<(), Fail> {
-    for (offset, count, want) in rows {
-        let mut bytes = [0u8; 4];
-        assert_eq!(rt; tree.read(2, *offset, &mut bytes), *count, "at {offset}");
-        assert_eq!(rt; bytes, *want, "at {offset}");
-    }
-    Ok(())
-}
 
 const GAPS: &[(Step, Outcome)] = &[
     (Resize(2, 1), Done),
     (Write(2, 4095, b"xy"), Done),
     (Resize(2, 4096), Done),
     (Resize(2, 4097), Done),
-];
-
-const BYTES: &[(u64, usize, [u8; 4])] = &[
-    (0, 4, [b'h', 0, 0, 0]),
-    (4094, 3, [0, b'x', 0, 0]),
-    (4097, 0, [0, 0, 0, 0]),
+    (Read(2, 0), Bytes(4, [b'h', 0, 0, 0])),
+    (Read(2, 4094), Bytes(3, [0, b'x', 0, 9])),
+    (Read(2, 4097), Bytes(0, [9, 9, 9, 9])),
 ];
 
 /// Zeros stand between the end and the data, and behind an end that was cut.
 #[test]
-fn gaps_are_zeros(rt: HostRuntime) -> Result<(), Fail> {
-    let mut tree = Tree::sample(rt.alloc())?;
-    walk(&rt, rt.alloc(), &mut tree, GAPS)?;
-    see_bytes(&rt, &tree, BYTES)
+fn gaps_are_zeros(rt: HostRuntime) {
+    walk_sample(&rt, rt.alloc(), GAPS);
 }
 
 const OVER_A_BORDER: &[(Step, Outcome)] = &[
@@ -79,51 +34,53 @@ const OVER_A_BORDER: &[(Step, Outcome)] = &[
     (Write(2, 4095, b"xy"), Done),
 ];
 
-const GROWN_AGAIN: &[(Step, Outcome)] = &[
-    (Resize(2, 4096), Done),
-    (Resize(2, 4097), Done),
-    (Write(2, 1_048_575, b"z"), Done),
-    (Write(2, 1_048_576, b"z"), Refused(FBig)),
-];
+/// What stands in a buffer of nines after a read over the border of two blocks.
+fn byte_at(place: usize) -> u8 {
+    match place {
+        0 => b'a',
+        4095 => b'x',
+        4096 => b'y',
+        4097 => 9,
+        _ => 0,
+    }
+}
 
-const GONE: &[(Step, Outcome)] = &[(Unlink(1, b"notes"), Done), (Create(1, b"notes"), Made(4))];
+fn see_byte(rt: &impl Abort, place: usize, byte: u8) {
+    assert_eq!(rt; byte, byte_at(place), "at {place}");
+}
 
 /// Checks the first bytes of `notes`: `a`, zeros, `xy` over the border of two blocks, and nothing behind that.
 fn see_border(rt: &impl Abort, tree: &Tree<Global>) {
     let mut bytes = [9u8; 4098];
     assert_eq!(rt; tree.read(2, 0, &mut bytes), 4097);
     for (place, byte) in bytes.iter().enumerate() {
-        let want = match place {
-            0 => b'a',
-            4095 => b'x',
-            4096 => b'y',
-            4097 => 9,
-            _ => 0,
-        };
-        assert_eq!(rt; *byte, want, "at {place}");
+        see_byte(rt, place, *byte);
     }
 }
 
-const BYTES_BEHIND: &[(u64, usize, [u8; 4])] = &[
-    (4095, 4, [b'x', 0, 0, 0]),
-    (1_048_574, 2, [0, b'z', 0, 0]),
+const GROWN_AND_GONE: &[(Step, Outcome)] = &[
+    (Resize(2, 4096), Done),
+    (Resize(2, 4097), Done),
+    (Write(2, 1_048_575, b"z"), Done),
+    (Write(2, 1_048_576, b"z"), Refused(FBig)),
+    (Read(2, 4095), Bytes(4, [b'x', 0, 0, 0])),
+    (Read(2, 1_048_574), Bytes(2, [0, b'z', 9, 9])),
+    (Unlink(1, b"notes"), Done),
+    (Create(1, b"notes"), Made(4)),
+    (See(Size, 2), Absent),
 ];
 
-fn go_over_a_border(rt: &impl Abort, alloc: Global, tree: &mut Tree<Global>) -> Result<(), Fail> {
-    walk(rt, alloc, tree, OVER_A_BORDER)?;
+fn go_over_a_border(rt: &impl Abort, alloc: Global, tree: &mut Tree<Global>) {
+    walk(rt, alloc, tree, OVER_A_BORDER);
     see_border(rt, tree);
-    walk(rt, alloc, tree, GROWN_AGAIN)?;
-    see_bytes(rt, tree, BYTES_BEHIND)?;
-    walk(rt, alloc, tree, GONE)?;
-    assert!(rt; tree.object(2).is_none());
-    Ok(())
+    walk(rt, alloc, tree, GROWN_AND_GONE);
 }
 
 /// Each byte of a file over the border of two blocks; the bytes that a cut took away are zero; the number of a removed file stays free.
 #[test]
-fn a_file_goes_over_a_border(rt: HostRuntime) -> Result<(), Fail> {
-    let mut tree = Tree::sample(rt.alloc())?;
-    go_over_a_border(&rt, rt.alloc(), &mut tree)
+fn a_file_goes_over_a_border(rt: HostRuntime) {
+    let mut tree = sample(&rt, rt.alloc());
+    go_over_a_border(&rt, rt.alloc(), &mut tree);
 }
 
 const LAST_NAMES: &[(Step, Outcome)] = &[
@@ -134,26 +91,17 @@ const LAST_NAMES: &[(Step, Outcome)] = &[
     (Unlink(3, b"b"), Refused(NoEnt)),
     (Create(1, b"notes"), Made(4)),
     (Create(1, b"notes"), Refused(Exist)),
-];
-
-const TIMES_AFTER_THEM: &[(u64, Option<(i64, i64)>)] = &[
-    (1, Some((7, 7))),
-    (2, None),
-    (3, Some((6, 6))),
-];
-
-const NAMES_AFTER_THEM: &[(u64, u64, Option<(u64, u64)>)] = &[
-    (1, 0, Some((4, 3))),
-    (1, 4, Some((6, 4))),
+    (See(Times, 1), Changed(7, 7)),
+    (See(Times, 2), Absent),
+    (See(Times, 3), Changed(6, 6)),
+    (After(1, 0), Pair(4, 3)),
+    (After(1, 4), Pair(6, 4)),
 ];
 
 /// An object goes with its last name, and its number is never another's.
 #[test]
-fn objects_go_with_their_last_name(rt: HostRuntime) -> Result<(), Fail> {
-    let mut tree = Tree::sample(rt.alloc())?;
-    walk(&rt, rt.alloc(), &mut tree, LAST_NAMES)?;
-    see_times(&rt, &tree, TIMES_AFTER_THEM)?;
-    see_names(&rt, &tree, NAMES_AFTER_THEM)
+fn objects_go_with_their_last_name(rt: HostRuntime) {
+    walk_sample(&rt, rt.alloc(), LAST_NAMES);
 }
 
 const MOVES: &[(Step, Outcome)] = &[
@@ -168,53 +116,37 @@ const MOVES: &[(Step, Outcome)] = &[
     (Rename(1, b"pub", 1, b"pub"), Done),
     (Rename(1, b"e", 3, b"d"), Done),
     (Rename(1, b"notes", 5, b"n"), Done),
+    (See(Times, 1), Changed(7, 7)),
+    (See(Times, 2), Changed(0, 7)),
+    (See(Times, 3), Changed(6, 6)),
+    (See(Times, 4), Absent),
+    (See(Times, 5), Changed(7, 7)),
+    (After(3, 0), Pair(7, 5)),
+    (After(5, 0), Pair(8, 2)),
+    (After(1, 3), Pair(4, 3)),
+    (See(Parent, 5), Is(3)),
+    (See(Parent, 1), Absent),
+    (See(Parent, 2), Absent),
 ];
-
-const TIMES_AFTER_MOVES: &[(u64, Option<(i64, i64)>)] = &[
-    (1, Some((7, 7))),
-    (2, Some((0, 7))),
-    (3, Some((6, 6))),
-    (4, None),
-    (5, Some((7, 7))),
-];
-
-const NAMES_AFTER_MOVES: &[(u64, u64, Option<(u64, u64)>)] = &[
-    (3, 0, Some((7, 5))),
-    (5, 0, Some((8, 2))),
-    (1, 3, Some((4, 3))),
-];
-
-fn see_parents(rt: &impl Abort, tree: &Tree<Global>) {
-    assert_eq!(rt; tree.parent(5), Some(3));
-    assert_eq!(rt; tree.parent(1), None);
-    assert_eq!(rt; tree.parent(2), None);
-}
 
 /// The rows of the table of `rename`. Nothing was changed by tick 6 but the directory that replaced another.
 #[test]
-fn names_change_or_are_refused(rt: HostRuntime) -> Result<(), Fail> {
-    let mut tree = Tree::sample(rt.alloc())?;
-    walk(&rt, rt.alloc(), &mut tree, MOVES)?;
-    see_times(&rt, &tree, TIMES_AFTER_MOVES)?;
-    see_names(&rt, &tree, NAMES_AFTER_MOVES)?;
-    see_parents(&rt, &tree);
-    Ok(())
+fn names_change_or_are_refused(rt: HostRuntime) {
+    walk_sample(&rt, rt.alloc(), MOVES);
 }
 
-const TIMES_AFTER_STAMPS: &[(u64, Option<(i64, i64)>)] = &[(1, Some((0, 0))), (2, Some((0, 6)))];
-
-fn take_stamps(rt: &impl Abort, alloc: Global, tree: &mut Tree<Global>) {
-    assert_eq!(rt; set_list(tree, 2, AclList::new(alloc)), Done);
-    assert_eq!(rt; stamp(tree, 2), Some(4));
-    assert_eq!(rt; set_owner(tree, 2, 5, 6), Done);
-    assert_eq!(rt; stamp(tree, 2), Some(5));
-}
+const STAMPS: &[(Step, Outcome)] = &[
+    (Link(3, b"b", 2), Done),
+    (SetList(2), Done),
+    (See(Stamp, 2), Is(4)),
+    (SetOwner(2, 5, 6), Done),
+    (See(Stamp, 2), Is(5)),
+    (See(Times, 1), Changed(0, 0)),
+    (See(Times, 2), Changed(0, 6)),
+];
 
 /// The list of an object doesn't depend on the name; list and owner take a stamp each, and the object has the later one.
 #[test]
-fn lists_and_owners_take_stamps(rt: HostRuntime) -> Result<(), Fail> {
-    let mut tree = Tree::sample(rt.alloc())?;
-    walk(&rt, rt.alloc(), &mut tree, &[(Link(3, b"b", 2), Done)])?;
-    take_stamps(&rt, rt.alloc(), &mut tree);
-    see_times(&rt, &tree, TIMES_AFTER_STAMPS)
+fn lists_and_owners_take_stamps(rt: HostRuntime) {
+    walk_sample(&rt, rt.alloc(), STAMPS);
 }

@@ -1,7 +1,7 @@
 //! Calls in a fixed order that looks like none, on a tree and on a plain program beside it.
 
 use crate::acting::{Outcome, add, link, rename, resize, set_owner, unlink, write};
-use crate::plain::{Label, Named, Plain, Thing};
+use crate::plain::{Label, Named, Plain};
 use acl_shape::is_bounded;
 use node_tree::{AclList, Kind, Tree};
 use std::alloc::{AllocError, Global};
@@ -168,91 +168,123 @@ fn call(
     }
 }
 
-/// The bytes of a file.
-fn bytes_of(
+/// The attributes of an object.
+#[derive(Clone, Copy, Debug, PartialEq, Eq)]
+struct Attributes {
+    is_directory: bool,
+    size: u64,
+    change: u64,
+    stamp: u64,
+    modify: i64,
+    metadata: i64,
+    links: usize,
+    parent: Option<u64>,
+    has_entries: bool,
+}
+
+/// The attributes of an object in the tree.
+fn seen(tree: &Tree<Global>, number: u64) -> Option<Attributes> {
+    let node = tree.object(number)?;
+    Some(Attributes {
+        is_directory: node.is_directory(),
+        size: node.size(),
+        change: node.change(),
+        stamp: node.stamp(),
+        modify: node.time_modify().seconds,
+        metadata: node.time_metadata().seconds,
+        links: tree.links(number),
+        parent: tree.parent(number),
+        has_entries: tree.has_entries(number),
+    })
+}
+
+/// The attributes of an object in the plain program.
+fn wanted(plain: &Plain, number: u64) -> Option<Attributes> {
+    let thing = plain.thing(number)?;
+    Some(Attributes {
+        is_directory: thing.is_directory,
+        size: thing.bytes.len() as u64,
+        change: thing.change,
+        stamp: thing.stamp,
+        modify: thing.modify,
+        metadata: thing.metadata,
+        links: plain.links(number),
+        parent: plain.parent(number),
+        has_entries: plain.has_entries(number),
+    })
+}
+
+/// Whether a file has these bytes.
+fn has_bytes(
     tree: &Tree<Global>,
     alloc: Global,
     number: u64,
-    size: usize,
-) -> Result<Vec<u8>, AllocError> {
+    want: &[u8],
+) -> Result<bool, AllocError> {
     let mut bytes = Vec::new(alloc);
-    bytes.resize(size, 9)?;
+    bytes.resize(want.len(), 9)?;
     tree.read(number, 0, &mut bytes);
-    Ok(bytes)
+    Ok(bytes.as_slice() == want)
 }
 
-fn see_object(
+/// An object has the same attributes in both, or is in neither.
+fn see_object(rt: &impl Abort, tree: &Tree<Global>, plain: &Plain, number: u64) {
+    assert_eq!(rt; seen(tree, number), wanted(plain, number), "{number}");
+}
+
+/// An object has the same bytes in both.
+fn see_bytes(
     rt: &impl Abort,
     tree: &Tree<Global>,
     alloc: Global,
     plain: &Plain,
-    want: &Thing,
-) -> Result<(), Fail> {
-    let number = want.number;
-    let Some(node) = tree.object(number) else {
-        assert!(rt; false, "{number} is missing");
-        return Ok(());
-    };
-    assert_eq!(rt;
-        (node.is_directory(), node.size()),
-        (want.is_directory, want.bytes.len() as u64),
-        "{number}"
-    );
-    assert_eq!(rt;
-        (node.change(), node.stamp()),
-        (want.change, want.stamp),
-        "{number}"
-    );
-    let times = (node.time_modify().seconds, node.time_metadata().seconds);
-    assert_eq!(rt; times, (want.modify, want.metadata), "{number}");
-    assert_eq!(rt; tree.links(number), plain.links(number), "{number}");
-    assert_eq!(rt; tree.parent(number), plain.parent(number), "{number}");
-    assert_eq!(rt;
-        tree.has_entries(number),
-        plain.has_entries(number),
-        "{number}"
-    );
-    let bytes = bytes_of(tree, alloc, number, want.bytes.len())?;
-    assert!(rt;
-        bytes.as_slice() == want.bytes.as_slice(),
-        "bytes of {number}"
-    );
+    number: u64,
+) -> Result<(), AllocError> {
+    if let Some(thing) = plain.thing(number) {
+        let is_same = has_bytes(tree, alloc, number, &thing.bytes)?;
+        assert!(rt; is_same, "bytes of {number}");
+    }
     Ok(())
+}
+
+/// The next name of a directory behind a cookie.
+fn behind(tree: &Tree<Global>, directory: u64, cookie: u64) -> Option<Named> {
+    let entry = tree.list_after(directory, cookie)?;
+    Some(Named {
+        cookie: entry.cookie(),
+        directory,
+        label: Label::try_from(entry.name()).ok()?,
+        child: entry.child(),
+    })
 }
 
 /// A name stands behind the last one of its directory that was seen, and leads to its child.
-fn see_name(rt: &impl Abort, tree: &Tree<Global>, want: &Named, last: u64) -> Result<(), Fail> {
-    let (directory, cookie) = (want.directory, want.cookie);
-    let Some(entry) = tree.list_after(directory, last) else {
-        assert!(rt; false, "{cookie} is missing");
-        return Ok(());
-    };
-    assert_eq!(rt; (entry.cookie(), entry.child()), (cookie, want.child));
-    assert!(rt; entry.name() == want.label.as_slice(), "{cookie}");
+fn see_name(rt: &impl Abort, tree: &Tree<Global>, want: &Named, last: u64) {
+    let found = tree.find(want.directory, &want.label);
     assert_eq!(rt;
-        tree.find(directory, &want.label),
-        Some(want.child),
-        "{cookie}"
+        (behind(tree, want.directory, last), found),
+        (Some(*want), Some(want.child))
     );
-    Ok(())
 }
 
 /// The names of a directory, one after another, and none behind the last.
-fn see_directory(
-    rt: &impl Abort,
-    tree: &Tree<Global>,
-    plain: &Plain,
-    directory: u64,
-) -> Result<(), Fail> {
+fn see_directory(rt: &impl Abort, tree: &Tree<Global>, plain: &Plain, directory: u64) {
     let mut last = 0u64;
     for name in plain.names.iter() {
         if name.directory == directory {
-            see_name(rt, tree, name, last)?;
+            see_name(rt, tree, name, last);
             last = name.cookie;
         }
     }
     assert!(rt; tree.list_after(directory, last).is_none(), "{directory}");
-    Ok(())
+}
+
+/// The next tick and the next stamp are the same in both.
+fn see_counters(rt: &impl Abort, tree: &Tree<Global>, plain: &Plain) {
+    assert_eq!(rt;
+        (tree.next_tick(), tree.next_stamp()),
+        (plain.tick, plain.stamp)
+    );
 }
 
 /// The whole world, number by number.
@@ -261,17 +293,12 @@ fn see_world(
     tree: &Tree<Global>,
     alloc: Global,
     plain: &Plain,
-) -> Result<(), Fail> {
-    assert_eq!(rt;
-        (tree.next_tick(), tree.next_stamp()),
-        (plain.tick, plain.stamp)
-    );
+) -> Result<(), AllocError> {
+    see_counters(rt, tree, plain);
     for number in 0..plain.number.saturating_add(1) {
-        match plain.thing(number) {
-            Some(want) => see_object(rt, tree, alloc, plain, want)?,
-            None => assert!(rt; tree.object(number).is_none(), "{number} is there"),
-        }
-        see_directory(rt, tree, plain, number)?;
+        see_object(rt, tree, plain, number);
+        see_bytes(rt, tree, alloc, plain, number)?;
+        see_directory(rt, tree, plain, number);
     }
     Ok(())
 }
@@ -292,7 +319,7 @@ fn hundred(
     dice: &mut Dice,
     tree: &mut Tree<Global>,
     plain: &mut Plain,
-) -> Result<u32, Fail> {
+) -> Result<u32, AllocError> {
     let mut refused = 0u32;
     for index in 0..100 {
         let (done, want) = call(dice, tree, plain, alloc)?;
@@ -302,6 +329,12 @@ fn hundred(
         }
     }
     Ok(refused)
+}
+
+/// Some of the calls were refused and most were not, and many objects are left.
+fn see_mixed(rt: &impl Abort, plain: &Plain, refused: u32) {
+    assert!(rt; refused > 1000 && refused < 5000, "{refused} refused");
+    assert!(rt; plain.things.len() > 20, "too few are left");
 }
 
 fn all_calls(
@@ -316,15 +349,14 @@ fn all_calls(
         refused = refused.saturating_add(hundred(rt, alloc, &mut dice, tree, plain)?);
         see_world(rt, tree, alloc, plain)?;
     }
-    assert!(rt; refused > 1000 && refused < 5000, "{refused} refused");
-    assert!(rt; plain.things.len() > 20, "too few are left");
+    see_mixed(rt, plain, refused);
     Ok(())
 }
 
 /// 10,000 calls come to the same in both, and after each hundredth the worlds are equal.
 #[test]
 fn a_plain_program_does_the_same(rt: HostRuntime) -> Result<(), Fail> {
-    let mut tree = empty(rt.alloc())?;
-    let mut plain = Plain::new(rt.alloc())?;
+    let mut tree = empty(rt.alloc()).expect(&rt, "a root alone");
+    let mut plain = Plain::new(rt.alloc()).expect(&rt, "a root alone");
     all_calls(&rt, rt.alloc(), &mut tree, &mut plain)
 }

@@ -1,35 +1,47 @@
 //! Limits at their borders.
 
-use crate::acting::{Outcome, link, rename, resize, size, write};
-use node_tree::{Tree, TreeFault};
-use std::test::Fail;
+use crate::acting::Outcome;
+use crate::acting::Outcome::{Done, Is, Pair, Refused};
+use crate::steps::Look::{Links, Size};
+use crate::steps::Step::{Link, Next, Rename, Resize, See, Write};
+use crate::steps::{Step, sample, see, walk};
+use node_tree::Tree;
+use node_tree::TreeFault::{FBig, MLink};
+use std::alloc::Global;
+use std::process::Abort;
 
 /// A name of two bytes for each number below 2^16.
 fn name_of(number: u32) -> [u8; 2] {
     [(number / 256 % 256) as u8, (number % 256) as u8]
 }
 
+/// The sample tree's next tick and stamp are 4. The 999 names, a move and a write take a tick each, and no stamp; what is refused or
+/// has no data takes none.
+const FULL: &[(Step, Outcome)] = &[
+    (See(Links, 2), Is(1000)),
+    (Link(3, b"more", 2), Refused(MLink)),
+    (Rename(1, b"notes", 3, b"more"), Done),
+    (Write(2, 1_048_575, b"z"), Done),
+    (See(Size, 2), Is(1_048_576)),
+    (Next, Pair(1005, 4)),
+    (Write(2, 1_048_576, b"z"), Refused(FBig)),
+    (Write(2, u64::MAX, b"z"), Refused(FBig)),
+    (Write(2, u64::MAX, b""), Done),
+    (Resize(2, 1_048_577), Refused(FBig)),
+    (Next, Pair(1005, 4)),
+];
+
+/// Gives `notes` as many names as a file may have, and then bytes.
+fn fill_up(rt: &impl Abort, alloc: Global, tree: &mut Tree<Global>) {
+    for number in 1..1000 {
+        see(rt, alloc, tree, Link(3, &name_of(number), 2), Done);
+    }
+    walk(rt, alloc, tree, FULL);
+}
+
 /// 1,000 names of a file, and 1,048,576 bytes in it.
 #[test]
-fn files_fill_up(rt: HostRuntime) -> Result<(), Fail> {
-    let mut tree = Tree::sample(rt.alloc())?;
-    for number in 1..1000 {
-        assert_eq!(rt; link(&mut tree, 3, &name_of(number), 2), Outcome::Done);
-    }
-    assert_eq!(rt; tree.links(2), 1000);
-    assert_eq!(rt;
-        link(&mut tree, 3, b"more", 2),
-        Outcome::Refused(TreeFault::MLink)
-    );
-    assert_eq!(rt; rename(&mut tree, 1, b"notes", 3, b"more"), Outcome::Done);
-    assert_eq!(rt; write(&mut tree, 2, 1_048_575, b"z"), Outcome::Done);
-    assert_eq!(rt; size(&tree, 2), Some(1_048_576));
-    let too_big = Outcome::Refused(TreeFault::FBig);
-    let tick = tree.next_tick();
-    assert_eq!(rt; write(&mut tree, 2, 1_048_576, b"z"), too_big);
-    assert_eq!(rt; write(&mut tree, 2, u64::MAX, b"z"), too_big);
-    assert_eq!(rt; write(&mut tree, 2, u64::MAX, b""), Outcome::Done);
-    assert_eq!(rt; resize(&mut tree, 2, 1_048_577), too_big);
-    assert_eq!(rt; tree.next_tick(), tick);
-    Ok(())
+fn files_fill_up(rt: HostRuntime) {
+    let mut tree = sample(&rt, rt.alloc());
+    fill_up(&rt, rt.alloc(), &mut tree);
 }

@@ -24,7 +24,7 @@ pub struct Thing {
 }
 
 /// A child under a name in a directory.
-#[derive(Clone, Copy, Debug)]
+#[derive(Clone, Copy, Debug, PartialEq, Eq)]
 pub struct Named {
     pub cookie: u64,
     pub directory: u64,
