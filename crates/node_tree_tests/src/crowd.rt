@@ -5,7 +5,7 @@ use crate::acting::Outcome::{Absent, Done, Is, Made, Pair, Refused};
 use crate::acting::{Outcome, after};
 use crate::steps::Look::{Links, Parent, Size};
 use crate::steps::Step::{After, Create, Find, Mkdir, Next, Rename, See, Unlink};
-use crate::steps::{Step, sample, see, walk};
+use crate::steps::{Step, name_of, sample, see, walk};
 use node_tree::Tree;
 use node_tree::TreeFault::NoSpc;
 use std::alloc::Global;
@@ -13,11 +13,6 @@ use std::process::Abort;
 
 /// The directories beside the root and `pub`. With `notes` and `pub` the root has 4,096 names.
 const DIRECTORIES: u64 = 4094;
-
-/// A name of two bytes for each number below 2^16.
-fn name_of(number: u64) -> [u8; 2] {
-    [(number / 256 % 256) as u8, (number % 256) as u8]
-}
 
 /// The number of a directory. The sample tree has the numbers 1 to 3.
 fn directory(index: u64) -> u64 {

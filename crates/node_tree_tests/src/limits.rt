@@ -4,16 +4,11 @@ use crate::acting::Outcome;
 use crate::acting::Outcome::{Done, Is, Pair, Refused};
 use crate::steps::Look::{Links, Size};
 use crate::steps::Step::{Link, Next, Rename, Resize, See, Write};
-use crate::steps::{Step, sample, see, walk};
+use crate::steps::{Step, name_of, sample, see, walk};
 use node_tree::Tree;
 use node_tree::TreeFault::{FBig, MLink};
 use std::alloc::Global;
 use std::process::Abort;
-
-/// A name of two bytes for each number below 2^16.
-fn name_of(number: u32) -> [u8; 2] {
-    [(number / 256 % 256) as u8, (number % 256) as u8]
-}
 
 /// The sample tree's next tick and stamp are 4. The 999 names, a move and a write take a tick each, and no stamp; what is refused or
 /// has no data takes none.

@@ -124,6 +124,11 @@ pub fn walk<A: Allocator + Copy>(
     }
 }
 
+/// A name of two bytes for each number below 2^16.
+pub fn name_of(number: u64) -> [u8; 2] {
+    [(number / 256 % 256) as u8, (number % 256) as u8]
+}
+
 /// The sample tree.
 pub fn sample<A: Allocator + Copy>(rt: &impl Abort, alloc: A) -> Tree<A> {
     Tree::sample(alloc).expect(rt, "the sample tree")
