@@ -25,8 +25,10 @@ pub enum Outcome {
     Absent,
     /// The seconds in which the data and the metadata of an object were changed last.
     Changed(i64, i64),
-    /// Two numbers were seen: the cookie and the child of a name, or the next tick and the next stamp.
-    Pair(u64, u64),
+    /// The cookie and the child of a name.
+    Entry(u64, u64),
+    /// The next tick and the next stamp.
+    Counters(u64, u64),
     /// How many bytes were read, and what stands then in a buffer of four nines.
     Bytes(usize, [u8; 4]),
 }

@@ -1,7 +1,7 @@
 //! As many objects as there may be, in 4,096 directories, and as many as there may be in one: made, listed, renamed and removed in
 //! three orders.
 
-use crate::acting::Outcome::{Absent, Done, Is, Made, Pair, Refused};
+use crate::acting::Outcome::{Absent, Counters, Done, Entry, Is, Made, Refused};
 use crate::acting::{Outcome, after};
 use crate::steps::Look::{Links, Parent, Size};
 use crate::steps::Step::{After, Create, Find, Mkdir, Next, Rename, See, Unlink};
@@ -137,9 +137,9 @@ fn remove_all(rt: &impl Abort, alloc: Global, tree: &mut Tree<Global>) {
 /// Six rounds of 4,094 changes and 12,287 new files take a tick each, and the 16,381 new objects a stamp each. They leave the sample tree
 /// with five files in `pub`. No number comes again.
 const LEFT: &[(Step, Outcome)] = &[
-    (Next, Pair(36_855, 16_385)),
-    (After(1, 0), Pair(3, 2)),
-    (After(1, 3), Pair(4, 3)),
+    (Next, Counters(36_855, 16_385)),
+    (After(1, 0), Entry(3, 2)),
+    (After(1, 3), Entry(4, 3)),
     (After(1, 4), Absent),
     (See(Links, 2), Is(1)),
     (See(Links, 3), Is(1)),
@@ -223,7 +223,7 @@ fn take_all(rt: &impl Abort, alloc: Global, tree: &mut Tree<Global>) {
 /// Three rounds of 4,096 changes take a tick each, and the new objects a stamp each. They leave the directory empty.
 const NONE_LEFT: &[(Step, Outcome)] = &[
     (After(3, 0), Absent),
-    (Next, Pair(12_292, 4100)),
+    (Next, Counters(12_292, 4100)),
     (Create(3, b"new"), Made(4100)),
 ];
 

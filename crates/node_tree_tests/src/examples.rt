@@ -1,7 +1,7 @@
 //! Single changes, by hand from the standard.
 
 use crate::acting::Outcome;
-use crate::acting::Outcome::{Absent, Bytes, Changed, Done, Is, Made, Pair, Refused};
+use crate::acting::Outcome::{Absent, Bytes, Changed, Done, Entry, Is, Made, Refused};
 use crate::steps::Look::{Parent, Size, Stamp, Times};
 use crate::steps::Step::{
     After, Create, Link, Mkdir, Read, Rename, Resize, See, SetList, SetOwner, Unlink, Write,
@@ -94,8 +94,8 @@ const LAST_NAMES: &[(Step, Outcome)] = &[
     (See(Times, 1), Changed(7, 7)),
     (See(Times, 2), Absent),
     (See(Times, 3), Changed(6, 6)),
-    (After(1, 0), Pair(4, 3)),
-    (After(1, 4), Pair(6, 4)),
+    (After(1, 0), Entry(4, 3)),
+    (After(1, 4), Entry(6, 4)),
 ];
 
 /// An object goes with its last name, and its number is never another's.
@@ -121,9 +121,9 @@ const MOVES: &[(Step, Outcome)] = &[
     (See(Times, 3), Changed(6, 6)),
     (See(Times, 4), Absent),
     (See(Times, 5), Changed(7, 7)),
-    (After(3, 0), Pair(7, 5)),
-    (After(5, 0), Pair(8, 2)),
-    (After(1, 3), Pair(4, 3)),
+    (After(3, 0), Entry(7, 5)),
+    (After(5, 0), Entry(8, 2)),
+    (After(1, 3), Entry(4, 3)),
     (See(Parent, 5), Is(3)),
     (See(Parent, 1), Absent),
     (See(Parent, 2), Absent),

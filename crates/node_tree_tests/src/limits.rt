@@ -1,7 +1,7 @@
 //! Limits at their borders.
 
 use crate::acting::Outcome;
-use crate::acting::Outcome::{Done, Is, Pair, Refused};
+use crate::acting::Outcome::{Counters, Done, Is, Refused};
 use crate::steps::Look::{Links, Size};
 use crate::steps::Step::{Link, Next, Rename, Resize, See, Write};
 use crate::steps::{Step, name_of, sample, see, walk};
@@ -18,12 +18,12 @@ const FULL: &[(Step, Outcome)] = &[
     (Rename(1, b"notes", 3, b"more"), Done),
     (Write(2, 1_048_575, b"z"), Done),
     (See(Size, 2), Is(1_048_576)),
-    (Next, Pair(1005, 4)),
+    (Next, Counters(1005, 4)),
     (Write(2, 1_048_576, b"z"), Refused(FBig)),
     (Write(2, u64::MAX, b"z"), Refused(FBig)),
     (Write(2, u64::MAX, b""), Done),
     (Resize(2, 1_048_577), Refused(FBig)),
-    (Next, Pair(1005, 4)),
+    (Next, Counters(1005, 4)),
 ];
 
 /// Gives `notes` as many names as a file may have, and then bytes.

@@ -1,6 +1,6 @@
 //! Calls and looks as data, so that a test is a table of them with their outcomes.
 
-use crate::acting::Outcome::{Absent, Bytes, Changed, Is, Pair};
+use crate::acting::Outcome::{Absent, Bytes, Changed, Counters, Entry, Is};
 use crate::acting::{
     Outcome, add, after, change, link, rename, resize, set_list, set_owner, size, stamp, times,
     unlink, write,
@@ -59,7 +59,7 @@ fn changed<A: Allocator + Copy>(tree: &Tree<A>, object: u64) -> Outcome {
 
 fn entry<A: Allocator + Copy>(tree: &Tree<A>, directory: u64, cookie: u64) -> Outcome {
     match after(tree, directory, cookie) {
-        Some((cookie, child)) => Pair(cookie, child),
+        Some((cookie, child)) => Entry(cookie, child),
         None => Absent,
     }
 }
@@ -93,7 +93,7 @@ pub fn act<A: Allocator + Copy>(tree: &mut Tree<A>, alloc: A, step: Step<'_>) ->
         Step::Resize(file, size) => resize(tree, file, size),
         Step::SetList(number) => set_list(tree, number, AclList::new(alloc)),
         Step::SetOwner(number, owner, group) => set_owner(tree, number, owner, group),
-        Step::Next => Pair(tree.next_tick(), tree.next_stamp()),
+        Step::Next => Counters(tree.next_tick(), tree.next_stamp()),
         Step::See(what, object) => look_at(tree, what, object),
         Step::Find(directory, name) => number(tree.find(directory, name)),
         Step::After(directory, cookie) => entry(tree, directory, cookie),

@@ -1,7 +1,7 @@
 //! Twenty rounds of eleven calls, with the state after each round counted by hand.
 
 use crate::acting::Outcome;
-use crate::acting::Outcome::{Done, Is, Made, Pair, Refused};
+use crate::acting::Outcome::{Counters, Done, Is, Made, Refused};
 use crate::steps::Look::{Change, Links, Stamp};
 use crate::steps::Step::{Link, Mkdir, Next, Rename, Resize, See, SetOwner, Unlink, Write};
 use crate::steps::{Step, sample, see, walk};
@@ -27,7 +27,7 @@ const ROUND: &[(Step, Outcome)] = &[
 
 /// Checks the state after a round: the next tick and stamp, those of `notes`, and its one name and that of `pub`.
 fn see_round(rt: &impl Abort, alloc: Global, tree: &mut Tree<Global>, tick: u64, stamp: u64) {
-    see(rt, alloc, tree, Next, Pair(tick, stamp));
+    see(rt, alloc, tree, Next, Counters(tick, stamp));
     see(rt, alloc, tree, See(Change, 2), Is(tick.saturating_sub(1)));
     see(rt, alloc, tree, See(Stamp, 2), Is(stamp.saturating_sub(1)));
     see(rt, alloc, tree, See(Links, 2), Is(1));
