@@ -5,7 +5,7 @@ use crate::replies::REMOVED;
 use nfs_tool::ToolFault;
 use std::alloc::Global;
 use std::io::{self, ErrorKind, Read, Write};
-use std::test::Fail;
+use std::process::Abort;
 
 /// Takes any bytes, four at a time, and gives these bytes, three at a time. The write or the read of this number fails.
 #[derive(Drop)]
@@ -66,31 +66,41 @@ fn removed_within(alloc: Global, writes: u32, reads: u32) -> Told {
     )
 }
 
+/// Both commands have failed, the first by this fault.
+fn failed(fault: ToolFault) -> Told {
+    (Err(fault), Err(ToolFault::Failed))
+}
+
 /// The call is written by 32 writes.
-#[test]
-fn each_write_fails(rt: HostRuntime) -> Result<(), Fail> {
+fn see_writes(rt: &impl Abort, alloc: Global) {
     for writes in 0..32 {
-        let told = removed_within(rt.alloc(), writes, 1000);
-        assert_eq!(rt; told, (Err(ToolFault::Write), Err(ToolFault::Failed)));
+        let told = removed_within(alloc, writes, 1000);
+        assert!(rt; told == failed(ToolFault::Write), "{writes} writes");
     }
-    Ok(())
 }
 
 /// The reply is read by 40 reads.
-#[test]
-fn each_read_fails(rt: HostRuntime) -> Result<(), Fail> {
+fn see_reads(rt: &impl Abort, alloc: Global) {
     for reads in 0..40 {
-        let told = removed_within(rt.alloc(), 1000, reads);
-        assert_eq!(rt; told, (Err(ToolFault::Read), Err(ToolFault::Failed)));
+        let told = removed_within(alloc, 1000, reads);
+        assert!(rt; told == failed(ToolFault::Read), "{reads} reads");
     }
-    Ok(())
 }
 
 #[test]
-fn no_read_and_no_write_too_many_fail(rt: HostRuntime) -> Result<(), Fail> {
+fn each_write_fails(rt: HostRuntime) {
+    see_writes(&rt, rt.alloc());
+}
+
+#[test]
+fn each_read_fails(rt: HostRuntime) {
+    see_reads(&rt, rt.alloc());
+}
+
+#[test]
+fn no_read_and_no_write_too_many_fail(rt: HostRuntime) {
     let told = removed_within(rt.alloc(), 32, 40);
-    assert_eq!(rt; told, (Ok(()), Err(ToolFault::Write)));
-    Ok(())
+    assert!(rt; told == (Ok(()), Err(ToolFault::Write)));
 }
 
 /// Takes any bytes, and gives one zero byte at each read, for ever.
@@ -118,10 +128,8 @@ impl Write for Zeros {
 }
 
 #[test]
-fn zeros_for_ever_end(rt: HostRuntime) -> Result<(), Fail> {
-    let told = removed(rt.alloc(), Zeros);
-    assert_eq!(rt; told, (Err(ToolFault::Read), Err(ToolFault::Failed)));
-    Ok(())
+fn zeros_for_ever_end(rt: HostRuntime) {
+    assert!(rt; removed(rt.alloc(), Zeros) == failed(ToolFault::Read));
 }
 
 /// Gives so many zero bytes, one at each read, which are empty fragments, and then the reply as the last read.
@@ -163,10 +171,7 @@ fn removed_late(alloc: Global, zeros: u32) -> Told {
 
 /// A reply may take at most 200,000 reads. With 199,996 zero bytes it takes 199,997.
 #[test]
-fn a_late_reply_is_read(rt: HostRuntime) -> Result<(), Fail> {
-    let told = removed_late(rt.alloc(), 199_996);
-    assert_eq!(rt; told.0, Ok(()));
-    let told = removed_late(rt.alloc(), 200_000);
-    assert_eq!(rt; told, (Err(ToolFault::Read), Err(ToolFault::Failed)));
-    Ok(())
+fn a_late_reply_is_read(rt: HostRuntime) {
+    assert!(rt; removed_late(rt.alloc(), 199_996).0 == Ok(()));
+    assert!(rt; removed_late(rt.alloc(), 200_000) == failed(ToolFault::Read));
 }

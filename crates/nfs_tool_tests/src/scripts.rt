@@ -6,6 +6,7 @@ use nfs_tool::{Texts, ToolFault};
 use std::alloc::{AllocError, Global};
 use std::hash::RandomState;
 use std::io::{self, ErrorKind, Read, Write};
+use std::process::Abort;
 use std::test::Fail;
 
 /// Gives these bytes, at most five a read. The read of this number fails.
@@ -126,8 +127,8 @@ const NOTHING: Text = (b"", b"trail 0\n");
 
 #[test]
 fn nothing_has_no_trail(rt: HostRuntime) -> Result<(), Fail> {
-    let told = played(rt.alloc(), RandomState::new(&rt)?, NOTHING, 1, 3);
-    assert_eq!(rt; told, Ok(true));
+    let hasher = RandomState::new(&rt)?;
+    assert!(rt; played(rt.alloc(), hasher, NOTHING, 1, 3) == Ok(true));
     Ok(())
 }
 
@@ -138,16 +139,41 @@ const SHORT: Text = (
     DENY uid=7 op=READ obj=2 mask=00000001 missing=00000001\n",
 );
 
+/// The end of a script that needs so many reads or writes where as many as that, or fewer, don't fail.
+fn end_within(given: u32, needed: u32, fault: ToolFault) -> Result<bool, ToolFault> {
+    if given < needed {
+        Err(fault)
+    } else {
+        Ok(false)
+    }
+}
+
+/// Checks that a script ends with `Read` where fewer than so many reads don't fail.
+fn see_reads(rt: &impl Abort, alloc: Global, hasher: RandomState, text: Text, needed: u32) {
+    for reads in 0..=needed {
+        let wanted = end_within(reads, needed, ToolFault::Read);
+        assert!(rt;
+            played(alloc, hasher, text, reads, 100) == wanted,
+            "{reads} reads"
+        );
+    }
+}
+
+/// Checks that a script ends with `Write` where fewer than so many writes don't fail.
+fn see_writes(rt: &impl Abort, alloc: Global, hasher: RandomState, text: Text, needed: u32) {
+    for writes in 0..=needed {
+        let wanted = end_within(writes, needed, ToolFault::Write);
+        assert!(rt;
+            played(alloc, hasher, text, 100, writes) == wanted,
+            "{writes} writes"
+        );
+    }
+}
+
 /// Ten reads give the script, and the eleventh read its end.
 #[test]
 fn each_read_fails(rt: HostRuntime) -> Result<(), Fail> {
-    let hasher = RandomState::new(&rt)?;
-    for reads in 0..11 {
-        let told = played(rt.alloc(), hasher, SHORT, reads, 100);
-        assert_eq!(rt; told, Err(ToolFault::Read));
-    }
-    let told = played(rt.alloc(), hasher, SHORT, 11, 100);
-    assert_eq!(rt; told, Ok(false));
+    see_reads(&rt, rt.alloc(), RandomState::new(&rt)?, SHORT, 11);
     Ok(())
 }
 
@@ -155,13 +181,7 @@ fn each_read_fails(rt: HostRuntime) -> Result<(), Fail> {
 /// the trail's total, and eight and one of its line.
 #[test]
 fn each_write_fails(rt: HostRuntime) -> Result<(), Fail> {
-    let hasher = RandomState::new(&rt)?;
-    for writes in 0..23 {
-        let told = played(rt.alloc(), hasher, SHORT, 100, writes);
-        assert_eq!(rt; told, Err(ToolFault::Write));
-    }
-    let told = played(rt.alloc(), hasher, SHORT, 100, 23);
-    assert_eq!(rt; told, Ok(false));
+    see_writes(&rt, rt.alloc(), RandomState::new(&rt)?, SHORT, 23);
     Ok(())
 }
 
@@ -170,13 +190,7 @@ const FAULT: Text = (b"reload range\n", b"book 3\ntrail 0\n");
 
 #[test]
 fn each_write_of_a_fault_fails(rt: HostRuntime) -> Result<(), Fail> {
-    let hasher = RandomState::new(&rt)?;
-    for writes in 0..6 {
-        let told = played(rt.alloc(), hasher, FAULT, 100, writes);
-        assert_eq!(rt; told, Err(ToolFault::Write));
-    }
-    let told = played(rt.alloc(), hasher, FAULT, 100, 6);
-    assert_eq!(rt; told, Ok(false));
+    see_writes(&rt, rt.alloc(), RandomState::new(&rt)?, FAULT, 6);
     Ok(())
 }
 
@@ -215,6 +229,6 @@ fn played_endless(
 #[test]
 fn an_endless_script_ends(rt: HostRuntime) -> Result<(), Fail> {
     let told = played_endless(rt.alloc(), RandomState::new(&rt)?)?;
-    assert_eq!(rt; told, Err(ToolFault::Read));
+    assert!(rt; told == Err(ToolFault::Read));
     Ok(())
 }

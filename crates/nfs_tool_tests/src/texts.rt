@@ -3,7 +3,6 @@ use acl_list::EntryKind;
 use nfs_tool::{Command, EntryText, ListPart, Listed, Path, ToolFault, mode_text, read_mode};
 use nfs_types::Status;
 use std::alloc::{AllocError, Global};
-use std::test::Fail;
 
 /// Whether a path has these names, or its fault.
 fn has_names(alloc: Global, text: &[u8], names: &[&[u8]]) -> Result<bool, ToolFault> {
@@ -13,14 +12,22 @@ fn has_names(alloc: Global, text: &[u8], names: &[&[u8]]) -> Result<bool, ToolFa
     }
 }
 
+/// Texts, the names of the paths that they are, and whether they are paths.
+static PATHS: [(&[u8], &[&[u8]], Result<bool, ToolFault>); 7] = [
+    (b"/a/bc", &[b"a", b"bc"], Ok(true)),
+    (b"/", &[], Ok(true)),
+    (b"", &[], Err(ToolFault::Path)),
+    (b"a", &[], Err(ToolFault::Path)),
+    (b"//", &[], Err(ToolFault::Path)),
+    (b"/a/", &[], Err(ToolFault::Path)),
+    (b"/a//b", &[], Err(ToolFault::Path)),
+];
+
 #[test]
-fn paths_are_read(rt: HostRuntime) -> Result<(), Fail> {
-    assert_eq!(rt; has_names(rt.alloc(), b"/a/bc", &[b"a", b"bc"]), Ok(true));
-    assert_eq!(rt; has_names(rt.alloc(), b"/", &[]), Ok(true));
-    for text in &[b"".as_slice(), b"a", b"//", b"/a/", b"/a//b"] {
-        assert_eq!(rt; has_names(rt.alloc(), text, &[]), Err(ToolFault::Path));
+fn paths_are_read(rt: HostRuntime) {
+    for (text, names, told) in &PATHS {
+        assert!(rt; has_names(rt.alloc(), text, names) == *told, "{text:?}");
     }
-    Ok(())
 }
 
 /// Whether an entry is written as this text.
@@ -30,17 +37,27 @@ fn entry_is(alloc: Global, entry: EntryText<'_>, wanted: &[u8]) -> Result<bool, 
     Ok(text.as_slice() == wanted)
 }
 
-#[test]
-fn entries_are_read_and_written(rt: HostRuntime) -> Result<(), Fail> {
-    let Some(entry) = EntryText::read(b"L:0B:00040027:a:b") else {
-        return Err(Fail::new("nothing was read"));
+/// Whether a text is read as an entry with this type, flags, mask and who.
+fn is_entry(text: &[u8], kind: EntryKind, flags: u8, mask: u32, who: &[u8]) -> bool {
+    let Some(entry) = EntryText::read(text) else {
+        return false;
     };
-    assert_eq!(rt; entry.kind, EntryKind::Alarm);
-    assert_eq!(rt; entry.flags, 0x0b);
-    assert_eq!(rt; entry.mask, 0x0004_0027);
-    assert!(rt; entry.who == b"a:b".as_slice());
-    assert!(rt; entry_is(rt.alloc(), entry, b"L:0b:00040027:a:b")?);
-    Ok(())
+    (entry.kind, entry.flags, entry.mask) == (kind, flags, mask) && entry.who == who
+}
+
+/// Whether what is read of a text is written as another one.
+fn is_written(alloc: Global, text: &[u8], wanted: &[u8]) -> Result<bool, AllocError> {
+    match EntryText::read(text) {
+        Some(entry) => entry_is(alloc, entry, wanted),
+        None => Ok(false),
+    }
+}
+
+#[test]
+fn entries_are_read_and_written(rt: HostRuntime) {
+    let text = b"L:0B:00040027:a:b";
+    assert!(rt; is_entry(text, EntryKind::Alarm, 0x0b, 0x0004_0027, b"a:b"));
+    assert!(rt; is_written(rt.alloc(), text, b"L:0b:00040027:a:b") == Ok(true));
 }
 
 /// Texts that are no entry.
@@ -53,22 +70,27 @@ const NO_ENTRIES: &[&[u8]] = &[
 ];
 
 #[test]
-fn other_texts_are_no_entries(rt: HostRuntime) -> Result<(), Fail> {
+fn other_texts_are_no_entries(rt: HostRuntime) {
     for text in NO_ENTRIES {
-        assert!(rt; EntryText::read(text).is_none());
+        assert!(rt; EntryText::read(text).is_none(), "{text:?}");
     }
-    Ok(())
 }
 
+/// Texts, and the modes that they are.
+static MODES: [(&[u8], Option<u32>); 5] = [
+    (b"7", Some(7)),
+    (b"0640", Some(0o640)),
+    (b"", None),
+    (b"8", None),
+    (b"00640", None),
+];
+
 #[test]
-fn modes_are_read_and_written(rt: HostRuntime) -> Result<(), Fail> {
-    assert_eq!(rt; read_mode(b"7"), Some(7));
-    assert_eq!(rt; read_mode(b"0640"), Some(0o640));
-    assert_eq!(rt; read_mode(b""), None);
-    assert_eq!(rt; read_mode(b"8"), None);
-    assert_eq!(rt; read_mode(b"00640"), None);
+fn modes_are_read_and_written(rt: HostRuntime) {
+    for (text, mode) in &MODES {
+        assert!(rt; read_mode(text) == *mode, "{text:?}");
+    }
     assert!(rt; mode_text(0o4755) == *b"4755");
-    Ok(())
 }
 
 /// Faults and their texts.
@@ -99,11 +121,10 @@ fn has_text(fault: ToolFault, text: &str) -> bool {
 }
 
 #[test]
-fn faults_have_texts(rt: HostRuntime) -> Result<(), Fail> {
+fn faults_have_texts(rt: HostRuntime) {
     for (fault, text) in FAULTS {
-        assert!(rt; has_text(*fault, text));
+        assert!(rt; has_text(*fault, text), "{text}");
     }
-    Ok(())
 }
 
 /// Whether the line of an entry of a directory is this.
@@ -113,97 +134,105 @@ fn line_is(alloc: Global, listed: Listed<'_>, wanted: &[u8]) -> Result<bool, All
     Ok(text.as_slice() == wanted)
 }
 
+/// Entries of a directory, and their lines.
+static LINES: [(Listed<'static>, &[u8]); 2] = [
+    (
+        Listed {
+            kind: Some(1),
+            mode: Some(0o600),
+            owner: Some(b"0"),
+            group: Some(b"0"),
+            size: Some(2),
+            name: b"f",
+        },
+        b"- 0600 0 0 2 f",
+    ),
+    (
+        Listed {
+            kind: Some(5),
+            mode: None,
+            owner: None,
+            group: None,
+            size: None,
+            name: b"l",
+        },
+        b"l ? ? ? ? l",
+    ),
+];
+
 #[test]
-fn lines_are_written(rt: HostRuntime) -> Result<(), Fail> {
-    let known = Listed {
-        kind: Some(1),
-        mode: Some(0o600),
-        owner: Some(b"0"),
-        group: Some(b"0"),
-        size: Some(2),
-        name: b"f",
-    };
-    assert!(rt; line_is(rt.alloc(), known, b"- 0600 0 0 2 f")?);
-    let refused = Listed {
-        kind: Some(5),
-        mode: None,
-        owner: None,
-        group: None,
-        size: None,
-        name: b"l",
-    };
-    assert!(rt; line_is(rt.alloc(), refused, b"l ? ? ? ? l")?);
-    Ok(())
+fn lines_are_written(rt: HostRuntime) {
+    for (listed, line) in &LINES {
+        assert!(rt; line_is(rt.alloc(), *listed, line) == Ok(true), "{line:?}");
+    }
 }
 
 #[test]
-fn commands_are_read(rt: HostRuntime) -> Result<(), Fail> {
+fn commands_are_read(rt: HostRuntime) {
     let words: [&[u8]; 3] = [b"put", b"/f", b"hi"];
     assert!(rt; matches!(Command::read(&words), Some(Command::Put(b"/f", b"hi"))));
-    let words: [&[u8]; 2] = [b"setacl", b"/f"];
-    assert!(rt; Command::read(&words).is_none());
-    let words: [&[u8]; 4] = [b"setacl", b"/f", b"x", b"y"];
-    let Some(Command::SetAcl(ListPart::Acl, path, entries)) = Command::read(&words) else {
-        return Err(Fail::new("nothing was read"));
-    };
-    assert!(rt; path == b"/f".as_slice());
-    assert_eq!(rt; entries.len(), 2);
-    let words: [&[u8]; 3] = [b"ls", b"/f", b"/g"];
-    assert!(rt; Command::read(&words).is_none());
-    Ok(())
 }
 
-#[test]
-fn commands_of_a_part_are_read(rt: HostRuntime) -> Result<(), Fail> {
-    let words: [&[u8]; 2] = [b"getdacl", b"/f"];
-    assert!(rt;
-        matches!(
-            Command::read(&words),
-            Some(Command::GetAcl(ListPart::Dacl, b"/f"))
-        )
-    );
-    let words: [&[u8]; 2] = [b"getsacl", b"/f"];
-    assert!(rt;
-        matches!(
-            Command::read(&words),
-            Some(Command::GetAcl(ListPart::Sacl, b"/f"))
-        )
-    );
-    let words: [&[u8]; 3] = [b"setdacl", b"/f", b"x"];
-    assert!(rt;
-        matches!(
-            Command::read(&words),
-            Some(Command::SetAcl(ListPart::Dacl, b"/f", [b"x"]))
-        )
-    );
-    let words: [&[u8]; 3] = [b"setsacl", b"/f", b"x"];
-    assert!(rt;
-        matches!(
-            Command::read(&words),
-            Some(Command::SetAcl(ListPart::Sacl, b"/f", [b"x"]))
-        )
-    );
-    let words: [&[u8]; 2] = [b"setdacl", b"/f"];
-    assert!(rt; Command::read(&words).is_none());
-    let words: [&[u8]; 3] = [b"getsacl", b"/f", b"/g"];
-    assert!(rt; Command::read(&words).is_none());
-    Ok(())
-}
+/// Words that are no command.
+static NO_COMMANDS: [&[&[u8]]; 4] = [
+    &[b"setacl", b"/f"],
+    &[b"ls", b"/f", b"/g"],
+    &[b"setdacl", b"/f"],
+    &[b"getsacl", b"/f", b"/g"],
+];
 
 #[test]
-fn faults_have_numbers(rt: HostRuntime) -> Result<(), Fail> {
-    let faults = [
-        ToolFault::Path,
-        ToolFault::Refused(3, Status::Access),
-        ToolFault::Reply,
-        ToolFault::Read,
-        ToolFault::Write,
-        ToolFault::Memory,
-        ToolFault::Entry,
-        ToolFault::Failed,
-    ];
-    for number in 0..8 {
-        assert_eq!(rt; faults[number].number(), (number + 1) as u32);
+fn other_words_are_no_commands(rt: HostRuntime) {
+    for words in &NO_COMMANDS {
+        assert!(rt; Command::read(words).is_none(), "{words:?}");
     }
-    Ok(())
+}
+
+/// A list or a part of it, a path, and the entries that are to be set, or none.
+type Part<'a> = (ListPart, &'a [u8], &'a [&'a [u8]]);
+
+fn part_of<'a>(words: &'a [&'a [u8]]) -> Option<Part<'a>> {
+    match Command::read(words)? {
+        Command::GetAcl(part, path) => Some((part, path, &[])),
+        Command::SetAcl(part, path, entries) => Some((part, path, entries)),
+        _ => None,
+    }
+}
+
+/// Words, and the list or the part of it that they are about.
+static PARTS: [(&[&[u8]], Part<'static>); 5] = [
+    (&[b"getdacl", b"/f"], (ListPart::Dacl, b"/f", &[])),
+    (&[b"getsacl", b"/f"], (ListPart::Sacl, b"/f", &[])),
+    (
+        &[b"setacl", b"/f", b"x", b"y"],
+        (ListPart::Acl, b"/f", &[b"x", b"y"]),
+    ),
+    (&[b"setdacl", b"/f", b"x"], (ListPart::Dacl, b"/f", &[b"x"])),
+    (&[b"setsacl", b"/f", b"x"], (ListPart::Sacl, b"/f", &[b"x"])),
+];
+
+#[test]
+fn commands_of_a_part_are_read(rt: HostRuntime) {
+    for (words, part) in &PARTS {
+        assert!(rt; part_of(words) == Some(*part), "{words:?}");
+    }
+}
+
+/// Faults and their numbers.
+static NUMBERS: [(ToolFault, u32); 8] = [
+    (ToolFault::Path, 1),
+    (ToolFault::Refused(3, Status::Access), 2),
+    (ToolFault::Reply, 3),
+    (ToolFault::Read, 4),
+    (ToolFault::Write, 5),
+    (ToolFault::Memory, 6),
+    (ToolFault::Entry, 7),
+    (ToolFault::Failed, 8),
+];
+
+#[test]
+fn faults_have_numbers(rt: HostRuntime) {
+    for (fault, number) in &NUMBERS {
+        assert!(rt; fault.number() == *number, "{number}");
+    }
 }
