@@ -8,8 +8,6 @@
 mod book_file;
 mod clock;
 mod listening;
-#[cfg(test)]
-mod loopback;
 mod sockets;
 mod together;
 
