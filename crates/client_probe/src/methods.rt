@@ -2,10 +2,10 @@
 
 use crate::outcomes::{put_done, put_given, put_rights};
 use crate::played::Player;
-use nfs_tool::{Answer, Command, ListPart, ToolFault};
+use nfs_client::{Answer, Command, ListPart, ToolFault};
 use std::test::Fail;
 
-/// Runs a command, whose answer is told as text.
+/// Runs a command, whose answer is a text.
 pub fn answer(client: &mut Player<'_, '_>, command: Command<'_>) -> Result<Answer, ToolFault> {
     client.answer(command)
 }
@@ -80,7 +80,7 @@ fn chmod(client: &mut Player<'_, '_>, mode: &[u8], path: &[u8]) -> Result<(), To
 
 /// Puts what comes of the client's method for a command.
 pub fn put_method(
-    out: &mut Vec<u8>,
+    out: &mut String,
     client: &mut Player<'_, '_>,
     command: Command<'_>,
 ) -> Result<(), Fail> {
