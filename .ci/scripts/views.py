@@ -20,7 +20,7 @@ class Making:
 
     def __init__(self, text, talk, tree, sessions, book):
         self.text, self.talk, self.sessions = text, talk, sessions
-        self.over = {"sample": "over sample", "root": f"over root {ALL}"}[tree]
+        self.over = {"sample": "sample", "root": f"root {ALL}"}[tree]
         self.book = text.book(book)
 
     def perform(self, sessions, who, second, call):
@@ -36,7 +36,7 @@ class Making:
 
     def make(self, acts):
         """Makes a world by acts, whose names stand there with spaces between them."""
-        self.talk.tell(self.over)
+        self.talk.begin(self.over)
         expect_ok(self.talk, "a book", f"load {digits(self.book)}")
         for name in acts.split():
             self.act(name)
