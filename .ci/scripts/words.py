@@ -1,6 +1,7 @@
-"""Operations of COMPOUND and their results as words, and the bytes that the words stand for (RFC 4506; RFC 8881, sections 15.1, 16.2 and 18).
+"""Operations of COMPOUND and their results as words, and the bytes that the words stand for.
 
-The numbers stand here as the standards have them, and are not taken from the code, so that a server is compared with another's reading.
+The numbers stand here as the standards have them (RFC 4506; RFC 8881, sections 15.1, 16.2 and 18), and are not taken
+from the code, so that a server is compared with another's reading.
 
     the name of an operation or of a status     its number
     hexadecimal digits                          that number
@@ -26,21 +27,24 @@ import struct
 
 # operations (RFC 8881, section 18)
 OPERATIONS = {
-    "ACCESS": 3, "CLOSE": 4, "COMMIT": 5, "CREATE": 6, "GETATTR": 9, "GETFH": 10, "LINK": 11, "LOCK": 12, "LOOKUP": 15, "LOOKUPP": 16,
-    "NVERIFY": 17, "OPEN": 18, "PUTFH": 22, "PUTROOTFH": 24, "READ": 25, "READDIR": 26, "READLINK": 27, "REMOVE": 28, "RENAME": 29,
-    "RESTOREFH": 31, "SAVEFH": 32, "SETATTR": 34, "VERIFY": 37, "WRITE": 38, "EXCHANGE_ID": 42, "CREATE_SESSION": 43,
-    "DESTROY_SESSION": 44, "SEQUENCE": 53, "DESTROY_CLIENTID": 57, "RECLAIM_COMPLETE": 58, "ILLEGAL": 10044,
+    "ACCESS": 3, "CLOSE": 4, "COMMIT": 5, "CREATE": 6, "GETATTR": 9, "GETFH": 10, "LINK": 11, "LOCK": 12,
+    "LOOKUP": 15, "LOOKUPP": 16, "NVERIFY": 17, "OPEN": 18, "PUTFH": 22, "PUTROOTFH": 24, "READ": 25, "READDIR": 26,
+    "READLINK": 27, "REMOVE": 28, "RENAME": 29, "RESTOREFH": 31, "SAVEFH": 32, "SETATTR": 34, "VERIFY": 37,
+    "WRITE": 38, "EXCHANGE_ID": 42, "CREATE_SESSION": 43, "DESTROY_SESSION": 44, "SEQUENCE": 53,
+    "DESTROY_CLIENTID": 57, "RECLAIM_COMPLETE": 58, "ILLEGAL": 10044,
 }
 
 # statuses (RFC 8881, section 15.1)
 STATUSES = {
-    "ok": 0, "perm": 1, "noent": 2, "access": 13, "exist": 17, "notdir": 20, "isdir": 21, "inval": 22, "fbig": 27, "nospc": 28, "mlink": 31,
-    "nametoolong": 63, "notempty": 66, "stale": 70, "badhandle": 10001, "badcookie": 10003, "notsupp": 10004, "toosmall": 10005,
-    "badtype": 10007, "delay": 10008, "same": 10009, "clidinuse": 10017, "nofilehandle": 10020, "minorvers": 10021, "staleclientid": 10022,
-    "oldstateid": 10024, "badstateid": 10025, "notsame": 10027, "symlink": 10029, "attrnotsupp": 10032, "badxdr": 10036, "openmode": 10038,
-    "badowner": 10039, "badchar": 10040, "badname": 10041, "illegal": 10044, "badsession": 10052, "badslot": 10053, "completealready": 10054,
-    "seqmisordered": 10063, "sequencepos": 10064, "reqtoobig": 10065, "reptoobig": 10066, "reptoobigtocache": 10067, "toomanyops": 10070,
-    "opnotinsession": 10071, "clientidbusy": 10074, "seqfalseretry": 10076, "badhighslot": 10077, "notonlyop": 10081, "wrongtype": 10083,
+    "ok": 0, "perm": 1, "noent": 2, "access": 13, "exist": 17, "notdir": 20, "isdir": 21, "inval": 22, "fbig": 27,
+    "nospc": 28, "mlink": 31, "nametoolong": 63, "notempty": 66, "stale": 70, "badhandle": 10001,
+    "badcookie": 10003, "notsupp": 10004, "toosmall": 10005, "badtype": 10007, "delay": 10008, "same": 10009,
+    "clidinuse": 10017, "nofilehandle": 10020, "minorvers": 10021, "staleclientid": 10022, "oldstateid": 10024,
+    "badstateid": 10025, "notsame": 10027, "symlink": 10029, "attrnotsupp": 10032, "badxdr": 10036,
+    "openmode": 10038, "badowner": 10039, "badchar": 10040, "badname": 10041, "illegal": 10044, "badsession": 10052,
+    "badslot": 10053, "completealready": 10054, "seqmisordered": 10063, "sequencepos": 10064, "reqtoobig": 10065,
+    "reptoobig": 10066, "reptoobigtocache": 10067, "toomanyops": 10070, "opnotinsession": 10071,
+    "clientidbusy": 10074, "seqfalseretry": 10076, "badhighslot": 10077, "notonlyop": 10081, "wrongtype": 10083,
 }
 
 # stateids (RFC 8881, section 8.2.3)
