@@ -2,7 +2,7 @@
 
 use crate::outcomes::{put_done, put_given, put_rights};
 use crate::played::Player;
-use nfs_tool::{Answer, Command, ListPart, ToolFault};
+use nfs_client::{Answer, Command, ListPart, ToolFault};
 use std::test::Fail;
 
 /// Runs a command, whose answer is a text.

@@ -1,7 +1,7 @@
 //! What comes of a command, as a line: `= HEX`, the bytes of its answer; or `! NUMBER`, the number of its fault, and after that of a
 //! refusal the numbers of the operation and of the status.
 
-use nfs_tool::{Answer, ToolFault};
+use nfs_client::{Answer, ToolFault};
 use nfs_types::Status;
 use std::test::Fail;
 

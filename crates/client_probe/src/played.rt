@@ -1,6 +1,6 @@
 //! A stream in memory that plays a server.
 
-use nfs_tool::Client;
+use nfs_client::Client;
 use std::io::{self, ErrorKind, Read, Write};
 
 /// The calls that are still to come, and the replies that are still to be given.

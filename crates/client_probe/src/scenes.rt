@@ -3,7 +3,7 @@
 use crate::methods::{answer, end, put_method};
 use crate::outcomes::{put_answer, put_done};
 use crate::played::{Lent, Played, Player};
-use nfs_tool::{Client, Command, ToolFault};
+use nfs_client::{Client, Command, ToolFault};
 use std::alloc::{AllocError, Global};
 use std::test::Fail;
 
