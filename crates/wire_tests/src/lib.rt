@@ -1,0 +1,10 @@
+//! Tests of what goes over the wire: `xdr_wire`, `rpc_record`, `nfs_types` and `nfs_ops`.
+#![tactic(auto)]
+
+mod operations;
+#[cfg(test)]
+mod records;
+#[cfg(test)]
+mod types;
+#[cfg(test)]
+mod xdr;
