@@ -1,6 +1,9 @@
 //! Tests of what goes over the wire: `xdr_wire`, `rpc_record`, `nfs_types` and `nfs_ops`.
 #![tactic(auto)]
 
+#[cfg(test)]
+mod given;
+#[cfg(test)]
 mod operations;
 #[cfg(test)]
 mod records;

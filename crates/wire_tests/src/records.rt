@@ -7,5 +7,6 @@ mod calls;
 mod cases;
 mod connection;
 mod replies;
+mod rooms;
 mod streams;
 mod words;

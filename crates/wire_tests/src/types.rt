@@ -1,10 +1,10 @@
 //! Tests of `nfs_types`.
 
 mod forms;
-mod given;
 mod growth;
 mod object;
 mod parts;
 mod seen;
 mod sent;
+mod sets;
 mod taken;

@@ -4,7 +4,6 @@ mod bitmap;
 mod channel;
 mod claim;
 mod compound;
-mod given;
 mod listing;
 mod memory;
 mod reader;

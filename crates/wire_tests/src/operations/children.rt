@@ -24,11 +24,13 @@ pub struct Children<'a> {
 
 impl<'a> Entries for Children<'a> {
     ghost use Rattle.who_book.specs.Content.{Content};
-    ghost use Rattle.wire_tests.specs.Children.{judged};
+    ghost use Rattle.std.specs.Prelude.{map};
+    ghost use Rattle.wire_tests.specs.Children.{judged_as};
+    ghost use Rattle.wire_tests.specs.declared.operations.children.Child.{Child};
 
     type Refusal = u32;
 
-    ghost left = { judged };
+    ghost left = { λ c. map (λ (k : Child). judged_as c.book.now c.facts.now k.cookie k.name.bytes.now k.judged) c.left.now };
 
     ghost Kept = { Content };
 

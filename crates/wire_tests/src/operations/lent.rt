@@ -27,35 +27,49 @@ pub fn bytes_of(index: u32) -> &'static [u8] {
     }
 }
 
+fn with_values(values: &'static [u8]) -> Option<OpResult<'static>> {
+    let attributes = Attributes {
+        set: Bitmap::empty().with(4),
+        values: Opaque::new(values)?,
+    };
+    Some(OpResult::GetAttr(GetAttrResult { attributes }))
+}
+
+fn with_data(data: &'static [u8]) -> Option<OpResult<'static>> {
+    let data = Opaque::new(data)?;
+    Some(OpResult::Read(ReadResult { eof: true, data }))
+}
+
+fn with_text(text: &'static [u8]) -> Option<OpResult<'static>> {
+    let text = Opaque::new(text)?;
+    Some(OpResult::ReadLink(ReadLinkResult { text }))
+}
+
+fn with_server(server: &'static [u8]) -> Option<OpResult<'static>> {
+    Some(OpResult::ExchangeId(ExchangeIdResult {
+        client: 1,
+        sequence: 1,
+        flags: 0x10000,
+        server: Opaque::new(server)?,
+        scope: Opaque::new(server)?,
+    }))
+}
+
+fn with_entries(entries: &'static [u8]) -> Option<OpResult<'static>> {
+    let entries = Chain::read(&mut Reader::new(entries)).ok()?;
+    Some(OpResult::ReadDir(ReadDirResult { entries, eof: true }))
+}
+
 /// The result of this index.
-pub fn result_of(index: u32) -> Result<OpResult<'static>, &'static str> {
-    Ok(match index {
-        0 => OpResult::GetAttr(GetAttrResult {
-            attributes: Attributes {
-                set: Bitmap::empty().with(4),
-                values: Opaque::new(b"\0\0\0\0\0\0\0\x02").ok_or("values")?,
-            },
-        }),
-        1 => OpResult::GetFh(GetFhResult {
+pub fn result_of(index: u32) -> Option<OpResult<'static>> {
+    match index {
+        0 => with_values(b"\0\0\0\0\0\0\0\x02"),
+        1 => Some(OpResult::GetFh(GetFhResult {
             handle: Handle::Object(2),
-        }),
-        2 => OpResult::Read(ReadResult {
-            eof: true,
-            data: Opaque::new(b"hi").ok_or("data")?,
-        }),
-        3 => OpResult::ReadLink(ReadLinkResult {
-            text: Opaque::new(b"a/b").ok_or("text")?,
-        }),
-        4 => OpResult::ExchangeId(ExchangeIdResult {
-            client: 1,
-            sequence: 1,
-            flags: 0x10000,
-            server: Opaque::new(b"nfs41-lists").ok_or("server")?,
-            scope: Opaque::new(b"nfs41-lists").ok_or("scope")?,
-        }),
-        _ => OpResult::ReadDir(ReadDirResult {
-            entries: Chain::read(&mut Reader::new(CHAIN)).map_err(|_| "entries")?,
-            eof: true,
-        }),
-    })
+        })),
+        2 => with_data(b"hi"),
+        3 => with_text(b"a/b"),
+        4 => with_server(b"nfs41-lists"),
+        _ => with_entries(CHAIN),
+    }
 }

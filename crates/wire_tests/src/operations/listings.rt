@@ -1,5 +1,6 @@
 //! READDIR of small directories, by hand (RFC 8881, section 18.23, and RFC 5662).
 use crate::operations::children::{Child, Children};
+use crate::operations::plain::is_result_again;
 use acl_list::Kind;
 use nfs_ops::{ListFault, write_readdir};
 use nfs_types::{Bitmap, Moment, ObjectFacts, Status};
@@ -43,45 +44,43 @@ pub struct Case {
     pub ending: Ending,
 }
 
-fn listing(
-    names: usize,
-    refused: Option<usize>,
-    maxcount: u32,
-    room: usize,
-    ending: Ending,
-) -> Case {
-    Case {
-        names,
-        refused,
-        maxcount,
-        room,
-        ending,
-    }
+macro_rules! listing {
+    ($names:expr, $refused:expr, $maxcount:expr, $room:expr, $ending:expr) => {
+        Case {
+            names: $names,
+            refused: $refused,
+            maxcount: $maxcount,
+            room: $room,
+            ending: $ending,
+        }
+    };
 }
 
 /// All cases: an entry takes 48 bytes, and the rest of a result 16 bytes behind the status and 24 in all.
-pub fn cases() -> [Case; 19] {
-    [
-        listing(1, None, 64, 256, Ending::Given(1, true)),
-        listing(1, None, 63, 256, Ending::TooSmall),
-        listing(1, None, 64, 72, Ending::Given(1, true)),
-        listing(1, None, 64, 71, Ending::TooSmall),
-        listing(0, None, 16, 256, Ending::Given(0, true)),
-        listing(0, None, 15, 256, Ending::TooSmall),
-        listing(0, None, 0, 24, Ending::TooSmall),
-        listing(0, None, 4096, 24, Ending::Given(0, true)),
-        listing(2, None, 112, 256, Ending::Given(2, true)),
-        listing(2, None, 111, 256, Ending::Given(1, false)),
-        listing(2, None, 4096, 119, Ending::Given(1, false)),
-        listing(3, None, 159, 256, Ending::Given(2, false)),
-        listing(3, None, 160, 256, Ending::Given(3, true)),
-        listing(3, None, 4096, 168, Ending::Given(3, true)),
-        listing(1, Some(0), 0, 256, Ending::Refused(13)),
-        listing(2, Some(1), 64, 256, Ending::Refused(13)),
-        listing(2, Some(1), 63, 256, Ending::TooSmall),
-        listing(3, Some(2), 111, 256, Ending::Given(1, false)),
-        listing(3, Some(2), 112, 256, Ending::Refused(13)),
-    ]
+static CASES: [Case; 19] = [
+    listing!(1, None, 64, 256, Ending::Given(1, true)),
+    listing!(1, None, 63, 256, Ending::TooSmall),
+    listing!(1, None, 64, 72, Ending::Given(1, true)),
+    listing!(1, None, 64, 71, Ending::TooSmall),
+    listing!(0, None, 16, 256, Ending::Given(0, true)),
+    listing!(0, None, 15, 256, Ending::TooSmall),
+    listing!(0, None, 0, 24, Ending::TooSmall),
+    listing!(0, None, 4096, 24, Ending::Given(0, true)),
+    listing!(2, None, 112, 256, Ending::Given(2, true)),
+    listing!(2, None, 111, 256, Ending::Given(1, false)),
+    listing!(2, None, 4096, 119, Ending::Given(1, false)),
+    listing!(3, None, 159, 256, Ending::Given(2, false)),
+    listing!(3, None, 160, 256, Ending::Given(3, true)),
+    listing!(3, None, 4096, 168, Ending::Given(3, true)),
+    listing!(1, Some(0), 0, 256, Ending::Refused(13)),
+    listing!(2, Some(1), 64, 256, Ending::Refused(13)),
+    listing!(2, Some(1), 63, 256, Ending::TooSmall),
+    listing!(3, Some(2), 111, 256, Ending::Given(1, false)),
+    listing!(3, Some(2), 112, 256, Ending::Refused(13)),
+];
+
+pub fn cases() -> &'static [Case] {
+    &CASES
 }
 
 fn facts() -> ObjectFacts<'static> {
@@ -145,9 +144,8 @@ fn write_listing(mut children: Children<'_>, case: Case, writer: &mut Writer) ->
     }
 }
 
-/// The bytes that are written of a case, and how it ends.
-pub fn listed(alloc: Global, case: Case) -> Result<(Vec<u8>, Option<Ending>), AllocError> {
-    let mut writer = Writer::new(alloc, case.room)?;
+/// Writes the listing of a case, and says how it ends.
+fn list(alloc: Global, case: Case, writer: &mut Writer) -> Option<Ending> {
     let book = Book::default(alloc);
     let facts = facts();
     let all = [
@@ -161,12 +159,11 @@ pub fn listed(alloc: Global, case: Case) -> Result<(Vec<u8>, Option<Ending>), Al
         facts: &facts,
         left,
     };
-    let ending = write_listing(children, case, &mut writer);
-    Ok((writer.into_bytes(), ending))
+    write_listing(children, case, writer)
 }
 
 /// The bytes that the case expects.
-pub fn wanted(alloc: Global, ending: Ending) -> Result<Vec<u8>, AllocError> {
+fn wanted(alloc: Global, ending: Ending) -> Result<Vec<u8>, AllocError> {
     let mut bytes = Vec::new(alloc);
     if let Ending::Given(count, whole) = ending {
         bytes.extend_from_slice(HEAD)?;
@@ -179,9 +176,29 @@ pub fn wanted(alloc: Global, ending: Ending) -> Result<Vec<u8>, AllocError> {
 }
 
 /// The fault that the case expects.
-pub fn fault_of(ending: Ending) -> Option<Ending> {
+fn fault_of(ending: Ending) -> Option<Ending> {
     match ending {
         Ending::Given(_, _) => None,
         ending => Some(ending),
     }
+}
+
+/// Whether a case ends as it should with these bytes, which are read and written again.
+fn is_listed_as(alloc: Global, case: Case, want: &[u8]) -> bool {
+    match Writer::new(alloc, case.room) {
+        Ok(mut writer) => {
+            let ending = list(alloc, case, &mut writer);
+            let bytes = writer.bytes();
+            (ending == fault_of(case.ending))
+                & (bytes == want)
+                & is_result_again(alloc, bytes, want)
+        }
+        Err(_) => false,
+    }
+}
+
+/// Whether a case ends as it should, with the bytes that it expects.
+pub fn is_listed(alloc: Global, case: Case) -> Result<bool, AllocError> {
+    let want = wanted(alloc, case.ending)?;
+    Ok(is_listed_as(alloc, case, &want))
 }

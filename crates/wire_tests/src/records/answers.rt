@@ -1,6 +1,6 @@
 //! The replies of records to a call.
 
-use crate::records::words::{bytes_of, is_text};
+use crate::given::{bytes_of, is_text};
 use rpc_record::{ReplyFault, read_reply};
 use std::alloc::{AllocError, Global};
 

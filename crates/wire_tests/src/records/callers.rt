@@ -1,6 +1,6 @@
 //! Callers, by the groups that are sent.
 
-use crate::records::words::is_text;
+use crate::given::is_text;
 use rpc_record::{Caller, GroupSet, MOST_FURTHER, MOST_GROUPS};
 use std::alloc::{AllocError, Global};
 use std::collections::HashMap;

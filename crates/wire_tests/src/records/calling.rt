@@ -1,9 +1,9 @@
 //! The headers of calls, as a client writes them.
 
-use crate::records::words::{NULL_CALL, bytes_of, bytes_of_lookup};
-use rpc_record::{CALL_HEADER_LIMIT, Caller, MOST_FURTHER, record_mark, write_call};
+use crate::records::rooms::{Header, put_call, see_words};
+use crate::records::words::{NULL_CALL, bytes_of_lookup};
+use rpc_record::{CALL_HEADER_LIMIT, Caller, record_mark};
 use std::alloc::{AllocError, Global};
-use std::process::Abort;
 use xdr_wire::Writer;
 
 /// A caller's gid and further groups, and the words of its COMPOUND's header: transaction 3, uid 1001.
@@ -42,89 +42,14 @@ fn written() -> &'static [Written] {
     &WRITTEN
 }
 
-/// The caller of a credential of uid 1001, with no contract, so that the prover doesn't compute on its groups.
-fn caller(gid: u32, further: &[u32]) -> Caller {
-    let most = further.len().min(MOST_FURTHER);
-    Caller::new(1001, gid, &further[..most])
-}
-
-/// Whether the header of a call by nobody is written.
-fn write_null(writer: &mut Writer<Global>, xid: u32) -> bool {
-    write_call(xid, None, writer).is_ok()
-}
-
-/// Whether the header of a call by this caller is written.
-fn write_by(writer: &mut Writer<Global>, xid: u32, caller: Caller) -> bool {
-    if caller.is_member(caller.gid()) {
-        return write_call(xid, Some(caller), writer).is_ok();
-    }
-    false
-}
-
-/// Whether the header of a call by uid 1001, or by nobody, is written.
-fn write(writer: &mut Writer<Global>, groups: Option<(u32, &[u32])>) -> bool {
-    match groups {
-        None => write_null(writer, 1),
-        Some((gid, further)) => write_by(writer, 3, caller(gid, further)),
-    }
-}
-
-/// Whether a writer holds these bytes, and its room.
-fn state_of(writer: &Writer<Global>, bytes: &[u8]) -> (bool, usize) {
-    (writer.bytes() == bytes, writer.room())
-}
-
-/// Whether a header is written in a room, whether the buffer holds these bytes then, and the room that is left.
-fn written_in(
-    alloc: Global,
-    groups: Option<(u32, &[u32])>,
-    bytes: &[u8],
-    room: usize,
-) -> Option<(bool, (bool, usize))> {
-    match Writer::new(alloc, room) {
-        Ok(mut writer) => {
-            let is_written = write(&mut writer, groups);
-            Some((is_written, state_of(&writer, bytes)))
-        }
-        Err(_) => None,
-    }
-}
-
-/// Whether a header of these bytes is written whole in a room that is as large, and in a smaller one not at all.
-fn is_right_in(alloc: Global, groups: Option<(u32, &[u32])>, bytes: &[u8], room: usize) -> bool {
-    match room.checked_sub(bytes.len()) {
-        Some(left) => written_in(alloc, groups, bytes, room) == Some((true, (true, left))),
-        None => written_in(alloc, groups, &[], room) == Some((false, (true, room))),
-    }
-}
-
-fn see_in_each_room(rt: &impl Abort, alloc: Global, groups: Option<(u32, &[u32])>, bytes: &[u8]) {
-    for room in 0..=CALL_HEADER_LIMIT {
-        assert!(rt;
-            is_right_in(alloc, groups, bytes, room),
-            "{groups:?} in {room}"
-        );
-    }
-}
-
-fn see_words(
-    rt: &impl Abort,
-    alloc: Global,
-    groups: Option<(u32, &[u32])>,
-    words: &[u32],
-) -> Result<(), AllocError> {
-    let bytes = bytes_of(alloc, words)?;
-    see_in_each_room(rt, alloc, groups, &bytes);
-    Ok(())
-}
-
 /// In each room the header of a call is written whole, or not at all.
 #[test]
 fn calls_in_each_room(rt: HostRuntime) {
-    assert!(rt; see_words(&rt, rt.alloc(), None, &NULL_CALL).is_ok());
+    let limit = CALL_HEADER_LIMIT;
+    assert!(rt; see_words(&rt, rt.alloc(), Header::CallByNobody, &NULL_CALL, limit).is_ok());
     for (gid, further, words) in written() {
-        let groups = Some((*gid, *further));
-        assert!(rt; see_words(&rt, rt.alloc(), groups, words).is_ok());
+        let header = Header::Call(*gid, *further);
+        assert!(rt; see_words(&rt, rt.alloc(), header, words, limit).is_ok());
     }
     assert!(rt; CALL_HEADER_LIMIT == 124);
 }
@@ -143,7 +68,7 @@ fn add_record(record: &mut Vec<u8>, header: &[u8], arguments: &[u8]) -> Result<(
 
 /// The header of a COMPOUND by uid 1002 in group 100.
 fn write_header(writer: &mut Writer<Global>) -> bool {
-    write_by(writer, 2, Caller::new(1002, 100, &[]))
+    put_call(writer, 2, Caller::new(1002, 100, &[]))
 }
 
 /// Adds the record of that COMPOUND: its mark, its header and these arguments.

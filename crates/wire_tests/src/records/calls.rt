@@ -1,6 +1,7 @@
 //! The calls of records, and their faults.
 
-use crate::records::words::{NULL_CALL, add_words, bytes_of, lookup_record};
+use crate::given::{add_words, bytes_of};
+use crate::records::words::{NULL_CALL, lookup_record};
 use rpc_record::{CallFault, Caller, MOST_FURTHER, Procedure, read_call};
 use std::alloc::{AllocError, Global};
 

@@ -1,7 +1,8 @@
 //! A connection to a server that answers each call with the header of SUCCESS.
 ghost use Rattle.std.specs.Prelude.{◌≤◌, length};
 
-use rpc_record::{Framer, REPLY_HEADER_LIMIT, Reply, Step, read_call, record_mark, write_reply};
+use crate::records::rooms::put_reply;
+use rpc_record::{Framer, REPLY_HEADER_LIMIT, Reply, Step, read_call, record_mark};
 use std::alloc::{AllocError, Global};
 use xdr_wire::Writer;
 
@@ -81,11 +82,6 @@ fn reply_of(record: &[u8]) -> Option<(u32, Reply)> {
     }
 }
 
-/// The header of a reply, without the contract of what writes it.
-fn write(writer: &mut Writer<Global>, xid: u32, reply: Reply) -> bool {
-    write_reply(xid, reply, writer).is_ok()
-}
-
 /// Adds a record of these bytes.
 fn add_record(out: &mut Vec<u8>, bytes: &[u8]) -> Result<(), AllocError> {
     if bytes.len() > REPLY_HEADER_LIMIT {
@@ -98,6 +94,6 @@ fn add_record(out: &mut Vec<u8>, bytes: &[u8]) -> Result<(), AllocError> {
 /// Adds the record of a reply.
 fn add_reply(out: &mut Vec<u8>, alloc: Global, xid: u32, reply: Reply) -> Result<(), AllocError> {
     let mut writer = Writer::new(alloc, REPLY_HEADER_LIMIT)?;
-    let _is_written = write(&mut writer, xid, reply);
+    let _is_written = put_reply(&mut writer, xid, reply);
     add_record(out, writer.bytes())
 }

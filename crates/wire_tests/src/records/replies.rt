@@ -1,10 +1,9 @@
 //! The headers of replies.
 
-use crate::records::words::bytes_of;
+use crate::records::rooms::{Header, put_reply, see_words};
 use linked_list_allocator::LocalHeap;
-use rpc_record::{AuthStat, REPLY_HEADER_LIMIT, Reply, record_mark, write_reply};
-use std::alloc::{AllocError, Allocator, Global};
-use std::process::Abort;
+use rpc_record::{AuthStat, REPLY_HEADER_LIMIT, Reply, record_mark};
+use std::alloc::Global;
 use xdr_wire::Writer;
 
 static REPLIES: [(Reply, &[u32]); 8] = [
@@ -22,78 +21,26 @@ fn replies() -> &'static [(Reply, &'static [u32])] {
     &REPLIES
 }
 
-/// Whether a reply is written, without the contract of what writes it.
-fn write<A: Allocator>(writer: &mut Writer<A>, xid: u32, reply: Reply) -> bool {
-    write_reply(xid, reply, writer).is_ok()
-}
-
-/// Whether a writer holds these bytes, and its room.
-fn state_of(writer: &Writer<Global>, bytes: &[u8]) -> (bool, usize) {
-    (writer.bytes() == bytes, writer.room())
-}
-
-/// Whether a reply is written in a room, whether the buffer holds these bytes then, and the room that is left.
-fn written_in(
-    alloc: Global,
-    reply: Reply,
-    bytes: &[u8],
-    room: usize,
-) -> Option<(bool, (bool, usize))> {
-    match Writer::new(alloc, room) {
-        Ok(mut writer) => {
-            let is_written = write(&mut writer, 9, reply);
-            Some((is_written, state_of(&writer, bytes)))
-        }
-        Err(_) => None,
-    }
-}
-
-/// Whether a reply of these bytes is written whole in a room that is as large, and in a smaller one not at all.
-fn is_right_in(alloc: Global, reply: Reply, bytes: &[u8], room: usize) -> bool {
-    match room.checked_sub(bytes.len()) {
-        Some(left) => written_in(alloc, reply, bytes, room) == Some((true, (true, left))),
-        None => written_in(alloc, reply, &[], room) == Some((false, (true, room))),
-    }
-}
-
 fn length_of(reply: Reply) -> usize {
     reply.header_len()
-}
-
-fn see_in_each_room(rt: &impl Abort, alloc: Global, reply: Reply, bytes: &[u8]) {
-    assert!(rt; length_of(reply) == bytes.len(), "{bytes:?}");
-    for room in 0..=REPLY_HEADER_LIMIT {
-        assert!(rt;
-            is_right_in(alloc, reply, bytes, room),
-            "{bytes:?} in {room}"
-        );
-    }
-}
-
-fn see_reply(
-    rt: &impl Abort,
-    alloc: Global,
-    reply: Reply,
-    words: &[u32],
-) -> Result<(), AllocError> {
-    let bytes = bytes_of(alloc, words)?;
-    see_in_each_room(rt, alloc, reply, &bytes);
-    Ok(())
 }
 
 /// In each room a reply is written whole, or not at all.
 #[test]
 fn replies_in_each_room(rt: HostRuntime) {
     for (reply, words) in replies() {
-        assert!(rt; see_reply(&rt, rt.alloc(), *reply, words).is_ok());
+        let length = words.len().saturating_mul(4);
+        assert!(rt; length_of(*reply) == length, "{words:?}");
+        let header = Header::Reply(*reply);
+        assert!(rt; see_words(&rt, rt.alloc(), header, words, REPLY_HEADER_LIMIT).is_ok());
     }
     assert!(rt; REPLY_HEADER_LIMIT == 32);
 }
 
 /// Whether a writer takes a reply of its room and no other behind it.
 fn is_filled(writer: &mut Writer<&LocalHeap>) -> bool {
-    let is_first = write(writer, 9, Reply::ProgMismatch);
-    let is_second = write(writer, 9, Reply::Success);
+    let is_first = put_reply(writer, 9, Reply::ProgMismatch);
+    let is_second = put_reply(writer, 9, Reply::Success);
     is_first & !is_second & (writer.len() == 32)
 }
 

@@ -1,8 +1,9 @@
 //! Streams of records, in every cut.
 
+use crate::given::bytes_of;
 use crate::records::cases::{Case, cases};
 use crate::records::connection::Connection;
-use crate::records::words::{bytes_of, bytes_of_lookup};
+use crate::records::words::bytes_of_lookup;
 use rpc_record::{Framer, RECORD_LIMIT, Step};
 use std::alloc::{AllocError, Global};
 use std::process::Abort;

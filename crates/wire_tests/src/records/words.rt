@@ -1,5 +1,6 @@
-//! Bytes that are written as words, and the calls that several tests send.
+//! The calls that several tests send, as words.
 
+use crate::given::{add_words, bytes_of};
 use std::alloc::{AllocError, Global};
 
 /// A call of NULL under AUTH_NONE, without its mark: transaction 1.
@@ -44,30 +45,4 @@ pub fn bytes_of_lookup(alloc: Global) -> Result<Vec<u8>, AllocError> {
     let mut bytes = bytes_of(alloc, &[0x8000_0064])?;
     add_words(&mut bytes, lookup_record())?;
     Ok(bytes)
-}
-
-fn add_word(bytes: &mut Vec<u8>, word: u32) -> Result<(), AllocError> {
-    bytes.extend_from_slice(&word.to_be_bytes())
-}
-
-pub fn add_words(bytes: &mut Vec<u8>, words: &[u32]) -> Result<(), AllocError> {
-    for word in words {
-        add_word(bytes, *word)?;
-    }
-    Ok(())
-}
-
-/// The bytes of words.
-pub fn bytes_of(alloc: Global, words: &[u32]) -> Result<Vec<u8>, AllocError> {
-    let mut bytes = Vec::new(alloc);
-    add_words(&mut bytes, words)?;
-    Ok(bytes)
-}
-
-/// Whether a value is shown as this text, where there is memory for it.
-pub fn is_text(shown: Result<String, AllocError>, text: &str) -> bool {
-    match shown {
-        Ok(shown) => shown.as_str() == text,
-        Err(_) => false,
-    }
 }

@@ -1,5 +1,6 @@
 //! Filehandles, stateids, bitmaps and moments, word by word.
-use crate::types::given;
+use crate::given;
+use crate::types::sets;
 use nfs_types::{Bitmap, Handle, Moment, StateId, Status};
 use std::alloc::{AllocError, Global};
 use xdr_wire::XdrFault;
@@ -31,7 +32,7 @@ fn object_in(bytes: &[u8]) -> Result<Result<u64, Status>, (XdrFault, usize)> {
 }
 
 fn object(alloc: Global, words: &[u32]) -> Option<Result<Result<u64, Status>, (XdrFault, usize)>> {
-    match given::bytes(alloc, words) {
+    match given::bytes_of(alloc, words) {
         Ok(bytes) => Some(object_in(&bytes)),
         Err(_) => None,
     }
@@ -87,7 +88,7 @@ fn stateid_in(bytes: &[u8]) -> Option<StateId> {
 }
 
 fn stateid(alloc: Global, words: &[u32]) -> Option<StateId> {
-    match given::bytes(alloc, words) {
+    match given::bytes_of(alloc, words) {
         Ok(bytes) => stateid_in(&bytes),
         Err(_) => None,
     }
@@ -148,7 +149,7 @@ fn bitmap_in(bytes: &[u8]) -> Result<Bitmap, (XdrFault, usize)> {
 }
 
 fn bitmap(alloc: Global, words: &[u32]) -> Result<Result<Bitmap, (XdrFault, usize)>, AllocError> {
-    let bytes = given::bytes(alloc, words)?;
+    let bytes = given::bytes_of(alloc, words)?;
     Ok(bitmap_in(&bytes))
 }
 
@@ -179,7 +180,7 @@ fn bitmaps(rt: HostRuntime) {
     }
     let nine = fault_of_bitmap(rt.alloc(), &[9, 0, 0, 0, 0, 0, 0, 0, 0, 0]);
     assert!(rt; nine == Some((XdrFault::TooLong, 40)));
-    let three = given::only(33);
+    let three = sets::only(33);
     assert!(rt; has(&three, 33));
     for number in [1, 32, 289] {
         assert!(rt; !has(&three, number), "{number}");
@@ -196,7 +197,7 @@ fn sets_without_numbers(rt: HostRuntime) {
     for number in [3, 12, 58] {
         assert!(rt; !has(&set, number), "{number}");
     }
-    assert!(rt; Bitmap::size() == given::only(4));
+    assert!(rt; Bitmap::size() == sets::only(4));
 }
 
 /// A moment before the epoch.

@@ -1,5 +1,6 @@
 //! Lists that are sent, over each size of a heap.
-use crate::types::given;
+use crate::given;
+use crate::types::sets;
 use acl_list::Kind;
 use linked_list_allocator::LocalHeap;
 use nfs_types::{AttrsFault, Status};
@@ -9,8 +10,8 @@ use who_book::Book;
 
 /// The lengths of the list, the dacl and the sacl that are set over the heap, or the fault.
 fn lengths(heap: &LocalHeap, book: &Book, bytes: &[u8]) -> Result<[Option<usize>; 3], AttrsFault> {
-    match given::attrs(heap, book, Kind::File, bytes) {
-        Ok(attrs) => Ok(given::lengths(&attrs)),
+    match sets::attrs(heap, book, Kind::File, bytes) {
+        Ok(attrs) => Ok(sets::lengths(&attrs)),
         Err(fault) => Err(fault),
     }
 }
@@ -77,8 +78,8 @@ fn see_words(
     (good, want): (&[u32], [Option<usize>; 3]),
     bad: &[u32],
 ) -> Result<(), AllocError> {
-    let good = given::bytes(alloc, good)?;
-    let bad = given::bytes(alloc, bad)?;
+    let good = given::bytes_of(alloc, good)?;
+    let bad = given::bytes_of(alloc, bad)?;
     see_sizes(rt, alloc, (&good, want), &bad);
     Ok(())
 }

@@ -1,5 +1,6 @@
 //! The values that are returned of an object, attribute by attribute.
-use crate::types::given;
+use crate::given;
+use crate::types::sets;
 use acl_list::{Entry, EntryKind, Kind, Who};
 use nfs_types::{Bitmap, GivenAttributes, Moment, ObjectFacts, Status};
 use std::alloc::{AllocError, Global};
@@ -107,9 +108,9 @@ fn values() -> &'static [(u32, &'static [u32])] {
 fn words_of_only(alloc: Global, number: u32) -> Result<Vec<u8>, AllocError> {
     let bit = 1 << (number % 32);
     match number / 32 {
-        0 => given::bytes(alloc, &[1, bit]),
-        1 => given::bytes(alloc, &[2, 0, bit]),
-        _ => given::bytes(alloc, &[3, 0, 0, bit]),
+        0 => given::bytes_of(alloc, &[1, bit]),
+        1 => given::bytes_of(alloc, &[2, 0, bit]),
+        _ => given::bytes_of(alloc, &[3, 0, 0, bit]),
     }
 }
 
@@ -117,8 +118,8 @@ fn words_of_only(alloc: Global, number: u32) -> Result<Vec<u8>, AllocError> {
 fn bytes_of_only(alloc: Global, number: u32, words: &[u32]) -> Result<Vec<u8>, AllocError> {
     let mut bytes = words_of_only(alloc, number)?;
     let length = words.len().min(1000) as u32 * 4;
-    given::add_words(alloc, &mut bytes, &[length])?;
-    given::add_words(alloc, &mut bytes, words)?;
+    given::add_words(&mut bytes, &[length])?;
+    given::add_words(&mut bytes, words)?;
     Ok(bytes)
 }
 
@@ -138,7 +139,7 @@ fn is_attribute(
     let given = GivenAttributes {
         book,
         facts: &facts(),
-        asked: given::only(number),
+        asked: sets::only(number),
     };
     Ok(is_just(alloc, given, &bytes))
 }
@@ -159,17 +160,17 @@ fn each_attribute(rt: HostRuntime) {
     see_each_attribute(&rt, rt.alloc(), &book);
 }
 
-fn add_values(alloc: Global, bytes: &mut Vec<u8>) -> Result<(), AllocError> {
+fn add_values(bytes: &mut Vec<u8>) -> Result<(), AllocError> {
     for (_, words) in values() {
-        given::add_words(alloc, bytes, words)?;
+        given::add_words(bytes, words)?;
     }
     Ok(())
 }
 
 /// Behind the head, the values of all attributes, in the order of their numbers.
 fn all_values(alloc: Global, head: &[u32]) -> Result<Vec<u8>, AllocError> {
-    let mut all = given::bytes(alloc, head)?;
-    add_values(alloc, &mut all)?;
+    let mut all = given::bytes_of(alloc, head)?;
+    add_values(&mut all)?;
     Ok(all)
 }
 
@@ -182,7 +183,7 @@ fn with(set: Bitmap, number: u32) -> Bitmap {
 
 /// The numbers of all attributes, and of an unsupported one.
 fn all_numbers() -> Bitmap {
-    let mut asked = given::only(14);
+    let mut asked = sets::only(14);
     for (number, _) in values() {
         asked = with(asked, *number);
     }
@@ -220,7 +221,7 @@ fn is_within(set: &Bitmap, other: &Bitmap) -> bool {
 fn all_attributes(rt: HostRuntime) {
     let asked = all_numbers();
     assert!(rt; is_all(rt.alloc(), asked) == Ok(true));
-    assert!(rt; is_given(rt.alloc(), 8, &facts(), given::only(255), &[0; 8]));
+    assert!(rt; is_given(rt.alloc(), 8, &facts(), sets::only(255), &[0; 8]));
     assert!(rt; is_within(&asked, &asked));
     assert!(rt; !is_within(&asked, &Bitmap::supported()));
 }

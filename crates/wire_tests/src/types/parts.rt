@@ -1,6 +1,7 @@
 //! The parts of a list that are returned.
-use crate::types::given;
+use crate::given;
 use crate::types::object::{facts, is_given};
+use crate::types::sets;
 use acl_list::{Entry, EntryKind, Who};
 use nfs_types::ObjectFacts;
 use std::alloc::{AllocError, Global};
@@ -87,8 +88,8 @@ fn cases_of_parts() -> &'static [(u32, &'static [u32])] {
 }
 
 fn is_part(alloc: Global, number: u32, words: &[u32]) -> Result<bool, AllocError> {
-    let want = given::bytes(alloc, words)?;
-    Ok(is_given(alloc, 128, &mixed_facts(), given::only(number), &want))
+    let want = given::bytes_of(alloc, words)?;
+    Ok(is_given(alloc, 128, &mixed_facts(), sets::only(number), &want))
 }
 
 /// A dacl has the ALLOW and DENY entries of the list in their order, a sacl the AUDIT and ALARM entries; neither has flags.

@@ -1,5 +1,6 @@
 //! Attributes as a client reads and writes them.
-use crate::types::{given, object};
+use crate::given;
+use crate::types::{object, sets};
 use nfs_types::{
     Ace, Aces, Acl41, Attributes, Bitmap, GivenAttributes, SeenAttributes, ShownAttributes, Status,
     read_given, write_given,
@@ -77,7 +78,7 @@ fn is_seen(bytes: &[u8]) -> bool {
 
 /// The numbers of type, size, rdattr_error, acl, mode, owner, group, dacl and sacl.
 fn nine_numbers() -> Bitmap {
-    let mut asked = given::only(1);
+    let mut asked = sets::only(1);
     for number in [4, 11, 12, 33, 36, 37, 58, 59] {
         asked = asked.with(number);
     }
@@ -128,7 +129,7 @@ fn fault_in(bytes: &[u8]) -> Option<XdrFault> {
 }
 
 fn fault_of(alloc: Global, words: &[u32]) -> Option<XdrFault> {
-    match given::bytes(alloc, words) {
+    match given::bytes_of(alloc, words) {
         Ok(bytes) => fault_in(&bytes),
         Err(_) => None,
     }
@@ -184,7 +185,7 @@ fn is_shown(alloc: Global, room: usize, all: &ShownAttributes<'_>, want: &[u8]) 
 }
 
 fn is_shown_as(alloc: Global, all: &ShownAttributes<'_>, words: &[u32]) -> bool {
-    match given::bytes(alloc, words) {
+    match given::bytes_of(alloc, words) {
         Ok(want) => is_shown(alloc, 96, all, &want) == (true, true),
         Err(_) => false,
     }

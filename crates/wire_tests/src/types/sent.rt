@@ -1,5 +1,6 @@
 //! Attributes that are sent to be set, and the faults that refuse them.
-use crate::types::given;
+use crate::given;
+use crate::types::sets;
 use acl_list::Kind;
 use nfs_types::{AttrsFault, Status};
 use std::alloc::Global;
@@ -151,8 +152,8 @@ fn cases_of_refusals() -> &'static [(&'static str, &'static [u32], Status)] {
 }
 
 fn refusal(alloc: Global, book: &Book, words: &[u32]) -> Option<AttrsFault> {
-    match given::bytes(alloc, words) {
-        Ok(bytes) => given::refusal(alloc, book, Kind::File, &bytes),
+    match given::bytes_of(alloc, words) {
+        Ok(bytes) => sets::refusal(alloc, book, Kind::File, &bytes),
         Err(_) => None,
     }
 }

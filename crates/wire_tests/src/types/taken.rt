@@ -1,5 +1,6 @@
 //! Attributes that are sent and set.
-use crate::types::given;
+use crate::given;
+use crate::types::sets;
 use acl_list::Kind;
 use nfs_types::{Attrs, AttrsFault, Status};
 use std::alloc::{AllocError, Global};
@@ -52,12 +53,12 @@ fn numbers_of(attrs: &Attrs) -> [Option<u64>; 4] {
 type Set = ([Option<u64>; 4], [Option<usize>; 3]);
 
 fn set_of(attrs: &Attrs) -> Set {
-    (numbers_of(attrs), given::lengths(attrs))
+    (numbers_of(attrs), sets::lengths(attrs))
 }
 
 fn set_by(alloc: Global, kind: Kind, bytes: &[u8]) -> Result<Set, AttrsFault> {
     let book = Book::default(alloc);
-    match given::attrs(alloc, &book, kind, bytes) {
+    match sets::attrs(alloc, &book, kind, bytes) {
         Ok(attrs) => Ok(set_of(&attrs)),
         Err(fault) => Err(fault),
     }
@@ -65,7 +66,7 @@ fn set_by(alloc: Global, kind: Kind, bytes: &[u8]) -> Result<Set, AttrsFault> {
 
 /// The values that attributes of these words set, or the fault.
 fn set(alloc: Global, kind: Kind, words: &[u32]) -> Result<Set, AttrsFault> {
-    match given::bytes(alloc, words) {
+    match given::bytes_of(alloc, words) {
         Ok(bytes) => set_by(alloc, kind, &bytes),
         Err(_) => Err(AttrsFault::Memory),
     }
@@ -149,19 +150,19 @@ fn what_is_left_out_is_of_no_part(rt: HostRuntime) {
     assert!(rt; on_a_directory == Some(AttrsFault::Refused(Status::Inval)));
 }
 
-fn add_entries(alloc: Global, bytes: &mut Vec<u8>, count: u32) -> Result<(), AllocError> {
+fn add_entries(bytes: &mut Vec<u8>, count: u32) -> Result<(), AllocError> {
     for _ in 0..count {
-        given::add_words(alloc, bytes, &[0, 0, 1, 1, 0x3700_0000])?;
+        given::add_words(bytes, &[0, 0, 1, 1, 0x3700_0000])?;
     }
-    given::add_words(alloc, bytes, &[0, 0, 1, 1, 0x7800_0000])
+    given::add_words(bytes, &[0, 0, 1, 1, 0x7800_0000])
 }
 
 /// A dacl with these flags and so many entries `A:00:00000001:7`, and behind them one of nobody.
 fn dacl_of(alloc: Global, flags: u32, count: u32) -> Result<Vec<u8>, AllocError> {
     let length = 28u32.saturating_add(count.saturating_mul(20));
     let all = count.saturating_add(1);
-    let mut bytes = given::bytes(alloc, &[2, 0, 0x0400_0000, length, flags, all])?;
-    add_entries(alloc, &mut bytes, count)?;
+    let mut bytes = given::bytes_of(alloc, &[2, 0, 0x0400_0000, length, flags, all])?;
+    add_entries(&mut bytes, count)?;
     Ok(bytes)
 }
 

@@ -1,7 +1,7 @@
 //! Tests of structs, enums and unions.
+use crate::given;
 use crate::xdr::channel::Channel;
 use crate::xdr::claim::{Claim, Mark, Stable};
-use crate::xdr::given;
 use std::alloc::Global;
 use xdr_wire::{AtMostOne, Opaque, XdrFault};
 

@@ -1,5 +1,5 @@
 //! Tests of the items that a reader takes, and of its faults.
-use crate::xdr::given;
+use crate::given;
 use std::alloc::Global;
 use xdr_wire::{Opaque, Reader, XdrFault};
 
@@ -86,6 +86,27 @@ fn booleans(rt: HostRuntime) {
     }
 }
 
+/// The answer of `fixed` to the bytes, and how many are left.
+fn fixed(n: usize, bytes: &[u8]) -> (Result<&[u8], XdrFault>, usize) {
+    let mut reader = Reader::new(bytes);
+    let read = reader.fixed(n);
+    (read, reader.len())
+}
+
+/// The answer of `opaque` to the bytes, and how many are left.
+fn opaque(max: usize, bytes: &[u8]) -> (Result<&[u8], XdrFault>, usize) {
+    let mut reader = Reader::new(bytes);
+    let read = reader.opaque(max);
+    (read, reader.len())
+}
+
+/// The answer of `count` to the bytes, and how many are left.
+fn count(max: usize, bytes: &[u8]) -> (Result<u32, XdrFault>, usize) {
+    let mut reader = Reader::new(bytes);
+    let read = reader.count(max);
+    (read, reader.len())
+}
+
 type OpaqueCase = (
     usize,
     &'static [u8],
@@ -112,7 +133,7 @@ fn cases_of_fixed() -> &'static [OpaqueCase] {
 #[test]
 fn fixed_opaque(rt: HostRuntime) {
     for (n, bytes, want) in cases_of_fixed() {
-        assert!(rt; given::fixed(*n, bytes) == *want, "fixed {n} of {bytes:?}");
+        assert!(rt; fixed(*n, bytes) == *want, "fixed {n} of {bytes:?}");
     }
 }
 
@@ -142,10 +163,7 @@ fn cases_of_variable() -> &'static [OpaqueCase] {
 #[test]
 fn variable_opaque(rt: HostRuntime) {
     for (max, bytes, want) in cases_of_variable() {
-        assert!(rt;
-            given::opaque(*max, bytes) == *want,
-            "opaque<{max}> of {bytes:?}"
-        );
+        assert!(rt; opaque(*max, bytes) == *want, "opaque<{max}> of {bytes:?}");
     }
 }
 
@@ -165,10 +183,7 @@ fn cases_of_counts() -> &'static [CountCase] {
 #[test]
 fn counts(rt: HostRuntime) {
     for (max, bytes, want) in cases_of_counts() {
-        assert!(rt;
-            given::count(*max, bytes) == *want,
-            "count<{max}> of {bytes:?}"
-        );
+        assert!(rt; count(*max, bytes) == *want, "count<{max}> of {bytes:?}");
     }
 }
 
@@ -217,10 +232,7 @@ fn cases_of_faults() -> &'static [Fault] {
 
 /// Whether a fault is shown as this text.
 fn is_shown(alloc: Global, fault: XdrFault, text: &str) -> bool {
-    match format!(in alloc; "{fault}") {
-        Ok(shown) => shown.as_str() == text,
-        Err(_) => false,
-    }
+    given::is_text(format!(in alloc; "{fault}"), text)
 }
 
 /// The number and the text of each fault.

@@ -1,6 +1,6 @@
 //! Tests of arrays, chains and bitmaps.
+use crate::given;
 use crate::xdr::bitmap::Bitmap;
-use crate::xdr::given;
 use crate::xdr::listing::Listing;
 use std::alloc::Global;
 use xdr_wire::{Array, Reader, Wire};

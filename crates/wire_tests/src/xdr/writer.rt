@@ -1,5 +1,5 @@
 //! Tests of the items that a writer puts, and of the room for them.
-use crate::xdr::given;
+use crate::given;
 use std::alloc::Global;
 use xdr_wire::{Full, Opaque, Writer};
 
