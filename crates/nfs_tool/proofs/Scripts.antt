@@ -8,7 +8,7 @@ use Rattle.std.proofs.lemmas.Bool.Decides.{Decides-eqb}
 use Rattle.std.proofs.lemmas.List.{append-nil, length-append, length-take}
 use Rattle.std.proofs.Math.Nat.{min-le_right}
 use Rattle.std.proofs.lemmas.List.Folds.{list_all-append}
-use Rattle.nfs_tool.proofs.Streams.{appends_trans, appends_none, consumes_trans, consumes_none}
+use Rattle.nfs_client.proofs.Streams.{appends_trans, appends_none, consumes_trans, consumes_none}
 use Rattle.access_guard.specs.Log.{Log}
 use Rattle.access_guard.specs.declared.line.Line.{Line}
 use Rattle.compound_run.specs.State as server
@@ -19,9 +19,9 @@ use Rattle.nfs_tool.specs.Reloading.{Giving, Lent, Loads}
 use Rattle.nfs_tool.specs.ScriptLines.{Said, Run, Reload, is_skipped, line_in}
 use Rattle.nfs_tool.specs.Script.{is_answered, is_loaded, load_text, told_text, Tells, LineWrites, LinePrints, Print, is_within, joined, IsCut, IsScriptFault, Stands, Begins, Answered, Answers, GoesOn, Puts, IsTrailOf, WritesTrail, trail_line, trail_text, Finished, Finishes, ScriptGives}
 use Rattle.nfs_tool.specs.declared.reloading.LoadFault.{LoadFault}
-use Rattle.nfs_tool.specs.declared.running.Answer.{Answer}
+use Rattle.nfs_client.specs.declared.running.Answer.{Answer}
 use Rattle.nfs_tool.specs.declared.scripting.Progress.{Progress}
-use Rattle.nfs_tool.specs.declared.fault.ToolFault.{ToolFault}
+use Rattle.nfs_client.specs.declared.fault.ToolFault.{ToolFault}
 
 -- ---- one line
 

@@ -11,19 +11,19 @@ use Rattle.nfs_hub.specs.declared.fault.HubFault.{HubFault}
 use Rattle.nfs_hub.specs.declared.fault.HubFault.TheVariants as hub_fault
 use Rattle.who_book.specs.declared.fault.BookFault.{BookFault}
 use Rattle.who_book.specs.declared.fault.BookFault.TheVariants as book_fault
-use Rattle.nfs_tool.specs.AnswerTexts.{answer_text, ok_line}
-use Rattle.nfs_tool.specs.FaultTexts.{fault_text}
+use Rattle.nfs_client.specs.AnswerTexts.{answer_text, ok_line}
+use Rattle.nfs_client.specs.FaultTexts.{fault_text}
 use Rattle.nfs_tool.specs.Reloading.{Giving, Lent, Loads}
-use Rattle.nfs_tool.specs.Running.{Runs}
+use Rattle.nfs_client.specs.Running.{Runs}
 use Rattle.nfs_tool.specs.ScriptLines.{Said, Run, Reload, is_skipped, line_in}
-use Rattle.nfs_tool.specs.Sessions.{OpenGives}
-use Rattle.nfs_tool.specs.declared.client.Client.{Client}
+use Rattle.nfs_client.specs.Sessions.{OpenGives}
+use Rattle.nfs_client.specs.declared.client.Client.{Client}
 use Rattle.nfs_tool.specs.declared.reloading.LoadFault.{LoadFault}
 use Rattle.nfs_tool.specs.declared.reloading.LoadFault.TheVariants.{NoText, NoBook, Exhausted}
-use Rattle.nfs_tool.specs.declared.running.Answer.{Answer}
+use Rattle.nfs_client.specs.declared.running.Answer.{Answer}
 use Rattle.nfs_tool.specs.declared.scripting.Progress.{Progress}
-use Rattle.nfs_tool.specs.declared.fault.ToolFault.{ToolFault}
-use Rattle.nfs_tool.specs.declared.fault.ToolFault.TheVariants.{Refused, Read, Write, Memory}
+use Rattle.nfs_client.specs.declared.fault.ToolFault.{ToolFault}
+use Rattle.nfs_client.specs.declared.fault.ToolFault.TheVariants.{Refused, Read, Write, Memory}
 
 -- ---- the answer to a line's command
 

@@ -3,7 +3,7 @@ use Rattle.std.specs.Prelude.{ℕ, ◌==◌, ◌&&◌, ◌||◌, nat_lt, not, Bo
 use Rattle.std.specs.List.{list_all, slice_split}
 use Rattle.std.specs.Str.{bytes_eq, all_ascii_digits, is_utf8}
 use Rattle.who_book.specs.Spelling.{value_after}
-use Rattle.nfs_tool.specs.Words.{CommandLine, command_in}
+use Rattle.nfs_client.specs.Words.{CommandLine, command_in}
 
 -- the number of 32 bits of decimal digits, also with zeros in front
 abbrev pub number_in : List ℕ → Option ℕ

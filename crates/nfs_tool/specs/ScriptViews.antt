@@ -1,6 +1,6 @@
 -- The wish of a line, without the place of its words.
 use Rattle.nfs_tool.specs.ScriptLines as specs
-use Rattle.nfs_tool.specs.WordViews.{command_line}
+use Rattle.nfs_client.specs.WordViews.{command_line}
 use Rattle.nfs_tool.specs.declared.script_line.Said.{Said}
 use Rattle.nfs_tool.specs.declared.script_line.Wish.{Wish}
 use Rattle.nfs_tool.specs.declared.script_line.Wish.TheVariants as code

@@ -1,50 +1,15 @@
-//! A client of NFS version 4.1 (RFC 8881): its commands as words, and each command as calls and replies over a stream.
+//! Scripts of a client's commands over a hub in memory, and with them the client of NFS version 4.1 (RFC 8881), `nfs_client`.
 #![tactic(auto)]
 
-mod access;
-mod answer;
-mod approach;
-mod cat;
-mod chmod;
-mod client;
-mod entry_text;
-mod fault;
-mod fault_text;
-mod getacl;
-mod list_part;
-mod listing;
-mod ln;
 mod local;
-mod ls;
-mod mkdir;
-mod modes;
-mod mv;
-mod path;
-mod put;
 mod reloading;
-mod request;
-mod rm;
-mod route;
-mod running;
 mod script_line;
 mod scripting;
-mod sessions;
-mod setacl;
-mod setting;
-mod stream;
-mod taking;
-mod words;
 
-pub use client::Client;
-pub use entry_text::{EntryText, an_entry_as_text_is_read};
-pub use fault::ToolFault;
-pub use fault_text::FaultText;
-pub use list_part::ListPart;
-pub use listing::Listed;
 pub use local::Local;
-pub use modes::{mode_text, read_mode};
-pub use path::Path;
+pub use nfs_client::{
+    Answer, Client, Command, EntryText, FaultText, ListPart, Listed, Path, ToolFault,
+    an_entry_as_text_is_read, mode_text, read_mode,
+};
 pub use reloading::Texts;
-pub use running::Answer;
 pub use scripting::script;
-pub use words::Command;

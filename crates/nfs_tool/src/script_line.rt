@@ -5,7 +5,7 @@ ghost use Rattle.std.specs.Str.{is_utf8};
 ghost use Rattle.nfs_tool.specs.ScriptLines.{number_in, is_space, is_comment, is_skipped, words_in, said_in, text_in, reload_in, wish_in};
 ghost use Rattle.nfs_tool.specs.ScriptViews.{said_line, wish_line};
 
-use crate::words::Command;
+use nfs_client::Command;
 use std::alloc::{AllocError, Allocator};
 
 const AS: &[u8] = b"as";

@@ -6,15 +6,12 @@ ghost use Rattle.nfs_tool.specs.Script.{RunsOver, unconnected, is_refusal, is_an
 ghost use Rattle.nfs_tool.specs.ScriptLines.{is_skipped, words_in, line_in};
 ghost use Rattle.nfs_tool.specs.ScriptViews.{said_line, wish_line};
 
-use crate::client::Client;
-use crate::fault::ToolFault;
 use crate::local::Local;
 use crate::reloading::{LoadFault, Texts, load};
-use crate::running::Answer;
 use crate::script_line::{Said, Wish, is_skipped, is_text, words_in};
-use crate::stream::write_out;
 use access_guard::{Guard, write_line};
 use itoa::Buffer;
+use nfs_client::{Answer, Client, ToolFault, write_out};
 use nfs_hub::{Hub, HubFault};
 use std::alloc::{Allocator, Global};
 use std::io::{Read, Write};

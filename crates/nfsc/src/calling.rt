@@ -1,6 +1,6 @@
 //! Running a command by a client of its own.
 use crate::starting::verifier;
-use nfs_tool::{Answer, Client, Command, ToolFault};
+use nfs_client::{Answer, Client, Command, ToolFault};
 use nfsc_options::Options;
 use std::alloc::Global;
 use std::net::{Ipv4Addr, Net, SocketAddrV4, TcpStream};

@@ -9,7 +9,7 @@ mod starting;
 
 use anyhow::Result;
 use calling::Fault;
-use nfs_tool::{Answer, Command, ToolFault};
+use nfs_client::{Answer, Command, ToolFault};
 use nfsc_options::{Options, wrong_command};
 use std::alloc::Global;
 use std::io::Write;

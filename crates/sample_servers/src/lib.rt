@@ -4,12 +4,9 @@
 mod pictures;
 mod servers;
 mod trees;
-mod turns;
 
 pub use pictures::{list_text, trail_text, tree_text};
 pub use servers::{
-    book_of, reload, run, run_record, run_record_in_session, sample_server, see_bytes, see_trail,
-    server_of,
+    book_of, reload, run, run_record, run_record_in_session, sample_server, see_bytes, server_of,
 };
-pub use trees::{ALL, add, fill, link, link_often, one_file, root_of, set_list};
-pub use turns::{Turn, see_turn};
+pub use trees::{ALL, add, link, one_file, root_of, set_list};

@@ -1,6 +1,5 @@
 //! Servers, and calls that they answer.
 
-use crate::pictures::trail_text;
 use call_texts::Caller;
 use compound_run::{Args, MAX_RESULTS, RunEnd, Server};
 use node_tree::{Moment, Tree};
@@ -49,7 +48,7 @@ pub fn reload<A: Allocator + Copy>(
     Ok(())
 }
 
-/// The results of these arguments in a record of so many bytes, or `None` where they are garbage.
+/// The results of these arguments in a record of this many bytes, or `None` where they are garbage.
 pub fn run_record(
     alloc: Global,
     server: &mut Server,
@@ -70,7 +69,7 @@ pub fn run_record(
     }
 }
 
-/// The results of these arguments where sessions are in use, or `None` where they are garbage. Their record has so many bytes, and at least as many as
+/// The results of these arguments where sessions are in use, or `None` where they are garbage. Their record has this many bytes, and at least as many as
 /// the arguments.
 pub fn run_record_in_session(
     alloc: Global,
@@ -104,31 +103,10 @@ pub fn run(
     run_record(alloc, server, who, seconds, bytes, bytes.len())
 }
 
-/// The results of these arguments where sessions are in use, or `None` where they are garbage.
-pub(crate) fn run_in_session(
-    alloc: Global,
-    server: &mut Server,
-    who: Caller,
-    seconds: i64,
-    bytes: &[u8],
-) -> Result<Option<Vec<u8>>, AllocError> {
-    run_record_in_session(alloc, server, who, seconds, bytes, bytes.len())
-}
-
 /// Checks the bytes of a call. `Err`: they are others; the place of their call, and its words.
 pub fn see_bytes(given: Option<&[u8]>, wanted: &[u8], place: i64, call: &str) -> Result<(), Fail> {
     if given == Some(wanted) {
         return Ok(());
     }
     Err(Fail::new(format_args!("{place}: {call}: {given:?}")))
-}
-
-/// Checks that the trail has these lines, and has had no others.
-pub fn see_trail(alloc: Global, server: &Server, total: u64, wanted: &str) -> Result<(), Fail> {
-    let given = trail_text(alloc, server.guard())?;
-    if given.as_slice() == wanted.as_bytes() && server.guard().total() == total {
-        return Ok(());
-    }
-    let lines = String::from_utf8_lossy(alloc, &given)?;
-    Err(Fail::new(format_args!("the trail:\n{lines}")))
 }

@@ -180,24 +180,3 @@ pub fn set_list(alloc: Global, tree: &mut Tree, name: &[u8], words: &str) -> Res
     tree.set_list(number, list, 0, at);
     Ok(())
 }
-
-/// A name of two bytes for each number below 2^16.
-fn name_of(number: u32) -> [u8; 2] {
-    [(number / 256 % 256) as u8, (number % 256) as u8]
-}
-
-/// Adds so many files to a directory.
-pub fn fill(alloc: Global, tree: &mut Tree, directory: u64, count: u32) -> Result<(), Fail> {
-    for number in 0..count {
-        add(alloc, tree, directory, &name_of(number), Kind::File, "")?;
-    }
-    Ok(())
-}
-
-/// Gives a link so many more names in the root.
-pub fn link_often(tree: &mut Tree, number: u64, count: u32) -> Result<(), Fail> {
-    for name in 0..count {
-        link(tree, &name_of(name), number)?;
-    }
-    Ok(())
-}

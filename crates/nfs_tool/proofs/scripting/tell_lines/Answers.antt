@@ -1,6 +1,6 @@
 use Rattle.nfs_tool.specs.Script.{trail_line}
 use Rattle.std.proofs.Common.{◌++◌}
-use Rattle.nfs_tool.proofs.Streams.{appends_trans}
+use Rattle.nfs_client.proofs.Streams.{appends_trans}
 use Rattle.nfs_tool.proofs.Scripts.{lines_step}
 use Rattle.nfs_tool.proofs.scripting.tell_lines.Goals as goal
 

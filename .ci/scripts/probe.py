@@ -1,0 +1,96 @@
+"""Lines for server_probe, what it answers, and whether that is what is wanted."""
+import subprocess
+
+PATIENCE = 120
+
+
+class Difference(Exception):
+    """An answer that isn't the wanted one."""
+
+
+class Asked:
+    """A line with an answer, which comes once all lines are sent."""
+
+    def __init__(self, line):
+        self.line = line
+        self.answer = None
+
+    def bytes(self):
+        """The bytes of an answer in hexadecimal digits, of which garbage has none."""
+        return b"" if self.answer == "garbage" else bytes.fromhex(self.answer)
+
+    def text(self):
+        """The text of these bytes, a letter a byte."""
+        return self.bytes().decode("latin-1")
+
+    def numbers(self):
+        return [int(it) for it in self.answer.split()]
+
+
+def shown(value, place):
+    """What stands around a place of bytes or of a text, as a person reads it."""
+    if isinstance(value, str):
+        return repr(value[max(0, place - 40):place + 80])
+    start = max(0, place // 4 * 4 - 32)
+    return value[start:start + 96].hex(" ", 4) or "nothing"
+
+
+def first_other(given, wanted):
+    """The place of the first byte or letter that differs."""
+    for place, (one, other) in enumerate(zip(given, wanted)):
+        if one != other:
+            return place
+    return min(len(given), len(wanted))
+
+
+def difference(what, given, wanted):
+    if not isinstance(given, (bytes, str)):
+        return Difference(f"{what}: {given}, and not {wanted}")
+    place = first_other(given, wanted)
+    return Difference(f"{what}: at {place}: {shown(given, place)}, and not {shown(wanted, place)}")
+
+
+class Talk:
+    """What is sent, and what has to come of it."""
+
+    def __init__(self):
+        self.lines, self.asked, self.checks = [], [], []
+
+    def tell(self, line):
+        """A line without an answer."""
+        self.lines.append(line)
+
+    def ask(self, line):
+        self.lines.append(line)
+        self.asked.append(Asked(line))
+        return self.asked[-1]
+
+    def see(self, what, given, wanted):
+        """Has a function's value compared with another's, once all answers are there."""
+        self.checks.append((what, given, wanted))
+
+    def run(self, program):
+        """Sends all lines, and compares."""
+        sent = "".join(line + "\n" for line in self.lines)
+        ran = subprocess.run([program], input=sent, capture_output=True, text=True, timeout=PATIENCE, check=False)
+        answers = ran.stdout.split("\n")[:-1]
+        for asked, answer in zip(self.asked, answers):
+            asked.answer = answer
+        if ran.returncode != 0 or len(answers) != len(self.asked):
+            last = self.asked[len(answers)].line if len(answers) < len(self.asked) else "the end"
+            raise Difference(f"the probe ended with {ran.returncode} at {last[:200]!r}: {ran.stderr.strip()}")
+        for what, given, wanted in self.checks:
+            one, other = given(), wanted()
+            if one != other:
+                raise difference(what, one, other)
+
+
+def expect_ok(talk, what, line):
+    """Sends a line that has to be answered `ok`."""
+    asked = talk.ask(line)
+    talk.see(what, lambda: asked.answer, lambda: "ok")
+
+
+def digits(text):
+    """The hexadecimal digits of a text."""
+    return text.encode().hex()

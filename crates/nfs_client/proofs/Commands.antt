@@ -1,0 +1,111 @@
+-- The outcome of an exchange whose reply was judged.
+use Rattle.std.proofs.Common.{◌≡◌, inl, inr, ℕ, Bool, true, List, Ok, Some, None, refl, sym, ap, ◌∙◌, subst, Err}
+use Rattle.std.specs.Prelude.{◌⊎◌, if◌then◌else◌, Option, Result}
+use Rattle.nfs_ops.specs.Operations.{Operation}
+use Rattle.nfs_ops.specs.Results.{Outcome}
+use Rattle.nfs_client.specs.Compound.{AllDone, LastRefused, NoReply, Said, said}
+use Rattle.nfs_client.specs.Requests.{asked_of}
+use Rattle.nfs_client.specs.Taking.{SaidGives}
+use Rattle.nfs_client.specs.Client.{ExchangeGives, next}
+use Rattle.nfs_client.specs.Commands.{Answered, Told, Settled, NoAnswer, Concludes, number_behind, takes_number, AskGives}
+use Rattle.nfs_types.specs.Status.{number_of}
+use Rattle.nfs_client.specs.declared.fault.ToolFault.{ToolFault}
+use Rattle.nfs_client.specs.declared.fault.ToolFault.TheVariants as fault
+use Rattle.nfs_client.specs.declared.client.Client.{Client}
+use Rattle.nfs_client.specs.declared.client.Reply.{Reply}
+
+module _ {S A V : Type 0} (contents remaining : S → Option (List ℕ)) (taken : List Outcome → Option V) (ops : List Operation) (old mid : Client S A) (reply : Reply A) (gives : ExchangeGives contents remaining ops old mid (Ok reply)) where
+  -- the answer of the record to the call
+  says_so : (P : Said → Type 0) → P (said reply.xid reply.asked.items reply.content.items) → P (said old.xid (asked_of ops) reply.content.items)
+  says_so P h =
+      subst (λ (x : ℕ). P (said x (asked_of ops) reply.content.items)) gives.1
+      (subst (λ (a : List ℕ). P (said reply.xid a reply.content.items)) gives.2 h)
+
+  -- the client after the exchange, usable again
+  left : Bool → Client S A
+  left in_session = record mid { usable = true; number = if in_session then next mid.number else mid.number }
+
+  is_settled : (in_session : Bool) → Settled old (left in_session) (number_behind in_session old.number)
+  unfolding left
+  is_settled in_session =
+      record { usable = refl; advanced = gives.0.advanced; uid = gives.0.uid; gid = gives.0.gid; client = gives.0.client; session = gives.0.session; numbered = ap (number_behind in_session) gives.0.number }
+
+  pub settled : (new : Client S A) (v : Option V) (in_session : Bool)
+      → ((said reply.xid reply.asked.items reply.content.items).answer ≡ AllDone) × (taken (said reply.xid reply.asked.items reply.content.items).results ≡ v)
+      → new ≡ record mid { usable = true; number = if in_session then next mid.number else mid.number }
+      → Told contents remaining taken ops old new v × Settled old new (number_behind in_session old.number)
+  unfolding left
+  settled new v in_session h is =
+      let told = says_so (λ (s : Said). (s.answer ≡ AllDone) × (taken s.results ≡ v)) h in
+      subst (λ (c : Client S A). Told contents remaining taken ops old c v × Settled old c (number_behind in_session old.number)) (sym is)
+      ((reply.content.items, gives.3, told.0, told.1), is_settled in_session)
+
+  pub settled_refused : (new : Client S A) (op status : ℕ) (in_session : Bool)
+      → (said reply.xid reply.asked.items reply.content.items).answer ≡ LastRefused op status
+      → new ≡ record mid { usable = true; number = if in_session then next mid.number else mid.number }
+      → Answered contents remaining ops old new (LastRefused op status) × Settled old new (number_behind in_session old.number)
+  unfolding left
+  settled_refused new op status in_session h is =
+      subst (λ (c : Client S A). Answered contents remaining ops old c (LastRefused op status) × Settled old c (number_behind in_session old.number)) (sym is)
+      ((reply.content.items, gives.3, says_so (λ (s : Said). s.answer ≡ LastRefused op status) h), is_settled in_session)
+
+  unanswered : ((said reply.xid reply.asked.items reply.content.items).answer ≡ NoReply) ⊎ (((said reply.xid reply.asked.items reply.content.items).answer ≡ AllDone) × (taken (said reply.xid reply.asked.items reply.content.items).results ≡ None))
+      → NoAnswer contents remaining taken ops old mid
+  unanswered (inl h) = (gives.0.unusable, inl (reply.content.items, gives.3, says_so (λ (s : Said). s.answer ≡ NoReply) h))
+  unanswered (inr h) =
+      let told = says_so (λ (s : Said). (s.answer ≡ AllDone) × (taken s.results ≡ None)) h in
+      (gives.0.unusable, inr (reply.content.items, gives.3, told.0, told.1))
+
+  -- the outcome of an exchange by its reply
+  pub concluded : {X : Type 0} (value : X → V) (in_session : Bool) (told : Result X ToolFault) (new : Client S A) → SaidGives value taken (said reply.xid reply.asked.items reply.content.items) told
+      → Concludes in_session told mid new → AskGives contents remaining taken value in_session ops old new told
+  concluded value in_session (Ok x) new h is = settled new (Some (value x)) in_session h is
+  concluded value in_session (Err (fault.Refused op s)) new h is = settled_refused new op (number_of s) (takes_number in_session op) h is
+  concluded value in_session (Err fault.Reply) new h is = inr (subst (λ (c : Client S A). NoAnswer contents remaining taken ops old c) (sym is) (unanswered h))
+  concluded value in_session (Err fault.Memory) new h is = inr (ap (λ (c : Client S A). c.usable) is ∙ gives.0.unusable)
+  concluded value in_session (Err fault.Path) new h is = absurd h
+  concluded value in_session (Err fault.Read) new h is = absurd h
+  concluded value in_session (Err fault.Write) new h is = absurd h
+  concluded value in_session (Err fault.Entry) new h is = absurd h
+  concluded value in_session (Err fault.Failed) new h is = absurd h
+
+-- the outcome of operations behind whose call no record was read
+pub unasked : {S A V X : Type 0} (contents remaining : S → Option (List ℕ)) (taken : List Outcome → Option V) (value : X → V) (in_session : Bool) (ops : List Operation) (old new : Client S A) (f : ToolFault)
+    → ExchangeGives contents remaining ops old new (Err f) → AskGives contents remaining taken value in_session ops old new (Err f)
+unasked contents remaining taken value in_session ops old new fault.Memory (inl h) = inl h.1
+unasked contents remaining taken value in_session ops old new fault.Memory (inr h) = inr h.0.unusable
+unasked contents remaining taken value in_session ops old new fault.Reply (inl h) = absurd (different h.0)
+  where
+    different : fault.Reply ≡ fault.Memory → ⊥
+    different e = cc
+unasked contents remaining taken value in_session ops old new fault.Reply (inr h) = inl (h.0.unusable, h.1)
+unasked contents remaining taken value in_session ops old new fault.Read (inl h) = absurd (different h.0)
+  where
+    different : fault.Read ≡ fault.Memory → ⊥
+    different e = cc
+unasked contents remaining taken value in_session ops old new fault.Read (inr h) = (h.0.unusable, h.1)
+unasked contents remaining taken value in_session ops old new fault.Write (inl h) = absurd (different h.0)
+  where
+    different : fault.Write ≡ fault.Memory → ⊥
+    different e = cc
+unasked contents remaining taken value in_session ops old new fault.Write (inr h) = (h.0.unusable, h.1)
+unasked contents remaining taken value in_session ops old new (fault.Refused op status) (inl h) = absurd (different h.0)
+  where
+    different : fault.Refused op status ≡ fault.Memory → ⊥
+    different e = cc
+unasked contents remaining taken value in_session ops old new (fault.Refused op status) (inr h) = absurd h.1.failed.0
+unasked contents remaining taken value in_session ops old new fault.Path (inl h) = absurd (different h.0)
+  where
+    different : fault.Path ≡ fault.Memory → ⊥
+    different e = cc
+unasked contents remaining taken value in_session ops old new fault.Path (inr h) = absurd h.1.failed.0
+unasked contents remaining taken value in_session ops old new fault.Entry (inl h) = absurd (different h.0)
+  where
+    different : fault.Entry ≡ fault.Memory → ⊥
+    different e = cc
+unasked contents remaining taken value in_session ops old new fault.Entry (inr h) = absurd h.1.failed.0
+unasked contents remaining taken value in_session ops old new fault.Failed (inl h) = absurd (different h.0)
+  where
+    different : fault.Failed ≡ fault.Memory → ⊥
+    different e = cc
+unasked contents remaining taken value in_session ops old new fault.Failed (inr h) = absurd h.1.failed.0

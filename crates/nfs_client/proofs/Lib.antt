@@ -1,0 +1,17 @@
+pub mod Named
+pub mod Results
+pub mod Digits
+pub mod Streams
+pub mod Requests
+pub mod Commands
+pub mod Taken
+pub mod Opening
+pub mod GivenSets
+pub mod TextLines
+pub mod Pages
+pub mod Pieces
+pub mod Listings
+pub mod Walks
+pub mod Reading
+pub mod Putting
+pub mod Telling

@@ -1,0 +1,38 @@
+-- Page by page.
+use Rattle.std.proofs.Common.{inl, inr, ℕ, Bool, List, sym, ap, subst, Err}
+use Rattle.std.specs.Prelude.{Option}
+use Rattle.nfs_ops.specs.Operations.{Operation}
+use Rattle.nfs_ops.specs.Results.{Outcome}
+use Rattle.nfs_client.specs.Commands.{AskGives, Spoils}
+use Rattle.nfs_client.specs.Paging.{Paging, PageGives, Goes, Stops, PagesGive}
+use Rattle.nfs_client.specs.declared.fault.ToolFault.{ToolFault}
+use Rattle.nfs_client.specs.declared.fault.ToolFault.TheVariants as fault
+use Rattle.nfs_client.specs.declared.client.Client.{Client}
+
+-- a failure doesn't depend on the value that would be taken
+pub same_failure : {S A X Y V : Type 0} (contents remaining : S → Option (List ℕ)) (taken : List Outcome → Option V) (value : X → V) (other : Y → V) (in_session : Bool) (ops : List Operation) (old new : Client S A) (f : ToolFault)
+    → AskGives contents remaining taken value in_session ops old new (Err f) → AskGives contents remaining taken other in_session ops old new (Err f)
+same_failure contents remaining taken value other in_session ops old new fault.Memory h = h
+same_failure contents remaining taken value other in_session ops old new fault.Reply h = h
+same_failure contents remaining taken value other in_session ops old new fault.Read h = h
+same_failure contents remaining taken value other in_session ops old new fault.Write h = h
+same_failure contents remaining taken value other in_session ops old new (fault.Refused op s) h = h
+same_failure contents remaining taken value other in_session ops old new fault.Path h = h
+same_failure contents remaining taken value other in_session ops old new fault.Entry h = h
+same_failure contents remaining taken value other in_session ops old new fault.Failed h = h
+
+module _ {S A V : Type 0} (paging : Paging S A V) (old : Client S A) where
+  -- some pages were asked, and none of them is the last
+  pub record Paged (at : Client S A) (before : List V) : Type 0 where
+    pub goes : Goes paging old before at
+
+  pub stops : {X W : Type 0} (value : X → W) (whole : List V → W) (mid last new : Client S A) (before : List V) (f : ToolFault) → Goes paging old before mid
+      → PageGives paging before mid last (Err f) → Spoils {X = X} (Err f) last new → PagesGive paging value whole old new (Err f)
+  stops value whole mid last new before fault.Memory g h is = inr (ap (λ (c : Client S A). c.usable) is)
+  stops value whole mid last new before fault.Reply g h is = inl (subst (λ (c : Client S A). Stops paging old c fault.Reply) (sym is) (mid, before, g, h))
+  stops value whole mid last new before fault.Read g h is = subst (λ (c : Client S A). Stops paging old c fault.Read) (sym is) (mid, before, g, h)
+  stops value whole mid last new before fault.Write g h is = subst (λ (c : Client S A). Stops paging old c fault.Write) (sym is) (mid, before, g, h)
+  stops value whole mid last new before (fault.Refused op s) g h is = subst (λ (c : Client S A). Stops paging old c (fault.Refused op s)) (sym is) (mid, before, g, h)
+  stops value whole mid last new before fault.Path g h is = absurd h
+  stops value whole mid last new before fault.Entry g h is = absurd h
+  stops value whole mid last new before fault.Failed g h is = absurd h

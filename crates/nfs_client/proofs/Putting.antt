@@ -1,0 +1,174 @@
+-- A text that is written to a file piece by piece.
+use Rattle.std.proofs.Common.{◌≡◌, inl, inr, ℕ, ◌+◌, ◌-◌, ◌≤◌, ◌<◌, Bool, true, false, List, ◌∷◌, length, drop, Some, None, Ok, Err, refl, sym, ap, subst, arith}
+use Rattle.std.specs.Prelude.{nat_le, ◌&&◌, if◌then◌else◌, Option, option_and_then, Result}
+use Rattle.std.specs.List.{sum}
+use Rattle.std.proofs.lemmas.Bool.Decides.{nat_tests}
+use Rattle.std.proofs.lemmas.List.{length-take, length-drop}
+use Rattle.std.proofs.lemmas.List.Sums.{sum_by-cons}
+use Rattle.nfs_types.specs.declared.status.Status.{Status}
+use Rattle.nfs_ops.specs.Operations.{Operation}
+use Rattle.nfs_ops.specs.Results.{Outcome, Done}
+use Rattle.nfs_ops.specs.declared.op_kind.OpKind.TheVariants as kinds
+use Rattle.nfs_client.specs.Compound.{said}
+use Rattle.nfs_client.specs.Requests.{asked_of}
+use Rattle.nfs_client.specs.Commands.{AskGives, Spoils}
+use Rattle.nfs_client.specs.Paging.{itself}
+use Rattle.nfs_client.specs.Put.{Open, count_within, written_of, open_in, OpenAsks, write_to, piece, WriteGives, Writes, CloseGives, TextGives, ClosesBehind, told_behind, FileGives, PutFileGives, PutAlong, open_along, PutCommandGives}
+use Rattle.nfs_client.specs.Approach.{WalkGives}
+use Rattle.nfs_client.specs.Rm.{WrongPath}
+use Rattle.nfs_client.specs.Routes.{Route, most_before_two}
+use Rattle.nfs_client.specs.Taking.{last_of}
+use Rattle.nfs_client.specs.declared.fault.ToolFault.{ToolFault}
+use Rattle.nfs_client.specs.declared.fault.ToolFault.TheVariants as fault
+use Rattle.nfs_client.specs.declared.client.Client.{Client}
+use Rattle.nfs_client.proofs.Pages.{same_failure}
+use Rattle.nfs_client.proofs.Walks.{Kept, kept_on, walk_kept, commanded, walked_memory, no_path, no_entry, no_failed, behind as done_behind}
+
+-- ---- how many bytes were written
+
+by_test : (b : Bool) (m n : ℕ) → (if b then Some m else None) ≡ Some n → (b ≡ true) × (m ≡ n)
+by_test true m n h = (refl, cc)
+by_test false m n h = absurd (differ n h)
+  where
+    differ : (n : ℕ) → None ≡ Some n → ⊥
+    differ n h = cc
+
+in_bounds : (sent m : ℕ) → (nat_le 1 m && nat_le m sent) ≡ true → (1 ≤ m) × (m ≤ sent)
+in_bounds sent m h = (grind (arith, nat_tests), grind (arith, nat_tests))
+
+count_bounds : (sent m n : ℕ) → count_within sent m ≡ Some n → (1 ≤ n) × (n ≤ sent)
+count_bounds sent m n h =
+    let tested = by_test (nat_le 1 m && nat_le m sent) m n h in
+    subst (λ (k : ℕ). (1 ≤ k) × (k ≤ sent)) tested.1 (in_bounds sent m tested.0)
+
+outcome_bounds : (sent n : ℕ) (found : Option Outcome) → option_and_then (written_of sent) found ≡ Some n → (1 ≤ n) × (n ≤ sent)
+outcome_bounds sent n (Some (Done kinds.Write v)) h = count_bounds sent v.0 n h
+outcome_bounds sent n _ h = absurd (differ n h)
+  where
+    differ : (n : ℕ) → None ≡ Some n → ⊥
+    differ n h = cc
+
+-- ---- one WRITE behind others
+
+module _ {S A : Type 0} (contents remaining : S → Option (List ℕ)) (o : Open) (text bytes : List ℕ) (old mid new : Client S A) (counts : List ℕ) (done : ℕ) (writes : Writes contents remaining o text old counts mid) (so : sum counts ≡ done) (is : bytes ≡ piece (drop done text)) where
+  behind : (r : Result ℕ ToolFault) → WriteGives contents remaining o done bytes mid new r → WriteGives contents remaining o (sum counts) (piece (drop (sum counts) text)) mid new r
+  behind r h =
+      subst (λ (k : ℕ). WriteGives contents remaining o k (piece (drop k text)) mid new r) (sym so)
+      (subst (λ (bs : List ℕ). WriteGives contents remaining o done bs mid new r) is h)
+
+  pub wrote_more : (n : ℕ) → WriteGives contents remaining o done bytes mid new (Ok n) → Writes contents remaining o text old (n ∷ counts) new × (sum (n ∷ counts) ≡ done + n)
+  wrote_more n h = ((mid, writes, behind (Ok n) h), omega (arith, so, sum_by-cons (λ (x : ℕ). x) n counts))
+
+  pub wrote_within : (n : ℕ) → done < length text → WriteGives contents remaining o done bytes mid new (Ok n) → (1 ≤ n) × (done + n ≤ length text)
+  wrote_within n below h =
+      let bounds = outcome_bounds (length bytes) n (last_of (said mid.xid (asked_of (write_to mid o done bytes)) h.0.0).results) h.0.3 in
+      let short : length bytes ≤ length text - done = omega (arith, ap length is, length-take 32768 (drop done text), length-drop done text) in
+      (bounds.0, omega (arith, bounds.1, short, below))
+
+  pub write_fails : (f : ToolFault) → WriteGives contents remaining o done bytes mid new (Err f) → TextGives contents remaining o text old new (Err f)
+  write_fails f h = (mid, counts, writes, behind (Err f) h)
+
+-- ---- the outcome for the open file
+
+module _ {S A : Type 0} (contents remaining : S → Option (List ℕ)) (o : Open) (text : List ℕ) (old mid last new : Client S A) (written : Result (Unit {0}) ToolFault) (wrote : TextGives contents remaining o text old mid written) where
+  pub filled : (told : Result (Unit {0}) ToolFault) → ClosesBehind contents remaining o written mid last told → Spoils told last new → FileGives contents remaining o text old new told
+  filled (Ok done) closes is = (written, mid, wrote, subst (λ (c : Client S A). ClosesBehind contents remaining o written mid c (Ok done)) (sym is) closes)
+  filled (Err fault.Memory) closes is = ap (λ (c : Client S A). c.usable) is
+  filled (Err fault.Path) closes is = (written, mid, wrote, subst (λ (c : Client S A). ClosesBehind contents remaining o written mid c (Err fault.Path)) (sym is) closes)
+  filled (Err (fault.Refused op s)) closes is = (written, mid, wrote, subst (λ (c : Client S A). ClosesBehind contents remaining o written mid c (Err (fault.Refused op s))) (sym is) closes)
+  filled (Err fault.Reply) closes is = (written, mid, wrote, subst (λ (c : Client S A). ClosesBehind contents remaining o written mid c (Err fault.Reply)) (sym is) closes)
+  filled (Err fault.Read) closes is = (written, mid, wrote, subst (λ (c : Client S A). ClosesBehind contents remaining o written mid c (Err fault.Read)) (sym is) closes)
+  filled (Err fault.Write) closes is = (written, mid, wrote, subst (λ (c : Client S A). ClosesBehind contents remaining o written mid c (Err fault.Write)) (sym is) closes)
+  filled (Err fault.Entry) closes is = (written, mid, wrote, subst (λ (c : Client S A). ClosesBehind contents remaining o written mid c (Err fault.Entry)) (sym is) closes)
+  filled (Err fault.Failed) closes is = (written, mid, wrote, subst (λ (c : Client S A). ClosesBehind contents remaining o written mid c (Err fault.Failed)) (sym is) closes)
+
+-- A fault that no exchange has isn't answered.
+module _ {S A : Type 0} (contents remaining : S → Option (List ℕ)) (o : Open) (text : List ℕ) (f : ToolFault) (closes : (a b : Client S A) → CloseGives contents remaining o a b (Err f) → ⊥) (writes : (offset : ℕ) (bytes : List ℕ) (a b : Client S A) → WriteGives contents remaining o offset bytes a b (Err f) → ⊥) (other : (op : ℕ) (s : Status) → f ≡ fault.Refused op s → ⊥) where
+  behind_none : (op : ℕ) (s : Status) (mid new : Client S A) (closed : Result (Unit {0}) ToolFault) → CloseGives contents remaining o mid new closed → Err f ≡ told_behind op s closed → ⊥
+  behind_none op s mid new (Ok done) h e = let same : f ≡ fault.Refused op s = cc in other op s same
+  behind_none op s mid new (Err (fault.Refused n t)) h e = let same : f ≡ fault.Refused op s = cc in other op s same
+  behind_none op s mid new (Err g) h e = let same : g ≡ f = cc in closes mid new (subst (λ (k : ToolFault). CloseGives contents remaining o mid new (Err k)) same h)
+
+  file_none : (old mid new : Client S A) (told : Result (Unit {0}) ToolFault) → TextGives contents remaining o text old mid told → ClosesBehind contents remaining o told mid new (Err f) → ⊥
+  file_none old mid new (Ok done) t c = closes mid new c
+  file_none old mid new (Err (fault.Refused op s)) t c = behind_none op s mid new c.0 c.1 c.2
+  file_none old mid new (Err g) t c =
+      let e = c.1 in
+      let same : g ≡ f = cc in
+      writes (sum t.1) (piece (drop (sum t.1) text)) t.0 mid (subst (λ (k : ToolFault). WriteGives contents remaining o (sum t.1) (piece (drop (sum t.1) text)) t.0 mid (Err k)) same t.3)
+
+-- ---- the outcome of the command
+
+no_path_told : {S A : Type 0} (contents remaining : S → Option (List ℕ)) (text : List ℕ) (a b : Client S A) (o : Open) → FileGives contents remaining o text a b (Err fault.Path) → ⊥
+no_path_told contents remaining text a b o h = file_none contents remaining o text fault.Path (λ a b i. i) (λ offset bytes a b i. i) different a h.1 b h.0 h.2 h.3
+  where
+    different : (op : ℕ) (s : Status) → fault.Path ≡ fault.Refused op s → ⊥
+    different op s e = cc
+
+no_entry_told : {S A : Type 0} (contents remaining : S → Option (List ℕ)) (text : List ℕ) (a b : Client S A) (o : Open) → FileGives contents remaining o text a b (Err fault.Entry) → ⊥
+no_entry_told contents remaining text a b o h = file_none contents remaining o text fault.Entry (λ a b i. i) (λ offset bytes a b i. i) different a h.1 b h.0 h.2 h.3
+  where
+    different : (op : ℕ) (s : Status) → fault.Entry ≡ fault.Refused op s → ⊥
+    different op s e = cc
+
+no_failed_told : {S A : Type 0} (contents remaining : S → Option (List ℕ)) (text : List ℕ) (a b : Client S A) (o : Open) → FileGives contents remaining o text a b (Err fault.Failed) → ⊥
+no_failed_told contents remaining text a b o h = file_none contents remaining o text fault.Failed (λ a b i. i) (λ offset bytes a b i. i) different a h.1 b h.0 h.2 h.3
+  where
+    different : (op : ℕ) (s : Status) → fault.Failed ≡ fault.Refused op s → ⊥
+    different op s e = cc
+
+-- a file that is put by these operations
+module _ {S A : Type 0} (contents remaining : S → Option (List ℕ)) (text : List ℕ) (ops : List Operation) (old new : Client S A) where
+  put_memory : PutFileGives contents remaining text ops old new (Err fault.Memory) → Kept old new
+  put_memory (inl h) = h
+  put_memory (inr h) = inr h.3
+
+  put_path : PutFileGives contents remaining text ops old new (Err fault.Path) → ⊥
+  put_path (inl h) = h
+  put_path (inr h) = no_path_told contents remaining text h.0 new h.1 h.3
+
+  put_entry : PutFileGives contents remaining text ops old new (Err fault.Entry) → ⊥
+  put_entry (inl h) = h
+  put_entry (inr h) = no_entry_told contents remaining text h.0 new h.1 h.3
+
+  put_failed : PutFileGives contents remaining text ops old new (Err fault.Failed) → ⊥
+  put_failed (inl h) = h
+  put_failed (inr h) = no_failed_told contents remaining text h.0 new h.1 h.3
+
+  put_filled : (mid : Client S A) (o : Open) (told : Result (Unit {0}) ToolFault) → AskGives contents remaining open_in itself true ops old mid (Ok o) → FileGives contents remaining o text mid new told
+      → PutFileGives contents remaining text ops old new told
+  put_filled mid o (Ok done) opens h = (mid, o, opens, h)
+  put_filled mid o (Err f) opens h = inr (mid, o, opens, h)
+
+-- the file is opened at the end of a route
+abbrev At : {S A : Type 0} → (S → Option (List ℕ)) → (S → Option (List ℕ)) → List ℕ → Operation → Client S A → Route → Client S A → Result (Unit {0}) ToolFault → Type 0
+At contents remaining text op new route mid r = PutFileGives contents remaining text (open_along mid route op) mid new r
+
+module _ {S A : Type 0} (contents remaining : S → Option (List ℕ)) (text : List ℕ) (op : Operation) (old new : Client S A) (names : List (List ℕ)) (mid : Client S A) (route : Route) (walk : WalkGives contents remaining itself most_before_two names old mid (Ok route)) where
+  -- memory is refused for the request
+  pub not_asked : (f : ToolFault) → new ≡ mid → f ≡ fault.Memory → PutAlong contents remaining names op text old new (Err f)
+  not_asked f same is =
+      subst (λ (g : ToolFault). PutAlong contents remaining names op text old new (Err g)) (sym is)
+      (inl (kept_on old mid new (walk_kept contents remaining most_before_two names old mid route walk) (inl same)))
+
+  -- the OPEN fails
+  pub not_opened : {X : Type 0} (value : X → Open) (f : ToolFault) → AskGives contents remaining open_in value true (open_along mid route op) mid new (Err f) → PutAlong contents remaining names op text old new (Err f)
+  not_opened value f h = inr (mid, route, walk, inl (same_failure contents remaining open_in value itself true (open_along mid route op) mid new f h))
+
+  pub put_along : (last : Client S A) (o : Open) (told : Result (Unit {0}) ToolFault) → AskGives contents remaining open_in itself true (open_along mid route op) mid last (Ok o)
+      → FileGives contents remaining o text last new told → PutAlong contents remaining names op text old new told
+  put_along last o told opens h = done_behind contents remaining most_before_two names (At contents remaining text op new) old new mid route told walk (put_filled contents remaining text (open_along mid route op) mid new last o told opens h)
+
+module _ {S A : Type 0} (contents remaining : S → Option (List ℕ)) (path text : List ℕ) (old new : Client S A) where
+  abbrev PutAsked : Result (Unit {0}) ToolFault → Type 0
+  PutAsked told = (directory : List (List ℕ)) × (op : Operation) × OpenAsks old.client path directory op × PutAlong contents remaining directory op text old new told
+
+  pub put_tells : (directory : List (List ℕ)) (op : Operation) (told : Result (Unit {0}) ToolFault) → OpenAsks old.client path directory op → PutAlong contents remaining directory op text old new told
+      → PutCommandGives contents remaining path text old new told
+  put_tells directory op told asked h =
+      commanded (WrongPath path) PutAsked old new told
+      (λ a. walked_memory contents remaining most_before_two a.0 (At contents remaining text a.1 new) old new a.3 (λ route mid i. put_memory contents remaining text (open_along mid route a.1) mid new i))
+      (λ a. no_path contents remaining most_before_two a.0 (At contents remaining text a.1 new) old new (λ route mid i. put_path contents remaining text (open_along mid route a.1) mid new i) a.3)
+      (λ a. no_entry contents remaining most_before_two a.0 (At contents remaining text a.1 new) old new (λ route mid i. put_entry contents remaining text (open_along mid route a.1) mid new i) a.3)
+      (λ a. no_failed contents remaining most_before_two a.0 (At contents remaining text a.1 new) old new (λ route mid i. put_failed contents remaining text (open_along mid route a.1) mid new i) a.3)
+      (directory, op, asked, h)

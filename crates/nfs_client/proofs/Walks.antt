@@ -1,0 +1,242 @@
+-- Walks of several COMPOUNDs.
+use Rattle.std.proofs.Common.{◌≡◌, ◌<◌, ◌≤◌, ◌+◌, ◌-◌, inl, inr, ℕ, true, false, List, [], ◌∷◌, length, take, drop, map, min, Ok, Err, sym, ap, ◌∙◌, subst, arith}
+use Rattle.std.specs.Prelude.{◌⊎◌, IfOk, Option, Result}
+use Rattle.std.specs.Borrow.{Bor}
+use Rattle.std.proofs.lemmas.List.{take-map, drop-map, drop-drop, drop_min, length-map, length-take, length-drop}
+use Rattle.nfs_ops.specs.Operations.{Operation}
+use Rattle.nfs_ops.specs.Results.{Outcome}
+use Rattle.nfs_client.specs.Approach.{approach, handle_in, ApproachGives, Approaches, WalkFails, WalkGives}
+use Rattle.nfs_client.specs.Commands.{AskGives, Commanded}
+use Rattle.nfs_client.specs.Paging.{itself}
+use Rattle.nfs_client.specs.Requests.{Asks, PutGives}
+use Rattle.nfs_client.specs.Routes.{Start, Object, Route, near, far, route_behind, along, most_names, most_of_both, left_of_first}
+use Rattle.nfs_client.specs.Taking.{nothing, takes_nothing}
+use Rattle.nfs_client.specs.Walking.{Walked, CommandTells, BothGive, ReadyGives, BothReady, along_both}
+use Rattle.nfs_client.specs.declared.client.Client.{Client}
+use Rattle.nfs_client.specs.declared.request.Request.{Request}
+use Rattle.nfs_client.specs.declared.fault.ToolFault.{ToolFault}
+use Rattle.nfs_client.specs.declared.fault.ToolFault.TheVariants as fault
+use Rattle.nfs_client.proofs.Pages.{same_failure}
+
+module _ {S A : Type 0} where
+  -- no operation was asked, or no other command runs
+  abbrev pub Kept : Client S A → Client S A → Type 0
+  Kept old new = (new ≡ old) ⊎ (new.usable ≡ false)
+
+  pub kept_on : (old mid new : Client S A) → Kept old mid → Kept mid new → Kept old new
+  kept_on old mid new (inl a) (inl b) = inl (b ∙ a)
+  kept_on old mid new (inr a) (inl b) = inr (ap (λ (c : Client S A). c.usable) b ∙ a)
+  kept_on old mid new a (inr b) = inr b
+
+module _ {S A : Type 0} (contents remaining : S → Option (List ℕ)) where
+  pub approached : (most : ℕ) (names : List (List ℕ)) (old new : Client S A) (handles : List (List ℕ)) → Approaches contents remaining most names old handles new → Kept old new
+  approached most names old new [] h = inl h
+  approached most names old new (handle ∷ before) h = inr (ap (λ (c : Client S A). c.usable) h.5)
+
+  pub walk_kept : (most : ℕ) (names : List (List ℕ)) (old new : Client S A) (route : Route) → WalkGives contents remaining itself most names old new (Ok route) → Kept old new
+  walk_kept most names old new route h = approached most names old new h.0 h.1
+
+  -- one approach more
+  pub further : (most : ℕ) (names : List (List ℕ)) (old mid last new : Client S A) (handles : List (List ℕ)) (route first : Route) (handle : List ℕ) → Approaches contents remaining most names old handles mid
+      → route ≡ route_behind names handles → first ≡ near route → most < length route.names → AskGives contents remaining handle_in itself true (approach mid first) mid last (Ok handle)
+      → new ≡ record last { usable = false } → Approaches contents remaining most names old (handle ∷ handles) new × (far route handle ≡ route_behind names (handle ∷ handles))
+  further most names old mid last new handles route first handle goes so is below gives left = (
+    (
+      mid,
+      last,
+      goes,
+      subst (λ (r : Route). most < length r.names) so below,
+      subst (λ (r : Route). ApproachGives contents remaining r mid last (Ok handle)) so (subst (λ (r : Route). AskGives contents remaining handle_in itself true (approach mid r) mid last (Ok handle)) is gives),
+      left,
+    ),
+    ap (λ (r : Route). far r handle) so,
+  )
+
+  -- an approach fails behind earlier approaches
+  pub no_further : {X : Type 0} (value : X → List ℕ) (most : ℕ) (names : List (List ℕ)) (old mid new : Client S A) (handles : List (List ℕ)) (route first : Route) (f : ToolFault) → Approaches contents remaining most names old handles mid
+      → route ≡ route_behind names handles → first ≡ near route → most < length route.names → AskGives contents remaining handle_in value true (approach mid first) mid new (Err f)
+      → WalkFails contents remaining most names old new f
+  no_further value most names old mid new handles route first f goes so is below gives =
+      let under = subst (λ (r : Route). most < length r.names) so below in
+      let told = same_failure contents remaining handle_in value itself true (approach mid first) mid new f gives in
+      let here =
+      subst (λ (r : Route). ApproachGives contents remaining r mid new (Err f)) so (subst (λ (r : Route). AskGives {X = List ℕ} contents remaining handle_in itself true (approach mid r) mid new (Err f)) is told) in
+      fails f under here
+    where
+      fails : (f : ToolFault) → most < length (route_behind names handles).names → ApproachGives contents remaining (route_behind names handles) mid new (Err f) → WalkFails contents remaining most names old new f
+      fails fault.Memory under h = kept_on old mid new (approached most names old mid handles goes) h
+      fails fault.Reply under h = (mid, handles, goes, under, h)
+      fails fault.Read under h = (mid, handles, goes, under, h)
+      fails fault.Write under h = (mid, handles, goes, under, h)
+      fails (fault.Refused op s) under h = (mid, handles, goes, under, h)
+      fails fault.Path under h = (mid, handles, goes, under, h)
+      fails fault.Entry under h = (mid, handles, goes, under, h)
+      fails fault.Failed under h = (mid, handles, goes, under, h)
+
+-- ---- the names that are left
+
+-- a walk from its start along lent names
+abbrev pub route_of : Start → List (Bor (List ℕ)) → Route
+route_of start names = record { start = start; names = map (λ n. n.now) names }
+
+abbrev with_names : Start → List (List ℕ) → Route
+with_names start names = record { start = start; names = names }
+
+pub near_is : (start : Start) (left first : List (Bor (List ℕ))) → first ≡ take most_names left → route_of start first ≡ near (route_of start left)
+near_is start left first is = ap (route_of start) is ∙ ap (with_names start) (sym (take-map (λ n. n.now) most_names left))
+
+pub far_is : (start : Start) (left rest : List (Bor (List ℕ))) (handle : List ℕ) → rest ≡ drop most_names left → route_of (Object handle) rest ≡ far (route_of start left) handle
+far_is start left rest handle is = ap (route_of (Object handle)) is ∙ ap (with_names (Object handle)) (sym (drop-map (λ n. n.now) most_names left))
+
+-- the first names of the names left, as they are lent
+pub nearest_of : (done : ℕ) (names left first : List (Bor (List ℕ))) → first ≡ take most_names left → left ≡ drop done names → first ≡ take most_names (drop done names)
+nearest_of done names left first is so = is ∙ ap (take most_names) so
+
+-- the number of names left that an approach walks, behind so many names
+pub near_length : (done : ℕ) (names first : List (Bor (List ℕ))) → first ≡ take most_names (drop done names) → length first ≡ min most_names (length (drop done names))
+near_length done names first is = ap length is ∙ length-take most_names (drop done names)
+
+-- the names that are left behind the names of an approach
+pub stepped : (done : ℕ) (names first : List (Bor (List ℕ))) → first ≡ take most_names (drop done names) → drop (done + length first) names ≡ drop most_names (drop done names)
+stepped done names first is =
+    sym (drop-drop (length first) done names) ∙ ap (λ (n : ℕ). drop n (drop done names)) (near_length done names first is) ∙ drop_min most_names (drop done names)
+
+-- An approach walks at least one name, and no more than are left.
+pub near_bounds : (done most : ℕ) (names first : List (Bor (List ℕ))) → first ≡ take most_names (drop done names) → most < length names - done → (1 ≤ length first) × (done + length first ≤ length names)
+near_bounds done most names first is below =
+    (omega (arith, near_length done names first is, length-drop done names, below), omega (arith, near_length done names first is, length-drop done names, below))
+
+pub some_left : (most done : ℕ) (start : Start) (names : List (Bor (List ℕ))) → most < length names - done → most < length (route_of start (drop done names)).names
+some_left most done start names below = subst (λ (n : ℕ). most < n) (sym (length-map (drop done names) (λ n. n.now) ∙ length-drop done names)) below
+
+-- at most so many names are left
+pub arrived : {S A : Type 0} (contents remaining : S → Option (List ℕ)) (most : ℕ) (names : List (List ℕ)) (old new : Client S A) (handles : List (List ℕ)) (start : Start) (done : ℕ) (all left : List (Bor (List ℕ)))
+    → Approaches contents remaining most names old handles new → route_of start (drop done all) ≡ route_behind names handles → left ≡ drop done all → length all - done ≤ most
+    → WalkGives contents remaining itself most names old new (Ok (route_of start left))
+arrived contents remaining most names old new handles start done all left goes so is few =
+    (handles, goes, ap (route_of start) is ∙ so, subst (λ (n : ℕ). n ≤ most) (sym (length-map left (λ n. n.now) ∙ ap length is ∙ length-drop done all)) few)
+
+-- the number of names of the first of two lent paths that are left
+pub first_left : (names others : List (Bor (List ℕ))) (n : ℕ) → n ≡ left_of_first (length names) (length others) → n ≡ left_of_first (length (map (λ n. n.now) names)) (length (map (λ n. n.now) others))
+first_left names others n is =
+    is ∙ ap (λ (k : ℕ). left_of_first k (length others)) (sym (length-map names (λ n. n.now)))
+    ∙ ap (λ (k : ℕ). left_of_first (length (map (λ n. n.now) names)) k) (sym (length-map others (λ n. n.now)))
+
+-- ---- the outcome of a command
+
+pub commanded : {S A X : Type 0} (wrong : ToolFault → Type 0) (gives : Result X ToolFault → Type 0) (old new : Client S A) (result : Result X ToolFault) → (gives (Err fault.Memory) → Kept old new)
+    → (gives (Err fault.Path) → ⊥) → (gives (Err fault.Entry) → ⊥) → (gives (Err fault.Failed) → ⊥) → gives result → Commanded wrong gives old new result
+commanded wrong gives old new (Ok x) kept path entry failed h = h
+commanded wrong gives old new (Err fault.Memory) kept path entry failed h = kept h
+commanded wrong gives old new (Err fault.Path) kept path entry failed h = absurd (path h)
+commanded wrong gives old new (Err fault.Entry) kept path entry failed h = absurd (entry h)
+commanded wrong gives old new (Err fault.Failed) kept path entry failed h = absurd (failed h)
+commanded wrong gives old new (Err (fault.Refused op s)) kept path entry failed h = h
+commanded wrong gives old new (Err fault.Reply) kept path entry failed h = h
+commanded wrong gives old new (Err fault.Read) kept path entry failed h = h
+commanded wrong gives old new (Err fault.Write) kept path entry failed h = h
+
+module _ {S A X : Type 0} (contents remaining : S → Option (List ℕ)) (most : ℕ) (names : List (List ℕ)) (does : Route → Client S A → Result X ToolFault → Type 0) (old new : Client S A) where
+  pub walked_memory : Walked contents remaining most names does old new (Err fault.Memory) → ((route : Route) (mid : Client S A) → does route mid (Err fault.Memory) → Kept mid new) → Kept old new
+  walked_memory (inl h) kept = h
+  walked_memory (inr h) kept = kept_on old h.0 new (walk_kept contents remaining most names old h.0 h.1 h.2) (kept h.1 h.0 h.3)
+
+  pub walked_none : (f : ToolFault) → (WalkFails contents remaining most names old new f → ⊥) → ((route : Route) (mid : Client S A) → does route mid (Err f) → ⊥)
+      → Walked contents remaining most names does old new (Err f) → ⊥
+  walked_none f fails none (inl h) = fails h
+  walked_none f fails none (inr h) = none h.1 h.0 h.3
+
+  pub no_path : ((route : Route) (mid : Client S A) → does route mid (Err fault.Path) → ⊥) → Walked contents remaining most names does old new (Err fault.Path) → ⊥
+  no_path none h = walked_none fault.Path (λ w. w.4) none h
+
+  pub no_entry : ((route : Route) (mid : Client S A) → does route mid (Err fault.Entry) → ⊥) → Walked contents remaining most names does old new (Err fault.Entry) → ⊥
+  no_entry none h = walked_none fault.Entry (λ w. w.4) none h
+
+  pub no_failed : ((route : Route) (mid : Client S A) → does route mid (Err fault.Failed) → ⊥) → Walked contents remaining most names does old new (Err fault.Failed) → ⊥
+  no_failed none h = walked_none fault.Failed (λ w. w.4) none h
+
+  -- the outcome behind a walk
+  pub behind : (mid : Client S A) (route : Route) (result : Result X ToolFault) → WalkGives contents remaining itself most names old mid (Ok route) → does route mid result
+      → Walked contents remaining most names does old new result
+  behind mid route (Ok x) walk h = (mid, route, walk, h)
+  behind mid route (Err f) walk h = inr (mid, route, walk, h)
+
+-- ---- a command of one path
+
+module _ {S A X V : Type 0} (contents remaining : S → Option (List ℕ)) (taken : List Outcome → Option V) (value : X → V) (asks : List (List ℕ) → Operation → Type 0) (wrong : ToolFault → Type 0) (old new : Client S A) where
+  -- the operation is asked at the end of a route
+  abbrev There : Operation → Route → Client S A → Result X ToolFault → Type 0
+  There op route mid r = AskGives contents remaining taken value true (along mid route op) mid new r
+
+  -- the command asks an operation at the end of a path
+  abbrev Asked : Result X ToolFault → Type 0
+  Asked told = (names : List (List ℕ)) × (op : Operation) × asks names op × Walked contents remaining most_names names (There op) old new told
+
+  tells : (result : Result X ToolFault) → Asked result → CommandTells contents remaining taken value asks wrong old new result
+  tells result h =
+      commanded wrong Asked old new result (λ a. walked_memory contents remaining most_names a.0 (There a.1) old new a.3 (λ route mid i. i))
+      (λ a. no_path contents remaining most_names a.0 (There a.1) old new (λ route mid i. i) a.3) (λ a. no_entry contents remaining most_names a.0 (There a.1) old new (λ route mid i. i) a.3)
+      (λ a. no_failed contents remaining most_names a.0 (There a.1) old new (λ route mid i. i) a.3) h
+
+  -- the outcome of the request of a command is the outcome of the command
+  pub command_runs : (mid : Client S A) (request : Request A) (names : List (List ℕ)) (op : Operation) (result : Result X ToolFault) → asks names op → ReadyGives contents remaining names op old mid (Ok request)
+      → ((ops : List Operation) → Asks request ops → AskGives contents remaining taken value true ops mid new result) → CommandTells contents remaining taken value asks wrong old new result
+  command_runs mid request names op result asked ready ran =
+      tells result (names, op, asked, behind contents remaining most_names names (There op) old new mid ready.0 result ready.1 (ran (along mid ready.0 op) ready.2))
+
+  -- an approach fails
+  pub command_stops : (names : List (List ℕ)) (op : Operation) (f : ToolFault) → asks names op → ReadyGives contents remaining names op old new (Err f) → CommandTells contents remaining taken value asks wrong old new (Err f)
+  command_stops names op f asked fails = tells (Err f) (names, op, asked, inl fails)
+
+-- ---- a command of two paths
+
+-- the most names of the first path that may be left at the end of its approaches
+abbrev first_most : List (List ℕ) → List (List ℕ) → ℕ
+first_most names others = left_of_first (length names) (length others)
+
+module _ {S A : Type 0} (contents remaining : S → Option (List ℕ)) (asks : List (List ℕ) → List (List ℕ) → Operation → Type 0) (wrong : ToolFault → Type 0) (old new : Client S A) where
+  abbrev ThereBoth : Operation → Route → Route → Client S A → Result (Unit {0}) ToolFault → Type 0
+  ThereBoth op first second last s = AskGives contents remaining takes_nothing nothing true (along_both last first second op) last new s
+
+  abbrev Second : List (List ℕ) → Operation → Route → Client S A → Result (Unit {0}) ToolFault → Type 0
+  Second others op first mid r = Walked contents remaining most_of_both others (ThereBoth op first) mid new r
+
+  abbrev AskedBoth : Result (Unit {0}) ToolFault → Type 0
+  AskedBoth told = (names : List (List ℕ)) × (others : List (List ℕ)) × (op : Operation) × asks names others op × Walked contents remaining (first_most names others) names (Second others op) old new told
+
+  gives_both : (result : Result (Unit {0}) ToolFault) → AskedBoth result → BothGive contents remaining asks wrong old new result
+  gives_both result h =
+      commanded wrong AskedBoth old new result
+      (λ a. walked_memory contents remaining (first_most a.0 a.1) a.0 (Second a.1 a.2) old new a.4 (λ first mid i. walked_memory contents remaining most_of_both a.1 (ThereBoth a.2 first) mid new i (λ second last j. j)))
+      (λ a. no_path contents remaining (first_most a.0 a.1) a.0 (Second a.1 a.2) old new (λ first mid i. no_path contents remaining most_of_both a.1 (ThereBoth a.2 first) mid new (λ second last j. j) i) a.4)
+      (λ a. no_entry contents remaining (first_most a.0 a.1) a.0 (Second a.1 a.2) old new (λ first mid i. no_entry contents remaining most_of_both a.1 (ThereBoth a.2 first) mid new (λ second last j. j) i) a.4)
+      (λ a. no_failed contents remaining (first_most a.0 a.1) a.0 (Second a.1 a.2) old new (λ first mid i. no_failed contents remaining most_of_both a.1 (ThereBoth a.2 first) mid new (λ second last j. j) i) a.4) h
+
+  pub both_run : (last : Client S A) (request : Request A) (names others : List (List ℕ)) (op : Operation) (result : Result (Unit {0}) ToolFault) → asks names others op → BothReady contents remaining names others op old last (Ok request)
+      → ((ops : List Operation) → Asks request ops → AskGives contents remaining takes_nothing nothing true ops last new result) → BothGive contents remaining asks wrong old new result
+  both_run last request names others op result asked ready ran =
+      let there = behind contents remaining most_of_both others (ThereBoth op ready.1) ready.0 new last ready.2 result ready.4 (ran (along_both last ready.1 ready.2 op) ready.5) in
+      gives_both result (names, others, op, asked, behind contents remaining (first_most names others) names (Second others op) old new ready.0 ready.1 result ready.3 there)
+
+  pub both_stop : (names others : List (List ℕ)) (op : Operation) (f : ToolFault) → asks names others op → BothReady contents remaining names others op old new (Err f) → BothGive contents remaining asks wrong old new (Err f)
+  both_stop names others op f asked (inl h) = gives_both (Err f) (names, others, op, asked, inl h)
+  both_stop names others op f asked (inr h) = gives_both (Err f) (names, others, op, asked, inr (h.0, h.1, h.2, inl h.3))
+
+-- ---- the request of a command
+
+-- Behind a walk the request is made, or memory is refused for the request.
+module _ {S A : Type 0} (contents remaining : S → Option (List ℕ)) where
+  unmade : (most : ℕ) (names : List (List ℕ)) (old new : Client S A) (route : Route) (f : ToolFault) → WalkGives contents remaining itself most names old new (Ok route) → f ≡ fault.Memory
+      → WalkFails contents remaining most names old new f
+  unmade most names old new route f walk is = subst (λ (g : ToolFault). WalkFails contents remaining most names old new g) (sym is) (walk_kept contents remaining most names old new route walk)
+
+  pub made_ready : (names : List (List ℕ)) (op : Operation) (old new : Client S A) (route : Route) (result : Result (Request A) ToolFault) → WalkGives contents remaining itself most_names names old new (Ok route)
+      → IfOk result (λ r. Asks r (along new route op)) → PutGives result → ReadyGives contents remaining names op old new result
+  made_ready names op old new route (Ok request) walk asks memory = (route, walk, asks)
+  made_ready names op old new route (Err f) walk asks memory = unmade most_names names old new route f walk memory
+
+  pub made_both : (names others : List (List ℕ)) (op : Operation) (old mid new : Client S A) (first second : Route) (result : Result (Request A) ToolFault)
+      → WalkGives contents remaining itself (first_most names others) names old mid (Ok first) → WalkGives contents remaining itself most_of_both others mid new (Ok second)
+      → IfOk result (λ r. Asks r (along_both new first second op)) → PutGives result → BothReady contents remaining names others op old new result
+  made_both names others op old mid new first second (Ok request) walk other asks memory = (mid, first, second, walk, other, asks)
+  made_both names others op old mid new first second (Err f) walk other asks memory = inr (mid, first, walk, unmade most_of_both others mid new second f other memory)

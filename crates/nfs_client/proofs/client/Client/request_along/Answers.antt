@@ -1,0 +1,4 @@
+use Rattle.nfs_client.proofs.client.Client.request_along.Goals as goal
+
+pub returns-clause-asks : goal.returns-clause-asks
+returns-clause-asks g c = c.in_ok-put.ensures.asks _ (c.in_ok-walk.ensures.asks _ c.in_ok-request.ensures)

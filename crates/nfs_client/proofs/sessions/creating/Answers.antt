@@ -1,0 +1,5 @@
+use Rattle.std.proofs.Common.{[]}
+use Rattle.nfs_client.proofs.sessions.creating.Goals as goal
+
+pub returns-clause-asks : goal.returns-clause-asks
+returns-clause-asks g c = rw c.in-Ok.ensures at (c.in_ok-put.ensures.asks [] c.in_ok-request.ensures.asks)

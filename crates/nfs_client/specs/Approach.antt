@@ -1,0 +1,52 @@
+-- An approach: a COMPOUND that walks the first names of a route and gets the filehandle at their end (RFC 8881, section 18.8).
+use Rattle.std.specs.Prelude.{◌≡◌, ◌⊎◌, ◌≤◌, ◌<◌, ℕ, true, false, List, [], ◌∷◌, length, Option, Some, None, option_and_then, Result, Ok, Err}
+use Rattle.nfs_ops.specs.Operations.{Operation, Known}
+use Rattle.nfs_ops.specs.Results.{Outcome, Done}
+use Rattle.nfs_ops.specs.declared.op_kind.OpKind.TheVariants as kinds
+use Rattle.nfs_client.specs.Commands.{AskGives}
+use Rattle.nfs_client.specs.Paging.{itself}
+use Rattle.nfs_client.specs.Routes.{Route, near, along, route_behind}
+use Rattle.nfs_client.specs.Taking.{last_of}
+use Rattle.nfs_client.specs.declared.client.Client.{Client}
+use Rattle.nfs_client.specs.declared.fault.ToolFault.{ToolFault}
+use Rattle.nfs_client.specs.declared.fault.ToolFault.TheVariants.{Memory}
+
+abbrev pub get_handle : Operation
+get_handle = Known kinds.GetFh tt
+
+abbrev pub handle_of : Outcome → Option (List ℕ)
+handle_of (Done kinds.GetFh v) = Some v
+handle_of _ = None
+
+abbrev pub handle_in : List Outcome → Option (List ℕ)
+handle_in results = option_and_then handle_of (last_of results)
+
+-- GETFH at the end of a route
+abbrev pub approach : {S A : Type 0} → Client S A → Route → List Operation
+approach client route = along client route get_handle
+
+module _ {S A : Type 0} (contents remaining : S → Option (List ℕ)) where
+  -- the exchange that walks a route's first names
+  abbrev pub ApproachGives : Route → Client S A → Client S A → Result (List ℕ) ToolFault → Type 0
+  ApproachGives route old new result = AskGives contents remaining handle_in itself true (approach old (near route)) old new result
+
+  -- An approach for each of these filehandles, the last first: each got its filehandle, and more names than so many were left before it.
+  -- No other command runs until this command is over.
+  abbrev pub Approaches : ℕ → List (List ℕ) → Client S A → List (List ℕ) → Client S A → Type 0
+  Approaches most names old [] new = new ≡ old
+  Approaches most names old (handle ∷ before) new =
+      (mid : Client S A) × (last : Client S A) × Approaches most names old before mid × (most < length (route_behind names before).names)
+      × ApproachGives (route_behind names before) mid last (Ok handle) × (new ≡ record last { usable = false })
+
+  -- The next approach fails, where one is still needed. Where memory is refused no operation was asked, or no other command runs.
+  abbrev pub WalkFails : ℕ → List (List ℕ) → Client S A → Client S A → ToolFault → Type 0
+  WalkFails most names old new Memory = (new ≡ old) ⊎ (new.usable ≡ false)
+  WalkFails most names old new fault =
+      (mid : Client S A) × (before : List (List ℕ)) × Approaches most names old before mid × (most < length (route_behind names before).names)
+      × ApproachGives (route_behind names before) mid new (Err fault)
+
+  -- Approaches lead to a route with at most so many names left; or an approach fails.
+  abbrev pub WalkGives : {X : Type 0} → (X → Route) → ℕ → List (List ℕ) → Client S A → Client S A → Result X ToolFault → Type 0
+  WalkGives value most names old new (Ok x) =
+      (handles : List (List ℕ)) × Approaches most names old handles new × (value x ≡ route_behind names handles) × (length (value x).names ≤ most)
+  WalkGives value most names old new (Err fault) = WalkFails most names old new fault

@@ -1,0 +1,79 @@
+-- cat: the bytes of a file, read without an open up to its end.
+use Rattle.std.specs.Prelude.{◌≡◌, ℕ, Bool, true, List, [], ◌∷◌, ◌++◌, length, Option, Some, None, option_and_then, Result, Ok, Err}
+use Rattle.nfs_types.specs.StateIds.{anonymous}
+use Rattle.nfs_ops.specs.Operations.{Operation, Known}
+use Rattle.nfs_ops.specs.Results.{Outcome, Done}
+use Rattle.nfs_ops.specs.declared.op_kind.OpKind.TheVariants as kinds
+use Rattle.nfs_ops.specs.declared.read.ReadResult.{ReadResult}
+use Rattle.nfs_client.specs.Access.{NoPath}
+use Rattle.nfs_client.specs.Compound.{Said}
+use Rattle.nfs_client.specs.Paths.{names_in}
+use Rattle.nfs_client.specs.Taking.{last_of, SaidGives}
+use Rattle.nfs_client.specs.Commands.{AskGives, Commanded}
+use Rattle.nfs_client.specs.Paging.{Paging, PagesGive, itself}
+use Rattle.nfs_client.specs.Routes.{Route, along, most_names}
+use Rattle.nfs_client.specs.Walking.{Walked}
+use Rattle.nfs_client.specs.declared.client.Client.{Client}
+use Rattle.nfs_client.specs.declared.fault.ToolFault.{ToolFault}
+
+-- bytes of a file, and whether the file ends behind them
+pub record Piece : Type 0 where
+  pub bytes : List ℕ
+  pub eof : Bool
+
+-- READ of at most 32,768 bytes from an offset on, by the anonymous stateid
+abbrev pub read : ℕ → Operation
+read offset = Known kinds.Read (anonymous, (offset, 32768))
+
+abbrev pub piece_of : Outcome → Option Piece
+piece_of (Done kinds.Read v) = Some (record { bytes = v.1; eof = v.0 })
+piece_of _ = None
+
+abbrev pub piece_in : List Outcome → Option Piece
+piece_in results = option_and_then piece_of (last_of results)
+
+abbrev pub piece_value : ReadResult → Piece
+piece_value r = record { bytes = r.data.bytes.now; eof = r.eof }
+
+-- the bytes of pieces, the last piece first
+abbrev pub bytes_of : List Piece → List ℕ
+bytes_of [] = []
+bytes_of (p ∷ before) = bytes_of before ++ p.bytes
+
+-- the operations that read from an offset on
+abbrev pub read_from : {S A : Type 0} → Route → Client S A → ℕ → List Operation
+read_from route client offset = along client route (read offset)
+
+-- Each READ begins behind the bytes read so far.
+abbrev pub read_behind : {S A : Type 0} → Route → Client S A → List ℕ → List Operation
+read_behind route client bytes = read_from route client (length bytes)
+
+abbrev pub by_pieces : {S A : Type 0} → (S → Option (List ℕ)) → (S → Option (List ℕ)) → Route → Paging S A Piece
+by_pieces contents remaining route = record {
+  contents = contents;
+  remaining = remaining;
+  asks = λ client before. read_behind route client (bytes_of before);
+  taken = piece_in;
+  ends = λ p. p.eof;
+}
+
+abbrev pub piece_with : List ℕ → Bool → Piece
+piece_with bytes eof = record { bytes = bytes; eof = eof }
+
+-- a piece that is put behind the bytes read so far
+abbrev pub PieceTaken : Said → List ℕ → List ℕ → Result Bool ToolFault → Type 0
+PieceTaken said old new (Ok eof) = (bytes : List ℕ) × SaidGives (piece_with bytes) piece_in said (Ok eof) × (new ≡ old ++ bytes)
+PieceTaken said old new (Err fault) = SaidGives (piece_with []) piece_in said (Err fault)
+
+-- the exchange of a piece, which is put behind the bytes read so far
+abbrev pub ReadGives : {S A : Type 0} → (S → Option (List ℕ)) → (S → Option (List ℕ)) → Route → List ℕ → List ℕ → Client S A → Client S A → Result Bool ToolFault → Type 0
+ReadGives contents remaining route old_bytes new_bytes old new (Ok eof) =
+    (bytes : List ℕ) × AskGives contents remaining piece_in itself true (read_behind route old old_bytes) old new (Ok (piece_with bytes eof)) × (new_bytes ≡ old_bytes ++ bytes)
+ReadGives contents remaining route old_bytes new_bytes old new (Err fault) =
+    AskGives {X = Piece} contents remaining piece_in itself true (read_behind route old old_bytes) old new (Err fault)
+
+-- the bytes of the file at the path; or the path is wrong, and no operation is asked
+abbrev pub CatGives : {S A X : Type 0} → (S → Option (List ℕ)) → (S → Option (List ℕ)) → (X → List ℕ) → List ℕ → Client S A → Client S A → Result X ToolFault → Type 0
+CatGives contents remaining value path old new result =
+    Commanded (NoPath path) (λ told. (names : List (List ℕ)) × (names_in path ≡ Some names)
+    × Walked contents remaining most_names names (λ route mid r. PagesGive (by_pieces contents remaining route) value bytes_of mid new r) old new told) old new result

@@ -1,0 +1,47 @@
+-- The state of a client, and the outcome of an exchange.
+use Rattle.std.specs.Prelude.{◌≡◌, ◌⊎◌, ℕ, ◌+◌, ◌%◌, ◌^◌, false, List, [], Option, Result, Ok, Err}
+use Rattle.rpc_record.specs.Identity.{Identity, identity}
+use Rattle.nfs_ops.specs.Operations.{Operation}
+use Rattle.nfs_client.specs.Compound.{IsCall}
+use Rattle.nfs_client.specs.Requests.{asked_of}
+use Rattle.nfs_client.specs.Streams.{Talked, TalkFails}
+use Rattle.nfs_client.specs.declared.client.Client.{Client}
+use Rattle.nfs_client.specs.declared.client.Reply.{Reply as ReplyOf}
+use Rattle.nfs_client.specs.declared.fault.ToolFault.{ToolFault}
+use Rattle.nfs_client.specs.declared.fault.ToolFault.TheVariants.{Memory}
+
+-- the caller: the user, with one group alone
+abbrev pub caller_of : {S A : Type 0} → Client S A → Identity
+caller_of client = identity client.uid client.gid []
+
+-- One exchange over a stream: a call of these operations is written, and behind it a record is read.
+pub record Exchange {S : Type 0} (contents remaining : S → Option (List ℕ)) (old new : S) (xid : ℕ) (caller : Identity) (ops : List Operation) (content : List ℕ) : Type 0 where
+  pub call : List ℕ
+  pub is_call : IsCall xid caller ops call
+  pub talked : Talked contents remaining old new call content
+
+-- An exchange that failed: a front of the call was written, or all of the call and no record was read behind it.
+pub record Failing {S : Type 0} (contents : S → Option (List ℕ)) (old new : S) (xid : ℕ) (caller : Identity) (ops : List Operation) (fault : ToolFault) : Type 0 where
+  pub call : List ℕ
+  pub is_call : IsCall xid caller ops call
+  pub failed : TalkFails contents old new call fault
+
+-- the next number
+abbrev pub next : ℕ → ℕ
+next number = (number + 1) % 2 ^ 32
+
+-- the client's state behind an exchange that was begun
+pub record Begun {S A : Type 0} (old new : Client S A) : Type 0 where
+  pub unusable : new.usable ≡ false
+  pub advanced : new.xid ≡ next old.xid
+  pub uid : new.uid ≡ old.uid
+  pub gid : new.gid ≡ old.gid
+  pub client : new.client ≡ old.client
+  pub session : new.session ≡ old.session
+  pub number : new.number ≡ old.number
+
+-- the record that was read; or no bytes were written for want of memory; or the fault for which no record was read
+abbrev pub ExchangeGives : {S A : Type 0} → (S → Option (List ℕ)) → (S → Option (List ℕ)) → List Operation → Client S A → Client S A → Result (ReplyOf A) ToolFault → Type 0
+ExchangeGives contents remaining ops old new (Ok reply) =
+    Begun old new × (reply.xid ≡ old.xid) × (reply.asked.items ≡ asked_of ops) × Exchange contents remaining old.stream new.stream old.xid (caller_of old) ops reply.content.items
+ExchangeGives contents remaining ops old new (Err fault) = ((fault ≡ Memory) × (new ≡ old)) ⊎ (Begun old new × Failing contents old.stream new.stream old.xid (caller_of old) ops fault)

@@ -1,0 +1,110 @@
+-- The operations of a command, and its outcome.
+use Rattle.std.specs.Prelude.{◌≡◌, ◌⊎◌, ℕ, ◌==◌, ◌&&◌, not, Bool, true, false, if◌then◌else◌, List, [], ◌∷◌, ◌++◌, map, Option, Some, None, Result, Ok, Err}
+use Rattle.nfs_types.specs.Status as statuses
+use Rattle.nfs_ops.specs.Operations.{Operation, Known}
+use Rattle.nfs_ops.specs.Results.{Outcome}
+use Rattle.nfs_ops.specs.declared.op_kind.OpKind.TheVariants as kinds
+use Rattle.nfs_client.specs.Paths.{names_in}
+use Rattle.nfs_client.specs.Compound.{Answer, AllDone, LastRefused, NoReply, said}
+use Rattle.nfs_client.specs.Requests.{asked_of}
+use Rattle.nfs_client.specs.Client.{Exchange, Failing, caller_of, next}
+use Rattle.nfs_client.specs.declared.client.Client.{Client}
+use Rattle.nfs_client.specs.declared.fault.ToolFault.{ToolFault}
+use Rattle.nfs_client.specs.declared.fault.ToolFault.TheVariants.{Path, Refused, Reply, Read, Write, Memory, Entry, Failed}
+
+-- ---- operations
+
+-- SEQUENCE on slot 0, the only slot, by the slot's next number
+abbrev pub sequence : {S A : Type 0} → Client S A → Operation
+sequence client = Known kinds.Sequence (client.session, (client.number, (0, (0, false))))
+
+abbrev pub lookup : List ℕ → Operation
+lookup name = Known kinds.Lookup name
+
+abbrev pub lookups : List (List ℕ) → List Operation
+lookups names = map lookup names
+
+-- ---- words
+
+-- the path is the directory's path from the root on, with this name behind it
+abbrev pub IsIn : List ℕ → List (List ℕ) → List ℕ → Type 0
+IsIn path directory name = names_in path ≡ Some (directory ++ name ∷ [])
+
+-- the text is no path, or it is `/`, which has no last name
+abbrev pub HasNoName : List ℕ → Type 0
+HasNoName path = (names_in path ≡ None) ⊎ (names_in path ≡ Some [])
+
+-- ---- outcomes
+
+-- an exchange whose reply has this answer
+abbrev pub Answered : {S A : Type 0} → (S → Option (List ℕ)) → (S → Option (List ℕ)) → List Operation → Client S A → Client S A → Answer → Type 0
+Answered contents remaining ops old new answer =
+    (content : List ℕ) × Exchange contents remaining old.stream new.stream old.xid (caller_of old) ops content × ((said old.xid (asked_of ops) content).answer ≡ answer)
+
+-- an exchange whose reply has all operations OK, and this value, taken of its results
+abbrev pub Told : {S A V : Type 0} → (S → Option (List ℕ)) → (S → Option (List ℕ)) → (List Outcome → Option V) → List Operation → Client S A → Client S A → Option V → Type 0
+Told contents remaining taken ops old new v =
+    (content : List ℕ) × Exchange contents remaining old.stream new.stream old.xid (caller_of old) ops content
+    × ((said old.xid (asked_of ops) content).answer ≡ AllDone) × (taken (said old.xid (asked_of ops) content).results ≡ v)
+
+-- The number of the slot's next call behind a call in the session, or behind any other call.
+abbrev pub number_behind : Bool → ℕ → ℕ
+number_behind in_session number = if in_session then next number else number
+
+-- A refused SEQUENCE (53) doesn't take the number.
+abbrev pub takes_number : Bool → ℕ → Bool
+takes_number in_session op = in_session && not (op == 53)
+
+-- the client's state behind an exchange by its reply
+abbrev pub Concludes : {S A X : Type 0} → Bool → Result X ToolFault → Client S A → Client S A → Type 0
+Concludes in_session (Ok x) old new = new ≡ record old { usable = true; number = number_behind in_session old.number }
+Concludes in_session (Err (Refused op status)) old new = new ≡ record old { usable = true; number = number_behind (takes_number in_session op) old.number }
+Concludes in_session (Err fault) old new = new ≡ old
+
+-- Where memory was refused behind an exchange, no other command runs in the end.
+abbrev pub Spoils : {S A X : Type 0} → Result X ToolFault → Client S A → Client S A → Type 0
+Spoils (Err Memory) old new = new ≡ record old { usable = false }
+Spoils told old new = new ≡ old
+
+-- the exchange is over, and the next call of the slot has this number
+pub record Settled {S A : Type 0} (old new : Client S A) (number : ℕ) : Type 0 where
+  pub usable : new.usable ≡ true
+  pub advanced : new.xid ≡ next old.xid
+  pub uid : new.uid ≡ old.uid
+  pub gid : new.gid ≡ old.gid
+  pub client : new.client ≡ old.client
+  pub session : new.session ≡ old.session
+  pub numbered : new.number ≡ number
+
+-- No other command runs: no record was read behind the call, or a record that isn't a reply to the call.
+abbrev pub GivesUp : {S A : Type 0} → (S → Option (List ℕ)) → List Operation → Client S A → Client S A → ToolFault → Type 0
+GivesUp contents ops old new fault = (new.usable ≡ false) × Failing contents old.stream new.stream old.xid (caller_of old) ops fault
+
+-- A record was read that is no reply to the call, or a reply whose results have no such value.
+abbrev pub NoAnswer : {S A V : Type 0} → (S → Option (List ℕ)) → (S → Option (List ℕ)) → (List Outcome → Option V) → List Operation → Client S A → Client S A → Type 0
+NoAnswer contents remaining taken ops old new =
+    (new.usable ≡ false) × (Answered contents remaining ops old new NoReply ⊎ Told contents remaining taken ops old new None)
+
+-- The outcome of operations with a value of their results: the value was taken; or the last operation run was refused; or no other command
+-- runs.
+abbrev pub AskGives : {S A X V : Type 0} → (S → Option (List ℕ)) → (S → Option (List ℕ)) → (List Outcome → Option V) → (X → V) → Bool → List Operation → Client S A → Client S A → Result X ToolFault → Type 0
+AskGives contents remaining taken value in_session ops old new (Ok x) =
+    Told contents remaining taken ops old new (Some (value x)) × Settled old new (number_behind in_session old.number)
+AskGives contents remaining taken value in_session ops old new (Err (Refused op status)) =
+    Answered contents remaining ops old new (LastRefused op (statuses.number_of status)) × Settled old new (number_behind (takes_number in_session op) old.number)
+AskGives contents remaining taken value in_session ops old new (Err Memory) = (new ≡ old) ⊎ (new.usable ≡ false)
+AskGives contents remaining taken value in_session ops old new (Err Reply) = GivesUp contents ops old new Reply ⊎ NoAnswer contents remaining taken ops old new
+AskGives contents remaining taken value in_session ops old new (Err Read) = GivesUp contents ops old new Read
+AskGives contents remaining taken value in_session ops old new (Err Write) = GivesUp contents ops old new Write
+AskGives contents remaining taken value in_session ops old new (Err Path) = ⊥
+AskGives contents remaining taken value in_session ops old new (Err Entry) = ⊥
+AskGives contents remaining taken value in_session ops old new (Err Failed) = ⊥
+
+-- The outcome of a command, unless its words are wrong: then no operation is asked. On a client that isn't usable no command runs. Where
+-- memory is refused no operation was asked, or no other command runs.
+abbrev pub Commanded : {S A X : Type 0} → (ToolFault → Type 0) → (Result X ToolFault → Type 0) → Client S A → Client S A → Result X ToolFault → Type 0
+Commanded wrong gives old new (Err Failed) = (old.usable ≡ false) × (new ≡ old)
+Commanded wrong gives old new (Err Path) = wrong Path × (new ≡ old)
+Commanded wrong gives old new (Err Entry) = wrong Entry × (new ≡ old)
+Commanded wrong gives old new (Err Memory) = (new ≡ old) ⊎ (new.usable ≡ false)
+Commanded wrong gives old new result = gives result

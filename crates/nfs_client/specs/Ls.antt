@@ -1,0 +1,152 @@
+-- ls: the entries of a directory as lines, page by page up to its end.
+use Rattle.std.specs.Prelude.{◌≡◌, ℕ, ◌==◌, ◌||◌, Bool, true, List, [], ◌∷◌, ◌++◌, map, replicate, Option, Some, None, option_map, option_and_then, Result, Ok, Err}
+use Rattle.xdr_wire.specs.Xdr.{Value}
+use Rattle.xdr_wire.specs.declared.fault.XdrFault.{XdrFault}
+use Rattle.nfs_types.specs.Seen.{Seen, seen_of}
+use Rattle.nfs_types.specs.Sets.{has_number}
+use Rattle.nfs_ops.specs.Forms.{set_of, values_of, entry, entry_cookie, entry_name, entry_attributes, readdir_result}
+use Rattle.nfs_ops.specs.Operations.{Operation, Known}
+use Rattle.nfs_ops.specs.Results.{Outcome, Done}
+use Rattle.nfs_ops.specs.declared.op_kind.OpKind.TheVariants as kinds
+use Rattle.nfs_client.specs.Compound.{Said}
+use Rattle.nfs_client.specs.Paths.{names_in}
+use Rattle.nfs_client.specs.Lines.{Listed, line, lines_of}
+use Rattle.nfs_client.specs.Taking.{last_of, SaidGives}
+use Rattle.nfs_client.specs.Access.{NoPath}
+use Rattle.nfs_client.specs.Commands.{AskGives, Commanded}
+use Rattle.nfs_client.specs.Paging.{Paging, PagesGive, itself}
+use Rattle.nfs_client.specs.Routes.{Route, along, most_names}
+use Rattle.nfs_client.specs.Walking.{Walked}
+use Rattle.nfs_client.specs.declared.client.Client.{Client}
+use Rattle.nfs_client.specs.declared.ls.Listing.{Listing}
+use Rattle.nfs_client.specs.declared.fault.ToolFault.{ToolFault}
+use Rattle.nfs_client.specs.declared.fault.ToolFault.TheVariants.{Reply, Memory}
+
+-- ---- calls
+
+-- 1 type, 4 size, 11 rdattr_error, 33 mode, 36 owner, 37 owner_group
+abbrev pub is_listed : ℕ → Bool
+is_listed n = (n == 1) || (n == 4) || (n == 11) || (n == 33) || (n == 36) || (n == 37)
+
+-- the set of these attributes
+abbrev pub AreListed : List ℕ → Type 0
+AreListed set = (n : ℕ) → has_number set n ≡ is_listed n
+
+-- READDIR of the entries behind a cookie, of at most 32,768 bytes. The verifier is zero, as in each reply that is taken; a dircount of
+-- zero sets no bound.
+abbrev pub readdir : List ℕ → ℕ → Operation
+readdir set cookie = Known kinds.ReadDir (cookie, (replicate 8 0, (0, (32768, set))))
+
+abbrev pub list_from : {S A : Type 0} → Route → List ℕ → Client S A → ℕ → List Operation
+list_from route set client cookie = along client route (readdir set cookie)
+
+-- ---- results
+
+-- the known attributes of an entry
+abbrev pub listed_by : List ℕ → Seen → Listed
+listed_by name s = record { kind = s.kind; mode = s.mode; owner = s.owner; group = s.group; size = s.size; name = name }
+
+-- the line of an entry of this name
+abbrev pub line_by : List ℕ → Result Seen XdrFault → Option (List ℕ)
+line_by name (Ok seen) = Some (line (listed_by name seen))
+line_by name (Err fault) = None
+
+-- the line of an entry whose attributes can be read
+abbrev pub line_in : Value entry → Option (List ℕ)
+line_in e = line_by (entry_name e) (seen_of (set_of (entry_attributes e)) (values_of (entry_attributes e)))
+
+-- the lines of entries, each with a newline behind it
+abbrev pub lines_in : List (Value entry) → Option (List ℕ)
+lines_in entries = lines_of line_in entries
+
+-- the lines of a page's entries, their cookies, and whether the directory ends behind them
+pub record Page : Type 0 where
+  pub text : List ℕ
+  pub cookies : List ℕ
+  pub eof : Bool
+
+abbrev pub page_with : List ℕ → List ℕ → Bool → Page
+page_with text cookies eof = record { text = text; cookies = cookies; eof = eof }
+
+abbrev pub page_by : Value readdir_result → Option Page
+page_by v = option_map (λ text. page_with text (map entry_cookie v.1.0) v.1.1) (lines_in v.1.0)
+
+abbrev pub page_of : Outcome → Option Page
+page_of (Done kinds.ReadDir v) = page_by v
+page_of _ = None
+
+abbrev pub page_in : List Outcome → Option Page
+page_in results = option_and_then page_of (last_of results)
+
+-- ---- page by page, the last page first
+
+-- the lines of pages
+abbrev pub text_of : List Page → List ℕ
+text_of [] = []
+text_of (p ∷ before) = text_of before ++ p.text
+
+-- the last of some cookies, or this one where there are none
+abbrev pub last_or : ℕ → List ℕ → ℕ
+last_or cookie [] = cookie
+last_or cookie (c ∷ cookies) = last_or c cookies
+
+-- the cookie of the last entry of pages, 0 before the first
+abbrev pub cookie_of : List Page → ℕ
+cookie_of [] = 0
+cookie_of (p ∷ before) = last_or (cookie_of before) p.cookies
+
+-- Each READDIR begins behind the last entry of the pages so far.
+abbrev pub by_listings : {S A : Type 0} → (S → Option (List ℕ)) → (S → Option (List ℕ)) → Route → List ℕ → Paging S A Page
+by_listings contents remaining route set = record {
+  contents = contents;
+  remaining = remaining;
+  asks = λ client before. list_from route set client (cookie_of before);
+  taken = page_in;
+  ends = λ p. p.eof;
+}
+
+-- ---- outcomes
+
+-- lines are put behind the earlier ones
+pub record GoesOn {A : Type 0} (old new : Listing A) (text cookies : List ℕ) : Type 0 where
+  pub lines : new.text.items ≡ old.text.items ++ text
+  pub behind : new.cookie ≡ last_or old.cookie cookies
+
+-- an entry's line, if it has one
+abbrev pub PutsEntry : {A : Type 0} → Listing A → Listing A → Value entry → Result (Unit {0}) ToolFault → Type 0
+PutsEntry old new e (Ok done) = (text : List ℕ) × (line_in e ≡ Some text) × GoesOn old new (text ++ 10 ∷ []) (entry_cookie e ∷ [])
+PutsEntry old new e (Err Reply) = line_in e ≡ None
+PutsEntry old new e (Err Memory) = Unit {0}
+PutsEntry old new e (Err fault) = ⊥
+
+abbrev pub PutsEntries : {A : Type 0} → Listing A → Listing A → List (Value entry) → Result (Unit {0}) ToolFault → Type 0
+PutsEntries old new entries (Ok done) = (text : List ℕ) × (lines_in entries ≡ Some text) × GoesOn old new text (map entry_cookie entries)
+PutsEntries old new entries (Err Reply) = lines_in entries ≡ None
+PutsEntries old new entries (Err Memory) = Unit {0}
+PutsEntries old new entries (Err fault) = ⊥
+
+-- a page's lines, if there is one, and whether it is the last
+abbrev pub PutsPage : {A : Type 0} → Listing A → Listing A → Option Page → Result Bool ToolFault → Type 0
+PutsPage old new page (Ok eof) = (text : List ℕ) × (cookies : List ℕ) × (page ≡ Some (page_with text cookies eof)) × GoesOn old new text cookies
+PutsPage old new page (Err Reply) = page ≡ None
+PutsPage old new page (Err Memory) = Unit {0}
+PutsPage old new page (Err fault) = ⊥
+
+-- the lines of the page in a reply
+abbrev pub PageTaken : {A : Type 0} → Said → Listing A → Listing A → Result Bool ToolFault → Type 0
+PageTaken said old new (Ok eof) = (text : List ℕ) × (cookies : List ℕ) × SaidGives (page_with text cookies) page_in said (Ok eof) × GoesOn old new text cookies
+PageTaken said old new (Err fault) = SaidGives (page_with [] []) page_in said (Err fault)
+
+-- the exchange of a page, whose lines are put behind those of the pages before it
+abbrev pub ListGives : {S A : Type 0} → (S → Option (List ℕ)) → (S → Option (List ℕ)) → Route → List ℕ → Listing A → Listing A → Client S A → Client S A → Result Bool ToolFault → Type 0
+ListGives contents remaining route set listing listing' old new (Ok eof) =
+    (text : List ℕ) × (cookies : List ℕ) × AskGives contents remaining page_in itself true (list_from route set old listing.cookie) old new (Ok (page_with text cookies eof))
+    × GoesOn listing listing' text cookies
+ListGives contents remaining route set listing listing' old new (Err fault) =
+    AskGives {X = Page} contents remaining page_in itself true (list_from route set old listing.cookie) old new (Err fault)
+
+-- the lines of all entries of the directory at the path; or the path is wrong, and no operation is asked
+abbrev pub LsGives : {S A X : Type 0} → (S → Option (List ℕ)) → (S → Option (List ℕ)) → (X → List ℕ) → List ℕ → Client S A → Client S A → Result X ToolFault → Type 0
+LsGives contents remaining value path old new result =
+    Commanded (NoPath path) (λ told. (names : List (List ℕ)) × (set : List ℕ) × (names_in path ≡ Some names) × AreListed set
+    × Walked contents remaining most_names names (λ route mid r. PagesGive (by_listings contents remaining route set) value text_of mid new r) old new told) old new result

@@ -1,0 +1,49 @@
+-- Commands that ask page by page up to an end. The operations of each page depend on the pages before it, the last of them first.
+use Rattle.std.specs.Prelude.{◌≡◌, ◌⊎◌, ℕ, Bool, true, false, List, [], ◌∷◌, length, Option, Result, Ok, Err}
+use Rattle.nfs_ops.specs.Operations.{Operation}
+use Rattle.nfs_ops.specs.Results.{Outcome}
+use Rattle.nfs_client.specs.Commands.{AskGives}
+use Rattle.nfs_client.specs.declared.client.Client.{Client}
+use Rattle.nfs_client.specs.declared.fault.ToolFault.{ToolFault}
+use Rattle.nfs_client.specs.declared.fault.ToolFault.TheVariants.{Reply, Memory}
+
+-- the most calls of one command
+abbrev pub most_calls : ℕ
+most_calls = 10000
+
+abbrev pub itself : {V : Type 0} → V → V
+itself v = v
+
+-- Pages: the operations behind earlier pages, the value of their results, and whether it is the last page.
+pub record Paging (S A V : Type 0) : Type 0 where
+  pub contents : S → Option (List ℕ)
+  pub remaining : S → Option (List ℕ)
+  pub asks : Client S A → List V → List Operation
+  pub taken : List Outcome → Option V
+  pub ends : V → Bool
+
+module _ {S A V : Type 0} (paging : Paging S A V) where
+  -- the outcome of the exchange behind these pages
+  abbrev pub PageGives : List V → Client S A → Client S A → Result V ToolFault → Type 0
+  PageGives before old new result = AskGives paging.contents paging.remaining paging.taken itself true (paging.asks old before) old new result
+
+  -- an exchange for each of these pages, none of which is the last
+  abbrev pub Goes : Client S A → List V → Client S A → Type 0
+  Goes old [] new = new ≡ old
+  Goes old (v ∷ before) new = (mid : Client S A) × Goes old before mid × (paging.ends v ≡ false) × PageGives before mid new (Ok v)
+
+  -- the exchange behind some pages fails
+  abbrev pub Stops : Client S A → Client S A → ToolFault → Type 0
+  Stops old new fault = (mid : Client S A) × (before : List V) × Goes old before mid × PageGives before mid new (Err fault)
+
+  -- the most pages came, and none of them was the last
+  abbrev pub IsTooLong : Client S A → Client S A → Type 0
+  IsTooLong old new = (mid : Client S A) × (before : List V) × Goes old before mid × (length before ≡ most_calls) × (new.usable ≡ false)
+
+  -- All pages up to the last; or an exchange fails; or there are too many.
+  abbrev pub PagesGive : {X W : Type 0} → (X → W) → (List V → W) → Client S A → Client S A → Result X ToolFault → Type 0
+  PagesGive value whole old new (Ok x) =
+      (mid : Client S A) × (before : List V) × (last : V) × Goes old before mid × PageGives before mid new (Ok last) × (paging.ends last ≡ true) × (value x ≡ whole (last ∷ before))
+  PagesGive value whole old new (Err Memory) = (new ≡ old) ⊎ (new.usable ≡ false)
+  PagesGive value whole old new (Err Reply) = Stops old new Reply ⊎ IsTooLong old new
+  PagesGive value whole old new (Err fault) = Stops old new fault

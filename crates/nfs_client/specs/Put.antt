@@ -1,0 +1,148 @@
+-- put: a file is opened for writing and emptied, a text is written to the file piece by piece, and the file is closed.
+use Rattle.std.specs.Prelude.{◌≡◌, ◌⊎◌, ℕ, nat_le, ◌&&◌, true, false, if◌then◌else◌, sum, List, [], ◌∷◌, ◌++◌, length, take, drop, Option, Some, None, option_and_then, option_map, Result, Ok, Err}
+use Rattle.std.proofs.Common.{inl, inr}
+use Rattle.xdr_wire.specs.Xdr.{Value}
+use Rattle.nfs_types.specs.Forms.{stateid}
+use Rattle.nfs_types.specs.Seen.{Seen, shown_set, shown_values}
+use Rattle.nfs_types.specs.declared.status.Status.{Status}
+use Rattle.nfs_ops.specs.Operations.{Operation, Known}
+use Rattle.nfs_ops.specs.Results.{Outcome, Done}
+use Rattle.nfs_ops.specs.declared.op_kind.OpKind.TheVariants as kinds
+use Rattle.nfs_client.specs.Sessions.{owner}
+use Rattle.nfs_client.specs.Setting.{of_size}
+use Rattle.nfs_client.specs.Taking.{last_of, last_two, nothing, takes_nothing}
+use Rattle.nfs_client.specs.Approach.{get_handle, handle_of}
+use Rattle.nfs_client.specs.Commands.{sequence, IsIn, AskGives, Commanded}
+use Rattle.nfs_client.specs.Rm.{WrongPath}
+use Rattle.nfs_client.specs.Routes.{Route, walk, most_before_two}
+use Rattle.nfs_client.specs.Walking.{Walked}
+use Rattle.nfs_client.specs.Paging.{itself}
+use Rattle.nfs_client.specs.declared.client.Client.{Client}
+use Rattle.nfs_client.specs.declared.fault.ToolFault.{ToolFault}
+use Rattle.nfs_client.specs.declared.fault.ToolFault.TheVariants.{Refused, Memory}
+
+-- ---- operations
+
+-- OPEN for writing (2), which denies others no access, of the file of this name, which is created where there is none (UNCHECKED4), with
+-- the set of these attributes and these values
+abbrev pub open_by : Seen → List ℕ → ℕ → List ℕ → Operation
+open_by s values client name = Known kinds.Open (0, (2, (0, (client, (owner, (inr (inl (inl (shown_set s, values))), inl name))))))
+
+-- The size is 0, also where the file exists.
+abbrev pub open_emptied : ℕ → List ℕ → Operation
+open_emptied client name = open_by (of_size 0) (shown_values (of_size 0)) client name
+
+abbrev pub put_handle : List ℕ → Operation
+put_handle handle = Known kinds.PutFh handle
+
+-- WRITE from an offset on, to stable storage (FILE_SYNC4)
+abbrev pub write : Value stateid → ℕ → List ℕ → Operation
+write s offset bytes = Known kinds.Write (s, (offset, (inr (inr (inl tt)), bytes)))
+
+abbrev pub close : Value stateid → Operation
+close s = Known kinds.Close (0, s)
+
+-- ---- results
+
+-- an open of a file: its stateid, and the file's handle
+pub record Open : Type 0 where
+  pub stateid : Value stateid
+  pub handle : List ℕ
+
+abbrev pub stateid_of : Outcome → Option (Value stateid)
+stateid_of (Done kinds.Open v) = Some v.0
+stateid_of _ = None
+
+-- the open of an OPEN and of the GETFH behind it
+abbrev pub open_of : Outcome × Outcome → Option Open
+open_of p = option_and_then (λ s. option_map (λ h. record { stateid = s; handle = h }) (handle_of p.1)) (stateid_of p.0)
+
+abbrev pub open_in : List Outcome → Option Open
+open_in results = option_and_then open_of (last_two results)
+
+-- The count of a WRITE, of so many bytes that were sent: at least one.
+abbrev pub count_within : ℕ → ℕ → Option ℕ
+count_within sent n = if nat_le 1 n && nat_le n sent then Some n else None
+
+abbrev pub written_of : ℕ → Outcome → Option ℕ
+written_of sent (Done kinds.Write v) = count_within sent v.0
+written_of sent _ = None
+
+abbrev pub written_in : ℕ → List Outcome → Option ℕ
+written_in sent results = option_and_then (written_of sent) (last_of results)
+
+-- ---- calls
+
+-- the names of the path's directory, and the operation at their end
+abbrev pub OpenAsks : ℕ → List ℕ → List (List ℕ) → Operation → Type 0
+OpenAsks client path directory op = (name : List ℕ) × IsIn path directory name × (op ≡ open_emptied client name)
+
+-- an OPEN at the end of a route, and GETFH behind it
+abbrev pub open_along : {S A : Type 0} → Client S A → Route → Operation → List Operation
+open_along client route op = sequence client ∷ walk route ++ op ∷ get_handle ∷ []
+
+abbrev pub write_to : {S A : Type 0} → Client S A → Open → ℕ → List ℕ → List Operation
+write_to client o offset bytes = sequence client ∷ put_handle o.handle ∷ write o.stateid offset bytes ∷ []
+
+abbrev pub close_it : {S A : Type 0} → Client S A → Open → List Operation
+close_it client o = sequence client ∷ put_handle o.handle ∷ close o.stateid ∷ []
+
+-- At most 32,768 bytes are written at once.
+abbrev pub piece : List ℕ → List ℕ
+piece left = take 32768 left
+
+-- ---- outcomes
+
+-- the answer to a refused WRITE behind its CLOSE: the refusal, unless the CLOSE ends by a fault that is no refusal
+abbrev pub told_behind : ℕ → Status → Result (Unit {0}) ToolFault → Result (Unit {0}) ToolFault
+told_behind op status (Ok done) = Err (Refused op status)
+told_behind op status (Err (Refused n s)) = Err (Refused op status)
+told_behind op status (Err fault) = Err fault
+
+module _ {S A : Type 0} (contents remaining : S → Option (List ℕ)) (o : Open) where
+  abbrev pub WriteGives : ℕ → List ℕ → Client S A → Client S A → Result ℕ ToolFault → Type 0
+  WriteGives offset bytes old new result = AskGives contents remaining (written_in (length bytes)) itself true (write_to old o offset bytes) old new result
+
+  abbrev pub CloseGives : Client S A → Client S A → Result (Unit {0}) ToolFault → Type 0
+  CloseGives old new result = AskGives contents remaining takes_nothing nothing true (close_it old o) old new result
+
+  -- Each WRITE begins behind the bytes written so far. The counts of the WRITEs, the last first.
+  abbrev pub Writes : List ℕ → Client S A → List ℕ → Client S A → Type 0
+  Writes text old [] new = new ≡ old
+  Writes text old (n ∷ before) new = (mid : Client S A) × Writes text old before mid × WriteGives (sum before) (piece (drop (sum before) text)) mid new (Ok n)
+
+  -- the whole text is written; or a WRITE fails behind earlier ones
+  abbrev pub TextGives : List ℕ → Client S A → Client S A → Result (Unit {0}) ToolFault → Type 0
+  TextGives text old new (Ok done) = (counts : List ℕ) × Writes text old counts new × (sum counts ≡ length text)
+  TextGives text old new (Err fault) =
+      (mid : Client S A) × (before : List ℕ) × Writes text old before mid × WriteGives (sum before) (piece (drop (sum before) text)) mid new (Err fault)
+
+  -- The file is closed where the text is written, and where a WRITE was refused.
+  abbrev pub ClosesBehind : Result (Unit {0}) ToolFault → Client S A → Client S A → Result (Unit {0}) ToolFault → Type 0
+  ClosesBehind (Ok done) old new result = CloseGives old new result
+  ClosesBehind (Err (Refused op status)) old new result = (closed : Result (Unit {0}) ToolFault) × CloseGives old new closed × (result ≡ told_behind op status closed)
+  ClosesBehind (Err fault) old new result = (new ≡ old) × (result ≡ Err fault)
+
+  -- the text is written to the open file, which is closed
+  abbrev pub FileGives : List ℕ → Client S A → Client S A → Result (Unit {0}) ToolFault → Type 0
+  FileGives text old new (Err Memory) = new.usable ≡ false
+  FileGives text old new result = (told : Result (Unit {0}) ToolFault) × (mid : Client S A) × TextGives text old mid told × ClosesBehind told mid new result
+
+-- The file is opened, written and closed; or the OPEN fails, or a later exchange.
+abbrev pub PutFileGives : {S A : Type 0} → (S → Option (List ℕ)) → (S → Option (List ℕ)) → List ℕ → List Operation → Client S A → Client S A → Result (Unit {0}) ToolFault → Type 0
+PutFileGives {S} {A} contents remaining text ops old new (Ok done) =
+    (mid : Client S A) × (o : Open) × AskGives contents remaining open_in itself true ops old mid (Ok o) × FileGives contents remaining o text mid new (Ok done)
+PutFileGives {S} {A} contents remaining text ops old new (Err fault) =
+    AskGives {X = Open} contents remaining open_in itself true ops old new (Err fault)
+    ⊎ ((mid : Client S A) × (o : Open) × AskGives contents remaining open_in itself true ops old mid (Ok o) × FileGives contents remaining o text mid new (Err fault))
+
+-- The file is opened in a directory along these names.
+abbrev pub PutAlong : {S A : Type 0} → (S → Option (List ℕ)) → (S → Option (List ℕ)) → List (List ℕ) → Operation → List ℕ → Client S A → Client S A → Result (Unit {0}) ToolFault → Type 0
+PutAlong contents remaining names op text old new result =
+    Walked contents remaining most_before_two names (λ route mid r. PutFileGives contents remaining text (open_along mid route op) mid new r) old new result
+
+-- The file is put in its directory; or the path is wrong, and no operation is asked.
+abbrev pub PutCommandGives : {S A : Type 0} → (S → Option (List ℕ)) → (S → Option (List ℕ)) → List ℕ → List ℕ → Client S A → Client S A → Result (Unit {0}) ToolFault → Type 0
+PutCommandGives contents remaining path text old new result =
+    Commanded (WrongPath path) (λ told. (directory : List (List ℕ)) × (op : Operation) × OpenAsks old.client path directory op
+    × PutAlong contents remaining directory op text old new told) old new result

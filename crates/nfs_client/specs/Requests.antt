@@ -1,0 +1,41 @@
+-- The operations of a request, and the call that spells them.
+use Rattle.std.specs.Prelude.{◌≡◌, ℕ, List, ◌++◌, map, Some, Result, Ok, Err}
+use Rattle.std.specs.List.{flat_map, AllByRecursion}
+use Rattle.xdr_wire.specs.Buffer.{Buffer}
+use Rattle.rpc_record.specs.Records.{IsRecord}
+use Rattle.rpc_record.specs.Identity.{Identity}
+use Rattle.rpc_record.specs.Calling.{call_bytes}
+use Rattle.nfs_ops.specs.Operations.{Operation, number_of}
+use Rattle.nfs_client.specs.Compound.{IsSpelled, IsCall, head_bytes, op_bytes}
+use Rattle.nfs_client.specs.declared.request.Request.{Request}
+use Rattle.nfs_client.specs.declared.fault.ToolFault.{ToolFault}
+use Rattle.nfs_client.specs.declared.fault.ToolFault.TheVariants.{Memory}
+
+abbrev pub asked_of : List Operation → List ℕ
+asked_of ops = map number_of ops
+
+-- the request holds these operations
+pub record Asks {A : Type 0} (request : Request A) (ops : List Operation) : Type 0 where
+  pub bytes : request.body.bytes ≡ flat_map op_bytes ops
+  pub numbers : request.asked.items ≡ asked_of ops
+  pub spelled : AllByRecursion IsSpelled ops
+
+-- no fault but `Memory`
+abbrev pub PutGives : {X : Type 0} → Result X ToolFault → Type 0
+PutGives (Ok done) = Unit {0}
+PutGives (Err fault) = fault ≡ Memory
+
+-- the bytes before so many operations
+abbrev pub HeadGives : ℕ → Identity → ℕ → Result Buffer ToolFault → Type 0
+HeadGives xid caller count (Ok head) = head.bytes ≡ call_bytes xid (Some caller) ++ head_bytes count
+HeadGives xid caller count (Err fault) = fault ≡ Memory
+
+-- the content as one record; or there is no memory for the record, or it is longer than a record may be
+abbrev pub OneRecordGives : {X : Type 0} → (X → List ℕ) → List ℕ → Result X ToolFault → Type 0
+OneRecordGives bytes content (Ok call) = IsRecord content (bytes call)
+OneRecordGives bytes content (Err fault) = fault ≡ Memory
+
+-- the call as one record; or there is no memory for the record, or it is longer than a record may be
+abbrev pub SpellGives : {X : Type 0} → (X → List ℕ) → ℕ → Identity → List Operation → Result X ToolFault → Type 0
+SpellGives bytes xid caller ops (Ok call) = IsCall xid caller ops (bytes call)
+SpellGives bytes xid caller ops (Err fault) = fault ≡ Memory

@@ -1,0 +1,43 @@
+-- The outcome of each command, and the text of its answer.
+use Rattle.std.specs.Prelude.{ℕ, List, Option, Result, Vec}
+use Rattle.nfs_client.specs.Access.{AccessAsks, NoPath, rights_in}
+use Rattle.nfs_client.specs.AccessViews.{rights_value}
+use Rattle.nfs_client.specs.Acls.{GetAclAsks, SetAclAsks, WrongList, acl_in}
+use Rattle.nfs_client.specs.AnswerTexts.{SaysAs, says_ok, says_rights, says_text, says_line}
+use Rattle.nfs_client.specs.Cat.{CatGives}
+use Rattle.nfs_client.specs.ChMod.{ChModAsks, WrongMode}
+use Rattle.nfs_client.specs.Ln.{LnAsks, WrongPaths}
+use Rattle.nfs_client.specs.Ls.{LsGives}
+use Rattle.nfs_client.specs.MkDir.{MkDirAsks}
+use Rattle.nfs_client.specs.Mv.{MvAsks, WrongNames}
+use Rattle.nfs_client.specs.Put.{PutCommandGives}
+use Rattle.nfs_client.specs.Rm.{RmAsks, WrongPath}
+use Rattle.nfs_client.specs.Walking.{BothGive, CommandGives, CommandTells}
+use Rattle.nfs_client.specs.Words.{CommandLine, Ls, Cat, Put, MkDir, Ln, Mv, Rm, ChMod, GetAcl, SetAcl, Access}
+use Rattle.nfs_client.specs.declared.client.Client.{Client}
+use Rattle.nfs_client.specs.declared.running.Answer.{Answer}
+use Rattle.nfs_client.specs.declared.fault.ToolFault.{ToolFault}
+
+-- a command has a result by its statement, and the answer is this text of the result
+abbrev pub Tells : {A V : Type 0} → (Result V ToolFault → Type 0) → (V → List ℕ) → Result (Answer A) ToolFault → Type 0
+Tells {V = V} gives text result = (told : Result V ToolFault) × gives told × SaysAs text told result
+
+-- the bytes of the file at a path, with a newline behind them
+abbrev pub CatTells : {S A : Type 0} → (S → Option (List ℕ)) → (S → Option (List ℕ)) → List ℕ → Client S A → Client S A → Result (Answer A) ToolFault → Type 0
+CatTells {A = A} contents remaining path old new result = Tells {V = Vec ℕ A} (CatGives contents remaining says_text path old new) says_line result
+
+-- the outcome of a command, as text
+abbrev pub Runs : {S A : Type 0} → (S → Option (List ℕ)) → (S → Option (List ℕ)) → CommandLine → Client S A → Client S A → Result (Answer A) ToolFault → Type 0
+Runs {A = A} contents remaining (Ls path) old new result = Tells {V = Vec ℕ A} (LsGives contents remaining says_text path old new) says_text result
+Runs contents remaining (Cat path) old new result = CatTells contents remaining path old new result
+Runs contents remaining (Put path text) old new result = Tells (PutCommandGives contents remaining path text old new) says_ok result
+Runs contents remaining (MkDir path) old new result = Tells (CommandGives contents remaining (MkDirAsks path) (WrongPath path) old new) says_ok result
+Runs contents remaining (Ln from to) old new result = Tells (BothGive contents remaining (LnAsks from to) (WrongPaths from to) old new) says_ok result
+Runs contents remaining (Mv from to) old new result = Tells (BothGive contents remaining (MvAsks from to) (WrongNames from to) old new) says_ok result
+Runs contents remaining (Rm path) old new result = Tells (CommandGives contents remaining (RmAsks path) (WrongPath path) old new) says_ok result
+Runs contents remaining (ChMod mode path) old new result = Tells (CommandGives contents remaining (ChModAsks mode path) (WrongMode mode path) old new) says_ok result
+Runs {A = A} contents remaining (GetAcl part path) old new result =
+    Tells {V = Vec ℕ A} (CommandTells contents remaining (acl_in part) says_text (GetAclAsks part path) (NoPath path) old new) says_text result
+Runs contents remaining (SetAcl part path entries) old new result =
+    Tells (CommandGives contents remaining (SetAclAsks part path entries) (WrongList path entries) old new) says_ok result
+Runs contents remaining (Access path) old new result = Tells (CommandTells contents remaining rights_in rights_value (AccessAsks path) (NoPath path) old new) says_rights result

@@ -1,0 +1,35 @@
+-- SETATTR with the values that a client sends, without an open (RFC 8881, section 18.30).
+use Rattle.std.specs.Prelude.{ℕ, List, Some, None}
+use Rattle.xdr_wire.specs.Xdr.{Value}
+use Rattle.nfs_types.specs.Attributes.{ace}
+use Rattle.nfs_types.specs.Seen.{Seen, shown_set, shown_values}
+use Rattle.nfs_types.specs.StateIds.{anonymous}
+use Rattle.nfs_ops.specs.Operations.{Operation, Known}
+use Rattle.nfs_ops.specs.declared.op_kind.OpKind.TheVariants as kinds
+use Rattle.nfs_client.specs.declared.list_part.ListPart.{ListPart}
+use Rattle.nfs_client.specs.declared.list_part.ListPart.TheVariants.{Acl, Dacl, Sacl}
+
+-- SETATTR of the set of these attributes, with these values
+abbrev pub set_by : Seen → List ℕ → Operation
+set_by s values = Known kinds.SetAttr (anonymous, (shown_set s, values))
+
+abbrev pub set_attributes : Seen → Operation
+set_attributes s = set_by s (shown_values s)
+
+-- no attribute
+abbrev pub of_nothing : Seen
+of_nothing = record { kind = None; size = None; error = None; entries = None; mode = None; owner = None; group = None; dacl = None; sacl = None }
+
+-- the mode alone
+abbrev pub of_mode : ℕ → Seen
+of_mode mode = record of_nothing { mode = Some mode }
+
+-- the access control list alone, or a part of it, with no flags
+abbrev pub of_entries : ListPart → List (Value ace) → Seen
+of_entries Acl entries = record of_nothing { entries = Some entries }
+of_entries Dacl entries = record of_nothing { dacl = Some (0, entries) }
+of_entries Sacl entries = record of_nothing { sacl = Some (0, entries) }
+
+-- the size alone
+abbrev pub of_size : ℕ → Seen
+of_size size = record of_nothing { size = Some size }

@@ -1,0 +1,62 @@
+-- Bytes over a stream.
+use Rattle.std.specs.Prelude.{◌≡◌, ℕ, List, ◌++◌, Bool, true, false, Option, Result, Ok, Err}
+use Rattle.std.specs.Io.KnownBytes.{Appends, Consumes}
+use Rattle.rpc_record.specs.Records.{IsRecord}
+use Rattle.rpc_record.specs.Frame.{Frame}
+use Rattle.rpc_record.specs.Framer.{Stands}
+use Rattle.nfs_client.specs.declared.fault.ToolFault.{ToolFault}
+use Rattle.nfs_client.specs.declared.fault.ToolFault.TheVariants.{Read, Write, Reply, Memory}
+
+-- a front of the bytes was written
+abbrev pub WritesFront : Option (List ℕ) → Option (List ℕ) → List ℕ → Type 0
+WritesFront held held' bytes = (front : List ℕ) × (rest : List ℕ) × (bytes ≡ front ++ rest) × Appends held held' front
+
+-- all of the bytes were written, or the stream failed behind a front of the bytes
+abbrev pub WriteGives : Option (List ℕ) → Option (List ℕ) → List ℕ → Result (Unit {0}) ToolFault → Type 0
+WriteGives held held' bytes (Ok done) = Appends held held' bytes
+WriteGives held held' bytes (Err fault) = (fault ≡ Write) × WritesFront held held' bytes
+
+-- a fault of a reply that can't be framed
+abbrev pub IsFrameFault : ToolFault → Type 0
+IsFrameFault Reply = Unit {0}
+IsFrameFault Memory = Unit {0}
+IsFrameFault fault = ⊥
+
+-- the bytes are a record, or a part of a record, with the framer behind it
+abbrev pub PieceGives : Frame → List ℕ → List ℕ → Result Bool ToolFault → Type 0
+PieceGives framer content bytes (Ok true) = IsRecord content bytes
+PieceGives framer content bytes (Ok false) = Stands framer content bytes
+PieceGives framer content bytes (Err fault) = IsFrameFault fault
+
+-- a fault of reading a reply
+abbrev pub IsReadFault : ToolFault → Type 0
+IsReadFault Read = Unit {0}
+IsReadFault fault = IsFrameFault fault
+
+-- the bytes that were read are a record
+abbrev pub ReadsRecord : Option (List ℕ) → Option (List ℕ) → List ℕ → Type 0
+ReadsRecord left left' content = (bytes : List ℕ) × IsRecord content bytes × Consumes left left' bytes
+
+abbrev pub RecordGives : {X : Type 0} → (X → List ℕ) → Option (List ℕ) → Option (List ℕ) → Result X ToolFault → Type 0
+RecordGives bytes left left' (Ok content) = ReadsRecord left left' (bytes content)
+RecordGives bytes left left' (Err fault) = IsReadFault fault
+
+-- bytes were written, and behind them a record was read
+pub record Talked {S : Type 0} (contents remaining : S → Option (List ℕ)) (old new : S) (call content : List ℕ) : Type 0 where
+  pub mid : S
+  pub wrote : Appends (contents old) (contents mid) call
+  pub read : ReadsRecord (remaining mid) (remaining new) content
+
+-- bytes were written
+pub record Wrote {S : Type 0} (contents : S → Option (List ℕ)) (old : S) (call : List ℕ) : Type 0 where
+  pub mid : S
+  pub wrote : Appends (contents old) (contents mid) call
+
+-- a front of the bytes was written and the stream failed; or all bytes were, and no record was read behind them
+abbrev pub TalkFails : {S : Type 0} → (S → Option (List ℕ)) → S → S → List ℕ → ToolFault → Type 0
+TalkFails contents old new call Write = WritesFront (contents old) (contents new) call
+TalkFails contents old new call fault = IsReadFault fault × Wrote contents old call
+
+abbrev pub TalkGives : {S X : Type 0} → (X → List ℕ) → (S → Option (List ℕ)) → (S → Option (List ℕ)) → S → S → List ℕ → Result X ToolFault → Type 0
+TalkGives bytes contents remaining old new call (Ok content) = Talked contents remaining old new call (bytes content)
+TalkGives bytes contents remaining old new call (Err fault) = TalkFails contents old new call fault

@@ -1,0 +1,90 @@
+//! The rights of the caller.
+ghost use Rattle.std.specs.Prelude.{◌≡◌, false, Err, option_map, option_and_then};
+ghost use Rattle.nfs_ops.specs.ResultViews.{read_view};
+ghost use Rattle.nfs_client.specs.Access.{AccessAsks, NoPath, rights_of, rights_in};
+ghost use Rattle.nfs_client.specs.AccessViews.{rights_value};
+ghost use Rattle.nfs_client.specs.Commands.{AskGives};
+ghost use Rattle.nfs_client.specs.Compound.{said};
+ghost use Rattle.nfs_client.specs.Requests.{Asks};
+ghost use Rattle.nfs_client.specs.CompoundViews.{outcomes};
+ghost use Rattle.nfs_client.specs.Taking.{SaidGives, TakeGives};
+ghost use Rattle.nfs_client.specs.Walking.{CommandTells};
+ghost use Rattle.nfs_client.specs.declared.fault.ToolFault.TheVariants.{Failed};
+
+use crate::client::{Client, Reply};
+use crate::fault::ToolFault;
+use crate::path::Path;
+use crate::request::Request;
+use crate::taking::last;
+use nfs_ops::{AccessArgs, AccessResult, Op, OpResult};
+use std::alloc::Allocator;
+use std::io::{Read, Write};
+
+/// The rights that ACCESS asks for: READ, LOOKUP, MODIFY, EXTEND, DELETE and EXECUTE.
+const ALL_RIGHTS: u32 = 0x3f;
+
+/// The rights of a result.
+fn rights(found: Option<OpResult<'_>>) -> Option<AccessResult>
+    ensures { option_map rights_value result ≡ option_and_then rights_of (option_map read_view found.entry) }
+{
+    match found {
+        Some(OpResult::Access(rights)) => Some(rights),
+        _ => None,
+    }
+}
+
+/// The rights at the end of results.
+fn rights_told<A: Allocator>(results: Vec<OpResult<'_>, A>) -> Result<AccessResult, ToolFault>
+    ensures { TakeGives rights_value (rights_in (outcomes results.entry.items)) result }
+{
+    match rights(last(results)) {
+        Some(rights) => Ok(rights),
+        None => Err(ToolFault::Reply),
+    }
+}
+
+impl<A: Allocator + Copy> Reply<A> {
+    /// The rights at the end of the results.
+    fn rights(&self, alloc: A) -> Result<AccessResult, ToolFault>
+        ensures { SaidGives rights_value rights_in (said self.now.xid self.now.asked.items self.now.content.items) result }
+    {
+        match self.results(alloc) {
+            Ok(results) => rights_told(results),
+            Err(fault) => Err(fault),
+        }
+    }
+}
+
+impl<S: Read + Write, A: Allocator + Copy> Client<S, A> {
+    ghost use Rattle.std.specs.Prelude.{true, List};
+    ghost use Rattle.nfs_ops.specs.Operations.{Operation};
+
+    fn ask_rights(&mut self, request: Request<A>) -> Result<AccessResult, ToolFault>
+        ensures { (ops : List Operation) → Asks request ops → AskGives S.contents S.remaining rights_in rights_value true ops self.old self.new result }
+    {
+        let reply = match self.exchange(request) {
+            Ok(reply) => reply,
+            Err(fault) => return Err(fault),
+        };
+        let told = reply.rights(self.alloc);
+        self.conclude(&told, true);
+        told
+    }
+
+    /// The rights of ACCESS that are supported for an object, of six, and those of them that the caller has.
+    pub fn access(&mut self, path: &[u8]) -> Result<AccessResult, ToolFault>
+        ensures failed { self.old.usable ≡ false → result ≡ Err Failed }
+        ensures gives { CommandTells S.contents S.remaining rights_in rights_value (AccessAsks path.now) (NoPath path.now) self.old self.new result }
+    {
+        self.start()?;
+        let path = match Path::read(self.alloc, path) {
+            Ok(path) => path,
+            Err(fault) => return Err(fault),
+        };
+        let op = Op::Access(AccessArgs { asked: ALL_RIGHTS });
+        match self.ready(path.names(), op) {
+            Ok(request) => self.ask_rights(request),
+            Err(fault) => Err(fault),
+        }
+    }
+}

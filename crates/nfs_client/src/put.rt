@@ -1,0 +1,351 @@
+//! Making a text the bytes of a file.
+ghost use Rattle.std.specs.Prelude.{◌≡◌, ◌≤◌, ℕ, false, true, Err, List, IfOk, length, map, option_map, option_and_then};
+ghost use Rattle.nfs_types.specs.ShownViews.{shown_value};
+ghost use Rattle.nfs_types.specs.Views.{stateid_value, handle_value};
+ghost use Rattle.nfs_ops.specs.Operations.{Operation};
+ghost use Rattle.nfs_ops.specs.ResultViews.{read_view};
+ghost use Rattle.nfs_ops.specs.OpViews.{op_view};
+ghost use Rattle.nfs_client.specs.Commands.{AskGives};
+ghost use Rattle.nfs_client.specs.Compound.{said};
+ghost use Rattle.nfs_client.specs.CompoundViews.{outcomes};
+ghost use Rattle.nfs_client.specs.Paging.{itself};
+ghost use Rattle.nfs_client.specs.Put.{stateid_of, open_by, open_in, written_of, written_in, write_to, close_it, piece, WriteGives, CloseGives, TextGives, ClosesBehind, FileGives, open_along, PutAlong, PutCommandGives};
+ghost use Rattle.nfs_client.specs.PutViews.{open_value};
+ghost use Rattle.nfs_client.specs.RouteViews.{route_value};
+ghost use Rattle.nfs_client.specs.Requests.{Asks, PutGives};
+ghost use Rattle.nfs_client.specs.Setting.{of_size};
+ghost use Rattle.nfs_client.specs.Taking.{SaidGives, TakeGives};
+ghost use Rattle.nfs_client.specs.declared.fault.ToolFault.TheVariants.{Failed};
+
+use crate::approach::{handle_bytes, handle_told};
+use crate::client::{Client, Reply};
+use crate::fault::ToolFault;
+use crate::path::Place;
+use crate::request::{Request, sendable};
+use crate::route::{MOST_BEFORE_TWO, Route, handle_sent};
+use crate::sessions::OWNER;
+use crate::setting::values_of;
+use crate::taking::{last, last_two};
+use nfs_ops::{
+    CloseArgs, Op, OpResult, OpenArgs, OpenClaim, OpenHow, PutFhArgs, StableHow, WriteArgs,
+};
+use nfs_types::{Attributes, Handle, ShownAttributes, StateId};
+use std::alloc::Allocator;
+use std::io::{Read, Write};
+use xdr_wire::Opaque;
+
+/// Opened for writing, OPEN4_SHARE_ACCESS_WRITE.
+const FOR_WRITING: u32 = 2;
+
+/// The most bytes of one WRITE.
+const MOST_WRITTEN: usize = 32_768;
+
+/// A file that is open.
+#[derive(Drop)]
+pub(crate) struct Opened<A: Allocator> {
+    stateid: StateId,
+    /// The file's filehandle.
+    handle: Vec<u8, A>,
+}
+
+/// The size alone.
+fn of_size(size: u64) -> ShownAttributes<'static>
+    ensures { shown_value result ≡ of_size size }
+{
+    ShownAttributes {
+        kind: None,
+        size: Some(size),
+        error: None,
+        entries: None,
+        mode: None,
+        owner: None,
+        group: None,
+        dacl: None,
+        sacl: None,
+    }
+}
+
+/// The stateid in the result of an OPEN.
+fn stateid_told(found: OpResult<'_>) -> Option<StateId>
+    ensures { option_map stateid_value result ≡ stateid_of (read_view found.entry) }
+{
+    match found {
+        OpResult::Open(told) => Some(told.stateid),
+        _ => None,
+    }
+}
+
+/// The open at the end of results: of an OPEN and of the GETFH behind it.
+fn open_told<A: Allocator + Copy>(
+    alloc: A,
+    results: Vec<OpResult<'_>, A>,
+) -> Result<Opened<A>, ToolFault>
+    ensures { TakeGives open_value (open_in (outcomes results.entry.items)) result }
+{
+    let Some((before, last)) = last_two(results) else {
+        return Err(ToolFault::Reply);
+    };
+    let Some(stateid) = stateid_told(before) else {
+        return Err(ToolFault::Reply);
+    };
+    let Some(handle) = handle_told(last) else {
+        return Err(ToolFault::Reply);
+    };
+    let handle = handle_bytes(alloc, handle)?;
+    Ok(Opened { stateid, handle })
+}
+
+/// The count of a WRITE's result, of so many bytes that were sent. None: the result has no such count.
+fn written(found: Option<OpResult<'_>>, sent: usize) -> Option<usize>
+    ensures { result ≡ option_and_then (written_of sent) (option_map read_view found.entry) }
+{
+    let Some(OpResult::Write(told)) = found else {
+        return None;
+    };
+    let count = told.count as usize;
+    if 1 <= count && count <= sent {
+        Some(count)
+    } else {
+        None
+    }
+}
+
+/// The bytes of the next WRITE, of those left.
+fn piece(left: &[u8]) -> &[u8]
+    ensures { result.now ≡ piece left.now }
+{
+    if left.len() > MOST_WRITTEN {
+        &left[..MOST_WRITTEN]
+    } else {
+        left
+    }
+}
+
+impl<A: Allocator> Opened<A> {
+    /// The filehandle as it is sent.
+    fn handle(&self) -> Result<Handle<'_>, ToolFault>
+        ensures sent { IfOk result (λ h. handle_value h ≡ self.now.handle.items) }
+        ensures memory { PutGives result }
+    {
+        handle_sent(&self.handle)
+    }
+}
+
+impl<A: Allocator + Copy> Reply<A> {
+    /// The open at the end of the results.
+    fn opened(&self, alloc: A) -> Result<Opened<A>, ToolFault>
+        ensures { SaidGives open_value open_in (said self.now.xid self.now.asked.items self.now.content.items) result }
+    {
+        match self.results(alloc) {
+            Ok(results) => open_told(alloc, results),
+            Err(fault) => Err(fault),
+        }
+    }
+
+    /// The count of a WRITE, of so many bytes that were sent.
+    fn written(&self, alloc: A, sent: usize) -> Result<usize, ToolFault>
+        ensures { SaidGives itself (written_in sent) (said self.now.xid self.now.asked.items self.now.content.items) result }
+    {
+        match self.results(alloc) {
+            Ok(results) => match written(last(results), sent) {
+                Some(count) => Ok(count),
+                None => Err(ToolFault::Reply),
+            },
+            Err(fault) => Err(fault),
+        }
+    }
+}
+
+/// OPEN for writing of the file of this name, which is created where there is none, with these attributes by these values.
+fn opening<'a>(
+    client: u64,
+    name: &'a [u8],
+    shown: &ShownAttributes<'_>,
+    values: &'a [u8],
+) -> Result<Op<'a>, ToolFault>
+    ensures asks { IfOk result (λ op. op_view op ≡ open_by (shown_value shown.now) values.entry.now client name.entry.now) }
+    ensures memory { PutGives result }
+{
+    let name = sendable(name)?;
+    let values = sendable(values)?;
+    let set = shown.set();
+    let Some(owner) = Opaque::new(OWNER) else {
+        return Err(ToolFault::Memory);
+    };
+    Ok(Op::Open(OpenArgs {
+        seqid: 0,
+        access: FOR_WRITING,
+        deny: 0,
+        client,
+        owner,
+        how: OpenHow::Unchecked(Attributes { set, values }),
+        claim: OpenClaim::ByName(name),
+    }))
+}
+
+impl<S: Read + Write, A: Allocator + Copy> Client<S, A> {
+    fn open_file(&mut self, request: Request<A>) -> Result<Opened<A>, ToolFault>
+        ensures { (ops : List Operation) → Asks request ops → AskGives S.contents S.remaining open_in open_value true ops self.old self.new result }
+    {
+        let reply = match self.exchange(request) {
+            Ok(reply) => reply,
+            Err(fault) => return Err(fault),
+        };
+        let told = reply.opened(self.alloc);
+        self.conclude(&told, true);
+        told
+    }
+
+    /// The request that writes bytes of an open file from an offset on.
+    fn prepare_write(
+        &self,
+        opened: &Opened<A>,
+        offset: usize,
+        bytes: &[u8],
+    ) -> Result<Request<A>, ToolFault>
+        ensures asks { IfOk result (λ r. Asks r (write_to self.now (open_value opened.now) offset bytes.now)) }
+        ensures memory { PutGives result }
+    {
+        let mut request = self.request()?;
+        let handle = opened.handle()?;
+        request.put(Op::PutFh(PutFhArgs { handle }))?;
+        let data = sendable(bytes)?;
+        request.put(Op::Write(WriteArgs {
+            stateid: opened.stateid,
+            offset: offset as u64,
+            stable: StableHow::File,
+            data,
+        }))?;
+        Ok(request)
+    }
+
+    /// Writes bytes of an open file from an offset on, or some of the first of these bytes. How many were written.
+    fn write_piece(
+        &mut self,
+        opened: &Opened<A>,
+        offset: usize,
+        bytes: &[u8],
+    ) -> Result<usize, ToolFault>
+        ensures { WriteGives S.contents S.remaining (open_value opened.now) offset bytes.now self.old self.new result }
+    {
+        let request = self.prepare_write(opened, offset, bytes)?;
+        let reply = match self.exchange(request) {
+            Ok(reply) => reply,
+            Err(fault) => return Err(fault),
+        };
+        let told = reply.written(self.alloc, bytes.len());
+        self.conclude(&told, true);
+        told
+    }
+
+    /// Writes a text to an open file, piece by piece.
+    fn write_all(&mut self, opened: &Opened<A>, text: &[u8]) -> Result<(), ToolFault>
+        ensures { TextGives S.contents S.remaining (open_value opened.now) text.now self.old self.new result }
+    {
+        let mut done = 0;
+        while done < text.len() {
+            match self.write_piece(opened, done, piece(&text[done..])) {
+                Ok(count) => done += count,
+                Err(fault) => return Err(fault),
+            }
+        }
+        Ok(())
+    }
+
+    /// The request that closes a file.
+    fn prepare_close(&self, opened: &Opened<A>) -> Result<Request<A>, ToolFault>
+        ensures asks { IfOk result (λ r. Asks r (close_it self.now (open_value opened.now))) }
+        ensures memory { PutGives result }
+    {
+        let mut request = self.request()?;
+        let handle = opened.handle()?;
+        request.put(Op::PutFh(PutFhArgs { handle }))?;
+        request.put(Op::Close(CloseArgs {
+            seqid: 0,
+            stateid: opened.stateid,
+        }))?;
+        Ok(request)
+    }
+
+    /// Closes a file.
+    fn close(&mut self, opened: &Opened<A>) -> Result<(), ToolFault>
+        ensures { CloseGives S.contents S.remaining (open_value opened.now) self.old self.new result }
+    {
+        let request = self.prepare_close(opened)?;
+        self.run(request, true)
+    }
+
+    /// Closes a file behind the last WRITE, also behind a refused WRITE, whose fault is the answer then. A CLOSE without a reply is
+    /// answered in its place.
+    fn close_behind(
+        &mut self,
+        opened: &Opened<A>,
+        written: Result<(), ToolFault>,
+    ) -> Result<(), ToolFault>
+        ensures { ClosesBehind S.contents S.remaining (open_value opened.now) written self.old self.new result }
+    {
+        match written {
+            Ok(()) => self.close(opened),
+            Err(ToolFault::Refused(op, status)) => match self.close(opened) {
+                Ok(()) | Err(ToolFault::Refused(_, _)) => Err(ToolFault::Refused(op, status)),
+                Err(fault) => Err(fault),
+            },
+            Err(fault) => Err(fault),
+        }
+    }
+
+    /// Writes a text to an open file, and closes it.
+    fn fill(&mut self, opened: &Opened<A>, text: &[u8]) -> Result<(), ToolFault>
+        ensures { FileGives S.contents S.remaining (open_value opened.now) text.now self.old self.new result }
+    {
+        let written = self.write_all(opened, text);
+        let told = self.close_behind(opened, written);
+        self.spoil(&told);
+        told
+    }
+
+    /// The request of an OPEN at the end of a route, and of the filehandle behind it.
+    fn request_open(&self, route: &Route<'_, A>, op: Op<'_>) -> Result<Request<A>, ToolFault>
+        ensures asks { IfOk result (λ r. Asks r (open_along self.now (route_value route.now) (op_view op.entry))) }
+        ensures memory { PutGives result }
+    {
+        let mut request = self.request_along(route, op)?;
+        request.put(Op::GetFh)?;
+        Ok(request)
+    }
+
+    /// Opens a file of a directory, writes a text to it, and closes it.
+    fn put_in(&mut self, names: &[&[u8]], op: Op<'_>, text: &[u8]) -> Result<(), ToolFault>
+        ensures { PutAlong S.contents S.remaining (map (λ n. n.now) names.now) (op_view op.entry) text.now self.old self.new result }
+    {
+        let route = match self.reach(names, MOST_BEFORE_TWO) {
+            Ok(route) => route,
+            Err(fault) => return Err(fault),
+        };
+        let request = match self.request_open(&route, op) {
+            Ok(request) => request,
+            Err(fault) => return Err(fault),
+        };
+        match self.open_file(request) {
+            Ok(opened) => self.fill(&opened, text),
+            Err(fault) => Err(fault),
+        }
+    }
+
+    /// Makes a text the bytes of a file, which is created where there is none: OPEN, a WRITE for each 32,768 bytes, CLOSE. The file is
+    /// closed behind a refused WRITE too, whose fault is the answer then.
+    pub fn put(&mut self, path: &[u8], text: &[u8]) -> Result<(), ToolFault>
+        ensures failed { self.old.usable ≡ false → result ≡ Err Failed }
+        ensures gives { PutCommandGives S.contents S.remaining path.now text.now self.old self.new result }
+    {
+        self.start()?;
+        let place = match Place::read(self.alloc, path) {
+            Ok(place) => place,
+            Err(fault) => return Err(fault),
+        };
+        let shown = of_size(0);
+        let values = values_of(self.alloc, &shown)?;
+        let op = opening(self.client, place.name, &shown, values.bytes())?;
+        self.put_in(&place.directory, op, text)
+    }
+}

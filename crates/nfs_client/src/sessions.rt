@@ -1,0 +1,269 @@
+//! Opening a session, and ending it.
+ghost use Rattle.std.specs.Prelude.{◌≡◌, ◌∷◌, [], None, Err, IfOk, false, option_map, option_and_then};
+ghost use Rattle.xdr_wire.specs.Wire.{array_values};
+ghost use Rattle.nfs_ops.specs.Forms.{callback_security};
+ghost use Rattle.nfs_ops.specs.ResultViews.{read_view};
+ghost use Rattle.nfs_client.specs.Compound.{said};
+ghost use Rattle.nfs_client.specs.Requests.{Asks, PutGives};
+ghost use Rattle.nfs_client.specs.Sessions.{exchange_id, create_session, destroy_session, destroy_client, record_of, record_in, record_value, session_of, session_in, session_value, OpenGives, EndGives, MadeKnown, SessionMade, Ends};
+ghost use Rattle.nfs_client.specs.Taking.{SaidGives};
+ghost use Rattle.nfs_client.specs.declared.fault.ToolFault.TheVariants.{Failed};
+
+use crate::client::{Client, Reply};
+use crate::fault::ToolFault;
+use crate::request::Request;
+use crate::taking::last;
+use nfs_ops::{
+    CallbackSecurity, Channel, CreateSessionArgs, DestroyClientIdArgs, DestroySessionArgs,
+    ExchangeIdArgs, Op, OpResult,
+};
+use std::alloc::Allocator;
+use std::io::{Read, Write};
+use xdr_wire::{Array, Opaque, Reader, Wire, XdrFault};
+
+/// The client's own owner id.
+pub(crate) const OWNER: &[u8] = b"nfsc";
+
+/// The limits of calls and replies: 65,536 bytes, 16 operations, one slot.
+const FORE: Channel = Channel {
+    padding: 0,
+    request_size: 65_536,
+    reply_size: 65_536,
+    cached_size: 65_536,
+    operations: 16,
+    slots: 1,
+    rdma: None,
+};
+
+/// The limits of callbacks, which aren't served.
+const BACK: Channel = Channel {
+    padding: 0,
+    request_size: 4096,
+    reply_size: 4096,
+    cached_size: 0,
+    operations: 2,
+    slots: 1,
+    rdma: None,
+};
+
+/// A client's record at the server.
+#[derive(Clone, Copy, Debug)]
+pub(crate) struct Registration {
+    /// The client id.
+    client: u64,
+    /// The sequence id of the next CREATE_SESSION.
+    number: u32,
+}
+
+/// The client's record in a result.
+fn registered(found: Option<OpResult<'_>>) -> Option<Registration>
+    ensures { option_map record_value result ≡ option_and_then record_of (option_map read_view found.entry) }
+{
+    match found {
+        Some(OpResult::ExchangeId(told)) => Some(Registration {
+            client: told.client,
+            number: told.sequence,
+        }),
+        _ => None,
+    }
+}
+
+/// The session in a result.
+fn session_told(found: Option<OpResult<'_>>) -> Option<[u8; 16]>
+    ensures { option_map session_value result ≡ option_and_then session_of (option_map read_view found.entry) }
+{
+    match found {
+        Some(OpResult::CreateSession(told)) => Some(told.session),
+        _ => None,
+    }
+}
+
+impl<A: Allocator + Copy> Reply<A> {
+    /// The client's record.
+    fn registration(&self, alloc: A) -> Result<Registration, ToolFault>
+        ensures { SaidGives record_value record_in (said self.now.xid self.now.asked.items self.now.content.items) result }
+    {
+        match self.results(alloc) {
+            Ok(results) => match registered(last(results)) {
+                Some(registration) => Ok(registration),
+                None => Err(ToolFault::Reply),
+            },
+            Err(fault) => Err(fault),
+        }
+    }
+
+    /// The session's id.
+    fn session(&self, alloc: A) -> Result<[u8; 16], ToolFault>
+        ensures { SaidGives session_value session_in (said self.now.xid self.now.asked.items self.now.content.items) result }
+    {
+        match self.results(alloc) {
+            Ok(results) => match session_told(last(results)) {
+                Some(session) => Ok(session),
+                None => Err(ToolFault::Reply),
+            },
+            Err(fault) => Err(fault),
+        }
+    }
+}
+
+/// The spelling of no credentials.
+const NO_CREDENTIALS: &[u8] = &[0; 4];
+
+/// No credentials of callbacks.
+fn no_credentials() -> Result<Array<'static, CallbackSecurity<'static>, 8>, XdrFault>
+    ensures { IfOk result (λ a. array_values callback_security None a.count a.bytes.now ≡ []) }
+{
+    Wire::read(&mut Reader::new(NO_CREDENTIALS))
+}
+
+/// The request that registers the client.
+fn registering<A: Allocator + Copy>(alloc: A, verifier: [u8; 8]) -> Result<Request<A>, ToolFault>
+    ensures asks { IfOk result (λ r. Asks r (exchange_id verifier ∷ [])) }
+    ensures memory { PutGives result }
+{
+    let Some(owner) = Opaque::new(OWNER) else {
+        return Err(ToolFault::Memory);
+    };
+    let mut request = Request::new(alloc)?;
+    request.put(Op::ExchangeId(ExchangeIdArgs {
+        verifier,
+        owner,
+        flags: 0,
+        implementation: None,
+    }))?;
+    Ok(request)
+}
+
+/// The request that creates a session.
+fn creating<A: Allocator + Copy>(
+    alloc: A,
+    registration: Registration,
+) -> Result<Request<A>, ToolFault>
+    ensures asks { IfOk result (λ r. Asks r (create_session registration.client registration.number ∷ [])) }
+    ensures memory { PutGives result }
+{
+    let Ok(security) = no_credentials() else {
+        return Err(ToolFault::Memory);
+    };
+    let mut request = Request::new(alloc)?;
+    request.put(Op::CreateSession(CreateSessionArgs {
+        client: registration.client,
+        sequence: registration.number,
+        flags: 0,
+        fore: FORE,
+        back: BACK,
+        program: 0,
+        security,
+    }))?;
+    Ok(request)
+}
+
+/// The request that destroys a session.
+fn ending<A: Allocator + Copy>(alloc: A, session: [u8; 16]) -> Result<Request<A>, ToolFault>
+    ensures asks { IfOk result (λ r. Asks r (destroy_session session ∷ [])) }
+    ensures memory { PutGives result }
+{
+    let mut request = Request::new(alloc)?;
+    request.put(Op::DestroySession(DestroySessionArgs { session }))?;
+    Ok(request)
+}
+
+/// The request that destroys a client.
+fn forgetting<A: Allocator + Copy>(alloc: A, client: u64) -> Result<Request<A>, ToolFault>
+    ensures asks { IfOk result (λ r. Asks r (destroy_client client ∷ [])) }
+    ensures memory { PutGives result }
+{
+    let mut request = Request::new(alloc)?;
+    request.put(Op::DestroyClientId(DestroyClientIdArgs { client }))?;
+    Ok(request)
+}
+
+impl<S: Read + Write, A: Allocator + Copy> Client<S, A> {
+    /// Registers the client.
+    fn register(&mut self, verifier: [u8; 8]) -> Result<Registration, ToolFault>
+        ensures { MadeKnown S.contents S.remaining verifier self.old self.new result }
+    {
+        let request = registering(self.alloc, verifier)?;
+        let reply = match self.exchange(request) {
+            Ok(reply) => reply,
+            Err(fault) => return Err(fault),
+        };
+        let told = reply.registration(self.alloc);
+        self.conclude(&told, false);
+        told
+    }
+
+    /// Creates a session.
+    fn make_session(&mut self, registration: Registration) -> Result<[u8; 16], ToolFault>
+        ensures { SessionMade S.contents S.remaining registration self.old self.new result }
+    {
+        let request = creating(self.alloc, registration)?;
+        let reply = match self.exchange(request) {
+            Ok(reply) => reply,
+            Err(fault) => return Err(fault),
+        };
+        let told = reply.session(self.alloc);
+        self.conclude(&told, false);
+        told
+    }
+
+    /// A client with a session of its own: EXCHANGE_ID, then CREATE_SESSION. The client calls as this user and in this group alone. The
+    /// verifier is another at each start of a client, so that the state of an earlier start goes.
+    pub fn open(
+        alloc: A,
+        stream: S,
+        uid: u32,
+        gid: u32,
+        verifier: [u8; 8],
+    ) -> Result<Self, ToolFault>
+    where
+        S: Drop,
+        ensures { OpenGives S.contents S.remaining stream uid gid verifier result }
+    {
+        let mut client = Client::resume(alloc, stream, uid, gid, 0, [0; 16], 0);
+        let registration = match client.register(verifier) {
+            Ok(registration) => registration,
+            Err(fault) => return Err(fault),
+        };
+        let session = match client.make_session(registration) {
+            Ok(session) => session,
+            Err(fault) => return Err(fault),
+        };
+        client.client = registration.client;
+        client.session = session;
+        client.number = 1;
+        Ok(client)
+    }
+
+    /// Destroys the client at the server.
+    fn forget(&mut self) -> Result<(), ToolFault>
+        ensures { Ends S.contents S.remaining (destroy_client self.old.client) self.old self.new result }
+    {
+        let request = forgetting(self.alloc, self.client)?;
+        self.run(request, false)
+    }
+
+    /// Destroys the session.
+    fn end_session(&mut self) -> Result<(), ToolFault>
+        ensures { Ends S.contents S.remaining (destroy_session self.old.session) self.old self.new result }
+    {
+        let request = ending(self.alloc, self.session)?;
+        self.run(request, false)
+    }
+
+    /// Ends the session and the client: DESTROY_SESSION, then DESTROY_CLIENTID.
+    pub fn end(&mut self) -> Result<(), ToolFault>
+        ensures failed { self.old.usable ≡ false → result ≡ Err Failed }
+        ensures gives { EndGives S.contents S.remaining self.old self.new result }
+    {
+        self.start()?;
+        match self.end_session() {
+            Ok(()) => {
+                let told = self.forget();
+                self.spoil(&told);
+                told
+            }
+            Err(fault) => Err(fault),
+        }
+    }
+}

@@ -1,0 +1,100 @@
+//! Bytes over a stream: a call's bytes, and the record of a reply.
+ghost use Rattle.std.specs.Prelude.{◌≡◌, ◌≤◌, ◌++◌, List, ℕ};
+ghost use Rattle.std.specs.Io.KnownBytes.{Appends};
+ghost use Rattle.rpc_record.specs.Framer.{Stands};
+ghost use Rattle.nfs_client.specs.Streams.{WriteGives, PieceGives, RecordGives, TalkGives};
+
+use crate::fault::ToolFault;
+use rpc_record::{Framer, Step};
+use std::alloc::Allocator;
+use std::io::{Read, Write};
+
+/// The most bytes of one read.
+const PIECE: usize = 4096;
+
+/// The most reads for one reply.
+const MOST_READS: u32 = 200_000;
+
+/// Writes all of the bytes. `Write`: the stream failed, or took no bytes.
+pub fn write_out<W: Write>(stream: &mut W, bytes: &[u8]) -> Result<(), ToolFault>
+    ensures { WriteGives (W.contents stream.old) (W.contents stream.new) bytes.now result }
+{
+    let mut done = 0;
+    while done < bytes.len() {
+        let Ok(n) = stream.write(&bytes[done..]) else {
+            return Err(ToolFault::Write);
+        };
+        if n == 0 {
+            return Err(ToolFault::Write);
+        }
+        done += n;
+    }
+    Ok(())
+}
+
+/// Goes through a piece, and joins its part of the record. Whether the record ends with the piece. `Reply`: the record breaks the stream,
+/// or bytes are behind it.
+fn take_piece<A: Allocator>(
+    framer: &mut Framer,
+    content: &mut Vec<u8, A>,
+    piece: &[u8],
+) -> Result<bool, ToolFault>
+    ensures { (bytes : List ℕ) → Stands framer.old content.old.items bytes → PieceGives framer.new content.new.items (bytes ++ piece.now) result }
+{
+    let mut at = 0;
+    loop {
+        match framer.feed(piece, at) {
+            Step::Part(from, to) => {
+                content.extend_from_slice(&piece[from..to])?;
+                at = to;
+            }
+            Step::Record(from, to) => {
+                content.extend_from_slice(&piece[from..to])?;
+                if to < piece.len() {
+                    return Err(ToolFault::Reply);
+                }
+                return Ok(true);
+            }
+            Step::NeedMore => return Ok(false),
+            Step::Broken => return Err(ToolFault::Reply),
+        }
+    }
+}
+
+/// Reads a record, in at most 200,000 reads. `Read`: the stream failed or ended, or the record took more reads. `Reply`: the stream breaks
+/// in the record, or bytes are behind it.
+fn read_record<A: Allocator, R: Read>(alloc: A, stream: &mut R) -> Result<Vec<u8, A>, ToolFault>
+    ensures { RecordGives (λ v. v.items) (R.remaining stream.old) (R.remaining stream.new) result }
+{
+    let mut framer = Framer::new();
+    let mut content = Vec::new(alloc);
+    for _i in 0..MOST_READS {
+        let mut buf = [0u8; PIECE];
+        let Ok(n) = stream.read(&mut buf) else {
+            return Err(ToolFault::Read);
+        };
+        if n == 0 {
+            return Err(ToolFault::Read);
+        }
+        match take_piece(&mut framer, &mut content, &buf[..n]) {
+            Ok(true) => return Ok(content),
+            Ok(false) => {}
+            Err(fault) => return Err(fault),
+        }
+    }
+    Err(ToolFault::Read)
+}
+
+/// Writes a call, and reads the record behind it.
+pub(crate) fn talk<A: Allocator, S: Read + Write>(
+    alloc: A,
+    stream: &mut S,
+    call: &[u8],
+) -> Result<Vec<u8, A>, ToolFault>
+    ensures { TalkGives (λ v. v.items) S.contents S.remaining stream.old stream.new call.now result }
+{
+    match write_out(stream, call) {
+        Ok(()) => read_record(alloc, stream),
+        Err(fault) => Err(fault),
+    }
+}

@@ -1,9 +1,0 @@
-use Rattle.std.proofs.Common.{true}
-use Rattle.nfs_tool.specs.Access.{rights_in}
-use Rattle.nfs_tool.specs.AccessViews.{rights_value}
-use Rattle.nfs_tool.proofs.Commands.{concluded}
-use Rattle.nfs_tool.proofs.client.Client.ask_rights.Goals as goal
-
-pub returns : goal.returns
-returns g c = λ ops asks.
-    concluded _ _ rights_in ops c.args.self.now c.exchange.new.self c.in-Ok.reply (c.in-Ok.ensures ops asks) rights_value true c.rights-told.result c.conclude.new.self c.rights-told.ensures c.conclude.ensures

@@ -1,4 +1,0 @@
-use Rattle.nfs_tool.proofs.client.Client.request_along.Goals as goal
-
-pub returns-clause-asks : goal.returns-clause-asks
-returns-clause-asks g c = c.in_ok-put.ensures.asks _ (c.in_ok-walk.ensures.asks _ c.in_ok-request.ensures)

@@ -1,6 +1,0 @@
-use Rattle.std.proofs.Common.{rules}
-use Rattle.nfs_tool.proofs.Requests.{spells}
-use Rattle.nfs_tool.proofs.request.Request.spell.Goals as goal
-
-pub returns : goal.returns
-returns g c = λ ops asks. spells (λ v. v.items) c.args.self.now c.args.xid c.args.caller ops c.in-Ok.count c.in_ok-head.head.bytes c.one_record.result asks (search rules) c.in_ok-head.ensures (rw (c.bytes.ensures, c.bytes-2.ensures) at c.one_record.ensures)

@@ -1,5 +1,0 @@
-use Rattle.nfs_tool.proofs.Streams.{Reading}
-use Rattle.nfs_tool.proofs.stream.read_record.Given as goal
-
-abbrev pub invariant-loop-i : goal.invariant-loop-i
-invariant-loop-i g l = Reading l.framer l.content.items (g.R.Read.remaining l.fn.stream) (g.R.Read.remaining l.stream)

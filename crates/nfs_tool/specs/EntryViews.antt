@@ -1,6 +1,0 @@
--- An entry's parts, without the place of its who.
-use Rattle.nfs_tool.specs.Entries.{EntryLine}
-use Rattle.nfs_tool.specs.declared.entry_text.EntryText.{EntryText}
-
-abbrev pub entry_line : EntryText → EntryLine
-entry_line e = record { kind = e.kind; flags = e.flags; mask = e.mask; who = e.who.now }
