@@ -6,7 +6,6 @@ use access_rows::{
 use acl_list::Kind;
 use nfs_ops::{GetAttrArgs, Op, RenameArgs, SetAttrArgs, StableHow, WriteArgs};
 use nfs_types::{Attributes, Bitmap, StateId};
-use std::test::Fail;
 use xdr_wire::Opaque;
 
 const FILE: Object = Object {
@@ -49,92 +48,123 @@ static WRITES: [(u64, u64, usize, u32); 12] = [
     (3, u64::MAX, 4, 0x6),
 ];
 
+fn writes() -> &'static [(u64, u64, usize, u32)] {
+    &WRITES
+}
+
+/// What a WRITE of so many bytes, of which there are at most four, asks for.
+fn write_asks(size: u64, offset: u64, count: usize) -> Option<(u64, u64, u32)> {
+    let bytes = [7; 4];
+    let op = Op::Write(WriteArgs {
+        stateid: StateId::anonymous(),
+        offset,
+        stable: StableHow::Unstable,
+        data: Opaque::new(&bytes[..count.min(4)])?,
+    });
+    let mut facts = First::of(Some(FILE), None);
+    facts.size = Some(size);
+    Some(asked(first_demands(&op, &facts)[0]))
+}
+
 #[test]
-fn writing(rt: HostRuntime) -> Result<(), Fail> {
-    for (size, offset, count, mask) in &WRITES {
-        let bytes = [7; 4];
-        let Some(data) = Opaque::new(&bytes[..*count.min(&4)]) else {
-            unreachable!()
-        };
-        let op = Op::Write(WriteArgs {
-            stateid: StateId::anonymous(),
-            offset: *offset,
-            stable: StableHow::Unstable,
-            data,
-        });
-        let mut facts = First::of(Some(FILE), None);
-        facts.size = Some(*size);
+fn writing(rt: HostRuntime) {
+    for (size, offset, count, mask) in writes() {
         assert_eq!(rt;
-            asked(first_demands(&op, &facts)[0]),
-            (2, 0, *mask),
+            write_asks(*size, *offset, *count),
+            Some((2, 0, *mask)),
             "{size} {offset} {count}"
         );
     }
-    Ok(())
+}
+
+/// A RENAME of `a` to `b`.
+fn rename() -> Option<Op<'static>> {
+    let (old, new) = (Opaque::new(b"a")?, Opaque::new(b"b")?);
+    Some(Op::Rename(RenameArgs { old, new }))
+}
+
+/// The demands of a first row on the current object and the saved one.
+fn first(op: &Op<'_>, current: Object, saved: Object) -> [(u64, u64, u32); 2] {
+    first_demands(op, &First::of(Some(current), Some(saved))).map(asked)
+}
+
+/// The demands of the second row, where a child of the saved directory takes a name of the current one.
+fn second(
+    op: &Op<'_>,
+    (current, saved): (Object, Object),
+    child: Object,
+    replaced: Option<Object>,
+) -> [(u64, u64, u32); 3] {
+    let facts = Second {
+        current: Some(current),
+        saved: Some(saved),
+        child: Some(child),
+        replaced,
+        new_size: None,
+    };
+    second_demands(op, &facts).map(asked)
 }
 
 /// A RENAME of a child onto another, and its demands, each as an object, a target and bits.
 #[test]
-fn renaming(rt: HostRuntime) -> Result<(), Fail> {
-    let (Some(old), Some(new)) = (Opaque::new(b"a"), Opaque::new(b"b")) else {
-        unreachable!()
+fn renaming(rt: HostRuntime) {
+    let Some(op) = rename() else {
+        return assert!(rt; false, "no names");
     };
-    let op = Op::Rename(RenameArgs { old, new });
-    let both = First::of(Some(ATTIC), Some(ROOM));
-    assert_eq!(rt;
-        first_demands(&op, &both).map(asked),
-        [(3, 0, 0x20), (4, 0, 0x20)]
+    let onto = (
+        first(&op, ATTIC, ROOM),
+        second(&op, (ATTIC, ROOM), FILE, Some(FILE)),
     );
-    let onto = Second {
-        current: Some(ATTIC),
-        saved: Some(ROOM),
-        child: Some(FILE),
-        replaced: Some(FILE),
-        new_size: None,
-    };
-    assert_eq!(rt;
-        second_demands(&op, &onto).map(asked),
-        [(3, 2, 0), (4, 0, 0x2), (4, 2, 0)]
+    let within = (
+        first(&op, ROOM, ROOM),
+        second(&op, (ROOM, ROOM), ATTIC, None),
     );
-    let one = First::of(Some(ROOM), Some(ROOM));
     assert_eq!(rt;
-        first_demands(&op, &one).map(asked),
-        [(3, 0, 0x20), (0, 0, 0)]
+        onto,
+        (
+            [(3, 0, 0x20), (4, 0, 0x20)],
+            [(3, 2, 0), (4, 0, 0x2), (4, 2, 0)]
+        )
     );
-    let within = Second {
-        current: Some(ROOM),
-        saved: Some(ROOM),
-        child: Some(ATTIC),
-        replaced: None,
-        new_size: None,
-    };
     assert_eq!(rt;
-        second_demands(&op, &within).map(asked),
-        [(3, 4, 0), (3, 0, 0x4), (0, 0, 0)]
+        within,
+        (
+            [(3, 0, 0x20), (0, 0, 0)],
+            [(3, 4, 0), (3, 0, 0x4), (0, 0, 0)]
+        )
     );
-    Ok(())
+}
+
+/// The attributes that are requested of an entry, and the demands.
+static LISTED: [(&[u32], [(u64, u64, u32); 2]); 3] = [
+    (&[33, 12], [(2, 0, 0x80), (2, 0, 0x2_0000)]),
+    (&[59], [(0, 0, 0), (2, 0, 0x2_0000)]),
+    (&[20], [(0, 0, 0), (0, 0, 0)]),
+];
+
+fn listed() -> &'static [(&'static [u32], [(u64, u64, u32); 2])] {
+    &LISTED
+}
+
+fn set_of(numbers: &[u32]) -> Bitmap {
+    let mut set = Bitmap::empty();
+    for number in numbers {
+        set = set.with(*number.min(&255));
+    }
+    set
+}
+
+fn listing_asks(numbers: &[u32]) -> [(u64, u64, u32); 2] {
+    entry_demands(&set_of(numbers), Some(FILE)).map(asked)
 }
 
 /// An entry of READDIR for which mode and acl are requested takes READ_ATTRIBUTES and then READ_ACL, sacl READ_ACL alone; fileid
 /// takes nothing.
 #[test]
-fn listing(rt: HostRuntime) -> Result<(), Fail> {
-    let governed = Bitmap::empty().with(33).with(12);
-    assert_eq!(rt;
-        entry_demands(&governed, Some(FILE)).map(asked),
-        [(2, 0, 0x80), (2, 0, 0x2_0000)]
-    );
-    let part = Bitmap::empty().with(59);
-    assert_eq!(rt;
-        entry_demands(&part, Some(FILE)).map(asked),
-        [(0, 0, 0), (2, 0, 0x2_0000)]
-    );
-    let open_to_all = Bitmap::empty().with(20);
-    assert_eq!(rt;
-        entry_demands(&open_to_all, Some(FILE)).map(asked),
-        [(0, 0, 0), (0, 0, 0)]
-    );
-    Ok(())
+fn listing(rt: HostRuntime) {
+    for (numbers, demands) in listed() {
+        assert_eq!(rt; listing_asks(numbers), *demands, "{numbers:?}");
+    }
 }
 
 /// An attribute, and the bits that GETATTR and SETATTR of it alone take.
@@ -149,6 +179,10 @@ static ATTRIBUTES: [(u32, u32, u32); 8] = [
     (59, 0x2_0000, 0x4_0000),
 ];
 
+fn attributes() -> &'static [(u32, u32, u32)] {
+    &ATTRIBUTES
+}
+
 /// The bits that an operation takes of the file.
 fn bits_of(op: &Op<'_>) -> u32 {
     let facts = First::of(Some(FILE), None);
@@ -156,23 +190,27 @@ fn bits_of(op: &Op<'_>) -> u32 {
     mask
 }
 
+/// The bits that GETATTR and SETATTR of an attribute alone take.
+fn reading_and_setting_asks(number: u32) -> Option<(u32, u32)> {
+    let set = Bitmap::empty().with(number.min(255));
+    let get = Op::GetAttr(GetAttrArgs { asked: set });
+    let put = Op::SetAttr(SetAttrArgs {
+        stateid: StateId::anonymous(),
+        attributes: Attributes {
+            set,
+            values: Opaque::new(b"")?,
+        },
+    });
+    Some((bits_of(&get), bits_of(&put)))
+}
+
 /// A list and its parts are read by READ_ACL, and set, as a mode is, by WRITE_ACL.
 #[test]
-fn reading_and_setting(rt: HostRuntime) -> Result<(), Fail> {
-    for (number, reading, setting) in &ATTRIBUTES {
-        let set = Bitmap::empty().with(*number.min(&255));
-        let Some(values) = Opaque::new(b"") else {
-            unreachable!()
-        };
-        let get = Op::GetAttr(GetAttrArgs { asked: set });
-        assert_eq!(rt; bits_of(&get), *reading, "{number}");
-        let put = Op::SetAttr(SetAttrArgs {
-            stateid: StateId::anonymous(),
-            attributes: Attributes { set, values },
-        });
-        assert_eq!(rt; bits_of(&put), *setting, "{number}");
+fn reading_and_setting(rt: HostRuntime) {
+    for (number, reading, setting) in attributes() {
+        let found = reading_and_setting_asks(*number);
+        assert_eq!(rt; found, Some((*reading, *setting)), "{number}");
     }
-    Ok(())
 }
 
 /// A kind, the rights requested, the bits granted, and the two words of ACCESS.
@@ -185,15 +223,22 @@ static RIGHTS: [(Kind, u32, u32, u32, u32); 6] = [
     (Kind::File, 0, 0xffff_ffff, 0, 0),
 ];
 
+fn rights() -> &'static [(Kind, u32, u32, u32, u32)] {
+    &RIGHTS
+}
+
+fn words_of(kind: Kind, asks: u32, grants: u32) -> (u32, u32) {
+    let told = rights_of(kind, asks, grants);
+    (told.supported, told.granted)
+}
+
 #[test]
-fn telling(rt: HostRuntime) -> Result<(), Fail> {
-    for (kind, asks, grants, supported, granted) in &RIGHTS {
-        let told = rights_of(*kind, *asks, *grants);
+fn telling(rt: HostRuntime) {
+    for (kind, asks, grants, supported, granted) in rights() {
         assert_eq!(rt;
-            (told.supported, told.granted),
+            words_of(*kind, *asks, *grants),
             (*supported, *granted),
             "{kind:?} {asks:x}"
         );
     }
-    Ok(())
 }

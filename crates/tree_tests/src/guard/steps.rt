@@ -57,9 +57,6 @@ pub enum Step {
     Lines(&'static str),
 }
 
-/// The name of a scene, and a step in it: its index, counted from 0, and what it is.
-type Place<'a> = (&'a str, usize, Step);
-
 fn caller_of(sent: Sent) -> Caller {
     Caller::new(sent.0, sent.1, &[])
 }
@@ -169,71 +166,59 @@ fn lines(alloc: Global, guard: &Guard) -> Result<Vec<u8>, AllocError> {
     Ok(text)
 }
 
-fn see_decision(rt: &impl Abort, decision: Decision, want: Decision, place: &Place<'_>) {
-    assert_eq!(rt; decision, want, "{place:?}");
-}
-
-fn see_number(rt: &impl Abort, number: u64, want: u64, place: &Place<'_>) {
-    assert_eq!(rt; number, want, "{place:?}");
-}
-
-fn see_remembered(
-    rt: &impl Abort,
+fn are_remembered(
     alloc: Global,
     guard: &Guard,
     want: &[(u64, u64, Summary)],
-    place: &Place<'_>,
-) -> Result<(), Fail> {
+) -> Result<bool, AllocError> {
     let rows = remembered(alloc, guard)?;
-    assert_eq!(rt; rows.as_slice(), want, "{place:?}");
-    Ok(())
+    Ok(rows.as_slice() == want)
 }
 
-fn see_lines(
-    rt: &impl Abort,
-    alloc: Global,
-    guard: &Guard,
-    want: &str,
-    place: &Place<'_>,
-) -> Result<(), Fail> {
+fn are_lines(alloc: Global, guard: &Guard, want: &str) -> Result<bool, AllocError> {
     let text = lines(alloc, guard)?;
-    assert_eq!(rt; text.as_slice(), want.as_bytes(), "{place:?}");
-    Ok(())
+    Ok(text.as_slice() == want.as_bytes())
 }
 
-/// Takes a step, and checks what it gives.
-fn see(
-    rt: &impl Abort,
-    alloc: Global,
-    guarded: &mut GuardedTree,
-    place: &Place<'_>,
-) -> Result<(), Fail>
+/// Makes a change.
+fn change(alloc: Global, guarded: &mut GuardedTree, step: Step) -> Result<bool, Fail>
+    ensures { guarded.new.log ≡ guarded.old.log }
+{
+    match step {
+        Step::Reload(text) => reload(alloc, guarded, text)?,
+        Step::SetList(object, list) => set_list(alloc, guarded, object, list)?,
+        Step::Unlink(name) => unlink(guarded, name)?,
+        Step::Add(name, list, want) => return Ok(add(alloc, guarded, name, list)? == want),
+        _ => return Ok(false),
+    }
+    Ok(true)
+}
+
+/// Whether what is looked at is as it should be.
+fn is_seen(alloc: Global, guarded: &GuardedTree, step: Step) -> Result<bool, AllocError> {
+    match step {
+        Step::Examined(want) => Ok(guarded.guard().examined() == want),
+        Step::Total(want) => Ok(guarded.guard().total() == want),
+        Step::Epoch(want) => Ok(guarded.epoch() == want),
+        Step::Remembered(want) => are_remembered(alloc, guarded.guard(), want),
+        Step::Lines(want) => are_lines(alloc, guarded.guard(), want),
+        _ => Ok(false),
+    }
+}
+
+/// Takes a step, and says whether it gives what it should.
+fn take(alloc: Global, guarded: &mut GuardedTree, step: Step) -> Result<bool, Fail>
     requires { guarded.old.log.held ≡ [] }
     ensures { guarded.new.log.held ≡ [] }
 {
-    match place.2 {
-        Step::Decide(sent, demand, op, want) => {
-            see_decision(rt, decide(guarded, sent, demand, op), want, place);
+    match step {
+        Step::Decide(sent, demand, op, want) => Ok(decide(guarded, sent, demand, op) == want),
+        Step::Grants(sent, object, want) => { Ok(guarded.grants(object, &caller_of(sent)) == want) }
+        Step::Reload(_) | Step::SetList(..) | Step::Unlink(_) | Step::Add(..) => {
+            change(alloc, guarded, step)
         }
-        Step::Grants(sent, object, want) => {
-            let bits = guarded.grants(object, &caller_of(sent));
-            see_number(rt, u64::from(bits), u64::from(want), place);
-        }
-        Step::Reload(text) => return reload(alloc, guarded, text),
-        Step::SetList(object, list) => return set_list(alloc, guarded, object, list),
-        Step::Unlink(name) => return unlink(guarded, name),
-        Step::Add(name, list, want) => {
-            see_number(rt, add(alloc, guarded, name, list)?, want, place);
-        }
-        Step::Examined(want) => see_number(rt, guarded.guard().examined(), want, place),
-        Step::Total(want) => see_number(rt, guarded.guard().total(), want, place),
-        Step::Epoch(want) => see_number(rt, guarded.epoch(), want, place),
-        Step::Remembered(want) => {
-            return see_remembered(rt, alloc, guarded.guard(), want, place);
-        }
-        Step::Lines(want) => return see_lines(rt, alloc, guarded.guard(), want, place),
+        _ => Ok(is_seen(alloc, guarded, step)?),
     }
-    Ok(())
 }
 
 /// Takes the steps, and checks what each gives.
@@ -247,7 +232,8 @@ fn walk(
     requires { guarded.old.log.held ≡ [] }
 {
     for (index, step) in steps.iter().enumerate() {
-        see(rt, alloc, guarded, &(name, index, *step))?;
+        let is_right = take(alloc, guarded, *step)?;
+        assert!(rt; is_right, "{name}: step {index}, {step:?}");
     }
     Ok(())
 }

@@ -48,25 +48,39 @@ fn disk_of(alloc: Global, room: usize, piece: usize, fails: bool) -> Disk {
 static LINES: &[u8] =
     b"DENY uid=1 op=READ obj=1 mask=00000001 missing=00000001\nDENY uid=2 op=READ obj=1 mask=00000001 missing=00000001\n";
 
-/// Appends two lines to a disk, and checks that it has all that it has room for, and that this is an error if it isn't all.
-fn see_disk(rt: &impl Abort, guard: &Guard, disk: Disk) -> Result<(), Fail> {
+fn lines() -> &'static [u8] {
+    LINES
+}
+
+/// Whether the disk has all of the lines that it has room for.
+fn is_filled(disk: &Disk, lines: &[u8]) -> bool {
+    let count = disk.room.min(lines.len());
+    disk.held.as_slice() == lines.get(..count).unwrap_or(b"")
+}
+
+/// Whether two lines are appended to a disk exactly if it has room for them, and it has all that it has room for then.
+fn is_right_on(guard: &Guard, disk: Disk) -> bool {
     let mut disk = disk;
-    let has_room = disk.room >= LINES.len();
-    let answered = append_new(guard, 0, &mut disk);
-    assert_eq!(rt; answered.is_ok(), has_room);
-    let count = disk.room.min(LINES.len());
-    assert_eq!(rt; disk.held.as_slice(), &LINES[..count.min(LINES.len())]);
-    Ok(())
+    let has_room = disk.room >= lines().len();
+    let is_done = append_new(guard, 0, &mut disk).is_ok();
+    (is_done == has_room) & is_filled(&disk, lines())
+}
+
+fn see_disks(rt: &impl Abort, alloc: Global, guard: &Guard) {
+    for room in 0..120usize {
+        let by_line = is_right_on(guard, disk_of(alloc, room, 1000, true));
+        let by_byte = is_right_on(guard, disk_of(alloc, room, 1, true));
+        let by_seven = is_right_on(guard, disk_of(alloc, room, 7, false));
+        assert!(rt;
+            (by_line, by_byte, by_seven) == (true, true, true),
+            "{room}"
+        );
+    }
 }
 
 #[test]
 fn a_front_stands_where_a_write_fails(rt: HostRuntime) -> Result<(), Fail> {
-    let alloc = rt.alloc();
-    let guard = refusing(alloc, RandomState::new(&rt)?, 2)?;
-    for room in 0..120 {
-        see_disk(&rt, &guard, disk_of(alloc, room, 1000, true))?;
-        see_disk(&rt, &guard, disk_of(alloc, room, 1, true))?;
-        see_disk(&rt, &guard, disk_of(alloc, room, 7, false))?;
-    }
+    let guard = refusing(rt.alloc(), RandomState::new(&rt)?, 2)?;
+    see_disks(&rt, rt.alloc(), &guard);
     Ok(())
 }
