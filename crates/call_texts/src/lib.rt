@@ -5,4 +5,4 @@ mod rows;
 mod words;
 
 pub use rows::{ALICE, BOB, CAROL, Caller, ROOT, Row, calls_of, put_call_record, reply_of};
-pub use words::{answer_of, bytes_of, call_of, spell};
+pub use words::{answer_of, bytes_of, call_of};

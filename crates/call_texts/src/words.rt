@@ -384,7 +384,7 @@ fn put_bracket(out: &mut Vec<u8>, begun: &mut Begun, word: &str) -> Result<bool,
 }
 
 /// Puts the bytes of words.
-pub fn spell(out: &mut Vec<u8>, words: &str) -> Result<(), Fail> {
+fn spell(out: &mut Vec<u8>, words: &str) -> Result<(), Fail> {
     let mut begun = Begun {
         bytes: 0,
         record: 0,

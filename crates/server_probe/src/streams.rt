@@ -73,14 +73,24 @@ fn feed_new(
     Ok((fault, again))
 }
 
+/// The two faults, and the replies, which come through these bytes.
+fn fed(
+    alloc: Global,
+    hub: &mut Hub,
+    stream: (usize, &[u8]),
+    out: &mut [u8],
+) -> Result<String, Fail> {
+    let mut given = Vec::new(alloc);
+    let (fault, again) = feed_new(hub, stream, out, &mut given)?;
+    let replies = hex::encode(alloc, given)?;
+    Ok(format!(in alloc; "{fault} {again} {replies}")?)
+}
+
 /// `feed SIZE STREAM`: the two faults, and the replies.
 pub fn feed_stream(alloc: Global, hub: &mut Hub, words: &str) -> Result<String, Fail> {
     let (size, stream) = pieces_in(alloc, words)?;
     let mut out = vec![in alloc; 0u8; OUT]?;
-    let mut given = Vec::new(alloc);
-    let (fault, again) = feed_new(hub, (size, &stream), &mut out, &mut given)?;
-    let replies = hex::encode(alloc, given)?;
-    Ok(format!(in alloc; "{fault} {again} {replies}")?)
+    fed(alloc, hub, (size, &stream), &mut out)
 }
 
 /// Gives its bytes in pieces of this length.
@@ -115,11 +125,16 @@ fn serve_new(hub: &mut Hub, (len, bytes): (usize, &[u8]), given: &mut Vec<u8>) -
     serve(hub, &mut reader, given, &Epoch, TURNS)
 }
 
+/// The number of the end, and the replies.
+fn served(alloc: Global, hub: &mut Hub, stream: (usize, &[u8])) -> Result<String, Fail> {
+    let mut given = Vec::new(alloc);
+    let end = serve_new(hub, stream, &mut given) as u8;
+    let replies = hex::encode(alloc, given)?;
+    Ok(format!(in alloc; "{end} {replies}")?)
+}
+
 /// `serve SIZE STREAM`: the number of the end, and the replies.
 pub fn serve_stream(alloc: Global, hub: &mut Hub, words: &str) -> Result<String, Fail> {
     let (size, stream) = pieces_in(alloc, words)?;
-    let mut given = Vec::new(alloc);
-    let end = serve_new(hub, (size, &stream), &mut given) as u8;
-    let replies = hex::encode(alloc, given)?;
-    Ok(format!(in alloc; "{end} {replies}")?)
+    served(alloc, hub, (size, &stream))
 }
