@@ -56,6 +56,10 @@ class Talk:
     def __init__(self):
         self.lines, self.asked, self.checks = [], [], []
 
+    def begin(self, what):
+        """Begins a block of lines, over a new server or hub."""
+        self.lines += ["", what] if self.lines else [what]
+
     def tell(self, line):
         """A line without an answer."""
         self.lines.append(line)

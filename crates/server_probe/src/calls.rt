@@ -1,6 +1,7 @@
 //! Calls that a server answers.
 
-use call_texts::{Caller, split_word};
+use crate::split_word;
+use call_texts::Caller;
 use compound_run::Server;
 use sample_servers::{run_record, run_record_in_session};
 use std::alloc::Global;

@@ -2,9 +2,9 @@
 
 use crate::calls::run_call;
 use crate::looks::look;
+use crate::split_word;
 use crate::streams::{feed_stream, serve_stream};
 use crate::trees::{grow, grows};
-use call_texts::split_word;
 use compound_run::Server;
 use nfs_hub::Hub;
 use sample_servers::{book_of, reload, root_of, sample_server, server_of};
@@ -70,13 +70,14 @@ fn ask(alloc: Global, house: &mut House, line: &str) -> Result<String, Fail> {
     }
 }
 
+/// Answers lines, but for those that grow a tree.
 fn answer_lines<R: Print>(
     rt: &R,
     alloc: Global,
     house: &mut House,
-    lines: &[&str],
+    lines: &str,
 ) -> Result<(), Fail> {
-    for line in lines {
+    for line in lines.lines() {
         if !grows(line) {
             let answer = ask(alloc, house, line)?;
             println!(rt; "{answer}")?;
@@ -90,7 +91,7 @@ fn server_over(
     alloc: Global,
     hasher: RandomState,
     list: &str,
-    lines: &[&str],
+    lines: &str,
 ) -> Result<Server, Fail> {
     let mut tree = root_of(alloc, list)?;
     grow(alloc, &mut tree, lines)?;
@@ -103,26 +104,26 @@ fn hub_by(alloc: Global, hasher: RandomState, digits: &str) -> Result<Hub, Fail>
     Ok(Hub::new(alloc, book_of(alloc, text.as_str())?, hasher)?)
 }
 
-/// What a line `over ..` names.
-fn house_of(alloc: Global, hasher: RandomState, what: &str, lines: &[&str]) -> Result<House, Fail> {
+/// What the first line of a block names.
+fn house_of(alloc: Global, hasher: RandomState, what: &str, lines: &str) -> Result<House, Fail> {
     let (word, rest) = split_word(what);
     match word {
         "sample" => Ok(House::Server(sample_server(alloc, hasher)?)),
         "root" => Ok(House::Server(server_over(alloc, hasher, rest, lines)?)),
         "hub" => Ok(House::Hub(Hub::bare(alloc, alloc, hasher)?)),
         "book" => Ok(House::Hub(hub_by(alloc, hasher, rest)?)),
-        _ => Err(Fail::new("over what?")),
+        _ => Err(Fail::new("no server and no hub")),
     }
 }
 
-/// Makes what a line `over ..` names, and answers the lines after it.
-pub fn answer_over<R: Print>(
+/// Makes what the first line of a block names, and answers the lines after it.
+pub fn answer_block<R: Print>(
     rt: &R,
     alloc: Global,
     hasher: RandomState,
-    what: &str,
-    lines: &[&str],
+    block: &str,
 ) -> Result<(), Fail> {
+    let (what, lines) = block.split_once('\n').unwrap_or((block, ""));
     let mut house = house_of(alloc, hasher, what, lines)?;
     answer_lines(rt, alloc, &mut house, lines)
 }

@@ -7,42 +7,32 @@ mod looks;
 mod streams;
 mod trees;
 
-use crate::houses::answer_over;
-use call_texts::{behind, up_to};
+use crate::houses::answer_block;
 use std::alloc::Global;
 use std::hash::RandomState;
 use std::io;
 use std::test::Fail;
 
-/// Answers lines: one that begins with `over` says over what the lines up to the next one are.
-fn answer_lines<R: Print>(
-    rt: &R,
-    alloc: Global,
-    hasher: RandomState,
-    lines: &[&str],
-) -> Result<(), Fail> {
-    for (index, line) in lines.iter().enumerate() {
-        if let Some(what) = line.strip_prefix("over ") {
-            let its = up_to(behind(&*lines, index), "over ");
-            answer_over(rt, alloc, hasher, what, its)?;
-        }
-    }
-    Ok(())
+/// The first word of a line, and the rest of it.
+pub(crate) fn split_word(line: &str) -> (&str, &str) {
+    line.split_once(' ').unwrap_or((line, ""))
 }
 
-fn answer_text<R: Print>(
+/// Answers the lines of each block. An empty line ends one.
+fn answer_all<R: Print>(
     rt: &R,
     alloc: Global,
     hasher: RandomState,
     text: &str,
 ) -> Result<(), Fail> {
-    let lines: Vec<&str> = text.lines().collect(alloc)?;
-    answer_lines(rt, alloc, hasher, &lines)
+    for block in text.split("\n\n") {
+        answer_block(rt, alloc, hasher, block)?;
+    }
+    Ok(())
 }
 
 fn main(rt: HostRuntime) -> Result<(), Fail> {
-    let alloc = rt.alloc();
     let hasher = RandomState::new(&rt)?;
-    let text = io::read_to_string(alloc, rt.reader())?;
-    answer_text(&rt, alloc, hasher, text.as_str())
+    let text = io::read_to_string(rt.alloc(), rt.reader())?;
+    answer_all(&rt, rt.alloc(), hasher, text.as_str())
 }

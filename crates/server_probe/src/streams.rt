@@ -1,6 +1,6 @@
 //! Streams of a hub, each on a new connection, in pieces.
 
-use call_texts::split_word;
+use crate::split_word;
 use nfs_hub::{Clock, ConnId, Hub, HubFault, ServeEnd, serve};
 use nfs_types::Moment;
 use std::alloc::Global;
