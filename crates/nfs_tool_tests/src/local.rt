@@ -124,11 +124,11 @@ fn apart_on_new(hub: &mut Hub) -> Result<[Moved; 3], HubFault> {
 
 /// A call of one of two new connections.
 #[derive(Clone, Copy)]
-struct Apart {
+struct TwoCalls {
     seen: Result<[Moved; 3], HubFault>,
 }
 
-impl Deed for Apart {
+impl Deed for TwoCalls {
     fn run(&mut self, hub: &mut Hub) {
         self.seen = apart_on_new(hub);
     }
@@ -137,7 +137,7 @@ impl Deed for Apart {
 /// The reply to a call of one connection is read of that connection, and not of another.
 #[test]
 fn connections_are_apart(rt: HostRuntime) -> Result<(), Fail> {
-    let mut calls = Apart {
+    let mut calls = TwoCalls {
         seen: Err(HubFault::Memory),
     };
     run_over(sample(rt.alloc(), RandomState::new(&rt)?), &mut calls)?;
@@ -162,11 +162,11 @@ fn broken_on_new(hub: &mut Hub) -> Result<[Moved; 3], HubFault> {
 
 /// Bytes that break a new connection.
 #[derive(Clone, Copy)]
-struct Broken {
+struct BreakingBytes {
     seen: Result<[Moved; 3], HubFault>,
 }
 
-impl Deed for Broken {
+impl Deed for BreakingBytes {
     fn run(&mut self, hub: &mut Hub) {
         self.seen = broken_on_new(hub);
     }
@@ -175,7 +175,7 @@ impl Deed for Broken {
 /// A record above 131,072 bytes breaks the connection. The bytes pending before are still read.
 #[test]
 fn a_broken_connection_takes_nothing(rt: HostRuntime) -> Result<(), Fail> {
-    let mut bytes = Broken {
+    let mut bytes = BreakingBytes {
         seen: Err(HubFault::Memory),
     };
     run_over(sample(rt.alloc(), RandomState::new(&rt)?), &mut bytes)?;
