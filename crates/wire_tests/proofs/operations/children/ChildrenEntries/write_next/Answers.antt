@@ -10,10 +10,10 @@ use Rattle.wire_tests.specs.declared.operations.children.Child.{Child}
 use Rattle.wire_tests.specs.Children.{entry_of, judged_as}
 use Rattle.wire_tests.proofs.operations.children.ChildrenEntries.write_next.Goals as goal
 
-judged_with : Content → ObjectFacts → Child → Result Bitmap ℕ → Judged ℕ
+abbrev judged_with : Content → ObjectFacts → Child → Result Bitmap ℕ → Judged ℕ
 judged_with book facts c j = judged_as book facts c.cookie c.name.bytes.now j
 
-judged_child : Content → ObjectFacts → Child → Judged ℕ
+abbrev judged_child : Content → ObjectFacts → Child → Judged ℕ
 judged_child book facts c = judged_with book facts c c.judged
 
 first_is : (book : Content) (facts : ObjectFacts) (c : Child) (left rest : List Child) (j : Result Bitmap ℕ) → left ≡ c ∷ rest → c.judged ≡ j → map (judged_child book facts) left ≡ judged_with book facts c j ∷ map (judged_child book facts) rest
