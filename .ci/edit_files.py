@@ -24,6 +24,8 @@ Edit = namedtuple("Edit", "path name sentence pairs stands")
 Place = namedtuple("Place", "file name first last proof")
 
 FUNCTION = re.compile(r"(?m)^([ \t]*)(?:pub(?:\([a-z]+\))? )?(?:const )?fn (\w+)")
+# the head of the functions of a type, with the trait that they are of, if they are of one
+IMPL = re.compile(r"(?m)^impl(?:<[^{]*?>)? (?:(\w+)(?:<[^{]*?>)? for )?(?:&?(?:'\w+ )?)(\w+)")
 # what gives a body another shape, where a text has more of it than the text before it
 SHAPES = (r"\bfn\b", r"\bif\b", r"\bmatch\b", r"\bfor\b", r"\bwhile\b", r"\bloop\b", r"\breturn\b", r"\?", r"\|\w*\|", r"\w!?\(")
 
@@ -91,11 +93,21 @@ def applied(edits, folder, is_right=False):
     return texts
 
 
-def proof_of(folder, file, name):
+def owner_of(text, start):
+    """The names by which the proofs know the type that a function at this place is of: the type's, and with a trait's behind it; or none."""
+    heads = [*IMPL.finditer(text[:start])]
+    if not heads or re.search(r"(?m)^\}", text[heads[-1].end() : start]):
+        return ()
+    trait, name = heads[-1][1], heads[-1][2]
+    return (f"{name}{trait}",) if trait else (name,)
+
+
+def proof_of(folder, file, text, start, name):
     """The folder of a function's proof by hand, in its crate, or nothing."""
     module = file.removeprefix("src/").removesuffix(".rt").removesuffix("/mod")
     module = "" if module in ("lib", "main") else f"{module}/"
-    found = [it for form in (f"{module}{name}", f"{module}*/{name}") for it in glob.glob(f"{folder}/proofs/{form}") if os.path.isdir(it)]
+    forms = [f"**/{it}/{name}" for it in owner_of(text, start)] or [f"{module}{name}"]
+    found = [it for form in forms for it in glob.glob(f"{folder}/proofs/{form}", recursive=True) if os.path.isdir(it)]
     return os.path.relpath(found[0], folder) if len(found) == 1 else ""
 
 
@@ -114,7 +126,7 @@ def place_of(folder, pair):
     if not body or not end or not body.end() < at < end.start():
         return None
     line = lambda where: text.count("\n", 0, where) + 1
-    return Place(pair.file, name, line(start), line(end.end()), proof_of(folder, pair.file, name))
+    return Place(pair.file, name, line(start), line(end.end()), proof_of(folder, pair.file, text, start, name))
 
 
 def places_of(folder, edit):
