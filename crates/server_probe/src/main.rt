@@ -1,14 +1,23 @@
-//! `server_probe`: makes servers and hubs, and answers lines of standard input about them. `README.md` has the lines.
+//! `server_probe`: makes servers and hubs, and answers lines of standard input about them, each with a line of standard output. `README.md` has the lines.
 #![tactic(auto)]
 
 mod calls;
+mod connections;
+mod courses;
 mod houses;
+mod lines;
 mod looks;
+mod making;
+mod objects;
+mod pictures;
+mod plain;
+mod servers;
+mod serving;
 mod streams;
 mod trees;
 
-use crate::houses::answer_over;
-use call_texts::{behind, up_to};
+use crate::lines::{after, up_to};
+use crate::making::answer_over;
 use std::alloc::Global;
 use std::hash::RandomState;
 use std::io;
@@ -23,7 +32,7 @@ fn answer_lines<R: Print>(
 ) -> Result<(), Fail> {
     for (index, line) in lines.iter().enumerate() {
         if let Some(what) = line.strip_prefix("over ") {
-            let its = up_to(behind(&*lines, index), "over ");
+            let its = up_to(after(&*lines, index), "over ");
             answer_over(rt, alloc, hasher, what, its)?;
         }
     }

@@ -1,9 +1,9 @@
 //! Trees, line by line. Names stand there in hexadecimal digits.
 
+use crate::lines::split_word;
+use crate::objects::{add, link, set_list};
 use acl_list::Kind;
-use call_texts::split_word;
 use node_tree::Tree;
-use sample_servers::{add, link, set_list};
 use std::alloc::Global;
 use std::test::Fail;
 
