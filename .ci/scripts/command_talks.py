@@ -2,9 +2,9 @@
 
 tests/commands/README.md says what the lines are.
 """
-from command_texts import escaped, repeated, written
-from words import OPERATIONS, STATUSES, Unreadable, bytes_of, call_of, number_in, numbers, record, reply_record
-from words import split_word
+from scripts.command_texts import escaped, repeated, written
+from scripts.words import OPERATIONS, STATUSES, Unreadable, bytes_of, call_of, number_in, numbers, record, reply_record
+from scripts.words import split_word
 
 # the faults of a command, with the numbers that nfs_tool gives them
 FAULTS = {"path": 1, "refused": 2, "reply": 3, "read": 4, "write": 5, "memory": 6, "entry": 7, "failed": 8}

@@ -1,87 +1,71 @@
-"""The lines of a text of commands or of scripts: its scenes, tables and books, and the places and repetitions in them.
+"""The scenes of a text of commands or of scripts, its tables and books, and the places and repetitions in a line.
 
 tests/commands/README.md says what the lines are.
 """
 import itertools
 import re
 
-from words import Unreadable, number_in, split_word
+from scripts.lines import up_to, up_to_end
+from scripts.words import Unreadable, number_in, split_word
 
 # the first words of lines that say what other lines mean
 DEFINITIONS = ("", "let", "rows", "book", "each")
 
 
 class Scene:
-    """The lines of a scene of a file, and what its rows fill in."""
+    """A scene of a text: what plays it, its lines, and what its rows fill in."""
 
-    def __init__(self, file, title, lines, fillings):
-        self.file, self.title, self.fillings = file, title, fillings
+    def __init__(self, text, title, lines):
+        self.name = f"{text.name}: {title}"
         self.head = split_word(lines[0])
         self.lines = [line for line in lines[1:] if not is_definition(line)]
-
-
-def lines_of(text):
-    """The lines of a text: one that ends with a backslash goes on in the next. Spaces in front don't count."""
-    return re.sub(r"(?m)^[^\S\n]+", "", text).replace("\\\n", "").splitlines()
+        self.fillings = list(fillings_of(text, lines))
 
 
 def is_definition(line):
     return split_word(line)[0] in DEFINITIONS or line[0] in "#|"
 
 
-def named(lines, word):
-    """The lines that begin with a word and a name, by their names: where the first of each stands, and its rest."""
-    out = {}
-    for place, line in enumerate(lines):
-        first, rest = split_word(line)
-        if first == word:
-            name, rest = split_word(rest)
-            out.setdefault(name, (place, rest))
-    return out
+def scenes_of(text):
+    return [Scene(text, title, lines) for title, lines in text.scenes()]
 
 
-def bars(lines, place):
-    """The lines with a bar in front that stand after a place, without it."""
-    return [line[1:] for line in itertools.takewhile(lambda line: line.startswith("|"), lines[place + 1 :])]
+def bars(lines):
+    """The first lines that begin with a bar, without it."""
+    return [line[1:] for line in up_to(lines, lambda line: not line.startswith("|"))]
 
 
-def rows_of(lines, name):
+def rows_of(text, name):
     """The rows of a table, each as its columns with their values."""
-    place, columns = named(lines, "rows").get(name, (None, None))
-    if place is None:
-        raise Unreadable(f"no rows {name}")
+    columns, after = text.the_after("rows", name)
     names = [it.strip() for it in columns.split("|")]
-    return [dict(zip(names, (it.strip() for it in row.split("|")))) for row in bars(lines, place)]
+    return [dict(zip(names, (it.strip() for it in row.split("|")))) for row in bars(after)]
 
 
-def books_of(lines):
+def names_of(text, word):
+    """The names that lines with this first word define."""
+    return [split_word(split_word(line)[1])[0] for line in text.lines if split_word(line)[0] == word]
+
+
+def books_of(text):
     """The books of a text by their names."""
-    found = named(lines, "book")
-    return {name: "".join(line_of_book(row) for row in bars(lines, place)) for name, (place, _) in found.items()}
+    found = {name: bars(text.the_after("book", name)[1]) for name in names_of(text, "book")}
+    return {name: "".join(line_of_book(row) for row in rows) for name, rows in found.items()}
 
 
 def line_of_book(row):
     return row[2:] if row.startswith("- ") else row.removeprefix(" ") + "\n"
 
 
-def fillings_of(lines, scene):
+def fillings_of(text, scene):
     """What a scene's places are filled in with, for each row of its first table and each of its second."""
-    lets = {name: rest for name, (_, rest) in named(lines, "let").items()}
-    tables = [rows_of(lines, split_word(line)[1]) for line in scene if line.startswith("each ")]
+    lets = {name: text.line("let", name) for name in names_of(text, "let")}
+    tables = [rows_of(text, split_word(line)[1]) for line in scene if line.startswith("each ")]
     for rows in itertools.product(*tables):
         filling = {**lets, "N": "0"}
         for row in reversed(rows):
             filling.update(row)
         yield filling
-
-
-def scenes_of(file, text):
-    """The scenes of a text."""
-    lines = lines_of(text)
-    begins = [place for place, line in enumerate(lines) if line.startswith("scene ")]
-    for begin, end in zip(begins, begins[1:] + [None]):
-        scene = lines[begin + 1 : end]
-        yield Scene(file, split_word(lines[begin])[1], scene, list(fillings_of(lines, scene)))
 
 
 def repeated(line):
@@ -121,14 +105,16 @@ def escaped(text):
 
 def spread(lines, filling):
     """The lines of a script with what fills them in: those from `repeat` to `end` once for each of the numbers."""
-    lines = iter(lines)
-    for line in lines:
-        if not line.startswith("repeat "):
-            yield line, filling
-            continue
-        body = list(itertools.takewhile(lambda it: it != "end", lines))
-        for number in numbers_of(line.removeprefix("repeat ")):
-            yield from ((it, {**filling, "N": str(number)}) for it in body)
+    place = 0
+    while place < len(lines):
+        word, numbers = split_word(lines[place])
+        if word == "repeat":
+            body = up_to_end(lines[place + 1 :])
+            yield from ((line, {**filling, "N": str(number)}) for number in numbers_of(numbers) for line in body)
+            place += len(body) + 2
+        else:
+            yield lines[place], filling
+            place += 1
 
 
 def numbers_of(spelled):

@@ -24,7 +24,7 @@ class Heap:
 
 def in_batch(program, what, sizes, ask):
     talk = Talk()
-    talk.tell(f"over heaps {what} {sizes.start} {sizes.step} {len(sizes)}")
+    talk.begin(f"heaps {what} {sizes.start} {sizes.step} {len(sizes)}")
     heaps = []
     for size in sizes:
         heaps.append(Heap(size, talk.awaited("a house"), ask(talk), talk.awaited("the bytes in use")))

@@ -41,7 +41,7 @@ def see_place(talk, calls, place):
     count = len(records_in(calls[:place]))
     replies = b"".join(replies_of(BEFORE)[:count] + replies_of(AFTER)[count:])
     lines = "".join(pair[0] if number < count else pair[1] for number, pair in enumerate(LINES))
-    talk.tell("over hub")
+    talk.begin("hub")
     connect(talk)
     send(talk, 0, calls[:place])
     load(talk, BOOK)
@@ -103,7 +103,7 @@ def break_one(talk):
 
 def see_order(talk, order, calls):
     turns, *answers = order
-    talk.tell("over hub")
+    talk.begin("hub")
     senders = {}
     for place, letter in enumerate("ab"):
         connect(talk)

@@ -85,7 +85,7 @@ class Past:
 
     def __init__(self, talk, is_one):
         self.talk, self.is_one, self.sent = talk, is_one, 0
-        talk.tell(f"over book {digits(BOOK)}")
+        talk.begin(f"book {digits(BOOK)}")
         self.open()
         self.taken = [self.step(*it) for it in enumerate(self.pieces())]
         self.picture, self.counts = talk.ask("picture 1000"), talk.ask("counts")

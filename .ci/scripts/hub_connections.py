@@ -60,7 +60,7 @@ def see_full(talk):
 def connections(program):
     """Connections are closed, broken and counted."""
     talk = Talk()
-    talk.tell("over hub")
+    talk.begin("hub")
     for see in (see_closed, see_broken, see_told_broken, see_full):
         see(talk)
     talk.run(program)

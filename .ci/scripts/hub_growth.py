@@ -83,7 +83,7 @@ class Run:
     def wanted_picture(self, talk, ran):
         """The picture that is left with ample memory by that many calls, and that many operations of the next."""
         count, operations = ran
-        talk.tell(f"over {self.house} ")
+        talk.begin(f"{self.house} ")
         connect(talk)
         for call in self.calls[:count]:
             expect(talk, f"send 0 0 {call.hex()}", "0")

@@ -34,7 +34,7 @@ class Serving:
 
     def see(self, talk, stream, end, written):
         """Sees serving end so with these bytes written, on a connection that is closed then; without a free one it is refused."""
-        talk.tell(f"over {self.house}")
+        talk.begin(self.house)
         expect(talk, self.line(stream), f"{end} {written.hex()}")
         for _ in range(16):
             connect(talk)
@@ -63,7 +63,7 @@ def fronts(program):
 def moments(program):
     """The moment of a call is the clock's, as its piece comes."""
     talk, stream = Talk(), CREATE_D + CREATE_E
-    talk.tell("over hub")
+    talk.begin("hub")
     served, tree = talk.ask(Serving(turns=10, read=len(CREATE_D)).line(stream)), talk.ask("tree 6")
     talk.see("the end", lambda: served.answer.split(" ")[0], lambda: str(ENDED))
     for number, second in ((4, 70), (5, 71)):
@@ -95,4 +95,4 @@ def failures(program):
         see_reads(talk, *run)
         see_writes(talk, *run)
     talk.run(program)
-    return f"{sum(line.startswith('over') for line in talk.lines)} places"
+    return f"{talk.lines.count('') + 1} places"

@@ -60,7 +60,7 @@ class Through:
 def over(text, words):
     """`sample`: a hub of the sample tree, without sessions. `root BOOK`: one of a root alone, with sessions."""
     what, book = split_word(words)
-    return {"sample": "over hub", "root": f"over book {digits(text.book(book))}"}[what]
+    return {"sample": "hub", "root": f"book {digits(text.book(book))}"}[what]
 
 
 def in_pieces(text, talk, words, lines):
@@ -68,6 +68,6 @@ def in_pieces(text, talk, words, lines):
     sizes = next((line.removeprefix("pieces ") for line in lines if line.startswith("pieces ")), SIZES)
     count = 0
     for size in sizes.split():
-        talk.tell(over(text, words))
+        talk.begin(over(text, words))
         count += Stage(text, talk, Through(talk, size)).play(lines)
     return count

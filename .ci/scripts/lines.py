@@ -7,6 +7,9 @@ from scripts.words import ALICE, BOB, CAROL, ROOT, Unreadable, number_in, split_
 # what begins a line that goes on with the one before it
 ATTACHED = ("|", "=", "~")
 
+# what begins a line that gives a name to something
+NAMING = ("caller", "let", "book", "table", "act")
+
 
 def joined(content):
     """A text's lines: one that ends with a backslash goes on in the next, and spaces in front of a line don't count."""
@@ -29,6 +32,11 @@ def up_to(lines, is_last):
 
 def up_to_end(lines):
     return up_to(lines, lambda line: line == "end")
+
+
+def up_to_name(lines):
+    """The lines before the first that gives a name to something, or all."""
+    return up_to(lines, lambda line: split_word(line)[0] in NAMING)
 
 
 def barred(lines):
@@ -75,10 +83,11 @@ def lines_in(lines):
 
 
 class Text:
-    """A text of scenes."""
+    """A text of scenes, and of names between them."""
 
     def __init__(self, path):
         self.name = os.path.basename(path)
+        self.used = set()
         with open(path, encoding="utf-8") as it:
             self.lines = joined(it.read())
 
@@ -88,8 +97,28 @@ class Text:
             if line.startswith("scene "):
                 yield line.removeprefix("scene "), up_to(self.lines[place + 1:], lambda it: it.startswith("scene "))
 
+    def names(self):
+        """The word and the name of each line that names something, and other lines between scenes, which say nothing."""
+        part = ""
+        for line in self.lines:
+            word, rest = split_word(line)
+            if word == "scene" or word in NAMING:
+                part = word
+            if word in NAMING:
+                yield word, split_word(rest)[0]
+            elif part == "table" and line == "end":
+                part = ""
+            elif part not in ("scene", "table") and word not in ("", "scene", "|") and not word.startswith("#"):
+                yield line, ""
+
+    def see_that_all_is_used(self):
+        for word, name in self.names():
+            if (word, name) not in self.used:
+                raise Unreadable(f"nothing uses {word} {name}")
+
     def after(self, word, name):
         """The rest of the first line that begins with a word and a name, and the lines after it; or None."""
+        self.used.add((word, name))
         for place, line in enumerate(self.lines):
             first, rest = split_word(line)
             second, rest = split_word(rest)

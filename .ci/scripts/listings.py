@@ -80,7 +80,7 @@ class Listing:
 def listings(program):
     """Each name that is there all the time is returned once, in the order of the cookies; so are those that come after the last one that was returned."""
     talk, cookies = Talk(), Cookies()
-    talk.tell(f"over root {ALL}")
+    talk.begin(f"root {ALL}")
     for name in "abcd":
         talk.tell(*add(1, name, "dir", ALL))
         cookies.add(1)

@@ -59,6 +59,10 @@ class Talk:
         # whether lines are sent; not where the probe says them again itself, once for each heap
         self.sends = True
 
+    def begin(self, what):
+        """Begins a block of lines, over a new server or hub."""
+        self.lines += ["", what] if self.lines else [what]
+
     def tell(self, line):
         """A line without an answer."""
         if self.sends:

@@ -44,7 +44,7 @@ def play_repeats(text, talk, _words, lines):
     """`repeats`: plays a scene with its repeats and without them."""
     pasts, pictures = [Past(text, talk, repeats) for repeats in (True, False)], []
     for past in pasts:
-        talk.tell("over sample")
+        talk.begin("sample")
         pictures.append(past.play(lines))
     for number, ((_, _, one), (_, _, other)) in enumerate(zip(*(past.made for past in pasts)), 1):
         talk.see(f"call {number} with repeats and without", one.bytes, other.bytes)

@@ -107,12 +107,12 @@ def grow(talk, lines):
 
 def on_sample(text, talk, _words, lines):
     """`sample`: over the sample tree."""
-    talk.tell("over sample")
+    talk.begin("sample")
     return Stage(text, talk, Direct(talk)).play(lines)
 
 
 def on_root(text, talk, words, lines):
     """`root LIST`: over a root with this list, and what the scene's lines add to it."""
-    talk.tell(f"over root {words}")
+    talk.begin(f"root {words}")
     grow(talk, lines)
     return Stage(text, talk, Direct(talk)).play(lines)

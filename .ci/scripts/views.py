@@ -1,4 +1,5 @@
 """Scenes of two worlds that differ in a part that is hidden from bob: his calls get equal answers in both."""
+from scripts.lines import lines_in
 from scripts.probe import digits, expect_ok
 from scripts.servers import Direct, ask_call
 from scripts.stages import Stage
@@ -19,7 +20,7 @@ class Making:
 
     def __init__(self, text, talk, tree, sessions, book):
         self.text, self.talk, self.sessions = text, talk, sessions
-        self.over = {"sample": "over sample", "root": f"over root {ALL}"}[tree]
+        self.over = {"sample": "sample", "root": f"root {ALL}"}[tree]
         self.book = text.book(book)
 
     def perform(self, sessions, who, second, call):
@@ -35,7 +36,7 @@ class Making:
 
     def make(self, acts):
         """Makes a world by acts, whose names stand there with spaces between them."""
-        self.talk.tell(self.over)
+        self.talk.begin(self.over)
         expect_ok(self.talk, "a book", f"load {digits(self.book)}")
         for name in acts.split():
             self.act(name)
@@ -100,15 +101,15 @@ def play_views(text, talk, words, lines):
     """`views sample|root sessions|none BOOK`: sees a scene's pairs of worlds, and gives the number of bob's calls."""
     tree, sessions, book = words.split(" ", 2)
     making, count = Making(text, talk, tree, {"sessions": True, "none": False}[sessions], book), 0
-    for line in lines:
-        word, rest = split_word(line)
-        table, rest = split_word(rest)
-        if word in ("pairs", "differs"):
-            pairs = [Pair(it) for it in lines_of(text, table)]
-            if word == "pairs":
-                count += see_pairs(making, pairs, lines_of(text, rest))
-            else:
-                count += see_differ(making, pairs, rest)
+    for line in lines_in(lines):
+        table, rest = split_word(line.alone())
+        pairs = [Pair(it) for it in lines_of(text, table)]
+        if line.word == "pairs":
+            count += see_pairs(making, pairs, lines_of(text, rest))
+        elif line.word == "differs":
+            count += see_differ(making, pairs, rest)
+        else:
+            raise Unreadable(f"no such word: {line.whole}")
     return count
 
 

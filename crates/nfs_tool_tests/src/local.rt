@@ -1,6 +1,8 @@
 //! A stream over a connection of a hub, with the bytes of its calls by hand (RFC 5531, sections 9 and 11).
 
-use crate::plain::{changed_at, close, connect, end, open, put, root_alone, sample};
+use crate::plain::{
+    Deed, changed_at, close, connect, end, open, put, root_alone, run_over, sample,
+};
 use crate::replies::{BROKEN, DONE, NULL};
 use nfs_hub::{ConnId, Hub, HubFault};
 use nfs_tool::{Local, ToolFault};
@@ -73,9 +75,16 @@ fn pieces_of_new(hub: &mut Hub) -> Result<Pieces, HubFault> {
     Ok(call_and_read(hub, conn))
 }
 
-fn pieces_of_sample(alloc: Global, hasher: RandomState) -> Result<Pieces, Fail> {
-    let mut hub = sample(alloc, hasher)?;
-    Ok(pieces_of_new(&mut hub)?)
+/// A call in two pieces on a new connection.
+#[derive(Clone, Copy)]
+struct InPieces {
+    seen: Result<Pieces, HubFault>,
+}
+
+impl Deed for InPieces {
+    fn run(&mut self, hub: &mut Hub) {
+        self.seen = pieces_of_new(hub);
+    }
 }
 
 fn see_pieces(rt: &impl Abort, seen: &Pieces) {
@@ -89,8 +98,11 @@ fn see_pieces(rt: &impl Abort, seen: &Pieces) {
 /// A reply comes behind its whole call alone, in two reads of at most 20 bytes.
 #[test]
 fn a_reply_is_read_in_pieces(rt: HostRuntime) -> Result<(), Fail> {
-    let seen = pieces_of_sample(rt.alloc(), RandomState::new(&rt)?)?;
-    see_pieces(&rt, &seen);
+    let mut call = InPieces {
+        seen: Err(HubFault::Memory),
+    };
+    run_over(sample(rt.alloc(), RandomState::new(&rt)?), &mut call)?;
+    see_pieces(&rt, &call.seen?);
     Ok(())
 }
 
@@ -110,16 +122,26 @@ fn apart_on_new(hub: &mut Hub) -> Result<[Moved; 3], HubFault> {
     Ok(apart(hub, first, second))
 }
 
-fn apart_on_sample(alloc: Global, hasher: RandomState) -> Result<[Moved; 3], Fail> {
-    let mut hub = sample(alloc, hasher)?;
-    Ok(apart_on_new(&mut hub)?)
+/// A call of one of two new connections.
+#[derive(Clone, Copy)]
+struct Apart {
+    seen: Result<[Moved; 3], HubFault>,
+}
+
+impl Deed for Apart {
+    fn run(&mut self, hub: &mut Hub) {
+        self.seen = apart_on_new(hub);
+    }
 }
 
 /// The reply to a call of one connection is read of that connection, and not of another.
 #[test]
 fn connections_are_apart(rt: HostRuntime) -> Result<(), Fail> {
-    let seen = apart_on_sample(rt.alloc(), RandomState::new(&rt)?)?;
-    assert!(rt; seen == [Ok(44), Ok(0), Ok(28)]);
+    let mut calls = Apart {
+        seen: Err(HubFault::Memory),
+    };
+    run_over(sample(rt.alloc(), RandomState::new(&rt)?), &mut calls)?;
+    assert!(rt; calls.seen == Ok([Ok(44), Ok(0), Ok(28)]));
     Ok(())
 }
 
@@ -138,21 +160,31 @@ fn broken_on_new(hub: &mut Hub) -> Result<[Moved; 3], HubFault> {
     Ok(broken(hub, conn))
 }
 
-fn broken_on_sample(alloc: Global, hasher: RandomState) -> Result<[Moved; 3], Fail> {
-    let mut hub = sample(alloc, hasher)?;
-    Ok(broken_on_new(&mut hub)?)
+/// Bytes that break a new connection.
+#[derive(Clone, Copy)]
+struct Broken {
+    seen: Result<[Moved; 3], HubFault>,
+}
+
+impl Deed for Broken {
+    fn run(&mut self, hub: &mut Hub) {
+        self.seen = broken_on_new(hub);
+    }
 }
 
 /// A record above 131,072 bytes breaks the connection. The bytes pending before are still read.
 #[test]
 fn a_broken_connection_takes_nothing(rt: HostRuntime) -> Result<(), Fail> {
-    let seen = broken_on_sample(rt.alloc(), RandomState::new(&rt)?)?;
+    let mut bytes = Broken {
+        seen: Err(HubFault::Memory),
+    };
+    run_over(sample(rt.alloc(), RandomState::new(&rt)?), &mut bytes)?;
     let wanted = [
         Err(ErrorKind::BrokenPipe),
         Err(ErrorKind::BrokenPipe),
         Ok(28),
     ];
-    assert!(rt; seen == wanted);
+    assert!(rt; bytes.seen == Ok(wanted));
     Ok(())
 }
 
@@ -168,16 +200,26 @@ fn closed_on_new(hub: &mut Hub) -> Result<[Moved; 2], HubFault> {
     Ok(moved(hub, conn))
 }
 
-fn closed_on_sample(alloc: Global, hasher: RandomState) -> Result<[Moved; 2], Fail> {
-    let mut hub = sample(alloc, hasher)?;
-    Ok(closed_on_new(&mut hub)?)
+/// No bytes on a connection that is closed.
+#[derive(Clone, Copy)]
+struct Closed {
+    seen: Result<[Moved; 2], HubFault>,
+}
+
+impl Deed for Closed {
+    fn run(&mut self, hub: &mut Hub) {
+        self.seen = closed_on_new(hub);
+    }
 }
 
 #[test]
 fn a_closed_connection_is_none(rt: HostRuntime) -> Result<(), Fail> {
-    let seen = closed_on_sample(rt.alloc(), RandomState::new(&rt)?)?;
+    let mut none = Closed {
+        seen: Err(HubFault::Memory),
+    };
+    run_over(sample(rt.alloc(), RandomState::new(&rt)?), &mut none)?;
     let wanted = [Err(ErrorKind::NotConnected), Err(ErrorKind::NotConnected)];
-    assert!(rt; seen == wanted);
+    assert!(rt; none.seen == Ok(wanted));
     Ok(())
 }
 
@@ -201,14 +243,27 @@ fn put_on_new(alloc: Global, hub: &mut Hub) -> Result<Put, HubFault> {
     Ok((told, changed_at(hub, 2)))
 }
 
-fn put_on_root(alloc: Global, hasher: RandomState) -> Result<Put, Fail> {
-    let mut hub = root_alone(alloc, hasher)?;
-    Ok(put_on_new(alloc, &mut hub)?)
+/// A file that is put on a new connection.
+#[derive(Clone, Copy)]
+struct FilePut {
+    alloc: Global,
+    seen: Result<Put, HubFault>,
+}
+
+impl Deed for FilePut {
+    fn run(&mut self, hub: &mut Hub) {
+        self.seen = put_on_new(self.alloc, hub);
+    }
 }
 
 #[test]
 fn each_call_has_the_moment(rt: HostRuntime) -> Result<(), Fail> {
-    let seen = put_on_root(rt.alloc(), RandomState::new(&rt)?)?;
-    assert!(rt; seen == (Ok(()), Some(77)));
+    let alloc = rt.alloc();
+    let mut file = FilePut {
+        alloc,
+        seen: Err(HubFault::Memory),
+    };
+    run_over(root_alone(alloc, RandomState::new(&rt)?), &mut file)?;
+    assert!(rt; file.seen == Ok((Ok(()), Some(77))));
     Ok(())
 }

@@ -56,6 +56,21 @@ pub(crate) fn root_alone(alloc: Global, hasher: RandomState) -> Result<Hub, Allo
     Hub::new(alloc, Book::default(alloc), hasher)
 }
 
+/// What a test does over a hub that it is lent.
+pub(crate) trait Deed {
+    fn run(&mut self, hub: &mut Hub);
+}
+
+/// Runs a deed over a new hub. This function alone owns a hub, since each that does is dear to prove.
+pub(crate) fn run_over<D: Deed>(
+    made: Result<Hub, AllocError>,
+    deed: &mut D,
+) -> Result<(), AllocError> {
+    let mut hub = made?;
+    deed.run(&mut hub);
+    Ok(())
+}
+
 pub(crate) fn connect(hub: &mut Hub) -> Result<ConnId, HubFault> {
     hub.connect()
 }

@@ -1,9 +1,9 @@
 //! Scripts over a hub with a root alone, where a read or a write fails, or the script never ends.
 
-use crate::plain::{root_alone, run_script};
+use crate::plain::{Deed, changed_at, root_alone, run_over, run_script};
 use nfs_hub::Hub;
 use nfs_tool::{Texts, ToolFault};
-use std::alloc::{AllocError, Global};
+use std::alloc::Global;
 use std::hash::RandomState;
 use std::io::{self, ErrorKind, Read, Write};
 use std::process::Abort;
@@ -108,7 +108,48 @@ fn played_over(
     end_of(told, writer.bytes.len())
 }
 
-/// The end of a script over a new hub, where so many reads and writes don't fail.
+/// A script, how many of its reads and writes don't fail, and its end.
+#[derive(Clone, Copy)]
+struct Play {
+    alloc: Global,
+    text: Text,
+    reads: u32,
+    writes: u32,
+    end: Result<bool, ToolFault>,
+    /// The second of the last change of object 2 then.
+    changed: Option<i64>,
+}
+
+impl Deed for Play {
+    fn run(&mut self, hub: &mut Hub) {
+        self.end = played_over(self.alloc, hub, self.text, self.reads, self.writes);
+        self.changed = changed_at(hub, 2);
+    }
+}
+
+/// The end of a script over a new hub, where this many reads and writes don't fail, and the second of the last change of object 2.
+fn played_and_changed(
+    alloc: Global,
+    hasher: RandomState,
+    text: Text,
+    reads: u32,
+    writes: u32,
+) -> (Result<bool, ToolFault>, Option<i64>) {
+    let mut play = Play {
+        alloc,
+        text,
+        reads,
+        writes,
+        end: Err(ToolFault::Memory),
+        changed: None,
+    };
+    match run_over(root_alone(alloc, hasher), &mut play) {
+        Ok(()) => (play.end, play.changed),
+        Err(_) => (Err(ToolFault::Memory), None),
+    }
+}
+
+/// The end of a script over a new hub, where this many reads and writes don't fail.
 fn played(
     alloc: Global,
     hasher: RandomState,
@@ -116,10 +157,7 @@ fn played(
     reads: u32,
     writes: u32,
 ) -> Result<bool, ToolFault> {
-    match root_alone(alloc, hasher) {
-        Ok(mut hub) => played_over(alloc, &mut hub, text, reads, writes),
-        Err(_) => Err(ToolFault::Memory),
-    }
+    played_and_changed(alloc, hasher, text, reads, writes).0
 }
 
 /// One read gives the end of an empty script, and three writes are of the trail.
@@ -129,6 +167,20 @@ const NOTHING: Text = (b"", b"trail 0\n");
 fn nothing_has_no_trail(rt: HostRuntime) -> Result<(), Fail> {
     let hasher = RandomState::new(&rt)?;
     assert!(rt; played(rt.alloc(), hasher, NOTHING, 1, 3) == Ok(true));
+    Ok(())
+}
+
+/// A file is put by the third line, and read by the fourth.
+const THIRD: Text = (
+    b"# a comment\n\nas 0 0 put /f hi\nas 0 0 cat /f\n",
+    b"ok\nhi\ntrail 0\n",
+);
+
+/// A line's moment is its number among all lines.
+#[test]
+fn each_line_has_its_moment(rt: HostRuntime) -> Result<(), Fail> {
+    let seen = played_and_changed(rt.alloc(), RandomState::new(&rt)?, THIRD, 100, 100);
+    assert!(rt; seen == (Ok(true), Some(3)));
     Ok(())
 }
 
@@ -218,17 +270,27 @@ fn endless_over(alloc: Global, hub: &mut Hub) -> Result<bool, ToolFault> {
     run_script(alloc, hub, &mut Range { alloc }, &mut Endless, &mut writer)
 }
 
-fn played_endless(
+/// The script that never ends.
+#[derive(Clone, Copy)]
+struct EndlessPlay {
     alloc: Global,
-    hasher: RandomState,
-) -> Result<Result<bool, ToolFault>, AllocError> {
-    let mut hub = root_alone(alloc, hasher)?;
-    Ok(endless_over(alloc, &mut hub))
+    end: Result<bool, ToolFault>,
+}
+
+impl Deed for EndlessPlay {
+    fn run(&mut self, hub: &mut Hub) {
+        self.end = endless_over(self.alloc, hub);
+    }
 }
 
 #[test]
 fn an_endless_script_ends(rt: HostRuntime) -> Result<(), Fail> {
-    let told = played_endless(rt.alloc(), RandomState::new(&rt)?)?;
-    assert!(rt; told == Err(ToolFault::Read));
+    let alloc = rt.alloc();
+    let mut play = EndlessPlay {
+        alloc,
+        end: Ok(true),
+    };
+    run_over(root_alone(alloc, RandomState::new(&rt)?), &mut play)?;
+    assert!(rt; play.end == Err(ToolFault::Read));
     Ok(())
 }

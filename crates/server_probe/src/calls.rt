@@ -1,6 +1,6 @@
 //! Calls that a server answers.
 
-use crate::lines::split_word;
+use crate::split_word;
 use compound_run::{Args, MAX_RESULTS, RunEnd, Server};
 use nfs_types::Moment;
 use rpc_record::Caller as Identity;

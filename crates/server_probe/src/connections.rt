@@ -1,7 +1,7 @@
 //! The connections of a hub, which have their places in the order in which they were opened.
 
-use crate::lines::split_word;
 use crate::plain::{close, connect, consume, feed, is_broken, number_of, pending, take_out};
+use crate::split_word;
 use nfs_hub::{ConnId, Hub};
 use std::alloc::{Allocator, Global};
 use std::test::Fail;

@@ -1,7 +1,7 @@
 //! The course of a house's lines: each is answered, or skipped.
 
 use crate::houses::{House, ask};
-use crate::lines::split_word;
+use crate::split_word;
 use crate::trees::grows;
 use std::alloc::{Allocator, Global};
 use std::test::Fail;
@@ -66,21 +66,21 @@ pub fn answer_lines<R: Print, A: Allocator + Copy>(
     rt: &R,
     alloc: Global,
     house: &mut House<A>,
-    lines: &[&str],
+    lines: &str,
 ) -> Result<(), Fail> {
     let mut course = Course {
         last: String::new(alloc),
         skips: false,
     };
-    for line in lines {
+    for line in lines.lines() {
         step(rt, alloc, house, &mut course, line)?;
     }
     Ok(())
 }
 
 /// Answers each line with `-`: there is no house.
-pub fn skip_lines<R: Print>(rt: &R, lines: &[&str]) -> Result<(), Fail> {
-    for line in lines {
+pub fn skip_lines<R: Print>(rt: &R, lines: &str) -> Result<(), Fail> {
+    for line in lines.lines() {
         if !grows(line) && !steers(line) {
             println!(rt; "-")?;
         }

@@ -2,11 +2,11 @@
 
 use crate::calls::{Site, run_call};
 use crate::connections::{Hall, ask_connection, is_of_one};
-use crate::lines::split_word;
 use crate::looks::look;
 use crate::plain::reload;
 use crate::servers::{book_of, reload as reload_server};
 use crate::serving::serve_stream;
+use crate::split_word;
 use crate::streams::feed_stream;
 use compound_run::{MAX_RESULTS, Server};
 use nfs_hub::Hub;

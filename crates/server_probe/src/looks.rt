@@ -102,12 +102,17 @@ fn counts<A: Allocator + Copy>(alloc: Global, server: &Server<A>) -> Result<Stri
     Ok(format!(in alloc; "{total} {examined} {tick} {stamp}")?)
 }
 
+fn put_number(alloc: Global, text: &mut String, number: u64) -> Result<(), Fail> {
+    let words = format!(in alloc; " {number}")?;
+    text.push_str(words.as_str())?;
+    Ok(())
+}
+
 /// `opens`: how many files are open, and the number of each.
 fn opens<A: Allocator + Copy>(alloc: Global, server: &Server<A>) -> Result<String, Fail> {
     let mut text = format!(in alloc; "{}", server.opens().len())?;
     for open in server.opens() {
-        let number = open.number;
-        text.push_str(format!(in alloc; " {number}")?.as_str())?;
+        put_number(alloc, &mut text, open.number)?;
     }
     Ok(text)
 }

@@ -1,11 +1,10 @@
-//! `server_probe`: makes servers and hubs, and answers lines of standard input about them, each with a line of standard output. `README.md` has the lines.
+//! `server_probe`: makes servers and hubs, and answers lines of standard input about them. `README.md` has the lines.
 #![tactic(auto)]
 
 mod calls;
 mod connections;
 mod courses;
 mod houses;
-mod lines;
 mod looks;
 mod making;
 mod objects;
@@ -16,42 +15,32 @@ mod serving;
 mod streams;
 mod trees;
 
-use crate::lines::{after, up_to};
-use crate::making::answer_over;
+use crate::making::answer_block;
 use std::alloc::Global;
 use std::hash::RandomState;
 use std::io;
 use std::test::Fail;
 
-/// Answers lines: one that begins with `over` says over what the lines up to the next one are.
-fn answer_lines<R: Print>(
-    rt: &R,
-    alloc: Global,
-    hasher: RandomState,
-    lines: &[&str],
-) -> Result<(), Fail> {
-    for (index, line) in lines.iter().enumerate() {
-        if let Some(what) = line.strip_prefix("over ") {
-            let its = up_to(after(&*lines, index), "over ");
-            answer_over(rt, alloc, hasher, what, its)?;
-        }
-    }
-    Ok(())
+/// The first word of a line, and the rest of it.
+pub(crate) fn split_word(line: &str) -> (&str, &str) {
+    line.split_once(' ').unwrap_or((line, ""))
 }
 
-fn answer_text<R: Print>(
+/// Answers the lines of each block. An empty line ends one.
+fn answer_all<R: Print>(
     rt: &R,
     alloc: Global,
     hasher: RandomState,
     text: &str,
 ) -> Result<(), Fail> {
-    let lines: Vec<&str> = text.lines().collect(alloc)?;
-    answer_lines(rt, alloc, hasher, &lines)
+    for block in text.split("\n\n") {
+        answer_block(rt, alloc, hasher, block)?;
+    }
+    Ok(())
 }
 
 fn main(rt: HostRuntime) -> Result<(), Fail> {
-    let alloc = rt.alloc();
     let hasher = RandomState::new(&rt)?;
-    let text = io::read_to_string(alloc, rt.reader())?;
-    answer_text(&rt, alloc, hasher, text.as_str())
+    let text = io::read_to_string(rt.alloc(), rt.reader())?;
+    answer_all(&rt, rt.alloc(), hasher, text.as_str())
 }

@@ -2,9 +2,9 @@
 
 use crate::courses::{answer_lines, skip_lines};
 use crate::houses::{House, book_in, results_writer};
-use crate::lines::split_word;
 use crate::objects::{one_file, root_of};
 use crate::servers::{sample_server, server_of};
+use crate::split_word;
 use crate::trees::grow;
 use acl_list::{Entry, EntryKind, Who};
 use compound_run::Server;
@@ -20,7 +20,7 @@ fn server_over(
     alloc: Global,
     hasher: RandomState,
     list: &str,
-    lines: &[&str],
+    lines: &str,
 ) -> Result<Server, Fail> {
     let mut tree = root_of(alloc, list)?;
     grow(alloc, &mut tree, lines)?;
@@ -37,12 +37,12 @@ fn of_server(alloc: Global, server: Server) -> Result<House<Global>, Fail> {
     Ok(House::of_server(alloc, alloc, server, results_writer(alloc)?))
 }
 
-/// What a line `over ..` names.
+/// What the first line of a block names.
 fn house_of(
     alloc: Global,
     hasher: RandomState,
     what: &str,
-    lines: &[&str],
+    lines: &str,
 ) -> Result<House<Global>, Fail> {
     let (word, rest) = split_word(what);
     match word {
@@ -50,7 +50,7 @@ fn house_of(
         "root" => of_server(alloc, server_over(alloc, hasher, rest, lines)?),
         "hub" => Ok(House::of_hub(alloc, alloc, Hub::bare(alloc, alloc, hasher)?)),
         "book" => Ok(House::of_hub(alloc, alloc, hub_by(alloc, hasher, rest)?)),
-        _ => Err(Fail::new("over what?")),
+        _ => Err(Fail::new("no server and no hub")),
     }
 }
 
@@ -104,7 +104,7 @@ fn answer_over_heap<R: Print>(
     heap: &LocalHeap,
     hasher: RandomState,
     word: &str,
-    lines: &[&str],
+    lines: &str,
 ) -> Result<(), Fail> {
     let Some(mut house) = house_in(alloc, heap, hasher, word) else {
         println!(rt; "none")?;
@@ -121,7 +121,7 @@ fn answer_in_heap<R: Print>(
     size: usize,
     hasher: RandomState,
     word: &str,
-    lines: &[&str],
+    lines: &str,
 ) -> Result<(), Fail> {
     let heap = LocalHeap::new(alloc, size)?;
     answer_over_heap(rt, alloc, &heap, hasher, word, lines)?;
@@ -156,7 +156,7 @@ fn answer_in_heaps<R: Print>(
     alloc: Global,
     hasher: RandomState,
     words: &str,
-    lines: &[&str],
+    lines: &str,
 ) -> Result<(), Fail> {
     let Some((word, sizes)) = sizes_in(words) else {
         return Err(Fail::new("which heaps?"));
@@ -168,14 +168,14 @@ fn answer_in_heaps<R: Print>(
     Ok(())
 }
 
-/// Makes what a line `over ..` names, and answers the lines after it.
-pub fn answer_over<R: Print>(
+/// Makes what the first line of a block names, and answers the lines after it.
+pub fn answer_block<R: Print>(
     rt: &R,
     alloc: Global,
     hasher: RandomState,
-    what: &str,
-    lines: &[&str],
+    block: &str,
 ) -> Result<(), Fail> {
+    let (what, lines) = block.split_once('\n').unwrap_or((block, ""));
     if let Some(words) = what.strip_prefix("heaps ") {
         return answer_in_heaps(rt, alloc, hasher, words, lines);
     }

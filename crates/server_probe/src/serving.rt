@@ -1,6 +1,6 @@
 //! Serving over readers and writers in memory, which give and take pieces, and fail where they are to.
 
-use crate::lines::split_word;
+use crate::split_word;
 use nfs_hub::{Clock, Hub, ServeEnd, serve};
 use nfs_types::Moment;
 use std::alloc::{Allocator, Global};

@@ -1,7 +1,7 @@
 //! Streams of a hub, each on a new connection, in pieces.
 
-use crate::lines::split_word;
 use crate::plain::{close, connect, consume, feed, number_of, pending};
+use crate::split_word;
 use nfs_hub::{ConnId, Hub};
 use std::alloc::{Allocator, Global};
 use std::test::Fail;

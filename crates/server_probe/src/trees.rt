@@ -1,7 +1,7 @@
 //! Trees, line by line. Names stand there in hexadecimal digits.
 
-use crate::lines::split_word;
 use crate::objects::{add, link, set_list};
+use crate::split_word;
 use acl_list::Kind;
 use node_tree::Tree;
 use std::alloc::Global;
@@ -57,8 +57,8 @@ fn grow_line(alloc: Global, tree: &mut Tree, line: &str) -> Result<(), Fail> {
 }
 
 /// Grows a tree by those of the lines that do.
-pub fn grow(alloc: Global, tree: &mut Tree, lines: &[&str]) -> Result<(), Fail> {
-    for line in lines {
+pub fn grow(alloc: Global, tree: &mut Tree, lines: &str) -> Result<(), Fail> {
+    for line in lines.lines() {
         grow_line(alloc, tree, line)?;
     }
     Ok(())

@@ -1,5 +1,0 @@
-//! Tests of `access_rows`.
-#![tactic(auto)]
-
-#[cfg(test)]
-mod rows;

@@ -1,0 +1,8 @@
+//! Tests of `session_slots`.
+
+mod clients;
+mod memory;
+mod plain;
+mod sessions;
+mod slots;
+mod steps;

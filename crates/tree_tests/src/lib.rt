@@ -1,0 +1,11 @@
+//! Tests of the tree and of who may do what in it: `node_tree`, `access_rows`, `access_guard` and `trail_lines`.
+#![tactic(auto)]
+
+#[cfg(test)]
+mod guard;
+#[cfg(test)]
+mod rows;
+#[cfg(test)]
+mod trail;
+#[cfg(test)]
+mod tree;

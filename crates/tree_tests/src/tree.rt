@@ -1,0 +1,11 @@
+//! Tests of `node_tree`.
+
+mod acting;
+mod crowd;
+mod examples;
+mod fixed;
+mod limits;
+mod memory;
+mod plain;
+mod steps;
+mod walk;

@@ -1,0 +1,10 @@
+//! Tests of `nfs_types`.
+
+mod forms;
+mod growth;
+mod object;
+mod parts;
+mod seen;
+mod sent;
+mod sets;
+mod taken;
