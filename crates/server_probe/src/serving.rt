@@ -157,6 +157,19 @@ fn serve_new<A: Allocator + Copy>(
     serve(hub, &mut reader, &mut writer, &clock, way.turns)
 }
 
+/// The number of the end, and the replies.
+fn served<A: Allocator + Copy>(
+    alloc: Global,
+    hub: &mut Hub<A>,
+    way: Way,
+    stream: &[u8],
+) -> Result<String, Fail> {
+    let mut written = Vec::new(alloc);
+    let end = serve_new(hub, way, stream, &mut written) as u8;
+    let replies = hex::encode(alloc, written)?;
+    Ok(format!(in alloc; "{end} {replies}")?)
+}
+
 /// `serve ..`: the number of the end, and the replies.
 pub fn serve_stream<A: Allocator + Copy>(
     alloc: Global,
@@ -167,8 +180,5 @@ pub fn serve_stream<A: Allocator + Copy>(
         return Err(Fail::new("serve how?"));
     };
     let stream = hex::decode(alloc, digits)?;
-    let mut written = Vec::new(alloc);
-    let end = serve_new(hub, way, &stream, &mut written) as u8;
-    let replies = hex::encode(alloc, written)?;
-    Ok(format!(in alloc; "{end} {replies}")?)
+    served(alloc, hub, way, &stream)
 }

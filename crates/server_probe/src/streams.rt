@@ -53,6 +53,18 @@ fn feed_new<A: Allocator + Copy>(
     Ok((fault, again))
 }
 
+/// The two faults, and the replies.
+fn fed<A: Allocator + Copy>(
+    alloc: Global,
+    hub: &mut Hub<A>,
+    stream: (usize, &[u8]),
+) -> Result<String, Fail> {
+    let mut given = Vec::new(alloc);
+    let (fault, again) = feed_new(hub, stream, &mut given)?;
+    let replies = hex::encode(alloc, given)?;
+    Ok(format!(in alloc; "{fault} {again} {replies}")?)
+}
+
 /// `feed SIZE STREAM`: the two faults, and the replies.
 pub fn feed_stream<A: Allocator + Copy>(
     alloc: Global,
@@ -60,8 +72,5 @@ pub fn feed_stream<A: Allocator + Copy>(
     words: &str,
 ) -> Result<String, Fail> {
     let (size, stream) = pieces_in(alloc, words)?;
-    let mut given = Vec::new(alloc);
-    let (fault, again) = feed_new(hub, (size, &stream), &mut given)?;
-    let replies = hex::encode(alloc, given)?;
-    Ok(format!(in alloc; "{fault} {again} {replies}")?)
+    fed(alloc, hub, (size, &stream))
 }
