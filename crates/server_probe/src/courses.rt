@@ -32,7 +32,7 @@ fn steer(course: &mut Course, line: &str) {
 /// The answer to a line, or `-` where it is skipped.
 fn answer<A: Allocator + Copy>(
     alloc: Global,
-    house: &mut House<A>,
+    house: &mut House<'_, A>,
     skips: bool,
     line: &str,
 ) -> Result<String, Fail> {
@@ -45,7 +45,7 @@ fn answer<A: Allocator + Copy>(
 fn step<R: Print, A: Allocator + Copy>(
     rt: &R,
     alloc: Global,
-    house: &mut House<A>,
+    house: &mut House<'_, A>,
     course: &mut Course,
     line: &str,
 ) -> Result<(), Fail> {
@@ -61,13 +61,15 @@ fn step<R: Print, A: Allocator + Copy>(
     Ok(())
 }
 
-/// Answers lines over a house.
+/// Prints a text, and answers lines over a house.
 pub fn answer_lines<R: Print, A: Allocator + Copy>(
     rt: &R,
     alloc: Global,
-    house: &mut House<A>,
+    house: &mut House<'_, A>,
+    head: &str,
     lines: &str,
 ) -> Result<(), Fail> {
+    print!(rt; "{head}")?;
     let mut course = Course {
         last: String::new(alloc),
         skips: false,
@@ -78,8 +80,9 @@ pub fn answer_lines<R: Print, A: Allocator + Copy>(
     Ok(())
 }
 
-/// Answers each line with `-`: there is no house.
+/// Answers `none`, and each line with `-`: there is no house.
 pub fn skip_lines<R: Print>(rt: &R, lines: &str) -> Result<(), Fail> {
+    println!(rt; "none")?;
     for line in lines.lines() {
         if !grows(line) && !steers(line) {
             println!(rt; "-")?;

@@ -15,38 +15,19 @@ use std::test::Fail;
 use who_book::Book;
 use xdr_wire::Writer;
 
-/// A server or a hub that answers lines.
+/// A server or a hub that answers lines, which is lent.
 #[derive(Drop)]
-pub enum Kind<A: Allocator + Copy> {
-    Server(Site<A>),
-    Hub(Hall<A>),
+pub enum Kind<'a, A: Allocator + Copy> {
+    Server(&'a mut Site<A>),
+    Hub(&'a mut Hall<A>),
 }
 
 /// A server or a hub, where its memory comes from, and the memory that is withheld from it.
 #[derive(Drop)]
-pub struct House<A: Allocator + Copy> {
-    kind: Kind<A>,
-    memory: A,
-    withheld: Vec<Vec<u8, A>>,
-}
-
-impl<A: Allocator + Copy> House<A> {
-    /// A house of a server, with the writer of its results.
-    pub fn of_server(alloc: Global, memory: A, server: Server<A>, out: Writer<A>) -> Self {
-        House {
-            kind: Kind::Server(Site { server, out }),
-            memory,
-            withheld: Vec::new(alloc),
-        }
-    }
-
-    pub fn of_hub(alloc: Global, memory: A, hub: Hub<A>) -> Self {
-        House {
-            kind: Kind::Hub(Hall::new(alloc, hub)),
-            memory,
-            withheld: Vec::new(alloc),
-        }
-    }
+pub struct House<'a, A: Allocator + Copy> {
+    pub kind: Kind<'a, A>,
+    pub memory: A,
+    pub withheld: &'a mut Vec<Vec<u8, A>>,
 }
 
 /// A writer with room for the results of a call.
@@ -138,13 +119,13 @@ fn withhold<A: Allocator + Copy>(
 /// number of chunks that are withheld then.
 fn ask_memory<A: Allocator + Copy>(
     alloc: Global,
-    house: &mut House<A>,
+    house: &mut House<'_, A>,
     word: &str,
     count: usize,
 ) -> Result<String, Fail> {
     if word == "withhold" {
-        withhold(house.memory, &mut house.withheld, count)?;
-        withhold(house.memory, &mut house.withheld, 1)?;
+        withhold(house.memory, house.withheld, count)?;
+        withhold(house.memory, house.withheld, 1)?;
     } else {
         let left = house.withheld.len().saturating_sub(count);
         house.withheld.truncate(left);
@@ -155,7 +136,7 @@ fn ask_memory<A: Allocator + Copy>(
 /// The answer to a line.
 pub fn ask<A: Allocator + Copy>(
     alloc: Global,
-    house: &mut House<A>,
+    house: &mut House<'_, A>,
     line: &str,
 ) -> Result<String, Fail> {
     let (word, rest) = split_word(line);

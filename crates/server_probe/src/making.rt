@@ -1,7 +1,9 @@
 //! Servers and hubs as lines name them, with ample memory or over heaps of a size.
 
+use crate::calls::Site;
+use crate::connections::Hall;
 use crate::courses::{answer_lines, skip_lines};
-use crate::houses::{House, book_in, results_writer};
+use crate::houses::{House, Kind, book_in, results_writer};
 use crate::objects::{one_file, root_of};
 use crate::servers::{sample_server, server_of};
 use crate::split_word;
@@ -14,6 +16,7 @@ use std::alloc::{Allocator, Global};
 use std::hash::RandomState;
 use std::test::Fail;
 use who_book::Book;
+use xdr_wire::Writer;
 
 /// A server of a root with this list, and what the lines add to it.
 fn server_over(
@@ -33,23 +36,115 @@ fn hub_by(alloc: Global, hasher: RandomState, digits: &str) -> Result<Hub, Fail>
     Ok(Hub::new(alloc, book, hasher)?)
 }
 
-fn of_server(alloc: Global, server: Server) -> Result<House<Global>, Fail> {
-    Ok(House::of_server(alloc, alloc, server, results_writer(alloc)?))
+/// Prints a text, and answers lines over a server that is lent.
+fn over_site<R: Print, A: Allocator + Copy>(
+    rt: &R,
+    alloc: Global,
+    memory: A,
+    site: &mut Site<A>,
+    head: &str,
+    lines: &str,
+) -> Result<(), Fail> {
+    let mut withheld = Vec::new(alloc);
+    let mut house = House {
+        kind: Kind::Server(site),
+        memory,
+        withheld: &mut withheld,
+    };
+    answer_lines(rt, alloc, &mut house, head, lines)
 }
 
-/// What the first line of a block names.
-fn house_of(
+/// Prints a text, and answers lines over a hub that is lent.
+fn over_hall<R: Print, A: Allocator + Copy>(
+    rt: &R,
+    alloc: Global,
+    memory: A,
+    hall: &mut Hall<A>,
+    head: &str,
+    lines: &str,
+) -> Result<(), Fail> {
+    let mut withheld = Vec::new(alloc);
+    let mut house = House {
+        kind: Kind::Hub(hall),
+        memory,
+        withheld: &mut withheld,
+    };
+    answer_lines(rt, alloc, &mut house, head, lines)
+}
+
+/// Prints a text, and answers lines over a hub.
+fn over_hub<R: Print, A: Allocator + Copy>(
+    rt: &R,
+    alloc: Global,
+    memory: A,
+    hub: Hub<A>,
+    head: &str,
+    lines: &str,
+) -> Result<(), Fail> {
+    let mut hall = Hall::new(alloc, hub);
+    over_hall(rt, alloc, memory, &mut hall, head, lines)
+}
+
+/// Answers lines over a server.
+fn over_server<R: Print>(
+    rt: &R,
+    alloc: Global,
+    server: Server,
+    out: Writer,
+    lines: &str,
+) -> Result<(), Fail> {
+    let mut site = Site { server, out };
+    over_site(rt, alloc, alloc, &mut site, "", lines)
+}
+
+fn answer_over_sample<R: Print>(
+    rt: &R,
+    alloc: Global,
+    hasher: RandomState,
+    lines: &str,
+) -> Result<(), Fail> {
+    let out = results_writer(alloc)?;
+    over_server(rt, alloc, sample_server(alloc, hasher)?, out, lines)
+}
+
+fn answer_over_root<R: Print>(
+    rt: &R,
+    alloc: Global,
+    hasher: RandomState,
+    list: &str,
+    lines: &str,
+) -> Result<(), Fail> {
+    let out = results_writer(alloc)?;
+    over_server(
+        rt,
+        alloc,
+        server_over(alloc, hasher, list, lines)?,
+        out,
+        lines,
+    )
+}
+
+/// Answers lines over what the first line of a block names, with ample memory.
+fn answer_over<R: Print>(
+    rt: &R,
     alloc: Global,
     hasher: RandomState,
     what: &str,
     lines: &str,
-) -> Result<House<Global>, Fail> {
+) -> Result<(), Fail> {
     let (word, rest) = split_word(what);
     match word {
-        "sample" => of_server(alloc, sample_server(alloc, hasher)?),
-        "root" => of_server(alloc, server_over(alloc, hasher, rest, lines)?),
-        "hub" => Ok(House::of_hub(alloc, alloc, Hub::bare(alloc, alloc, hasher)?)),
-        "book" => Ok(House::of_hub(alloc, alloc, hub_by(alloc, hasher, rest)?)),
+        "sample" => answer_over_sample(rt, alloc, hasher, lines),
+        "root" => answer_over_root(rt, alloc, hasher, rest, lines),
+        "hub" => over_hub(
+            rt,
+            alloc,
+            alloc,
+            Hub::bare(alloc, alloc, hasher)?,
+            "",
+            lines,
+        ),
+        "book" => over_hub(rt, alloc, alloc, hub_by(alloc, hasher, rest)?, "", lines),
         _ => Err(Fail::new("no server and no hub")),
     }
 }
@@ -68,7 +163,7 @@ fn one_file_in<A: Allocator + Copy>(
     alloc: Global,
     memory: A,
     hasher: RandomState,
-) -> Option<House<A>> {
+) -> Option<Site<A>> {
     let list = [
         entry(EntryKind::Audit, 0x30, 0x47),
         entry(EntryKind::Allow, 0, 0x1f_07ff),
@@ -76,28 +171,39 @@ fn one_file_in<A: Allocator + Copy>(
     let out = results_writer(memory).ok()?;
     let tree = one_file(memory, &list).ok()?;
     let server = server_of(memory, Book::default(alloc), tree, hasher).ok()?;
-    Some(House::of_server(alloc, memory, server, out))
+    Some(Site { server, out })
 }
 
-/// A hub of the sample tree without sessions, one of a root alone with sessions, or a server. `None`: there is no memory.
-fn house_in<A: Allocator + Copy>(
+/// Answers lines over a hub in a heap, if there was memory for it.
+fn answer_over_hub_in<R: Print, A: Allocator + Copy>(
+    rt: &R,
     alloc: Global,
     memory: A,
-    hasher: RandomState,
-    word: &str,
-) -> Option<House<A>> {
-    match word {
-        "hub" => Some(House::of_hub(alloc, memory, Hub::bare(memory, alloc, hasher).ok()?)),
-        "book" => Some(House::of_hub(
-            alloc,
-            memory,
-            Hub::new(memory, Book::default(alloc), hasher).ok()?,
-        )),
-        _ => one_file_in(alloc, memory, hasher),
+    hub: Option<Hub<A>>,
+    lines: &str,
+) -> Result<(), Fail> {
+    match hub {
+        Some(hub) => over_hub(rt, alloc, memory, hub, "made\n", lines),
+        None => skip_lines(rt, lines),
     }
 }
 
-/// Answers whether there is memory for a house, and then the lines over it.
+/// Answers lines over a server in a heap, if there was memory for it.
+fn answer_over_site_in<R: Print, A: Allocator + Copy>(
+    rt: &R,
+    alloc: Global,
+    memory: A,
+    site: Option<Site<A>>,
+    lines: &str,
+) -> Result<(), Fail> {
+    match site {
+        Some(mut site) => over_site(rt, alloc, memory, &mut site, "made\n", lines),
+        None => skip_lines(rt, lines),
+    }
+}
+
+/// Answers whether there is memory in a heap for a hub of the sample tree without sessions, for one of a root alone with sessions, or for a server, and
+/// then the lines over it.
 fn answer_over_heap<R: Print>(
     rt: &R,
     alloc: Global,
@@ -106,12 +212,14 @@ fn answer_over_heap<R: Print>(
     word: &str,
     lines: &str,
 ) -> Result<(), Fail> {
-    let Some(mut house) = house_in(alloc, heap, hasher, word) else {
-        println!(rt; "none")?;
-        return skip_lines(rt, lines);
-    };
-    println!(rt; "made")?;
-    answer_lines(rt, alloc, &mut house, lines)
+    match word {
+        "hub" => { answer_over_hub_in(rt, alloc, heap, Hub::bare(heap, alloc, hasher).ok(), lines) }
+        "book" => {
+            let hub = Hub::new(heap, Book::default(alloc), hasher).ok();
+            answer_over_hub_in(rt, alloc, heap, hub, lines)
+        }
+        _ => answer_over_site_in(rt, alloc, heap, one_file_in(alloc, heap, hasher), lines),
+    }
 }
 
 /// Answers lines over a house in a heap of a size, and then how many bytes of the heap are in use when the house is gone.
@@ -179,6 +287,5 @@ pub fn answer_block<R: Print>(
     if let Some(words) = what.strip_prefix("heaps ") {
         return answer_in_heaps(rt, alloc, hasher, words, lines);
     }
-    let mut house = house_of(alloc, hasher, what, lines)?;
-    answer_lines(rt, alloc, &mut house, lines)
+    answer_over(rt, alloc, hasher, what, lines)
 }
