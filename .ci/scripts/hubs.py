@@ -6,6 +6,9 @@ from scripts.words import Unreadable, bytes_of, call_record, number_in, reply_re
 # the pieces of a scene that names none: 1, 3, 7 and 100 bytes, and the whole
 SIZES = "1 3 7 100 10000000"
 
+# how a stream is served: at second 0, read in pieces of a size; nothing fails
+SERVING = "0 0 10000000 {} 1000000000000 1000000000 1000000000000 stops"
+
 # how a stream ends: the numbers that the probe answers where it is served, and the two where it is fed
 ENDS = {"ended": ("1", "0 0"), "inside": ("2", "0 0"), "broken": ("3", "3 3")}
 
@@ -36,7 +39,7 @@ class Through:
     def see(self, stream, wanted):
         served = self.size.startswith("served-")
         size = number_in(self.size.removeprefix("served-"), 10)
-        asked = self.talk.ask(f"{'serve' if served else 'feed'} {size} {stream.hex()}")
+        asked = self.talk.ask(f"{f'serve {SERVING.format(size)}' if served else f'feed {size}'} {stream.hex()}")
         what, end = f"in pieces of {self.size}, up to call {self.xid}", ENDS[self.end][0 if served else 1]
         self.talk.see(f"the end {what}", lambda: asked.answer.rpartition(" ")[0], lambda: end)
         self.talk.see(what, lambda: bytes.fromhex(asked.answer.rpartition(" ")[2]), lambda: wanted)

@@ -1,7 +1,8 @@
 """Lines for server_probe, what it answers, and whether that is what is wanted."""
 import subprocess
 
-PATIENCE = 120
+# the most seconds that the probe may take
+PATIENCE = 300
 
 
 class Difference(Exception):
@@ -55,6 +56,8 @@ class Talk:
 
     def __init__(self):
         self.lines, self.asked, self.checks = [], [], []
+        # whether lines are sent; not where the probe says them again itself, once for each heap
+        self.sends = True
 
     def begin(self, what):
         """Begins a block of lines, over a new server or hub."""
@@ -62,11 +65,16 @@ class Talk:
 
     def tell(self, line):
         """A line without an answer."""
-        self.lines.append(line)
+        if self.sends:
+            self.lines.append(line)
 
     def ask(self, line):
-        self.lines.append(line)
-        self.asked.append(Asked(line))
+        self.tell(line)
+        return self.awaited(line)
+
+    def awaited(self, what):
+        """An answer without a line."""
+        self.asked.append(Asked(what))
         return self.asked[-1]
 
     def see(self, what, given, wanted):
@@ -76,7 +84,10 @@ class Talk:
     def run(self, program):
         """Sends all lines, and compares."""
         sent = "".join(line + "\n" for line in self.lines)
-        ran = subprocess.run([program], input=sent, capture_output=True, text=True, timeout=PATIENCE, check=False)
+        try:
+            ran = subprocess.run([program], input=sent, capture_output=True, text=True, timeout=PATIENCE, check=False)
+        except subprocess.TimeoutExpired as error:
+            raise Difference(f"no end within {PATIENCE} seconds") from error
         answers = ran.stdout.split("\n")[:-1]
         for asked, answer in zip(self.asked, answers):
             asked.answer = answer
@@ -87,6 +98,12 @@ class Talk:
             one, other = given(), wanted()
             if one != other:
                 raise difference(what, one, other)
+
+
+def expect(talk, line, wanted):
+    """Sends a line that has to be answered so."""
+    asked = talk.ask(line)
+    talk.see(line[:80], lambda: asked.answer, lambda: wanted)
 
 
 def expect_ok(talk, what, line):

@@ -1,11 +1,22 @@
 //! Calls that a server answers.
 
 use crate::split_word;
-use call_texts::Caller;
-use compound_run::Server;
-use sample_servers::{run_record, run_record_in_session};
-use std::alloc::Global;
+use compound_run::{Args, MAX_RESULTS, RunEnd, Server};
+use nfs_types::Moment;
+use rpc_record::Caller as Identity;
+use std::alloc::{Allocator, Global};
 use std::test::Fail;
+use xdr_wire::Writer;
+
+/// A server, and the writer of its results, which has room for all of them.
+#[derive(Drop)]
+pub struct Site<A: Allocator + Copy> {
+    pub server: Server<A>,
+    pub out: Writer<A>,
+}
+
+/// A caller: the uid, the gid, and one further group.
+type Caller = (u32, u32, u32);
 
 /// A call: who makes it, at which second, the bytes of its record, and its arguments in hexadecimal digits.
 #[derive(Clone, Copy)]
@@ -38,35 +49,86 @@ fn call_in(words: &str) -> Option<Call<'_>> {
     })
 }
 
-/// The results of a call, or `None` where its arguments are garbage. Its record is as long as its arguments at least.
-fn results_of(
-    alloc: Global,
-    server: &mut Server,
+/// Makes a call without sessions.
+fn run_bare<A: Allocator + Copy>(
+    site: &mut Site<A>,
+    who: &Identity,
+    now: Moment,
+    args: Args<'_>,
+) -> Option<RunEnd> {
+    if site.out.room() < MAX_RESULTS {
+        return None;
+    }
+    Some(site.server.run_bare(args, who, now, &mut site.out))
+}
+
+/// Makes a call where sessions are in use, in a record of at least as many bytes as the arguments have.
+fn run<A: Allocator + Copy>(
+    site: &mut Site<A>,
+    who: &Identity,
+    now: Moment,
+    args: Args<'_>,
+) -> Option<RunEnd> {
+    let Args { bytes, record_len } = args;
+    let record_len = record_len.max(bytes.len());
+    if site.out.room() < MAX_RESULTS {
+        return None;
+    }
+    Some(
+        site.server
+            .run(Args { bytes, record_len }, who, now, &mut site.out),
+    )
+}
+
+/// Makes a call of these arguments, whose results are in the writer then.
+fn make<A: Allocator + Copy>(
+    site: &mut Site<A>,
     in_session: bool,
     call: Call<'_>,
-) -> Result<Option<Vec<u8>>, Fail> {
-    let bytes = hex::decode(alloc, call.digits)?;
-    let (who, second, len) = (call.who, call.second, call.record_len.max(bytes.len()));
-    let results = if in_session {
-        run_record_in_session(alloc, server, who, second, &bytes, len)?
-    } else {
-        run_record(alloc, server, who, second, &bytes, len)?
+    bytes: &[u8],
+) -> Option<RunEnd> {
+    let (uid, gid, group) = call.who;
+    let who = Identity::new(uid, gid, &[group]);
+    let now = Moment {
+        seconds: call.second,
+        nanoseconds: 0,
     };
-    Ok(results)
+    let args = Args {
+        bytes,
+        record_len: call.record_len.max(bytes.len()),
+    };
+    site.out.truncate(0);
+    if in_session {
+        run(site, &who, now, args)
+    } else {
+        run_bare(site, &who, now, args)
+    }
+}
+
+/// What is answered to a call that ended so.
+fn said<A: Allocator + Copy>(
+    alloc: Global,
+    site: &Site<A>,
+    end: Option<RunEnd>,
+) -> Result<String, Fail> {
+    match end {
+        Some(RunEnd::Replied) => Ok(hex::encode(alloc, site.out.bytes())?),
+        Some(RunEnd::Garbage) => Ok(String::from_str(alloc, "garbage")?),
+        None => Err(Fail::new("no room for results")),
+    }
 }
 
 /// `call ..`, or `session ..` where sessions are in use: the results in hexadecimal digits, or `garbage`.
-pub fn run_call(
+pub fn run_call<A: Allocator + Copy>(
     alloc: Global,
-    server: &mut Server,
+    site: &mut Site<A>,
     in_session: bool,
     words: &str,
 ) -> Result<String, Fail> {
     let Some(call) = call_in(words) else {
         return Err(Fail::new("no call"));
     };
-    match results_of(alloc, server, in_session, call)? {
-        Some(results) => Ok(hex::encode(alloc, results)?),
-        None => Ok(String::from_str(alloc, "garbage")?),
-    }
+    let bytes = hex::decode(alloc, call.digits)?;
+    let end = make(site, in_session, call, &bytes);
+    said(alloc, site, end)
 }

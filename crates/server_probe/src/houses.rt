@@ -1,129 +1,150 @@
 //! What answers lines: a server, or a hub.
 
-use crate::calls::run_call;
+use crate::calls::{Site, run_call};
+use crate::connections::{Hall, ask_connection, is_of_one};
 use crate::looks::look;
+use crate::plain::reload;
+use crate::servers::{book_of, reload as reload_server};
+use crate::serving::serve_stream;
 use crate::split_word;
-use crate::streams::{feed_stream, serve_stream};
-use crate::trees::{grow, grows};
-use compound_run::Server;
+use crate::streams::feed_stream;
+use compound_run::{MAX_RESULTS, Server};
 use nfs_hub::Hub;
-use sample_servers::{book_of, reload, root_of, sample_server, server_of};
-use std::alloc::Global;
-use std::hash::RandomState;
+use std::alloc::{AllocError, Allocator, Global};
 use std::test::Fail;
 use who_book::Book;
+use xdr_wire::Writer;
 
-/// A server or a hub that answers lines.
+/// A server or a hub that answers lines, which is lent.
 #[derive(Drop)]
-enum House {
-    Server(Server),
-    Hub(Hub),
+pub enum Kind<'a, A: Allocator + Copy> {
+    Server(&'a mut Site<A>),
+    Hub(&'a mut Hall<A>),
 }
 
-/// The text of these bytes in hexadecimal digits.
-fn text_of(alloc: Global, digits: &str) -> Result<String, Fail> {
-    Ok(String::from_utf8(hex::decode(alloc, digits)?)?)
+/// A server or a hub, where its memory comes from, and the memory that is withheld from it.
+#[derive(Drop)]
+pub struct House<'a, A: Allocator + Copy> {
+    pub kind: Kind<'a, A>,
+    pub memory: A,
+    pub withheld: &'a mut Vec<Vec<u8, A>>,
 }
 
-/// `load BOOK`: a server goes on with this book; without digits, with one without names.
-fn load_on_server(alloc: Global, server: &mut Server, digits: &str) -> Result<String, Fail> {
-    let book = text_of(alloc, digits)?;
-    reload(alloc, server, book.as_str())?;
-    Ok(String::from_str(alloc, "ok")?)
+/// A writer with room for the results of a call.
+pub fn results_writer<A: Allocator + Copy>(alloc: A) -> Result<Writer<A>, AllocError> {
+    Writer::new(alloc, MAX_RESULTS)
+}
+
+/// The book whose text these hexadecimal digits are; without digits, one without names.
+pub fn book_in(alloc: Global, digits: &str) -> Result<Book, Fail> {
+    let text = String::from_utf8(hex::decode(alloc, digits)?)?;
+    book_of(alloc, text.as_str())
+}
+
+/// What is answered where a book is loaded, or isn't.
+fn loaded(alloc: Global, is_loaded: bool) -> Result<String, Fail> {
+    if is_loaded {
+        return Ok(String::from_str(alloc, "ok")?);
+    }
+    Err(Fail::new("no epoch"))
+}
+
+/// `load BOOK`: a server goes on with this book.
+fn load_on_server<A: Allocator + Copy>(
+    alloc: Global,
+    server: &mut Server<A>,
+    digits: &str,
+) -> Result<String, Fail> {
+    let book = book_in(alloc, digits)?;
+    loaded(alloc, reload_server(server, book))
 }
 
 /// `load BOOK`, of a hub.
-fn load_on_hub(alloc: Global, hub: &mut Hub, digits: &str) -> Result<String, Fail> {
-    let text = text_of(alloc, digits)?;
-    let book = book_of(alloc, text.as_str())?;
-    if hub.reload(book).is_err() {
-        return Err(Fail::new("no epoch"));
-    }
-    Ok(String::from_str(alloc, "ok")?)
+fn load_on_hub<A: Allocator + Copy>(
+    alloc: Global,
+    hub: &mut Hub<A>,
+    digits: &str,
+) -> Result<String, Fail> {
+    let book = book_in(alloc, digits)?;
+    loaded(alloc, reload(hub, book))
 }
 
-fn ask_server(alloc: Global, server: &mut Server, line: &str) -> Result<String, Fail> {
+fn ask_server<A: Allocator + Copy>(
+    alloc: Global,
+    site: &mut Site<A>,
+    line: &str,
+) -> Result<String, Fail> {
     let (word, rest) = split_word(line);
     match word {
-        "call" => run_call(alloc, server, false, rest),
-        "session" => run_call(alloc, server, true, rest),
-        "load" => load_on_server(alloc, server, rest),
-        _ => look(alloc, server, word, rest),
+        "call" => run_call(alloc, site, false, rest),
+        "session" => run_call(alloc, site, true, rest),
+        "load" => load_on_server(alloc, &mut site.server, rest),
+        _ => look(alloc, &site.server, word, rest),
     }
 }
 
-fn ask_hub(alloc: Global, hub: &mut Hub, line: &str) -> Result<String, Fail> {
+fn ask_hub<A: Allocator + Copy>(
+    alloc: Global,
+    hall: &mut Hall<A>,
+    line: &str,
+) -> Result<String, Fail> {
     let (word, rest) = split_word(line);
-    match word {
-        "feed" => feed_stream(alloc, hub, rest),
-        "serve" => serve_stream(alloc, hub, rest),
-        "load" => load_on_hub(alloc, hub, rest),
-        _ => look(alloc, hub.server(), word, rest),
+    if is_of_one(word) {
+        return ask_connection(alloc, hall, word, rest);
     }
+    match word {
+        "feed" => feed_stream(alloc, &mut hall.hub, rest),
+        "serve" => serve_stream(alloc, &mut hall.hub, rest),
+        "load" => load_on_hub(alloc, &mut hall.hub, rest),
+        _ => look(alloc, hall.hub.server(), word, rest),
+    }
+}
+
+/// Takes memory in chunks of a size, until there is none left.
+fn withhold<A: Allocator + Copy>(
+    memory: A,
+    withheld: &mut Vec<Vec<u8, A>>,
+    size: usize,
+) -> Result<(), Fail> {
+    for _ in 0..16_384u32 {
+        let Ok(chunk) = Vec::with_capacity(memory, size) else {
+            return Ok(());
+        };
+        withheld.push(chunk)?;
+    }
+    Err(Fail::new("too much memory"))
+}
+
+/// `withhold SIZE`: all memory is taken, in chunks of this size and then of one byte. `give COUNT`: the last chunks are given back, at most that many. The
+/// number of chunks that are withheld then.
+fn ask_memory<A: Allocator + Copy>(
+    alloc: Global,
+    house: &mut House<'_, A>,
+    word: &str,
+    count: usize,
+) -> Result<String, Fail> {
+    if word == "withhold" {
+        withhold(house.memory, house.withheld, count)?;
+        withhold(house.memory, house.withheld, 1)?;
+    } else {
+        let left = house.withheld.len().saturating_sub(count);
+        house.withheld.truncate(left);
+    }
+    Ok(format!(in alloc; "{}", house.withheld.len())?)
 }
 
 /// The answer to a line.
-fn ask(alloc: Global, house: &mut House, line: &str) -> Result<String, Fail> {
-    match house {
-        House::Server(server) => ask_server(alloc, server, line),
-        House::Hub(hub) => ask_hub(alloc, hub, line),
-    }
-}
-
-/// Answers lines, but for those that grow a tree.
-fn answer_lines<R: Print>(
-    rt: &R,
+pub fn ask<A: Allocator + Copy>(
     alloc: Global,
-    house: &mut House,
-    lines: &str,
-) -> Result<(), Fail> {
-    for line in lines.lines() {
-        if !grows(line) {
-            let answer = ask(alloc, house, line)?;
-            println!(rt; "{answer}")?;
-        }
+    house: &mut House<'_, A>,
+    line: &str,
+) -> Result<String, Fail> {
+    let (word, rest) = split_word(line);
+    if matches!(word, "withhold" | "give") {
+        return ask_memory(alloc, house, word, rest.parse()?);
     }
-    Ok(())
-}
-
-/// A server of a root with this list, and what the lines add to it.
-fn server_over(
-    alloc: Global,
-    hasher: RandomState,
-    list: &str,
-    lines: &str,
-) -> Result<Server, Fail> {
-    let mut tree = root_of(alloc, list)?;
-    grow(alloc, &mut tree, lines)?;
-    Ok(server_of(alloc, Book::default(alloc), tree, hasher)?)
-}
-
-/// A hub of a root alone, with sessions, by this book.
-fn hub_by(alloc: Global, hasher: RandomState, digits: &str) -> Result<Hub, Fail> {
-    let text = text_of(alloc, digits)?;
-    Ok(Hub::new(alloc, book_of(alloc, text.as_str())?, hasher)?)
-}
-
-/// What the first line of a block names.
-fn house_of(alloc: Global, hasher: RandomState, what: &str, lines: &str) -> Result<House, Fail> {
-    let (word, rest) = split_word(what);
-    match word {
-        "sample" => Ok(House::Server(sample_server(alloc, hasher)?)),
-        "root" => Ok(House::Server(server_over(alloc, hasher, rest, lines)?)),
-        "hub" => Ok(House::Hub(Hub::bare(alloc, alloc, hasher)?)),
-        "book" => Ok(House::Hub(hub_by(alloc, hasher, rest)?)),
-        _ => Err(Fail::new("no server and no hub")),
+    match &mut house.kind {
+        Kind::Server(site) => ask_server(alloc, site, line),
+        Kind::Hub(hall) => ask_hub(alloc, hall, line),
     }
-}
-
-/// Makes what the first line of a block names, and answers the lines after it.
-pub fn answer_block<R: Print>(
-    rt: &R,
-    alloc: Global,
-    hasher: RandomState,
-    block: &str,
-) -> Result<(), Fail> {
-    let (what, lines) = block.split_once('\n').unwrap_or((block, ""));
-    let mut house = house_of(alloc, hasher, what, lines)?;
-    answer_lines(rt, alloc, &mut house, lines)
 }

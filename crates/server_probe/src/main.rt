@@ -2,12 +2,20 @@
 #![tactic(auto)]
 
 mod calls;
+mod connections;
+mod courses;
 mod houses;
 mod looks;
+mod making;
+mod objects;
+mod pictures;
+mod plain;
+mod servers;
+mod serving;
 mod streams;
 mod trees;
 
-use crate::houses::answer_block;
+use crate::making::answer_block;
 use std::alloc::Global;
 use std::hash::RandomState;
 use std::io;

@@ -1,9 +1,9 @@
 //! Trees, line by line. Names stand there in hexadecimal digits.
 
+use crate::objects::{add, link, set_list};
 use crate::split_word;
 use acl_list::Kind;
 use node_tree::Tree;
-use sample_servers::{add, link, set_list};
 use std::alloc::Global;
 use std::test::Fail;
 

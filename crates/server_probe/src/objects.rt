@@ -1,4 +1,4 @@
-//! Trees to run on.
+//! The objects of trees.
 ghost use Rattle.std.specs.Prelude.{◌≡◌, IfSome};
 ghost use Rattle.node_tree.specs.World.{kind_of};
 ghost use Rattle.node_tree.specs.Sound.{IsTick};
@@ -57,9 +57,6 @@ fn list_of(alloc: Global, words: &str) -> Result<AclList, Fail> {
     put_entries(&mut entries, words)?;
     Ok(AclList::from_vec(entries))
 }
-
-/// All bits, for everyone.
-pub const ALL: &str = "A:0:1f07ff:EVERYONE@";
 
 /// The next tick.
 fn now<A: Allocator + Copy>(tree: &Tree<A>) -> Option<At>
