@@ -6,7 +6,7 @@ use Rattle.xdr_wire.specs.Xdr.{Value}
 use Rattle.xdr_wire.specs.Reading.{read_at}
 use Rattle.nfs_types.specs.declared.status.Status.{Status}
 use Rattle.compound_run.specs.declared.compound.Ended.{Ended}
-use Rattle.compound_run.specs.declared.export.Export.{Export}
+use Rattle.compound_run.specs.declared.realm.Realm as realms
 use Rattle.compound_run.specs.Limits.{MAX_OPERATIONS}
 use Rattle.compound_run.specs.Context.{Context, no_handles}
 use Rattle.compound_run.specs.Runs.{Point, Runs, results_bytes}
@@ -17,18 +17,18 @@ use Rattle.compound_run.specs.Written.{RunGives, Opens, OpensTo, OpensBehind}
 
 -- ---- operations behind a head
 
-none_run : {A : Type 0} (status : Status) (tag : List ℕ) (c : Context) (operations : List ℕ) (e : Export A) (out : Buffer)
+none_run : {A : Type 0} (status : Status) (tag : List ℕ) (c : Context) (operations : List ℕ) (e : realms.Realm A) (out : Buffer)
     → OpensBehind (Some status) tag c operations e out (record { status = status; ran = 0 }) e out
 none_run status tag c operations e out =
     ([], (no_handles, (append-nil (head status tag 0), refl)), record { behind = sym (append-nil out.bytes); less_room = omega arith }, omega arith)
 
 -- no operation is run
-pub refused_behind : {A : Type 0} (fault : Option Status) (status : Status) (tag : List ℕ) (c : Context) (operations : List ℕ) (e : Export A) (out : Buffer) → fault ≡ Some status
+pub refused_behind : {A : Type 0} (fault : Option Status) (status : Status) (tag : List ℕ) (c : Context) (operations : List ℕ) (e : realms.Realm A) (out : Buffer) → fault ≡ Some status
     → OpensBehind fault tag c operations e out (record { status = status; ran = 0 }) e out
 refused_behind fault status tag c operations e out is =
     subst (λ f. OpensBehind f tag c operations e out (record { status = status; ran = 0 }) e out) (sym is) (none_run status tag c operations e out)
 
-all_run : {A : Type 0} (tag : List ℕ) (c : Context) (operations : List ℕ) (old new : Export A) (before after : Buffer) (end : Ended) → c.position ≡ 0
+all_run : {A : Type 0} (tag : List ℕ) (c : Context) (operations : List ℕ) (old new : realms.Realm A) (before after : Buffer) (end : Ended) → c.position ≡ 0
     → RunGives c operations old before end new after → OpensBehind None tag c operations old before end new after
 all_run tag c operations old new before after end first r =
     let all : c.count - c.position ≡ c.count = omega (arith, first) in
@@ -40,7 +40,7 @@ all_run tag c operations old new before after end first r =
     )
 
 -- operations are run
-pub run_behind : {A : Type 0} (fault : Option Status) (tag : List ℕ) (c : Context) (room : ℕ) (operations : List ℕ) (old new : Export A) (before after : Buffer) (end : Ended) → fault ≡ None → c.position ≡ 0
+pub run_behind : {A : Type 0} (fault : Option Status) (tag : List ℕ) (c : Context) (room : ℕ) (operations : List ℕ) (old new : realms.Realm A) (before after : Buffer) (end : Ended) → fault ≡ None → c.position ≡ 0
     → c.room ≡ room → RunGives c operations old before end new after → OpensBehind fault tag (record c { room = room }) operations old before end new after
 run_behind fault tag c room operations old new before after end none first is r =
     subst (λ x. OpensBehind fault tag (record c { room = x }) operations old before end new after) is
@@ -49,7 +49,7 @@ run_behind fault tag c room operations old new before after end none first is r 
 -- ---- the state that is kept
 
 -- the beginning of a COMPOUND
-begins : {A : Type 0} (e : Export A) → e.tree.log.held ≡ [] → start (state_of e) ≡ point_at e no_handles
+begins : {A : Type 0} (e : realms.Realm A) → e.tree.log.held ≡ [] → start (state_of e) ≡ point_at e no_handles
 begins e settled = λ i. record {
   realm = realm_of e;
   log = record { held = sym settled i; trail = e.tree.log.trail; total = e.tree.log.total };
@@ -62,7 +62,7 @@ opened : (s : State) (call : Call) (fault : Option Status) (tag : List ℕ) (cou
 opened s call None tag count operations bytes end runs = (end, runs.0, runs.1, runs.2, refl)
 opened s call (Some status) tag count operations bytes end stays = (ap Some stays.0, ap (left s) stays.1)
 
-answered : {A : Type 0} (call : Call) (v : Value args_form) (operations bytes : List ℕ) (old new : Export A) → old.tree.log.held ≡ []
+answered : {A : Type 0} (call : Call) (v : Value args_form) (operations bytes : List ℕ) (old new : realms.Realm A) → old.tree.log.held ≡ []
     → args_in (read_at args_form call.arguments) ≡ Some (v, operations)
     → OpensTo (opening_fault MAX_OPERATIONS v.1.0 v.1.1) v.0 (bare_context (state_of old) call v.0 v.1.1) operations old bytes new
     → Answers (state_of old) call (Some bytes) (state_of new)
@@ -75,7 +75,7 @@ answered call v operations bytes old new settled read opens =
     (opened s call fault v.0 v.1.1 operations bytes end
     (subst (λ p. Opens fault v.0 (bare_context s call v.0 v.1.1) operations p bytes end) (sym (begins old settled)) opens.1))
 
-pub answers : {A : Type 0} (s : State) (call : Call) (v : Value args_form) (operations bytes : List ℕ) (old new : Export A) → s ≡ state_of old → old.tree.log.held ≡ []
+pub answers : {A : Type 0} (s : State) (call : Call) (v : Value args_form) (operations bytes : List ℕ) (old new : realms.Realm A) → s ≡ state_of old → old.tree.log.held ≡ []
     → args_in (read_at args_form call.arguments) ≡ Some (v, operations)
     → OpensTo (opening_fault MAX_OPERATIONS v.1.0 v.1.1) v.0 (bare_context (state_of old) call v.0 v.1.1) operations old bytes new
     → Answers s call (Some bytes) (state_of new)

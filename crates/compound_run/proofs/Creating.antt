@@ -15,7 +15,7 @@ use Rattle.node_tree.specs.declared.at.At.{At}
 use Rattle.node_tree.specs.declared.node.NewObject.{NewObject}
 use Rattle.node_tree.specs.World.{World}
 use Rattle.node_tree.specs.Changes.{made, new_object, with_new}
-use Rattle.compound_run.specs.declared.export.Export.{Export}
+use Rattle.compound_run.specs.declared.realm.Realm as realms
 use Rattle.compound_run.specs.declared.filehandles.FileHandles.{FileHandles}
 use Rattle.compound_run.specs.Asking.{sight_of}
 use Rattle.compound_run.specs.Context.{Context}
@@ -38,7 +38,7 @@ world_created c h v new m want w d a here is_draft is_wanted when kind bytes own
     ∙ (λ i. with_new w (number_in (sym here i)) (created_name v) (created c (sym is_draft i) (sym is_wanted i) (list_at w (number_in (sym here i))) w.next_stamp (at c w)) (at c w))
 
 -- A tick is left, and the list is within its bounds; so the object and its name are created, or there is no space or no memory for them.
-module _ {A : Type 0} (room : ℕ) (c : Context) (h : FileHandles) (v : Value create_args) (e new : Export A) (out : Buffer) (d : ℕ)
+module _ {A : Type 0} (room : ℕ) (c : Context) (h : FileHandles) (v : Value create_args) (e new : realms.Realm A) (out : Buffer) (d : ℕ)
     (left : has_left (sight_of e).next_tick ≡ true) (bounds : new_fits (specs.wanted c v) (specs.draft v).kind (list_at e.tree.world d) ≡ true) where
   fails : failure c.caller (sight_of e) (making v d c h).questions ≡ cond (can_add (sight_of e) d) None (Some statuses.NoSpc)
   fails = rw left (rw bounds refl)
@@ -52,7 +52,7 @@ module _ {A : Type 0} (room : ℕ) (c : Context) (h : FileHandles) (v : Value cr
 
   pub not_added : {T : Type 0} (status : Status) (r : Result T Status) → r ≡ Err status
       → (can_add (sight_of e) d ≡ false → r ≡ Err statuses.NoSpc) → (can_add (sight_of e) d ≡ true → IsOkUnless r statuses.Delay)
-      → new ≡ e → GivesSo true room (making v d c h) waits e h out (Err status) new h out
+      → new ≡ e → GivesSo true room (making v d c h) waits e h out (Err status) new out
   not_added status r is full space stays = record {
     answered = record {
       outcome = λ other. ap (λ f. told f ((making v d c h).answer (sight_of e))) (sym (fails ∙ wanting (can_add (sight_of e) d) status r is full space (λ same. other (ap (λ x. Err x) same))));

@@ -12,13 +12,13 @@ use Rattle.access_guard.specs.Lines.{lines, most_lines}
 use Rattle.access_rows.specs.declared.demand.Demand.TheVariants.{Bits, Removal}
 use Rattle.node_tree.specs.Judged.{judged_of}
 use Rattle.access_guard.specs.Log.{held}
-use Rattle.compound_run.specs.declared.export.Export.{Export}
+use Rattle.compound_run.specs.declared.realm.Realm as realms
 use Rattle.compound_run.specs.Questions.{all_granted, demand_lines}
 use Rattle.acl_shape.specs.declared.bounds.TheConstants.{MAX_ENTRIES}
 use Rattle.access_rows.specs.Rows.{lists_in, lists_of}
 
 -- the demands before a place were granted, and their lines are held
-pub record Asking {A : Type 0} (lists : Lists) (caller : Identity) (op : ℕ) (demands : List (Option Demand)) (old now : Export A) (i : ℕ) : Type 0 where
+pub record Asking {A : Type 0} (lists : Lists) (caller : Identity) (op : ℕ) (demands : List (Option Demand)) (old now : realms.Realm A) (i : ℕ) : Type 0 where
   pub so_far : List Line
   pub state : now ≡ record old { tree = record old.tree { log = held so_far old.tree.log } }
   pub lines : demand_lines lists caller op demands ≡ so_far ++ demand_lines lists caller op (drop i demands)
@@ -35,7 +35,7 @@ few_lines (Bits object mask) = omega arith
 few_lines (Removal parent target) = omega arith
 
 -- one more demand is granted
-pub asked_next : {A : Type 0} (caller : Identity) (op : ℕ) (demands : List (Option Demand)) (old now : Export A) (i : ℕ) (d : Demand) (tree : Guarded)
+pub asked_next : {A : Type 0} (caller : Identity) (op : ℕ) (demands : List (Option Demand)) (old now : realms.Realm A) (i : ℕ) (d : Demand) (tree : Guarded)
     → Asking (judged_of old.tree.world) caller op demands old now i → drop i demands ≡ Some d ∷ drop (i + 1) demands
     → is_granted (decision (judged_of now.tree.world) caller d) ≡ true
     → tree ≡ record now.tree { log = held (lines (judged_of now.tree.world) caller op d) now.tree.log }
@@ -44,7 +44,7 @@ pub asked_next : {A : Type 0} (caller : Identity) (op : ℕ) (demands : List (Op
 asked_next {A} caller op demands old now i d tree inv is granted state few =
     let lists = judged_of old.tree.world in
     let rest = drop (i + 1) demands in
-    let same : judged_of now.tree.world ≡ lists = ap (λ (e : Export A). judged_of e.tree.world) inv.state in
+    let same : judged_of now.tree.world ≡ lists = ap (λ (e : realms.Realm A). judged_of e.tree.world) inv.state in
     let l = lines lists caller op d in
     let yes : is_granted (decision lists caller d) ≡ true = subst (λ (j : Lists). is_granted (decision j caller d) ≡ true) same granted in
     let told : tree ≡ record now.tree { log = held l now.tree.log } =
@@ -55,7 +55,7 @@ asked_next {A} caller op demands old now i d tree inv is granted state few =
     let count : lists_in (drop i demands) ≡ lists_of d + lists_in rest = ap (λ (ds : List (Option Demand)). lists_in ds) is in
     record {
       so_far = inv.so_far ++ l;
-      state = ap (λ (t : Guarded). record now { tree = t }) told ∙ ap (λ (e : Export A). record e { tree = record e.tree { log = held l e.tree.log } }) inv.state
+      state = ap (λ (t : Guarded). record now { tree = t }) told ∙ ap (λ (e : realms.Realm A). record e { tree = record e.tree { log = held l e.tree.log } }) inv.state
           ∙ ap (λ (t : Guarded). record old { tree = t }) (held_together inv.so_far l old.tree);
       lines = inv.lines ∙ ap (λ (x : List Line). inv.so_far ++ x) left ∙ sym (append_assoc inv.so_far l (demand_lines lists caller op rest));
       granted = inv.granted ∙ ap (λ (ds : List (Option Demand)). all_granted lists caller ds) is ∙ ap (λ (b : Bool). b && all_granted lists caller rest) yes;

@@ -8,7 +8,7 @@ use Rattle.nfs_ops.specs.Results.{Outcome}
 use Rattle.xdr_wire.specs.Buffer.{Buffer}
 use Rattle.access_guard.specs.Guarded.{Guarded}
 use Rattle.access_guard.specs.Log.{Log, held, settled}
-use Rattle.compound_run.specs.declared.export.Export.{Export}
+use Rattle.compound_run.specs.declared.realm.Realm as realms
 use Rattle.compound_run.specs.declared.filehandles.FileHandles.{FileHandles}
 use Rattle.compound_run.specs.Context.{Context}
 use Rattle.compound_run.specs.Realm.{Realm}
@@ -18,7 +18,7 @@ use Rattle.compound_run.specs.Meaning.{Meaning}
 use Rattle.compound_run.specs.Operations.{meaning, may_delay}
 use Rattle.compound_run.specs.Runs.{Point, Answered, Steps, Unless, outcome, traced, waits}
 use Rattle.compound_run.specs.Telling.{is_delay, is_delay_status}
-use Rattle.compound_run.specs.Views.{GivesSo, point_at, realm_of, told_as}
+use Rattle.compound_run.specs.Views.{GivesSo, handles_after, point_at, realm_of, told_as}
 use Rattle.compound_run.proofs.Exactly.{never_delays}
 
 err_same : (a b : Status) → ◌≡◌ {A = Result Outcome Status} (Err a) (Err b) → a ≡ b
@@ -78,16 +78,16 @@ never_delayed c op old new r is steps = told_so (may_delay c op) (meaning c old.
 
 -- ---- the result of the code
 
-told_delay : (m : Meaning) (r : Realm) (x : Result (Unit {0}) Status) → is_delay (told_as m r x) ≡ is_delay x
+told_delay : (m : Meaning) (r : Realm) (x : Result FileHandles Status) → is_delay (told_as m r x) ≡ is_delay x
 told_delay m r (Ok done) = refl
 told_delay m r (Err status) = refl
 
-pub ends_so : {A : Type 0} (may : Bool) (room : ℕ) (m : Meaning) (e : Export A) (h : FileHandles) (before : Buffer) (r : Result (Unit {0}) Status) (e' : Export A) (h' : FileHandles) (after : Buffer) (tree : Guarded)
+pub ends_so : {A : Type 0} (may : Bool) (room : ℕ) (m : Meaning) (e : realms.Realm A) (h : FileHandles) (before : Buffer) (r : Result FileHandles Status) (e' : realms.Realm A) (after : Buffer) (tree : Guarded)
     → tree ≡ record e'.tree { log = settled (not (is_delay r)) e'.tree.log }
-    → GivesSo may room m waits e h before r e' h' after → GivesSo may room m (settled true) e h before r (record e' { tree = tree }) h' after
-ends_so {A} may room m e h before r e' h' after tree is gives = record {
-  answered = subst (λ t. Answered may m (settled true) (point_at e h) (told_as m (realm_of e) r) (point_at (record e' { tree = t }) h')) (sym all)
-      (ends may m (point_at e h) (told_as m (realm_of e) r) (point_at e' h') gives.answered);
+    → GivesSo may room m waits e h before r e' after → GivesSo may room m (settled true) e h before r (record e' { tree = tree }) after
+ends_so {A} may room m e h before r e' after tree is gives = record {
+  answered = subst (λ t. Answered may m (settled true) (point_at e h) (told_as m (realm_of e) r) (point_at (record e' { tree = t }) (handles_after h r))) (sym all)
+      (ends may m (point_at e h) (told_as m (realm_of e) r) (point_at e' (handles_after h r)) gives.answered);
   written = gives.written;
   within = gives.within;
   unwritten = gives.unwritten;

@@ -19,7 +19,7 @@ use Rattle.session_slots.specs.declared.session.NewCall.{NewCall}
 use Rattle.session_slots.specs.Registry.{Registry, session_at, kept_size}
 use Rattle.session_slots.specs.Sequencing.{StandsIn}
 use Rattle.compound_run.specs.declared.compound.Ended.{Ended}
-use Rattle.compound_run.specs.declared.export.Export.{Export}
+use Rattle.compound_run.specs.declared.realm.Realm as realms
 use Rattle.compound_run.specs.Context.{Context, no_handles}
 use Rattle.compound_run.specs.Runs.{Given, Runs, status_of, result_bytes, results_bytes}
 use Rattle.compound_run.specs.Compound.{head, last_status, together}
@@ -35,7 +35,7 @@ last_behind given [] ok = ok
 last_behind given (next ∷ results) ok = refl
 
 -- operations that are run behind a result that is OK
-pub sequenced : {A : Type 0} (most : ℕ) (c : Context) (room : ℕ) (tag : List ℕ) (number : ℕ) (o : Outcome) (operations : List ℕ) (old new : Export A) (before mid after : Buffer) (end : Ended)
+pub sequenced : {A : Type 0} (most : ℕ) (c : Context) (room : ℕ) (tag : List ℕ) (number : ℕ) (o : Outcome) (operations : List ℕ) (old new : realms.Realm A) (before mid after : Buffer) (end : Ended)
     → c.position ≡ 1 → c.room ≡ room → Appends before mid (result_bytes (record { number = number; outcome = Ok o })) → RunGives c operations old mid end new after → length after.bytes ≤ most
     → SequencedBehind most (record c { room = room }) tag (record { number = number; outcome = Ok o }) operations old before end new after
 sequenced {A} most c room tag number o operations old new before mid after end second is appends r within = (
@@ -89,14 +89,14 @@ longer_by tag start first tagged begun p q r =
     let four = length-append (to_be_bytes w32 (length tag)) (padded tag) in
     omega (arith, one, two, three, four)
 
-pub sequenced_within : {A : Type 0} (limit most : ℕ) (c : Context) (room other : ℕ) (tag : List ℕ) (given : Given) (operations : List ℕ) (old export : Export A) (start first tagged begun done counted new : Buffer) (end : Ended)
+pub sequenced_within : {A : Type 0} (limit most : ℕ) (c : Context) (room other : ℕ) (tag : List ℕ) (given : Given) (operations : List ℕ) (old realm : realms.Realm A) (start first tagged begun done counted new : Buffer) (end : Ended)
     → Appends start first zeros → Appends first tagged (tag_bytes tag) → Appends tagged begun zeros
-    → SequencedBehind most (record c { room = room }) tag given operations old begun end export done
+    → SequencedBehind most (record c { room = room }) tag given operations old begun end realm done
     → Fills done counted (length tagged.bytes) (to_be_bytes w32 end.ran) → Fills counted new (length start.bytes) (word end.status) → room ≡ other → most ≤ length start.bytes + limit
-    → WritesWithin limit (λ bytes. SequencedTo (record c { room = other }) tag given operations old bytes export) start new
-sequenced_within {A} limit most c room other tag given operations old export start first tagged begun done counted new end p q r s f g is within = (
+    → WritesWithin limit (λ bytes. SequencedTo (record c { room = other }) tag given operations old bytes realm) start new
+sequenced_within {A} limit most c room other tag given operations old realm start first tagged begun done counted new end p q r s f g is within = (
   head end.status tag end.ran ++ s.0,
-  subst (λ x. SequencedTo (record c { room = x }) tag given operations old (head end.status tag end.ran ++ s.0) export) is s.1,
+  subst (λ x. SequencedTo (record c { room = x }) tag given operations old (head end.status tag end.ran ++ s.0) realm) is s.1,
   headed start first tagged begun done counted new end.status tag end.ran s.0 p q r s.2 f g,
   few,
 )
@@ -126,7 +126,7 @@ few_there r s session slot new n stands same few =
     subst (λ o. IfSome o (λ x. n ≤ kept_size x.granted)) (sym (stands_there r s session slot new stands same)) (omega (arith, stands.3, few))
 
 -- no session is made or ended by the operations
-pub sessions_stay : {A : Type 0} (limit : ℕ) (c : Context) (tag : List ℕ) (given : Given) (operations : List ℕ) (old new : Export A) (before after : Buffer)
+pub sessions_stay : {A : Type 0} (limit : ℕ) (c : Context) (tag : List ℕ) (given : Given) (operations : List ℕ) (old new : realms.Realm A) (before after : Buffer)
     → WritesWithin limit (λ bytes. SequencedTo c tag given operations old bytes new) before after → new.clients.sessions ≡ old.clients.sessions
 sessions_stay limit c tag given operations old new before after w = runs_stay c (c.count - c.position) operations (point_at old no_handles) w.1.1.0 (point_at new w.1.0) w.1.1.1
 
@@ -134,7 +134,7 @@ sessions_stay limit c tag given operations old new before after w = runs_stay c 
 pub appended : (before after : Buffer) (item : List ℕ) → Appends before after item → drop (length before.bytes) after.bytes ≡ item
 appended before after item p = ap (drop (length before.bytes)) p.behind ∙ drop_at before.bytes item (length before.bytes) refl
 
-pub kept_so : {A : Type 0} (limit other : ℕ) (c d : Context) (tag : List ℕ) (v : Value sequence_args) (given done : Given) (operations : List ℕ) (old mid new : Export A) (before after : Buffer) (start : ℕ)
+pub kept_so : {A : Type 0} (limit other : ℕ) (c d : Context) (tag : List ℕ) (v : Value sequence_args) (given done : Given) (operations : List ℕ) (old mid new : realms.Realm A) (before after : Buffer) (start : ℕ)
     → WritesWithin limit (λ bytes. SequencedTo c tag given operations old bytes mid) before after → limit ≡ other → c ≡ d → given ≡ done → start ≡ length before.bytes
     → new ≡ record mid { clients = keeping v (drop start after.bytes) mid.clients }
     → WritesWithin other (λ bytes. SequencedKept d tag v done operations old bytes new) before after

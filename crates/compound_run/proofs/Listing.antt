@@ -39,7 +39,7 @@ use Rattle.compound_run.specs.Sight.{Sight}
 use Rattle.compound_run.specs.Rows.{object_of}
 use Rattle.compound_run.specs.Readdir.{allows, first_refused, permitted, judgment, judgment_of, entry_of, entry_by, judged_entry, names_above, judged_above, listed, listing_of, refused_in, fits_some}
 use Rattle.compound_run.specs.declared.context.Context as code
-use Rattle.compound_run.specs.declared.export.Export.{Export}
+use Rattle.compound_run.specs.declared.realm.Realm as realms
 use Rattle.compound_run.specs.declared.filehandles.FileHandles.{FileHandles}
 use Rattle.nfs_ops.specs.ListingSteps as steps
 use Rattle.nfs_ops.specs.Rows.{row}
@@ -310,17 +310,17 @@ next_judged c asked s directory cookie found next child j is judged =
     ap (map (judged_entry c asked s)) is.above ∙ ap (λ x. entry_by c s is.name x ∷ judged_above c asked directory next s) (sym so)
 
 -- judging doesn't change the attributes of an entry
-pub moved_entry : {A : Type 0} (c : code.Context) (old new : Export A) (n : Name) (error : Status) (set : List ℕ) (P : Value entry → Type 0) → new ≡ old
+pub moved_entry : {A : Type 0} (c : code.Context) (old new : realms.Realm A) (n : Name) (error : Status) (set : List ℕ) (P : Value entry → Type 0) → new ≡ old
     → P (entry_of (context_at new c) (sight_of new) n error set) → P (entry_of (context_at old c) (sight_of old) n error set)
 moved_entry c old new n error set P same p = subst P (ap (λ e. entry_of (context_at e c) (sight_of e) n error set) same) p
 
 -- ---- the result
 
-module _ {A : Type 0} (room : ℕ) (c : Context) (h : FileHandles) (v : Value readdir_args) (directory : ℕ) (e : Export A) (before after : Buffer) where
+module _ {A : Type 0} (room : ℕ) (c : Context) (h : FileHandles) (v : Value readdir_args) (directory : ℕ) (e : realms.Realm A) (before after : Buffer) where
   abbrev told : Result Listing (ListFault Demand)
   told = listed c v directory (sight_of e)
 
-  given_so : steps.Lists told room before after → GivesSo false room (listing_of v directory c h) waits e h before (Ok tt) e h after
+  given_so : steps.Lists told room before after → GivesSo false room (listing_of v directory c h) waits e h before (Ok h) e after
   unfolding spelled
   given_so lists = record {
     answered = record {
@@ -339,7 +339,7 @@ module _ {A : Type 0} (room : ℕ) (c : Context) (h : FileHandles) (v : Value re
     unwritten = tt;
   }
 
-  small_so : told ≡ Err TooSmall → GivesSo false room (listing_of v directory c h) waits e h before (Err statuses.TooSmall) e h before
+  small_so : told ≡ Err TooSmall → GivesSo false room (listing_of v directory c h) waits e h before (Err statuses.TooSmall) e before
   small_so small = record {
     answered = record {
       outcome = rw small refl;
@@ -357,18 +357,18 @@ module _ {A : Type 0} (room : ℕ) (c : Context) (h : FileHandles) (v : Value re
     unwritten = refl;
   }
 
-  pub list_given : (new : Export A) → new ≡ e → steps.Lists told room before after → GivesSo false room (listing_of v directory c h) waits e h before (Ok tt) new h after
-  list_given new same lists = subst (λ (x : Export A). GivesSo false room (listing_of v directory c h) waits e h before (Ok tt) x h after) (sym same) (given_so lists)
+  pub list_given : (new : realms.Realm A) → new ≡ e → steps.Lists told room before after → GivesSo false room (listing_of v directory c h) waits e h before (Ok h) new after
+  list_given new same lists = subst (λ (x : realms.Realm A). GivesSo false room (listing_of v directory c h) waits e h before (Ok h) x after) (sym same) (given_so lists)
 
-  pub list_small : (new : Export A) → new ≡ e → told ≡ Err TooSmall → after ≡ before → GivesSo false room (listing_of v directory c h) waits e h before (Err statuses.TooSmall) new h after
+  pub list_small : (new : realms.Realm A) → new ≡ e → told ≡ Err TooSmall → after ≡ before → GivesSo false room (listing_of v directory c h) waits e h before (Err statuses.TooSmall) new after
   list_small new same small stays =
-      subst (λ (x : Export A). GivesSo false room (listing_of v directory c h) waits e h before (Err statuses.TooSmall) x h after) (sym same)
-      (subst (λ (b : Buffer). GivesSo false room (listing_of v directory c h) waits e h before (Err statuses.TooSmall) e h b) (sym stays) (small_so small))
+      subst (λ (x : realms.Realm A). GivesSo false room (listing_of v directory c h) waits e h before (Err statuses.TooSmall) x after) (sym same)
+      (subst (λ (b : Buffer). GivesSo false room (listing_of v directory c h) waits e h before (Err statuses.TooSmall) e b) (sym stays) (small_so small))
 
-  pub list_refused : (d : Demand) (new : Export A) → told ≡ Err (Refused d) → after ≡ before → new ≡ holding (demand_lines (world.judged_of e.tree.world) c.caller (row kinds.ReadDir).number (Some d ∷ [])) e → GivesSo false room (listing_of v directory c h) waits e h before (Err statuses.Access) new h after
+  pub list_refused : (d : Demand) (new : realms.Realm A) → told ≡ Err (Refused d) → after ≡ before → new ≡ holding (demand_lines (world.judged_of e.tree.world) c.caller (row kinds.ReadDir).number (Some d ∷ [])) e → GivesSo false room (listing_of v directory c h) waits e h before (Err statuses.Access) new after
   list_refused d new refused stays is =
       let not : is_granted (decision (sight_of e).lists c.caller d) ≡ false = what_refuses c v directory (sight_of e) d refused in
-      subst (λ (b : Buffer). GivesSo false room (listing_of v directory c h) waits e h before (Err statuses.Access) new h b) (sym stays)
+      subst (λ (b : Buffer). GivesSo false room (listing_of v directory c h) waits e h before (Err statuses.Access) new b) (sym stays)
       (row_refuses_always room (listing_of v directory c h) (λ s. refused_in (listed c v directory s) ∷ []) (fits_some c v directory ∷ []) e h before new refl
       (ap (λ t. all_granted (sight_of e).lists c.caller (refused_in t ∷ [])) refused ∙ ap (λ b. b && true) not)
       (is ∙ ap (λ t. holding (demand_lines (world.judged_of e.tree.world) c.caller (row kinds.ReadDir).number (refused_in t ∷ [])) e) (sym refused)))

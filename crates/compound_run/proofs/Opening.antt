@@ -10,7 +10,7 @@ use Rattle.nfs_ops.specs.Results.{Done}
 use Rattle.nfs_ops.specs.Rows.{row}
 use Rattle.nfs_ops.specs.declared.op_kind.OpKind.TheVariants as kinds
 use Rattle.access_guard.specs.declared.line.Line.{Line}
-use Rattle.compound_run.specs.declared.export.Export.{Export}
+use Rattle.compound_run.specs.declared.realm.Realm as realms
 use Rattle.compound_run.specs.declared.filehandles.FileHandles.{FileHandles}
 use Rattle.compound_run.specs.Asking.{sight_of}
 use Rattle.compound_run.specs.Context.{Context}
@@ -57,11 +57,11 @@ module _ (v : Value open_args) (c : Context) (h : FileHandles) (s : Sight) where
 
 -- ---- the answers to an OPEN
 
-module _ {A : Type 0} (room : ℕ) (v : Value open_args) (c : Context) (h : FileHandles) (e new : Export A) (before : Buffer) where
+module _ {A : Type 0} (room : ℕ) (v : Value open_args) (c : Context) (h : FileHandles) (e new : realms.Realm A) (before : Buffer) where
   -- OPEN is refused, or delayed, and nothing has changed
   pub refused : (status : Status) → realm_of new ≡ realm_of e → new.tree.log ≡ e.tree.log → settings_of new ≡ settings_of e
       → (status ≢ statuses.Delay → failure c.caller (sight_of e) (last_questions v c h) ≡ Some status)
-      → GivesSo true room (opening v c h) waits e h before (Err status) new h before
+      → GivesSo true room (opening v c h) waits e h before (Err status) new before
   refused status realm log settings fails = record {
     answered = record {
       outcome = λ other. ap (λ f. told f ((opening v c h).answer (sight_of e))) (sym (fails (λ same. other (ap (λ x. Err x) same))));
@@ -83,7 +83,7 @@ module _ {A : Type 0} (room : ℕ) (v : Value open_args) (c : Context) (h : File
   pub given : (t : Option ℕ) (after : Buffer) → found v h (sight_of e) ≡ t → is_permitted c v t ≡ true → is_within c v t ≡ true → has_space_for c v (here h) t (sight_of e) ≡ true
       → realm_of new ≡ opened_on c v (here h) t (realm_of e) → new.tree.log ≡ e.tree.log → settings_of new ≡ settings_of e
       → Appends before after (spelled (Done kinds.Open (result_on c v (here h) t (sight_of e)))) → length after.bytes ≤ length before.bytes + room
-      → GivesSo true room (opening v c h) waits e h before (Ok tt) new (record h { current = Some (unwrap_or t e.tree.world.next_number) }) after
+      → GivesSo true room (opening v c h) waits e h before (Ok (record h { current = Some (unwrap_or t e.tree.world.next_number) })) new after
   given t after is permitted within space realm log settings written short = record {
     answered = record {
       outcome = λ other. ap (λ f. told f ((opening v c h).answer (sight_of e))) (sym (fails_by v c h (sight_of e) t is true true true permitted within space));

@@ -8,7 +8,7 @@ use Rattle.nfs_ops.specs.declared.op_kind.OpKind.TheVariants as kinds
 use Rattle.session_slots.specs.Registry.{Registry}
 use Rattle.session_slots.specs.Destroying.{reclaim_refusal}
 use Rattle.access_guard.specs.Log.{held}
-use Rattle.compound_run.specs.declared.export.Export.{Export}
+use Rattle.compound_run.specs.declared.realm.Realm as realms
 use Rattle.compound_run.specs.declared.filehandles.FileHandles.{FileHandles}
 use Rattle.compound_run.specs.Context.{Context}
 use Rattle.compound_run.specs.ReclaimComplete.{reclaim_complete}
@@ -19,8 +19,8 @@ use Rattle.compound_run.specs.Stateids.{client_of}
 use Rattle.compound_run.specs.Views.{GivesSo}
 use Rattle.compound_run.proofs.Acting.{refusal_is}
 
-isnt_first : {A : Type 0} (room : ℕ) (c : Context) (h : FileHandles) (e : Export A) (out : Buffer) (status : Status) → reclaim_refusal e.clients (client_of c) ≡ Some status
-    → GivesSo false room (reclaim_complete false c h) waits e h out (Err status) e h out
+isnt_first : {A : Type 0} (room : ℕ) (c : Context) (h : FileHandles) (e : realms.Realm A) (out : Buffer) (status : Status) → reclaim_refusal e.clients (client_of c) ≡ Some status
+    → GivesSo false room (reclaim_complete false c h) waits e h out (Err status) e out
 isnt_first room c h e out status is = record {
   answered = record {
     outcome = ap (λ f. told (first_fault f None) (Done kinds.ReclaimComplete tt)) (sym is);
@@ -42,12 +42,12 @@ isnt_first room c h e out status is = record {
     nothing = ap (λ x. record e.tree.log { held = x }) (sym (append-nil e.tree.log.held))
 
 -- the client has sent it before
-pub isnt_reclaimed : {A : Type 0} (room : ℕ) (one_fs : Bool) (c : Context) (h : FileHandles) (e : Export A) (out : Buffer) (status : Status) (answer : Result (Unit {0}) Status) → answer ≡ Err status
+pub isnt_reclaimed : {A : Type 0} (room : ℕ) (one_fs : Bool) (c : Context) (h : FileHandles) (e : realms.Realm A) (out : Buffer) (status : Status) (answer : Result FileHandles Status) → answer ≡ Err status
     → (client : ℕ) → client ≡ client_of c → (registry : Registry) → one_fs ≡ false
     → MatchOption (reclaim_refusal e.clients client) (IsOk {T = Unit {0}} {E = Status} (Err status)) (λ s. ◌≡◌ {A = Result (Unit {0}) Status} (Err status) (Err s))
-    → registry ≡ e.clients → GivesSo false room (reclaim_complete one_fs c h) waits e h out answer (record e { clients = registry }) h out
+    → registry ≡ e.clients → GivesSo false room (reclaim_complete one_fs c h) waits e h out answer (record e { clients = registry }) out
 isnt_reclaimed {A} room one_fs c h e out status answer told client is registry all refused same =
-    subst (λ r. GivesSo false room (reclaim_complete one_fs c h) waits e h out r (record e { clients = registry }) h out) (sym told)
-    (subst (λ b. GivesSo false room (reclaim_complete b c h) waits e h out (Err status) (record e { clients = registry }) h out) (sym all)
-    (subst (λ r. GivesSo false room (reclaim_complete false c h) waits e h out (Err status) (record e { clients = r }) h out) (sym same)
+    subst (λ r. GivesSo false room (reclaim_complete one_fs c h) waits e h out r (record e { clients = registry }) out) (sym told)
+    (subst (λ b. GivesSo false room (reclaim_complete b c h) waits e h out (Err status) (record e { clients = registry }) out) (sym all)
+    (subst (λ r. GivesSo false room (reclaim_complete false c h) waits e h out (Err status) (record e { clients = r }) out) (sym same)
     (isnt_first room c h e out status (ap (reclaim_refusal e.clients) (sym is) ∙ refusal_is (reclaim_refusal e.clients client) status refused))))

@@ -4,17 +4,15 @@ use Rattle.std.specs.Prelude.{Option, Some, None, Result, Err, MatchOption, IsOk
 use Rattle.std.proofs.lemmas.Bool.{lt-ltb}
 use Rattle.node_tree.specs.declared.at.At.{At}
 use Rattle.node_tree.specs.declared.fault.TreeFault.{TreeFault}
-use Rattle.node_tree.specs.declared.fault.TreeFault.TheVariants.{Exist, Inval, NoSpc, Memory}
+use Rattle.node_tree.specs.declared.fault.TreeFault.TheVariants.{NoSpc, Memory}
 use Rattle.node_tree.specs.Limits.{MAX_LINKS}
 use Rattle.node_tree.specs.World.{World, child_named, is_one, link_count}
 use Rattle.node_tree.specs.Changes.{renamed}
-use Rattle.node_tree.specs.Refusals.{may_name, add_refusal, link_refusal, rename_refusal}
+use Rattle.node_tree.specs.Refusals.{may_name, add_refusal, link_refusal}
 use Rattle.compound_run.specs.Realm.{unopened}
 use Rattle.compound_run.specs.Sight.{Sight, whole}
 use Rattle.compound_run.specs.Meaning.{names_at}
 use Rattle.compound_run.specs.Create.{can_add}
-use Rattle.compound_run.specs.Rename.{goes_below, can_replace, can_move}
-use Rattle.compound_run.specs.Views.{is_inval, is_exist}
 
 -- a change is refused for this reason
 pub refused_by : {A : Type 0} (refusal : Option TreeFault) (fault : TreeFault) (result : Result A TreeFault) → refusal ≡ Some fault
@@ -36,44 +34,6 @@ add_is w directory name can free is = rw free (rw is refl)
 pub link_is : (w : World) (directory : ℕ) (name : List ℕ) (number : ℕ) (may : Bool) → child_named w directory name ≡ None → link_count w.names number < MAX_LINKS
     → may_name (names_at (seen w) directory) w.next_cookie ≡ may → link_refusal w directory name number ≡ (if may then None else Some NoSpc)
 link_is w directory name number may free few is = rw free (rw (lt-ltb (link_count w.names number) MAX_LINKS few) (rw is refl))
-
--- why a child may not get another name
-abbrev pub move_fault : World → ℕ → ℕ → ℕ → Option ℕ → Option TreeFault
-move_fault w from to moved target =
-    if goes_below (seen w) moved to then Some Inval
-    else if not (can_replace (seen w) moved target) then Some Exist
-    else if can_move (seen w) from to target then None
-    else Some NoSpc
-
-rename_is : (w : World) (from : ℕ) (old : List ℕ) (to : ℕ) (new : List ℕ) (moved : ℕ) → child_named w from old ≡ Some moved → is_one (Some moved) (child_named w to new) ≡ false
-    → rename_refusal w from old to new ≡ move_fault w from to moved (child_named w to new)
-rename_is w from old to new moved there other = rw there (rw other refl)
-
-pub inval_is_below : (w : World) (from : ℕ) (old : List ℕ) (to : ℕ) (new : List ℕ) (moved : ℕ) → child_named w from old ≡ Some moved → is_one (Some moved) (child_named w to new) ≡ false
-    → is_inval (rename_refusal w from old to new) ≡ goes_below (seen w) moved to
-inval_is_below w from old to new moved there other =
-    rw (rename_is w from old to new moved there other) (of (goes_below (seen w) moved to) (can_replace (seen w) moved (child_named w to new)) (can_move (seen w) from to (child_named w to new)))
-  where
-    of : (a b c : Bool) → is_inval (if a then Some Inval else if not b then Some Exist else if c then None else Some NoSpc) ≡ a
-    of true b c = refl
-    of false true true = refl
-    of false true false = refl
-    of false false c = refl
-
-pub exist_is_taken : (w : World) (from : ℕ) (old : List ℕ) (to : ℕ) (new : List ℕ) (moved : ℕ) → child_named w from old ≡ Some moved → is_one (Some moved) (child_named w to new) ≡ false → goes_below (seen w) moved to ≡ false
-    → not (is_exist (rename_refusal w from old to new)) ≡ can_replace (seen w) moved (child_named w to new)
-exist_is_taken w from old to new moved there other above =
-    rw (rename_is w from old to new moved there other) (rw above (of (can_replace (seen w) moved (child_named w to new)) (can_move (seen w) from to (child_named w to new))))
-  where
-    of : (b c : Bool) → not (is_exist (if not b then Some Exist else if c then None else Some NoSpc)) ≡ b
-    of true true = refl
-    of true false = refl
-    of false c = refl
-
-pub move_is : (w : World) (from : ℕ) (old : List ℕ) (to : ℕ) (new : List ℕ) (moved : ℕ) (can : Bool) → child_named w from old ≡ Some moved → is_one (Some moved) (child_named w to new) ≡ false
-    → goes_below (seen w) moved to ≡ false → can_replace (seen w) moved (child_named w to new) ≡ true → can_move (seen w) from to (child_named w to new) ≡ can
-    → rename_refusal w from old to new ≡ (if can then None else Some NoSpc)
-move_is w from old to new moved can there other above may is = rw (rename_is w from old to new moved there other) (rw above (rw may (rw is refl)))
 
 -- two names of one object stay
 pub renamed_same : (w : World) (from : ℕ) (old : List ℕ) (to : ℕ) (new : List ℕ) (at : At) → is_one (child_named w from old) (child_named w to new) ≡ true → renamed w from old to new at ≡ w

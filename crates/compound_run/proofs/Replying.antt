@@ -19,9 +19,9 @@ use Rattle.session_slots.specs.declared.session.NewCall.{NewCall}
 use Rattle.session_slots.specs.Registry.{Client, Registry, client_at}
 use Rattle.session_slots.specs.Creating.{CreatesBy, judged_for, judged_unless, repeated}
 use Rattle.session_slots.specs.Repeating.{Fate, Runs, Repeats, Fails, AnswersBy}
-use Rattle.compound_run.specs.declared.beginning.Lone.{Lone}
-use Rattle.compound_run.specs.declared.beginning.Lone.TheVariants as lones
-use Rattle.compound_run.specs.declared.export.Export.{Export}
+use Rattle.compound_run.specs.declared.first_operation.Lone.{Lone}
+use Rattle.compound_run.specs.declared.first_operation.Lone.TheVariants as lones
+use Rattle.compound_run.specs.declared.realm.Realm as realms
 use Rattle.compound_run.specs.declared.in_session.Coming.{Coming}
 use Rattle.compound_run.specs.Limits.{MAX_RESULTS, MINOR_VERSION}
 use Rattle.compound_run.specs.Context.{no_handles}
@@ -37,7 +37,7 @@ use Rattle.compound_run.specs.SessionViews.{AnswersAs, IsOfClients, SequencedKep
 
 -- ---- a new call of a slot
 
-begins_so : {A : Type 0} (e : Export A) (registry : Registry) → e.tree.log.held ≡ []
+begins_so : {A : Type 0} (e : realms.Realm A) (registry : Registry) → e.tree.log.held ≡ []
     → point_at (record e { clients = registry }) no_handles ≡ start (in_registry registry (state_of e))
 begins_so e registry settled = λ i. record {
   realm = with_registry registry (realm_of e);
@@ -46,7 +46,7 @@ begins_so e registry settled = λ i. record {
   handles = no_handles;
 }
 
-on_slot : {A : Type 0} (call : Coming) (v : Value sequence_args) (operations : List ℕ) (new : NewCall) (e begun f : Export A) (bytes : List ℕ) → e.tree.log.held ≡ []
+on_slot : {A : Type 0} (call : Coming) (v : Value sequence_args) (operations : List ℕ) (new : NewCall) (e begun f : realms.Realm A) (bytes : List ℕ) → e.tree.log.held ≡ []
     → begun ≡ record e { clients = begun_in e.clients (call_of call) call.compound.count v } → length bytes ≤ new.reply_size - 24
     → SequencedKept (coming_behind e.tree.book call v new) call.compound.tag.now v (sequence_done v new.highest_slot) operations begun bytes f
     → RunsOnSlot (state_of e) (call_of call) call.compound.tag.now call.compound.count v operations new bytes (state_of f)
@@ -63,7 +63,7 @@ on_slot call v operations new e begun f bytes settled is few kept =
       few,
     )
 
-pub answers_new : {A : Type 0} (call : Coming) (v : Value sequence_args) (operations : List ℕ) (new : NewCall) (b : Begin) (e begun f : Export A) (before after : Buffer) → e.tree.log.held ≡ []
+pub answers_new : {A : Type 0} (call : Coming) (v : Value sequence_args) (operations : List ℕ) (new : NewCall) (b : Begin) (e begun f : realms.Realm A) (before after : Buffer) → e.tree.log.held ≡ []
     → begins.New new ≡ b → begun ≡ record e { clients = begun_in e.clients (call_of call) call.compound.count v } → new.reply_size ≤ 65536
     → WritesWithin (new.reply_size - 24) (λ bytes. SequencedKept (coming_behind e.tree.book call v new) call.compound.tag.now v (sequence_done v new.highest_slot) operations begun bytes f) before after
     → WritesWithin MAX_RESULTS (λ bytes. AnswersAs (fate_by call.compound.tag.now v e.clients b) (RunsBy b (call_of call) call.compound.tag.now call.compound.count v operations (state_of e)) (state_of e) bytes (state_of f)) before after
@@ -90,7 +90,7 @@ answers_refused f run old new bytes before after is same w = (bytes, subst (λ x
 -- ---- an operation that is the only one
 
 -- where clients and opens alone change, only these parts of the realm change
-of_clients : {A : Type 0} (e f : Export A) → IsOfClients e f → state_of f ≡ record (state_of e) { realm = realm_of f }
+of_clients : {A : Type 0} (e f : realms.Realm A) → IsOfClients e f → state_of f ≡ record (state_of e) { realm = realm_of f }
 of_clients e f others = ap state_of others ∙ ap (λ r. record (state_of e) { realm = r }) (sym (ap realm_of others))
 
 some_same : (a b : Result Created Status) → Some a ≡ Some b → a ≡ b
@@ -107,7 +107,7 @@ again_for : (o : Option Client) (kept : Result Created Status) (r : Registry) (a
 again_for None kept r a made new is creates = cc
 again_for (Some c) kept r a made new is creates = again_by (repeated c.created a.sequence) kept c r a made new is creates
 
-created_alone : {A : Type 0} (o : Option (Result Created Status)) (call : Call) (v : Value create_session_args) (tag : List ℕ) (e f : Export A) (bytes : List ℕ) → created_before v (realm_of e) ≡ o → IsOfClients e f
+created_alone : {A : Type 0} (o : Option (Result Created Status)) (call : Call) (v : Value create_session_args) (tag : List ℕ) (e f : realms.Realm A) (bytes : List ℕ) → created_before v (realm_of e) ≡ o → IsOfClients e f
     → ActsTo call.caller (Known kinds.CreateSession v) tag (realm_of e) bytes (realm_of f)
     → AnswersAs (again tag o) (RunsAlone call tag (Known kinds.CreateSession v) (state_of e)) (state_of e) bytes (state_of f)
 created_alone None call v tag e f bytes is others acts = (acts, of_clients e f others)
@@ -120,14 +120,14 @@ created_alone (Some kept) call v tag e f bytes is others acts =
       of_clients e f others ∙ ap (λ r. record (state_of e) { realm = r }) realm,
     )
 
-alone_as : {A : Type 0} (lone : Lone) (call : Call) (tag : List ℕ) (e f : Export A) (bytes : List ℕ) → IsOfClients e f → ActsTo call.caller (lone_view lone) tag (realm_of e) bytes (realm_of f)
+alone_as : {A : Type 0} (lone : Lone) (call : Call) (tag : List ℕ) (e f : realms.Realm A) (bytes : List ℕ) → IsOfClients e f → ActsTo call.caller (lone_view lone) tag (realm_of e) bytes (realm_of f)
     → AnswersAs (fate_alone tag (lone_view lone) (realm_of e)) (RunsAlone call tag (lone_view lone) (state_of e)) (state_of e) bytes (state_of f)
 alone_as (lones.ExchangeId a) call tag e f bytes others acts = (acts, of_clients e f others)
 alone_as (lones.CreateSession a) call tag e f bytes others acts = created_alone _ call _ tag e f bytes refl others acts
 alone_as (lones.DestroySession a) call tag e f bytes others acts = (acts, of_clients e f others)
 alone_as (lones.DestroyClientId a) call tag e f bytes others acts = (acts, of_clients e f others)
 
-pub answers_alone : {A : Type 0} (lone : Lone) (call : Call) (tag : List ℕ) (e f : Export A) (before after : Buffer) → IsOfClients e f
+pub answers_alone : {A : Type 0} (lone : Lone) (call : Call) (tag : List ℕ) (e f : realms.Realm A) (before after : Buffer) → IsOfClients e f
     → WritesWithin MAX_RESULTS (λ bytes. ActsTo call.caller (lone_view lone) tag (realm_of e) bytes (realm_of f)) before after
     → WritesWithin MAX_RESULTS (λ bytes. AnswersAs (fate_alone tag (lone_view lone) (realm_of e)) (RunsAlone call tag (lone_view lone) (state_of e)) (state_of e) bytes (state_of f)) before after
 answers_alone lone call tag e f before after others w = (w.0, alone_as lone call tag e f w.0 others w.1, w.2, w.3)

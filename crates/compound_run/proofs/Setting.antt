@@ -20,7 +20,7 @@ use Rattle.access_guard.specs.Log.{held}
 use Rattle.access_rows.specs.Rows.{Demands, first_demands}
 use Rattle.node_tree.specs.Judged.{judged_of}
 use Rattle.node_tree.specs.World.{World, Object, object, kind_of}
-use Rattle.compound_run.specs.declared.export.Export.{Export}
+use Rattle.compound_run.specs.declared.realm.Realm as realms
 use Rattle.compound_run.specs.declared.filehandles.FileHandles.{FileHandles}
 use Rattle.compound_run.specs.Asking.{sight_of}
 use Rattle.compound_run.specs.Context.{Context}
@@ -42,9 +42,9 @@ live None is = cc
 live (Some o) is = refl
 
 -- the attributes that are sent have a fault
-pub not_wanted : {A : Type 0} (room : ℕ) (c : Context) (h : FileHandles) (v : Value setattr_args) (e : Export A) (out : Buffer) (number : ℕ) (status : Status)
+pub not_wanted : {A : Type 0} (room : ℕ) (c : Context) (h : FileHandles) (v : Value setattr_args) (e : realms.Realm A) (out : Buffer) (number : ℕ) (status : Status)
     → h.current ≡ Some number → IsSome (object e.tree.world number) → (status ≢ statuses.Delay → sent c v (kind_at (sight_of e) number) ≡ Err status)
-    → GivesSo true room (setattr v c h) waits e h out (Err status) e h out
+    → GivesSo true room (setattr v c h) waits e h out (Err status) e out
 not_wanted room c h v e out number status is_here there wrong = record {
   answered = record {
     outcome = λ apart. rw is_here (rw (live (object e.tree.world number) there) (rw (wrong (λ is. apart (ap Err is))) refl));
@@ -63,9 +63,9 @@ not_wanted room c h v e out number status is_here there wrong = record {
 }
 
 -- its size can't be set
-pub not_sized : {A : Type 0} (room : ℕ) (c : Context) (h : FileHandles) (v : Value setattr_args) (e : Export A) (out : Buffer) (number : ℕ) (wanted : Wanted) (status : Status)
+pub not_sized : {A : Type 0} (room : ℕ) (c : Context) (h : FileHandles) (v : Value setattr_args) (e : realms.Realm A) (out : Buffer) (number : ℕ) (wanted : Wanted) (status : Status)
     → h.current ≡ Some number → IsSome (object e.tree.world number) → sent c v (kind_at (sight_of e) number) ≡ Ok wanted → size_fault wanted.size c number (set_stateid v) (sight_of e) ≡ Some status
-    → GivesSo true room (setattr v c h) waits e h out (Err status) e h out
+    → GivesSo true room (setattr v c h) waits e h out (Err status) e out
 not_sized room c h v e out number wanted status is_here there is_wanted wrong = record {
   answered = record {
     outcome = λ apart. rw is_here (rw (live (object e.tree.world number) there) (rw is_wanted (rw wrong refl)));
@@ -84,11 +84,11 @@ not_sized room c h v e out number wanted status is_here there is_wanted wrong = 
 }
 
 -- the demands on the list
-abbrev pub demanded : {A : Type 0} → Value setattr_args → FileHandles → Export A → Wanted → Demands
+abbrev pub demanded : {A : Type 0} → Value setattr_args → FileHandles → realms.Realm A → Wanted → Demands
 demanded v h e wanted = first_demands (Known kinds.SetAttr v) (sized_facts (sight_of e) h wanted.size)
 
 -- all questions pass
-module _ {A : Type 0} (c : Context) (h : FileHandles) (v : Value setattr_args) (e : Export A) (wanted : Wanted)
+module _ {A : Type 0} (c : Context) (h : FileHandles) (v : Value setattr_args) (e : realms.Realm A) (wanted : Wanted)
     (set : is_some h.current ≡ true)
     (is_live : is_some (kind_of e.tree.world (here h)) ≡ true)
     (is_wanted : sent c v (kind_at (sight_of e) (here h)) ≡ Ok wanted)
@@ -111,16 +111,16 @@ module _ {A : Type 0} (c : Context) (h : FileHandles) (v : Value setattr_args) (
   world_set : setting (here h) wanted (at c e.tree.world) e.tree.world ≡ with_attributes c h v e.tree.world
   world_set = ap (λ r. setting (here h) (wanted_in r) (at c e.tree.world) e.tree.world) (sym is_wanted)
 
-  gives_set : (room : ℕ) (mid new : Export A) (out out' : Buffer)
+  gives_set : (room : ℕ) (mid new : realms.Realm A) (out out' : Buffer)
       → bounded ≡ true → mid ≡ holding (demand_lines (judged_of e.tree.world) c.caller (row kinds.SetAttr).number (demanded v h e wanted)) e
       → new ≡ with_world (setting (here h) wanted (at c mid.tree.world) mid.tree.world) mid
       → Appends out out' (spelled (Done kinds.SetAttr (set_of (set_attributes v)))) → length out'.bytes ≤ length out.bytes + room
-      → GivesSo true room (setattr v c h) waits e h out (Ok tt) new h out'
+      → GivesSo true room (setattr v c h) waits e h out (Ok h) new out'
   gives_set room mid new out out' within_bounds holds is_set written within =
       let lines = demand_lines (judged_of e.tree.world) c.caller (row kinds.SetAttr).number (demanded v h e wanted) in
-      let end : Export A = with_world (setting (here h) wanted (at c e.tree.world) e.tree.world) (holding lines e) in
+      let end : realms.Realm A = with_world (setting (here h) wanted (at c e.tree.world) e.tree.world) (holding lines e) in
       let ends : new ≡ end = is_set ∙ (λ i. with_world (setting (here h) wanted (at c (holds i).tree.world) (holds i).tree.world) (holds i)) in
-      subst (λ (x : Export A). GivesSo true room (setattr v c h) waits e h out (Ok tt) x h out') (sym ends) (record {
+      subst (λ (x : realms.Realm A). GivesSo true room (setattr v c h) waits e h out (Ok h) x out') (sym ends) (record {
         answered = record {
           outcome = λ apart. ap (λ f. told f (Done kinds.SetAttr (set_of (set_attributes v)))) (sym (fails ∙ ap (λ b. cond b None (Some statuses.NoSpc)) within_bounds));
           log = λ apart. ap (λ l. held l e.tree.log) (sym its_lines);
@@ -137,13 +137,13 @@ module _ {A : Type 0} (c : Context) (h : FileHandles) (v : Value setattr_args) (
         unwritten = tt;
       })
 
-  refuses_set : (room : ℕ) (mid new : Export A) (out : Buffer) (status : Status)
+  refuses_set : (room : ℕ) (mid new : realms.Realm A) (out : Buffer) (status : Status)
       → (status ≢ statuses.Delay → (status ≡ statuses.NoSpc) × (bounded ≡ false))
       → mid ≡ holding (demand_lines (judged_of e.tree.world) c.caller (row kinds.SetAttr).number (demanded v h e wanted)) e → new ≡ mid
-      → GivesSo true room (setattr v c h) waits e h out (Err status) new h out
+      → GivesSo true room (setattr v c h) waits e h out (Err status) new out
   refuses_set room mid new out status unfit holds stays =
       let lines = demand_lines (judged_of e.tree.world) c.caller (row kinds.SetAttr).number (demanded v h e wanted) in
-      subst (λ (x : Export A). GivesSo true room (setattr v c h) waits e h out (Err status) x h out) (sym (stays ∙ holds)) (record {
+      subst (λ (x : realms.Realm A). GivesSo true room (setattr v c h) waits e h out (Err status) x out) (sym (stays ∙ holds)) (record {
         answered = record {
           outcome = λ apart.
               let none = unfit (λ is. apart (ap Err is)) in
@@ -163,7 +163,7 @@ module _ {A : Type 0} (c : Context) (h : FileHandles) (v : Value setattr_args) (
       })
 
 -- attributes of the current object are set
-pub attributes_set : {A : Type 0} (room : ℕ) (c : Context) (h : FileHandles) (v : Value setattr_args) (e mid new : Export A) (out out' : Buffer) (number : ℕ) (wanted : Wanted)
+pub attributes_set : {A : Type 0} (room : ℕ) (c : Context) (h : FileHandles) (v : Value setattr_args) (e mid new : realms.Realm A) (out out' : Buffer) (number : ℕ) (wanted : Wanted)
     → h.current ≡ Some number → IsSome (object e.tree.world number)
     → sent c v (kind_at (sight_of e) number) ≡ Ok wanted
     → size_fault wanted.size c number (set_stateid v) (sight_of e) ≡ None
@@ -174,7 +174,7 @@ pub attributes_set : {A : Type 0} (room : ℕ) (c : Context) (h : FileHandles) (
     → set_fits wanted (kind_at (sight_of mid) number) (list_at mid.tree.world number) ≡ true
     → new ≡ with_world (setting number wanted (at c mid.tree.world) mid.tree.world) mid
     → Appends out out' (spelled (Done kinds.SetAttr (set_of (set_attributes v)))) → length out'.bytes ≤ length out.bytes + room
-    → GivesSo true room (setattr v c h) waits e h out (Ok tt) new h out'
+    → GivesSo true room (setattr v c h) waits e h out (Ok h) new out'
 attributes_set room c h v e mid new out out' number wanted is_here there is_wanted size granted holds fits counts bounds is_set written within =
     let same : number ≡ here h = sym (ap (λ n. unwrap_or n 0) is_here) in
     gives_set c h v e wanted (ap is_some is_here)
@@ -189,7 +189,7 @@ attributes_set room c h v e mid new out out' number wanted is_here there is_want
     written within
 
 -- the list would not be within the bounds, or there is no memory for the attributes
-pub attributes_refused : {A : Type 0} (room : ℕ) (c : Context) (h : FileHandles) (v : Value setattr_args) (e mid new : Export A) (out : Buffer) (number : ℕ) (wanted : Wanted) (status : Status)
+pub attributes_refused : {A : Type 0} (room : ℕ) (c : Context) (h : FileHandles) (v : Value setattr_args) (e mid new : realms.Realm A) (out : Buffer) (number : ℕ) (wanted : Wanted) (status : Status)
     → h.current ≡ Some number → IsSome (object e.tree.world number)
     → sent c v (kind_at (sight_of e) number) ≡ Ok wanted
     → size_fault wanted.size c number (set_stateid v) (sight_of e) ≡ None
@@ -199,7 +199,7 @@ pub attributes_refused : {A : Type 0} (room : ℕ) (c : Context) (h : FileHandle
     → has_counts wanted (sight_of mid) ≡ true
     → (status ≢ statuses.Delay → (status ≡ statuses.NoSpc) × (set_fits wanted (kind_at (sight_of mid) number) (list_at mid.tree.world number) ≡ false))
     → new ≡ mid
-    → GivesSo true room (setattr v c h) waits e h out (Err status) new h out
+    → GivesSo true room (setattr v c h) waits e h out (Err status) new out
 attributes_refused room c h v e mid new out number wanted status is_here there is_wanted size granted holds fits counts unfit stays =
     let same : number ≡ here h = sym (ap (λ n. unwrap_or n 0) is_here) in
     let bounds : set_fits wanted (kind_at (sight_of e) (here h)) (list_at e.tree.world (here h)) ≡ set_fits wanted (kind_at (sight_of mid) number) (list_at mid.tree.world number) =

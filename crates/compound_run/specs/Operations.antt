@@ -4,7 +4,9 @@
 use Rattle.std.specs.Prelude.{ℕ, Bool, true, false, ◌&&◌, nat_lt, is_none, if◌then◌else◌, ◌∷◌, Option, Some, None}
 use Rattle.nfs_types.specs.declared.status.Status.{Status}
 use Rattle.nfs_types.specs.declared.status.Status.TheVariants as statuses
-use Rattle.nfs_ops.specs.Operations.{Operation, Known, Unsupported, Illegal, Bad, illegal}
+use Rattle.nfs_ops.specs.Operations.{Operation, Known, Unsupported, Illegal, Bad, illegal, placement_of}
+use Rattle.nfs_ops.specs.declared.op_kind.Placement.{Placement}
+use Rattle.nfs_ops.specs.declared.op_kind.Placement.TheVariants.{Anywhere, InSession, First, Alone}
 use Rattle.nfs_ops.specs.Rows.{row}
 use Rattle.nfs_ops.specs.declared.op_kind.OpKind.TheVariants as kinds
 use Rattle.compound_run.specs.declared.context.Calling.{Calling}
@@ -41,80 +43,54 @@ use Rattle.compound_run.specs.ReclaimComplete.{reclaim_complete}
 
 -- ---- place
 
--- the operations of sessions
-abbrev pub is_of_sessions : Operation → Bool
-is_of_sessions (Known kinds.ExchangeId v) = true
-is_of_sessions (Known kinds.CreateSession v) = true
-is_of_sessions (Known kinds.DestroySession v) = true
-is_of_sessions (Known kinds.Sequence v) = true
-is_of_sessions (Known kinds.DestroyClientId v) = true
-is_of_sessions (Known kinds.ReclaimComplete v) = true
-is_of_sessions _ = false
+-- The fault of an operation by its place. Where there is no session the operations of sessions aren't supported. After a SEQUENCE there is
+-- no place for a further one, nor for an operation that has to be the only one of its COMPOUND.
+abbrev pub refused_place : Option Calling → Placement → Option Status
+refused_place calling Anywhere = None
+refused_place None InSession = Some statuses.NotSupp
+refused_place None First = Some statuses.NotSupp
+refused_place None Alone = Some statuses.NotSupp
+refused_place (Some calling) InSession = None
+refused_place (Some calling) First = Some statuses.SequencePos
+refused_place (Some calling) Alone = Some statuses.NotOnlyOp
 
--- the operations that have to be the only one of their COMPOUND
-abbrev pub is_lone : Operation → Bool
-is_lone (Known kinds.ExchangeId v) = true
-is_lone (Known kinds.CreateSession v) = true
-is_lone (Known kinds.DestroySession v) = true
-is_lone (Known kinds.DestroyClientId v) = true
-is_lone _ = false
+-- an entry that is no operation has no place, and no fault of it
+abbrev pub refused_at : Option Calling → Option Placement → Option Status
+refused_at calling None = None
+refused_at calling (Some placement) = refused_place calling placement
 
-abbrev pub is_sequence : Operation → Bool
-is_sequence (Known kinds.Sequence v) = true
-is_sequence _ = false
-
--- the fault of an operation of sessions
-abbrev pub refused_place : Option Calling → (lone sequence : Bool) → Option Status
-refused_place None lone sequence = Some statuses.NotSupp
-refused_place (Some calling) lone sequence = if lone then Some statuses.NotOnlyOp else if sequence then Some statuses.SequencePos else None
-
--- Where there is no session its operations aren't supported. Behind a SEQUENCE there is no place for a further one, nor for an
--- operation that has to be the only one of its COMPOUND.
 abbrev pub place_fault_in : Option Calling → Operation → Option Status
-place_fault_in calling op = if is_of_sessions op then refused_place calling (is_lone op) (is_sequence op) else None
+place_fault_in calling op = refused_at calling (placement_of op)
 
 abbrev pub place_fault : Context → Operation → Option Status
 place_fault c op = place_fault_in c.calling op
 
 pub place_may : (c : Context) (op : Operation) → MayFault (place_fault c op)
-place_may c op = of (is_of_sessions op) c.calling (is_lone op) (is_sequence op)
+place_may c op = of c.calling (placement_of op)
   where
-    of : (of_sessions : Bool) (calling : Option Calling) (lone sequence : Bool) → MayFault (if of_sessions then refused_place calling lone sequence else None)
-    of false calling lone sequence = tt
-    of true None lone sequence = tt
-    of true (Some calling) true sequence = tt
-    of true (Some calling) false true = tt
-    of true (Some calling) false false = tt
+    of : (calling : Option Calling) (placement : Option Placement) → MayFault (refused_at calling placement)
+    of calling None = tt
+    of calling (Some Anywhere) = tt
+    of None (Some InSession) = tt
+    of None (Some First) = tt
+    of None (Some Alone) = tt
+    of (Some calling) (Some InSession) = tt
+    of (Some calling) (Some First) = tt
+    of (Some calling) (Some Alone) = tt
 
 -- ---- room
 
--- whether the operation is supported: it needs room for its result
+-- whether an operation of this place is run among others
+abbrev pub runs_at : Option Placement → Bool
+runs_at None = false
+runs_at (Some Anywhere) = true
+runs_at (Some InSession) = true
+runs_at (Some First) = false
+runs_at (Some Alone) = false
+
+-- whether the operation is run among others: it needs room for its result
 abbrev pub is_run : Operation → Bool
-is_run (Known kinds.Access v) = true
-is_run (Known kinds.Close v) = true
-is_run (Known kinds.Commit v) = true
-is_run (Known kinds.Create v) = true
-is_run (Known kinds.GetAttr v) = true
-is_run (Known kinds.GetFh v) = true
-is_run (Known kinds.Link v) = true
-is_run (Known kinds.Lookup v) = true
-is_run (Known kinds.LookupP v) = true
-is_run (Known kinds.NVerify v) = true
-is_run (Known kinds.Open v) = true
-is_run (Known kinds.PutFh v) = true
-is_run (Known kinds.PutRootFh v) = true
-is_run (Known kinds.Read v) = true
-is_run (Known kinds.ReadDir v) = true
-is_run (Known kinds.ReadLink v) = true
-is_run (Known kinds.Remove v) = true
-is_run (Known kinds.Rename v) = true
-is_run (Known kinds.RestoreFh v) = true
-is_run (Known kinds.SaveFh v) = true
-is_run (Known kinds.SetAttr v) = true
-is_run (Known kinds.Verify v) = true
-is_run (Known kinds.Write v) = true
-is_run (Known kinds.ReclaimComplete v) = true
-is_run _ = false
+is_run op = runs_at (placement_of op)
 
 -- An unsupported operation, or an entry that is no operation, is refused whatever the room.
 abbrev pub room_fault_in : Option Calling → ℕ → Operation → Option Status

@@ -16,11 +16,11 @@ use Rattle.nfs_ops.specs.declared.op_kind.OpKind.TheVariants as kinds
 use Rattle.session_slots.specs.declared.session.NewCall.{NewCall}
 use Rattle.session_slots.specs.Repeating.{Fate, Runs, Repeats, Fails}
 use Rattle.compound_run.specs.declared.in_session.Coming.{Coming}
-use Rattle.compound_run.specs.declared.beginning.Beginning as code
-use Rattle.compound_run.specs.declared.beginning.Lone.{Lone}
-use Rattle.compound_run.specs.declared.beginning.Lone.TheVariants as lones
+use Rattle.compound_run.specs.declared.first_operation.Beginning as code
+use Rattle.compound_run.specs.declared.first_operation.Lone.{Lone}
+use Rattle.compound_run.specs.declared.first_operation.Lone.TheVariants as lones
 use Rattle.compound_run.specs.declared.compound.Ended.{Ended}
-use Rattle.compound_run.specs.declared.export.Export.{Export}
+use Rattle.compound_run.specs.declared.realm.Realm as realms
 use Rattle.compound_run.specs.declared.filehandles.FileHandles.{FileHandles}
 use Rattle.compound_run.specs.Limits.{MIN_ROOM}
 use Rattle.compound_run.specs.Realm.{Realm}
@@ -51,7 +51,7 @@ beginning_view (code.TheVariants.Follows a rest) = Follows (sequence_args_value 
 -- ---- operations that are the only one
 
 -- clients and opens alone may be others
-abbrev pub IsOfClients : {A : Type 0} → Export A → Export A → Type 0
+abbrev pub IsOfClients : {A : Type 0} → realms.Realm A → realms.Realm A → Type 0
 IsOfClients old new = new ≡ record old { clients = new.clients; opens = new.opens }
 
 -- The operation is done, and where it is OK its result is written; else nothing is.
@@ -81,11 +81,11 @@ WritesWithin limit answers before after = (bytes : List ℕ) × answers bytes ×
 
 -- ---- operations behind a SEQUENCE
 
-abbrev pub SequencedTo : {A : Type 0} → Context → List ℕ → Given → List ℕ → Export A → List ℕ → Export A → Type 0
+abbrev pub SequencedTo : {A : Type 0} → Context → List ℕ → Given → List ℕ → realms.Realm A → List ℕ → realms.Realm A → Type 0
 SequencedTo c tag given operations old bytes new = (handles : FileHandles) × RunsTo c tag given operations (point_at old no_handles) bytes (point_at new handles)
 
 -- The results are put behind the buffer's bytes; with a head in front they would be the answer.
-abbrev pub SequencedBehind : {A : Type 0} → ℕ → Context → List ℕ → Given → List ℕ → Export A → Buffer → Ended → Export A → Buffer → Type 0
+abbrev pub SequencedBehind : {A : Type 0} → ℕ → Context → List ℕ → Given → List ℕ → realms.Realm A → Buffer → Ended → realms.Realm A → Buffer → Type 0
 SequencedBehind most c tag given operations old before end new after =
     (results : List ℕ) × SequencedTo c tag given operations old (head end.status tag end.ran ++ results) new
     × Appends before after results × (length after.bytes ≤ most)
@@ -107,9 +107,9 @@ coming_behind book c v new = record {
 }
 
 -- The operations are run, and the slot keeps all results.
-abbrev pub SequencedKept : {A : Type 0} → Context → List ℕ → Value sequence_args → Given → List ℕ → Export A → List ℕ → Export A → Type 0
+abbrev pub SequencedKept : {A : Type 0} → Context → List ℕ → Value sequence_args → Given → List ℕ → realms.Realm A → List ℕ → realms.Realm A → Type 0
 SequencedKept {A} c tag v given operations old bytes new =
-    (mid : Export A) × SequencedTo c tag given operations old bytes mid × (new ≡ record mid { clients = keeping v bytes mid.clients })
+    (mid : realms.Realm A) × SequencedTo c tag given operations old bytes mid × (new ≡ record mid { clients = keeping v bytes mid.clients })
 
 -- ---- a call
 

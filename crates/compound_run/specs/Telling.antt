@@ -13,7 +13,7 @@ is_delay (Ok value) = false
 is_delay (Err status) = is_delay_status status
 
 -- the answer to an outcome: that it is OK, or its status
-abbrev pub IsToldBy : Result (Unit {0}) Status → Result Outcome Status → Type 0
+abbrev pub IsToldBy : {A : Type 0} → Result A Status → Result Outcome Status → Type 0
 IsToldBy (Ok done) (Ok outcome) = Unit {0}
 IsToldBy (Ok done) (Err status) = ⊥
 IsToldBy (Err told) (Ok outcome) = ⊥

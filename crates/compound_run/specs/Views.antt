@@ -15,15 +15,14 @@ use Rattle.nfs_ops.specs.Operations.{Operation}
 use Rattle.nfs_ops.specs.OpViews.{op_view}
 use Rattle.nfs_ops.specs.Results.{Outcome}
 use Rattle.node_tree.specs.World.{World}
-use Rattle.node_tree.specs.declared.fault.TreeFault.{TreeFault}
-use Rattle.node_tree.specs.declared.fault.TreeFault.TheVariants.{Inval, Exist}
 use Rattle.compound_run.specs.declared.compound.CompoundArgs.{CompoundArgs}
 use Rattle.compound_run.specs.declared.context.Context as code
 use Rattle.compound_run.specs.declared.create.Draft as drafts
-use Rattle.compound_run.specs.declared.export.Export.{Export}
+use Rattle.compound_run.specs.declared.realm.Realm as realms
 use Rattle.compound_run.specs.declared.filehandles.FileHandles.{FileHandles}
 use Rattle.compound_run.specs.declared.opens.Open.{Open}
 use Rattle.compound_run.specs.declared.server.Args.{Args}
+use Rattle.compound_run.specs.declared.step.Step as steps
 use Rattle.access_guard.specs.declared.line.Line.{Line}
 use Rattle.access_guard.specs.Log.{Log, held}
 use Rattle.compound_run.specs.Limits.{MIN_ROOM, REFUSAL_ROOM}
@@ -46,21 +45,21 @@ abbrev pub opens_view : {A : Type 0} → List (Open A) → List Opened
 opens_view opens = map open_view opens
 
 -- the realm that is served
-abbrev pub realm_of : {A : Type 0} → Export A → Realm
+abbrev pub realm_of : {A : Type 0} → realms.Realm A → Realm
 realm_of e = record { world = e.tree.world; opens = opens_view e.opens.items; next_open = e.next_open; registry = e.clients }
 
 -- the settings of a server
 abbrev pub settings_in : Guarded → Settings
 settings_in t = record { capacity = t.capacity; book = t.book; epoch = t.epoch }
 
-abbrev pub settings_of : {A : Type 0} → Export A → Settings
+abbrev pub settings_of : {A : Type 0} → realms.Realm A → Settings
 settings_of e = settings_in e.tree
 
-abbrev pub point_at : {A : Type 0} → Export A → FileHandles → Point
+abbrev pub point_at : {A : Type 0} → realms.Realm A → FileHandles → Point
 point_at e h = record { realm = realm_of e; log = e.tree.log; settings = settings_of e; handles = h }
 
 -- the state of a server
-abbrev pub state_of : {A : Type 0} → Export A → State
+abbrev pub state_of : {A : Type 0} → realms.Realm A → State
 state_of e = record { realm = realm_of e; trail = e.tree.log.trail; total = e.tree.log.total; settings = settings_of e }
 
 -- a call with these arguments
@@ -68,46 +67,51 @@ abbrev pub called : Args → Identity → Moment → Call
 called args caller now = record { arguments = args.bytes.now; record_len = args.record_len; caller = caller; now = now }
 
 -- the lines of decisions are held
-abbrev pub holding : {A : Type 0} → List Line → Export A → Export A
+abbrev pub holding : {A : Type 0} → List Line → realms.Realm A → realms.Realm A
 holding lines e = record e { tree = record e.tree { log = held lines e.tree.log } }
 
 -- the realm with another world
-abbrev pub with_world : {A : Type 0} → World → Export A → Export A
+abbrev pub with_world : {A : Type 0} → World → realms.Realm A → realms.Realm A
 with_world w e = record e { tree = record e.tree { world = w } }
 
 -- the context of an operation where this book is loaded: lists decide for the caller by the book
 abbrev pub context_of : code.Context → Content → Context
 context_of c book = record { caller = member book c.caller.now; now = c.now; book = book; calling = c.calling; position = c.position; count = c.count; room = c.room }
 
-abbrev pub context_at : {A : Type 0} → Export A → code.Context → Context
+abbrev pub context_at : {A : Type 0} → realms.Realm A → code.Context → Context
 context_at e c = context_of c e.tree.book
 
 -- the outcome of an answer: the operation's result, or the status of its refusal
-abbrev pub told_as : Meaning → Realm → Result (Unit {0}) Status → Result Outcome Status
-told_as m r (Ok done) = Ok (m.answer (whole r))
+abbrev pub told_as : Meaning → Realm → Result FileHandles Status → Result Outcome Status
+told_as m r (Ok handles) = Ok (m.answer (whole r))
 told_as m r (Err status) = Err status
 
+-- the filehandles after an answer: those that it gives, and those before where it refuses
+abbrev pub handles_after : FileHandles → Result FileHandles Status → FileHandles
+handles_after before (Ok handles) = handles
+handles_after before (Err status) = before
+
 -- An operation is answered, and where it is OK its result is written, in its room; else nothing is.
-pub record GivesSo {A : Type 0} (may : Bool) (room : ℕ) (m : Meaning) (ends : Log → Log) (old : Export A) (handles : FileHandles) (before : Buffer) (result : Result (Unit {0}) Status) (new : Export A) (handles' : FileHandles) (after : Buffer) : Type 0 where
-  pub answered : Answered may m ends (point_at old handles) (told_as m (realm_of old) result) (point_at new handles')
+pub record GivesSo {A : Type 0} (may : Bool) (room : ℕ) (m : Meaning) (ends : Log → Log) (old : realms.Realm A) (handles : FileHandles) (before : Buffer) (result : Result FileHandles Status) (new : realms.Realm A) (after : Buffer) : Type 0 where
+  pub answered : Answered may m ends (point_at old handles) (told_as m (realm_of old) result) (point_at new (handles_after handles result))
   pub written : OnOk result (Appends before after (spelled (m.answer (whole (realm_of old)))))
   pub within : OnOk result (length after.bytes ≤ length before.bytes + room)
   pub unwritten : OnErr result (after ≡ before)
 
 -- the answer of an operation that takes no memory, before its end
-abbrev pub Gives : {A : Type 0} → code.Context → (Context → FileHandles → Meaning) → Export A → FileHandles → Buffer → Result (Unit {0}) Status → Export A → FileHandles → Buffer → Type 0
-Gives c m old handles before result new handles' after = GivesSo false c.room (m (context_at old c) handles) waits old handles before result new handles' after
+abbrev pub Gives : {A : Type 0} → steps.Step → (Context → FileHandles → Meaning) → realms.Realm A → Buffer → Result FileHandles Status → realms.Realm A → Buffer → Type 0
+Gives step m old before result new after = GivesSo false step.context.room (m (context_at old step.context) step.handles) waits old step.handles before result new after
 
 -- an operation that takes memory may answer DELAY
-abbrev pub GivesOrDelays : {A : Type 0} → code.Context → (Context → FileHandles → Meaning) → Export A → FileHandles → Buffer → Result (Unit {0}) Status → Export A → FileHandles → Buffer → Type 0
-GivesOrDelays c m old handles before result new handles' after = GivesSo true c.room (m (context_at old c) handles) waits old handles before result new handles' after
+abbrev pub GivesOrDelays : {A : Type 0} → steps.Step → (Context → FileHandles → Meaning) → realms.Realm A → Buffer → Result FileHandles Status → realms.Realm A → Buffer → Type 0
+GivesOrDelays step m old before result new after = GivesSo true step.context.room (m (context_at old step.context) step.handles) waits old step.handles before result new after
 
 -- the answer of an operation that may be delayed, by its meaning at its place
-abbrev pub GivesBy : {A : Type 0} → (Context → Operation → Bool) → (Context → FileHandles → Operation → Meaning) → (Log → Log) → code.Context → Op
-    → Export A → FileHandles → Buffer → Result (Unit {0}) Status → Export A → FileHandles → Buffer → Type 0
-GivesBy delays means ends c op old handles before result new handles' after =
-    let context = context_at old c in
-    GivesSo (delays context (op_view op)) c.room (means context handles (op_view op)) ends old handles before result new handles' after
+abbrev pub GivesBy : {A : Type 0} → (Context → Operation → Bool) → (Context → FileHandles → Operation → Meaning) → (Log → Log) → steps.Step → Op
+    → realms.Realm A → Buffer → Result FileHandles Status → realms.Realm A → Buffer → Type 0
+GivesBy delays means ends step op old before result new after =
+    let context = context_at old step.context in
+    GivesSo (delays context (op_view op)) step.context.room (means context step.handles (op_view op)) ends old step.handles before result new after
 
 -- there is room for the result of an operation that is run, and for a refusal
 abbrev pub HasRoom : code.Context → Buffer → Type 0
@@ -137,12 +141,3 @@ args_of a = (a.tag.now, (a.minor_version, a.count))
 
 abbrev pub arguments_of : CompoundArgs → Value args_form × List ℕ
 arguments_of a = (args_of a, a.operations.now)
-
--- whether the refusal of a rename is INVAL
-abbrev pub is_inval : Option TreeFault → Bool
-is_inval (Some Inval) = true
-is_inval _ = false
-
-abbrev pub is_exist : Option TreeFault → Bool
-is_exist (Some Exist) = true
-is_exist _ = false

@@ -1,33 +1,37 @@
 //! ACCESS (RFC 8881, section 18.1).
 ghost use Rattle.std.specs.Prelude.{◌≡◌};
+ghost use Rattle.nfs_ops.specs.Views.{access_args_value};
 ghost use Rattle.compound_run.specs.Access.{access};
 ghost use Rattle.compound_run.specs.Views.{Gives, HasRoom};
 
-use crate::context::Context;
-use crate::export::Export;
 use crate::filehandles::FileHandles;
-use crate::results::put_result;
+use crate::operation_results::put_result;
+use crate::realm::Realm;
+use crate::step::Step;
 use access_rows::rights_of;
-use nfs_ops::{AccessResult, OpResult};
+use nfs_ops::{AccessArgs, AccessResult, OpResult};
 use nfs_types::Status;
 use std::alloc::Allocator;
 use xdr_wire::Writer;
 
-impl<A: Allocator + Copy> Export<A> {
+impl<A: Allocator + Copy> Realm<A> {
     /// The rights requested that are supported for the current object, and those that its list grants.
     pub fn access(
         &mut self,
-        context: Context<'_>,
-        handles: FileHandles,
-        asked: u32,
+        step: Step<'_>,
+        args: &AccessArgs,
         out: &mut Writer<A>,
-    ) -> Result<(), Status>
-        requires room { HasRoom context out.old }
-        ensures { Gives context.entry (access asked) self.old handles out.old result self.new handles out.new }
+    ) -> Result<FileHandles, Status>
+        requires room { HasRoom step.context out.old }
+        ensures { Gives step.entry (access (access_args_value args.now)) self.old out.old result self.new out.new }
     {
-        let number = handles.current.ok_or(Status::NoFileHandle)?;
+        let number = step.handles.current.ok_or(Status::NoFileHandle)?;
         let kind = self.tree.object(number).ok_or(Status::Stale)?.kind();
-        let rights = rights_of(kind, asked, self.tree.grants(number, context.caller));
+        let rights = rights_of(
+            kind,
+            args.asked,
+            self.tree.grants(number, step.context.caller),
+        );
         put_result(
             OpResult::Access(AccessResult {
                 supported: rights.supported,
@@ -35,6 +39,6 @@ impl<A: Allocator + Copy> Export<A> {
             }),
             out,
         );
-        Ok(())
+        Ok(step.handles)
     }
 }

@@ -5,12 +5,12 @@ ghost use Rattle.compound_run.specs.Stateids.{without_open};
 ghost use Rattle.compound_run.specs.Views.{Gives, HasRoom, opens_view};
 ghost use Rattle.std.specs.Prelude.{◌≡◌, ◌==◌, not, filter};
 
-use crate::context::Context;
-use crate::export::Export;
 use crate::filehandles::FileHandles;
 use crate::opens::Open;
-use crate::results::put_result;
+use crate::operation_results::put_result;
+use crate::realm::Realm;
 use crate::stateids::Purpose;
+use crate::step::Step;
 use nfs_ops::{CloseArgs, CloseResult, OpResult};
 use nfs_types::{StateId, Status};
 use std::alloc::Allocator;
@@ -30,27 +30,26 @@ fn remove_open<A: Allocator>(opens: &mut Vec<Open<A>, A>, number: u64)
     keep_others(opens, number);
 }
 
-impl<A: Allocator + Copy> Export<A> {
+impl<A: Allocator + Copy> Realm<A> {
     /// Closes an open of the current file. It takes no memory.
     pub fn close(
         &mut self,
-        context: Context<'_>,
-        handles: FileHandles,
+        step: Step<'_>,
         args: &CloseArgs,
         out: &mut Writer<A>,
-    ) -> Result<(), Status>
-        requires room { HasRoom context out.old }
-        ensures { Gives context.entry (close (close_args_value args.now)) self.old handles out.old result self.new handles out.new }
+    ) -> Result<FileHandles, Status>
+        requires room { HasRoom step.context out.old }
+        ensures { Gives step.entry (close (close_args_value args.now)) self.old out.old result self.new out.new }
     {
-        let number = handles.current.ok_or(Status::NoFileHandle)?;
+        let number = step.handles.current.ok_or(Status::NoFileHandle)?;
         if self.tree.object(number).is_none() {
             return Err(Status::Stale);
         }
-        self.check_stateid(context, number, &args.stateid, Purpose::ToClose)?;
+        self.check_stateid(step.context, number, &args.stateid, Purpose::ToClose)?;
         let opened = args.stateid.open_number().unwrap_or(0);
         remove_open(&mut self.opens, opened);
         let stateid = StateId::closed();
         put_result(OpResult::Close(CloseResult { stateid }), out);
-        Ok(())
+        Ok(step.handles)
     }
 }

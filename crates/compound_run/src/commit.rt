@@ -2,35 +2,29 @@
 ghost use Rattle.compound_run.specs.Commit.{commit};
 ghost use Rattle.compound_run.specs.Views.{Gives, HasRoom};
 
-use crate::context::Context;
-use crate::export::Export;
 use crate::filehandles::FileHandles;
-use crate::results::put_result;
+use crate::operation_results::put_result;
+use crate::realm::Realm;
+use crate::step::Step;
 use nfs_ops::OpResult;
 use nfs_types::Status;
 use node_tree::Kind;
 use std::alloc::Allocator;
 use xdr_wire::Writer;
 
-impl<A: Allocator + Copy> Export<A> {
+impl<A: Allocator + Copy> Realm<A> {
     /// The data that were written into the current file are kept already.
-    pub fn commit(
-        &self,
-        context: Context<'_>,
-        handles: FileHandles,
-        out: &mut Writer<A>,
-    ) -> Result<(), Status>
-        requires room { HasRoom context out.old }
-        ensures { Gives context.entry commit self.now handles out.old result self.now handles out.new }
+    pub fn commit(&self, step: Step<'_>, out: &mut Writer<A>) -> Result<FileHandles, Status>
+        requires room { HasRoom step.context out.old }
+        ensures { Gives step.entry commit self.now out.old result self.now out.new }
     {
-        let _context = context;
-        let number = handles.current.ok_or(Status::NoFileHandle)?;
+        let number = step.handles.current.ok_or(Status::NoFileHandle)?;
         match self.tree.object(number).ok_or(Status::Stale)?.kind() {
             Kind::Directory => return Err(Status::IsDir),
             Kind::Link => return Err(Status::Symlink),
             Kind::File => {}
         }
         put_result(OpResult::Commit, out);
-        Ok(())
+        Ok(step.handles)
     }
 }

@@ -10,9 +10,10 @@ ghost use Rattle.compound_run.specs.Written.{RunGives, OpensTo, OpensBehind, Wri
 ghost use Rattle.compound_run.specs.Views.{arguments_of, context_at};
 
 use crate::context::Context;
-use crate::export::Export;
 use crate::filehandles::FileHandles;
 use crate::limits::{MAX_OPERATIONS, MAX_RESULTS, MAX_TAG, MINOR_VERSION, REFUSAL_ROOM};
+use crate::realm::Realm;
+use crate::step::Step;
 use nfs_ops::next_op;
 use nfs_types::Status;
 use std::alloc::{Allocator, Global};
@@ -34,7 +35,7 @@ pub(crate) struct CompoundArgs<'a> {
     pub operations: &'a [u8],
 }
 
-impl<A: Allocator + Copy> Export<A> {
+impl<A: Allocator + Copy> Realm<A> {
     /// Runs the operations in these bytes, from the context of the first on, up to and with the first that isn't OK.
     pub fn run_all(
         &mut self,
@@ -58,12 +59,19 @@ impl<A: Allocator + Copy> Export<A> {
                 room: end - results.len(),
                 ..context
             };
-            if let Err(status) = self.run_one(here, &mut handles, &op, results) {
-                return Ended {
-                    status,
-                    ran: position + 1,
-                };
-            }
+            let step = Step {
+                context: here,
+                handles,
+            };
+            handles = match self.run_one(step, &op, results) {
+                Ok(handles) => handles,
+                Err(status) => {
+                    return Ended {
+                        status,
+                        ran: position + 1,
+                    };
+                }
+            };
         }
         Ended {
             status: Status::Ok,
@@ -106,40 +114,40 @@ impl<'a> CompoundArgs<'a> {
     /// Runs the operations behind what `out` holds, unless none is to be run.
     fn run_operations<A: Allocator + Copy>(
         &self,
-        export: &mut Export<A>,
+        realm: &mut Realm<A>,
         context: Context<'_>,
         out: &mut Writer<A>,
     ) -> Ended
-        requires settled { export.old.tree.log.held ≡ [] }
+        requires settled { realm.old.tree.log.held ≡ [] }
         requires first { context.position ≡ 0 }
         requires count { context.count ≡ self.now.count }
         requires least { context.room ≡ first_room limits.MAX_REPLY self.now.tag.now }
         requires room { context.room + limits.REFUSAL_ROOM ≤ out.old.room }
-        ensures answers { OpensBehind (opening_fault limits.MAX_OPERATIONS self.now.minor_version self.now.count) self.now.tag.now (record (context_at export.old context.entry) { room = first_room limits.MAX_REPLY self.now.tag.now }) self.now.operations.now export.old out.old result export.new out.new }
-        ensures settled { export.new.tree.log.held ≡ [] }
+        ensures answers { OpensBehind (opening_fault limits.MAX_OPERATIONS self.now.minor_version self.now.count) self.now.tag.now (record (context_at realm.old context.entry) { room = first_room limits.MAX_REPLY self.now.tag.now }) self.now.operations.now realm.old out.old result realm.new out.new }
+        ensures settled { realm.new.tree.log.held ≡ [] }
     {
         if let Some(status) = self.fault() {
             return Ended { status, ran: 0 };
         }
-        export.run_all(context, self.operations, out)
+        realm.run_all(context, self.operations, out)
     }
 
     /// Writes the results of the COMPOUND behind what `out` holds: its status and the number of its results are filled in once they
     /// are known. The room of the context is that of the head and the results together.
     pub fn run<A: Allocator + Copy>(
         &self,
-        export: &mut Export<A>,
+        realm: &mut Realm<A>,
         context: Context<'_>,
         out: &mut Writer<A>,
     )
         requires short { length self.now.tag.now ≤ limits.MAX_TAG }
-        requires settled { export.old.tree.log.held ≡ [] }
+        requires settled { realm.old.tree.log.held ≡ [] }
         requires first { context.position ≡ 0 }
         requires count { context.count ≡ self.now.count }
         requires whole { context.room + limits.REFUSAL_ROOM ≡ limits.MAX_RESULTS }
         requires room { limits.MAX_RESULTS ≤ out.old.room }
-        ensures answers { WritesAnswer (λ bytes. OpensTo (opening_fault limits.MAX_OPERATIONS self.now.minor_version self.now.count) self.now.tag.now (record (context_at export.old context.entry) { room = first_room limits.MAX_REPLY self.now.tag.now }) self.now.operations.now export.old bytes export.new) out.old out.new }
-        ensures settled { export.new.tree.log.held ≡ [] }
+        ensures answers { WritesAnswer (λ bytes. OpensTo (opening_fault limits.MAX_OPERATIONS self.now.minor_version self.now.count) self.now.tag.now (record (context_at realm.old context.entry) { room = first_room limits.MAX_REPLY self.now.tag.now }) self.now.operations.now realm.old bytes realm.new) out.old out.new }
+        ensures settled { realm.new.tree.log.held ≡ [] }
     {
         let end = out.capacity() - (out.room() - context.room);
         let status_at = out.len();
@@ -151,7 +159,7 @@ impl<'a> CompoundArgs<'a> {
             room: end - out.len(),
             ..context
         };
-        let ended = self.run_operations(export, first, out);
+        let ended = self.run_operations(realm, first, out);
         out.fill(count_at, ended.ran);
         out.fill(status_at, ended.status.number());
     }

@@ -4,9 +4,6 @@ ghost use Rattle.acl_shape.specs.Bounds.{IsBounded};
 ghost use Rattle.acl_shape.specs.Permissions.{created_list, created_high};
 ghost use Rattle.nfs_types.specs.Sent.{wanted_of};
 ghost use Rattle.nfs_types.specs.Views.{bitmap_value};
-ghost use Rattle.nfs_ops.specs.OpViews.{op_view};
-ghost use Rattle.nfs_ops.specs.Operations.{Known};
-ghost use Rattle.nfs_ops.specs.declared.op_kind.OpKind.TheVariants as kinds;
 ghost use Rattle.nfs_ops.specs.Parts.{created};
 ghost use Rattle.nfs_ops.specs.Views.{create_args_value, create_type_value};
 ghost use Rattle.node_tree.specs.World.{object, kind_of};
@@ -17,14 +14,15 @@ ghost use Rattle.compound_run.specs.Create as specs;
 ghost use Rattle.compound_run.specs.Lists.{IsFit, base_of, new_fits, new_list};
 ghost use Rattle.compound_run.specs.Views.{context_at, GivesOrDelays, HasRoom, realm_of, draft_view, wanted_view, IsWanted};
 
-use crate::context::Context;
-use crate::export::{Export, check};
+use crate::directory::Directory;
 use crate::filehandles::FileHandles;
-use crate::parts::put_parts;
-use crate::results::put_result;
+use crate::list_parts::put_parts;
+use crate::operation_results::put_result;
+use crate::realm::{Realm, check};
+use crate::step::Step;
 use acl_list::AclList;
 use acl_shape::{Given, Permissions, created_permissions};
-use nfs_ops::{ChangeInfo, CreateArgs, CreateResult, CreateType, Op, OpResult};
+use nfs_ops::{CreateArgs, CreateResult, CreateType, Op, OpResult};
 use nfs_types::{Attributes, Attrs, AttrsFault, Status, read_attrs};
 use node_tree::{Kind, MAX_TEXT, NewObject};
 use rpc_record::Caller;
@@ -112,7 +110,7 @@ fn copied<A: Allocator>(alloc: A, bytes: &[u8]) -> Result<Vec<u8, A>, AllocError
     Ok(copy)
 }
 
-impl<A: Allocator + Copy> Export<A> {
+impl<A: Allocator + Copy> Realm<A> {
     /// The values that the attributes set. `Delay`: there is no memory for the list.
     pub fn wanted(&self, kind: Kind, sent: &Attributes<'_>) -> Result<Attrs<A>, Status>
         ensures wanted { IsWanted (wanted_of self.now.tree.book kind (bitmap_value sent.now.set) sent.now.values.bytes.now) result }
@@ -217,60 +215,54 @@ impl<A: Allocator + Copy> Export<A> {
     /// Adds the new object to the current directory, under a free name. It becomes current.
     fn make(
         &mut self,
-        context: Context<'_>,
-        handles: &mut FileHandles,
-        directory: u64,
-        before: u64,
+        step: Step<'_>,
+        directory: Directory,
         wanted: (Draft<'_>, Attrs<A>),
         args: &CreateArgs<'_>,
         out: &mut Writer<A>,
-    ) -> Result<(), Status>
-        requires here { handles.old.current ≡ Some directory }
-        requires live { kind_of self.old.tree.world directory ≡ Some Kind.Directory }
-        requires change { directory_change self.old.tree.world directory ≡ before }
+    ) -> Result<FileHandles, Status>
+        requires here { step.handles.current ≡ Some directory.number }
+        requires live { kind_of self.old.tree.world directory.number ≡ Some Kind.Directory }
+        requires change { directory_change self.old.tree.world directory.number ≡ directory.change }
         requires draft { specs.draft (create_args_value args.now) ≡ draft_view wanted.0 }
-        requires wanted { specs.wanted (context_at self.old context) (create_args_value args.now) ≡ wanted_view wanted.1 }
+        requires wanted { specs.wanted (context_at self.old step.context) (create_args_value args.now) ≡ wanted_view wanted.1 }
         requires bounded { IfSome wanted.1.list IsBounded }
         requires short { length args.now.name.bytes.now ≤ 255 }
         requires fits { length wanted.0.text.now ≤ most_bytes wanted.0.kind }
-        requires free { child (whole (realm_of self.old)) directory args.now.name.bytes.now ≡ None }
-        requires room { HasRoom context out.old }
-        ensures { GivesOrDelays context.entry (making (create_args_value args.now) directory) self.old handles.old out.old result self.new handles.new out.new }
+        requires free { child (whole (realm_of self.old)) directory.number args.now.name.bytes.now ≡ None }
+        requires room { HasRoom step.context out.old }
+        ensures { GivesOrDelays step.entry (making (create_args_value args.now) directory.number) self.old out.old result self.new out.new }
     {
         let (draft, wanted) = wanted;
-        let at = self.tick(context.now).ok_or(Status::NoSpc)?;
-        let caller = self.tree.member(context.caller);
-        let new = self.new_object(directory, draft, wanted, &caller)?;
-        let number = self.add(directory, args.name.bytes, new, at)?;
-        handles.current = Some(number);
+        let at = self.tick(step.context.now).ok_or(Status::NoSpc)?;
+        let caller = self.tree.member(step.context.caller);
+        let new = self.new_object(directory.number, draft, wanted, &caller)?;
+        let number = self.add(directory.number, args.name.bytes, new, at)?;
         put_result(
             OpResult::Create(CreateResult {
-                change: ChangeInfo {
-                    before,
-                    after: at.tick,
-                },
+                change: directory.changed(at.tick),
                 set: args.attributes.set,
             }),
             out,
         );
-        Ok(())
+        Ok(FileHandles {
+            current: Some(number),
+            ..step.handles
+        })
     }
 
     /// Creates a directory or a link in the current directory. It becomes current.
     pub fn create(
         &mut self,
-        context: Context<'_>,
-        handles: &mut FileHandles,
-        op: &Op<'_>,
+        step: Step<'_>,
         args: &CreateArgs<'_>,
         out: &mut Writer<A>,
-    ) -> Result<(), Status>
-        requires op { op_view op.now ≡ Known kinds.Create (create_args_value args.now) }
+    ) -> Result<FileHandles, Status>
         requires settled { self.old.tree.log.held ≡ [] }
-        requires room { HasRoom context out.old }
-        ensures { GivesOrDelays context.entry (create (create_args_value args.now)) self.old handles.old out.old result self.new handles.new out.new }
+        requires room { HasRoom step.context out.old }
+        ensures { GivesOrDelays step.entry (create (create_args_value args.now)) self.old out.old result self.new out.new }
     {
-        let directory = handles.current.ok_or(Status::NoFileHandle)?;
+        let directory = step.handles.current.ok_or(Status::NoFileHandle)?;
         let node = self.tree.object(directory).ok_or(Status::Stale)?;
         if !node.is_directory() {
             return Err(Status::NotDir);
@@ -284,23 +276,19 @@ impl<A: Allocator + Copy> Export<A> {
         if wanted.size.is_some() {
             return Err(Status::Inval);
         }
-        if !self.grants_first(op, *handles, context.caller) {
+        if !self.grants_first(step, &Op::Create(*args)) {
             return Err(Status::Access);
         }
         if self.find(directory, name).is_some() {
             return Err(Status::Exist);
         }
-        if !is_own(&self.tree.member(context.caller), &wanted) {
+        if !is_own(&self.tree.member(step.context.caller), &wanted) {
             return Err(Status::Perm);
         }
-        self.make(
-            context,
-            handles,
-            directory,
-            before,
-            (draft, wanted),
-            args,
-            out,
-        )
+        let parent = Directory {
+            number: directory,
+            change: before,
+        };
+        self.make(step, parent, (draft, wanted), args, out)
     }
 }

@@ -12,8 +12,8 @@ ghost use Rattle.compound_run.specs.Sessions.{opens_without};
 ghost use Rattle.compound_run.specs.SessionViews.{ActGives, IsOfClients};
 ghost use Rattle.compound_run.specs.Views.{opens_view, realm_of};
 
-use crate::export::Export;
-use crate::results::put_result;
+use crate::operation_results::put_result;
+use crate::realm::Realm;
 use crate::sessions::session_id;
 use nfs_ops::{CreateSessionArgs, CreateSessionResult, OpResult};
 use nfs_types::Status;
@@ -69,7 +69,7 @@ fn put_created<A: Allocator>(created: Created, out: &mut Writer<A>)
     );
 }
 
-impl<A: Allocator + Copy> Export<A> {
+impl<A: Allocator + Copy> Realm<A> {
     /// Asks for a session. The opens of a client whose record goes are closed.
     fn make_session(&mut self, caller: &Caller, args: &CreateSessionArgs<'_>) -> Made
         ensures creates { Creates self.old.clients (create_of caller.now (create_session_args_value args.now)) result self.new.clients }

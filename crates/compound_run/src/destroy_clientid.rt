@@ -7,15 +7,15 @@ ghost use Rattle.compound_run.specs.Limits as limits;
 ghost use Rattle.compound_run.specs.SessionViews.{ActGives, IsOfClients};
 ghost use Rattle.compound_run.specs.Views.{realm_of};
 
-use crate::export::Export;
-use crate::results::put_result;
+use crate::operation_results::put_result;
+use crate::realm::Realm;
 use nfs_ops::{DestroyClientIdArgs, OpResult};
 use nfs_types::Status;
 use rpc_record::Caller;
 use std::alloc::Allocator;
 use xdr_wire::Writer;
 
-impl<A: Allocator + Copy> Export<A> {
+impl<A: Allocator + Copy> Realm<A> {
     /// The record of a client without opens and sessions goes. It takes no memory.
     pub fn destroy_clientid(
         &mut self,

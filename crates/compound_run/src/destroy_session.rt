@@ -7,8 +7,8 @@ ghost use Rattle.compound_run.specs.Limits as limits;
 ghost use Rattle.compound_run.specs.SessionViews.{ActGives, IsOfClients};
 ghost use Rattle.compound_run.specs.Views.{realm_of};
 
-use crate::export::Export;
-use crate::results::put_result;
+use crate::operation_results::put_result;
+use crate::realm::Realm;
 use crate::sessions::session_of;
 use nfs_ops::{DestroySessionArgs, OpResult};
 use nfs_types::Status;
@@ -16,7 +16,7 @@ use rpc_record::Caller;
 use std::alloc::Allocator;
 use xdr_wire::Writer;
 
-impl<A: Allocator + Copy> Export<A> {
+impl<A: Allocator + Copy> Realm<A> {
     /// A session ends. It takes no memory.
     pub fn destroy_session(
         &mut self,

@@ -11,8 +11,8 @@ ghost use Rattle.compound_run.specs.Runs.{spelled};
 ghost use Rattle.compound_run.specs.SessionViews.{ActGives, IsOfClients};
 ghost use Rattle.compound_run.specs.Views.{realm_of};
 
-use crate::export::Export;
-use crate::results::put_result;
+use crate::operation_results::put_result;
+use crate::realm::Realm;
 use nfs_ops::{ExchangeIdArgs, ExchangeIdResult, OpResult};
 use nfs_types::Status;
 use rpc_record::Caller;
@@ -41,7 +41,7 @@ fn put_exchanged<A: Allocator>(told: Exchanged, out: &mut Writer<A>)
     );
 }
 
-impl<A: Allocator + Copy> Export<A> {
+impl<A: Allocator + Copy> Realm<A> {
     /// Asks for the record of a client.
     fn exchange(&mut self, caller: &Caller, args: &ExchangeIdArgs<'_>) -> Result<Exchanged, Status>
         ensures exchanges { Exchanges self.old.clients (exchanging caller.now (exchange_id_args_value args.now) (realm_of self.old)) result self.new.clients }

@@ -1,8 +1,7 @@
 //! GETATTR (RFC 8881, section 18.7).
 ghost use Rattle.std.specs.Prelude.{◌≡◌, ◌≤◌, [], IsSome};
 ghost use Rattle.nfs_types.specs.Views.{bitmap_value};
-ghost use Rattle.nfs_ops.specs.OpViews.{op_view};
-ghost use Rattle.nfs_ops.specs.Operations.{Known};
+ghost use Rattle.nfs_ops.specs.Views.{getattr_args_value};
 ghost use Rattle.nfs_ops.specs.Results.{Done};
 ghost use Rattle.nfs_ops.specs.declared.op_kind.OpKind.TheVariants as kinds;
 ghost use Rattle.node_tree.specs.World.{object};
@@ -12,9 +11,10 @@ ghost use Rattle.compound_run.specs.Says.{PutsWithin, given_outcome};
 ghost use Rattle.compound_run.specs.Views.{context_at, Gives, HasRoom};
 
 use crate::context::Context;
-use crate::export::Export;
 use crate::filehandles::FileHandles;
-use nfs_ops::{Op, sizes_of_carried_bytes_are_exact, write_getattr};
+use crate::realm::Realm;
+use crate::step::Step;
+use nfs_ops::{GetAttrArgs, Op, sizes_of_carried_bytes_are_exact, write_getattr};
 use nfs_types::{Bitmap, GivenAttributes, Status};
 use std::alloc::Allocator;
 use xdr_wire::{Full, Writer};
@@ -33,7 +33,7 @@ fn put_attributes<A: Allocator>(
     write_getattr(given, room, out)
 }
 
-impl<A: Allocator + Copy> Export<A> {
+impl<A: Allocator + Copy> Realm<A> {
     /// Writes attributes of an object, in the room of the operation; else nothing.
     fn put_told(
         &self,
@@ -60,27 +60,24 @@ impl<A: Allocator + Copy> Export<A> {
     /// Attributes of the current object.
     pub fn getattr(
         &mut self,
-        context: Context<'_>,
-        handles: FileHandles,
-        op: &Op<'_>,
-        asked: Bitmap,
+        step: Step<'_>,
+        args: &GetAttrArgs,
         out: &mut Writer<A>,
-    ) -> Result<(), Status>
-        requires op { op_view op.now ≡ Known kinds.GetAttr (bitmap_value asked) }
+    ) -> Result<FileHandles, Status>
         requires settled { self.old.tree.log.held ≡ [] }
-        requires room { HasRoom context out.old }
-        ensures { Gives context.entry (getattr (bitmap_value asked)) self.old handles out.old result self.new handles out.new }
+        requires room { HasRoom step.context out.old }
+        ensures { Gives step.entry (getattr (getattr_args_value args.now)) self.old out.old result self.new out.new }
     {
-        let number = handles.current.ok_or(Status::NoFileHandle)?;
+        let number = step.handles.current.ok_or(Status::NoFileHandle)?;
         if self.tree.object(number).is_none() {
             return Err(Status::Stale);
         }
-        if !self.grants_first(op, handles, context.caller) {
+        if !self.grants_first(step, &Op::GetAttr(*args)) {
             return Err(Status::Access);
         }
-        match self.put_told(context, number, asked, out) {
-            Ok(()) => Ok(()),
-            Err(Full) => Err(context.too_big()),
+        match self.put_told(step.context, number, args.asked, out) {
+            Ok(()) => Ok(step.handles),
+            Err(Full) => Err(step.context.too_big()),
         }
     }
 }

@@ -2,28 +2,22 @@
 ghost use Rattle.compound_run.specs.Getfh.{getfh};
 ghost use Rattle.compound_run.specs.Views.{Gives, HasRoom};
 
-use crate::context::Context;
-use crate::export::Export;
 use crate::filehandles::FileHandles;
-use crate::results::put_result;
+use crate::operation_results::put_result;
+use crate::realm::Realm;
+use crate::step::Step;
 use nfs_ops::{GetFhResult, OpResult};
 use nfs_types::{Handle, Status};
 use std::alloc::Allocator;
 use xdr_wire::Writer;
 
-impl<A: Allocator + Copy> Export<A> {
+impl<A: Allocator + Copy> Realm<A> {
     /// The current filehandle.
-    pub fn getfh(
-        &self,
-        context: Context<'_>,
-        handles: FileHandles,
-        out: &mut Writer<A>,
-    ) -> Result<(), Status>
-        requires room { HasRoom context out.old }
-        ensures { Gives context.entry getfh self.now handles out.old result self.now handles out.new }
+    pub fn getfh(&self, step: Step<'_>, out: &mut Writer<A>) -> Result<FileHandles, Status>
+        requires room { HasRoom step.context out.old }
+        ensures { Gives step.entry getfh self.now out.old result self.now out.new }
     {
-        let _context = context;
-        let number = handles.current.ok_or(Status::NoFileHandle)?;
+        let number = step.handles.current.ok_or(Status::NoFileHandle)?;
         self.tree.object(number).ok_or(Status::Stale)?;
         put_result(
             OpResult::GetFh(GetFhResult {
@@ -31,6 +25,6 @@ impl<A: Allocator + Copy> Export<A> {
             }),
             out,
         );
-        Ok(())
+        Ok(step.handles)
     }
 }

@@ -10,11 +10,11 @@ ghost use Rattle.compound_run.specs.Sequence.{keeping, sequence_done};
 ghost use Rattle.compound_run.specs.Sessions.{session_of};
 ghost use Rattle.compound_run.specs.SessionViews.{AnswersComing, AnswersSequence, SequencedKept, WritesWithin, coming_behind, sequence_told};
 
-use crate::beginning::{Beginning, begin};
 use crate::compound::CompoundArgs;
 use crate::context::{Calling, Context};
-use crate::export::Export;
-use crate::heads::{put_ended, put_kept, put_refused};
+use crate::first_operation::{Beginning, begin};
+use crate::realm::Realm;
+use crate::result_heads::{put_ended, put_kept, put_refused};
 use crate::server::Args;
 use crate::sessions::session_of;
 use nfs_ops::{OP_SEQUENCE, SequenceArgs, SequenceResult};
@@ -47,7 +47,7 @@ fn sequence_given(args: &SequenceArgs, new: NewCall) -> SequenceResult
     }
 }
 
-impl<A: Allocator + Copy> Export<A> {
+impl<A: Allocator + Copy> Realm<A> {
     /// Keeps the bytes behind the first ones as the results of a call.
     fn keep_from(&mut self, args: &SequenceArgs, out: &Writer<A>, start: usize)
         requires start { start ≤ length out.now.bytes }

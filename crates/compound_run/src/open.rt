@@ -2,14 +2,11 @@
 ghost use Rattle.std.specs.Prelude.{◌≡◌, ◌≤◌, [], ◌∷◌, if◌then◌else◌, length, true, false, Some, None, Err, IfOk, IfSome, IsOkUnless, IsSome, MatchResult, OnErr, OnOk, vec_len, vec_capacity};
 ghost use Rattle.std.specs.Option.{option_map};
 ghost use Rattle.acl_shape.specs.Bounds.{IsBounded};
-ghost use Rattle.nfs_ops.specs.OpViews.{op_view};
-ghost use Rattle.nfs_ops.specs.Operations.{Known};
 ghost use Rattle.nfs_types.specs.Views.{bitmap_value};
 ghost use Rattle.access_rows.specs.Rows as rows;
 ghost use Rattle.nfs_ops.specs.Parts as parts;
 ghost use Rattle.nfs_ops.specs.Parts.{ByName};
 ghost use Rattle.nfs_ops.specs.Views.{open_args_value, open_claim_value, open_how_value};
-ghost use Rattle.nfs_ops.specs.declared.op_kind.OpKind.TheVariants as kinds;
 ghost use Rattle.node_tree.specs.World.{object, kind_of};
 ghost use Rattle.compound_run.specs.Asking.{sight_of};
 ghost use Rattle.compound_run.specs.Create.{list_at};
@@ -23,11 +20,13 @@ ghost use Rattle.compound_run.specs.Views.{context_at, GivesOrDelays, HasRoom, r
 
 use crate::context::Context;
 use crate::create::{Draft, is_own};
-use crate::export::{Export, check};
+use crate::directory::Directory;
 use crate::filehandles::FileHandles;
 use crate::opens::Place;
-use crate::results::put_result;
+use crate::operation_results::put_result;
+use crate::realm::{Realm, check};
 use crate::setattr::size_fits;
+use crate::step::Step;
 use nfs_ops::{ChangeInfo, Op, OpResult, OpenArgs, OpenClaim, OpenHow, OpenResult};
 use nfs_types::{Attrs, Bitmap, Status};
 use node_tree::{Kind, NewObject};
@@ -129,7 +128,7 @@ fn truncated_set(truncates: bool) -> Bitmap
     }
 }
 
-impl<A: Allocator + Copy> Export<A> {
+impl<A: Allocator + Copy> Realm<A> {
     /// The values that the attributes of a new file set. `Delay`: there is no memory for the list.
     fn wanted_with(&self, how: &OpenHow<'_>) -> Result<Attrs<A>, Status>
         ensures wanted { IsWanted (specs.sent_by self.now.tree.book (parts.how (open_how_value how.now))) result }
@@ -169,7 +168,7 @@ impl<A: Allocator + Copy> Export<A> {
     }
 }
 
-impl<A: Allocator + Copy> Export<A> {
+impl<A: Allocator + Copy> Realm<A> {
     /// A new file for a directory, of the size that is set, each byte of it zero. `NoSpc`: its list would not be within
     /// the bounds of a list. `Delay`: there is no memory for it.
     fn new_file(
@@ -199,43 +198,37 @@ impl<A: Allocator + Copy> Export<A> {
     /// Creates an absent file in the current directory, and opens it.
     fn open_new(
         &mut self,
-        context: Context<'_>,
-        handles: &mut FileHandles,
-        directory: (u64, u64),
+        step: Step<'_>,
+        directory: Directory,
         name: &[u8],
         wanted: Attrs<A>,
         args: &OpenArgs<'_>,
         out: &mut Writer<A>,
-    ) -> Result<(), Status>
-        requires here { handles.old.current ≡ Some directory.0 }
-        requires live { kind_of self.old.tree.world directory.0 ≡ Some Kind.Directory }
-        requires change { directory_change self.old.tree.world directory.0 ≡ directory.1 }
+    ) -> Result<FileHandles, Status>
+        requires here { step.handles.current ≡ Some directory.number }
+        requires live { kind_of self.old.tree.world directory.number ≡ Some Kind.Directory }
+        requires change { directory_change self.old.tree.world directory.number ≡ directory.change }
         requires claim { parts.claim (open_claim_value args.now.claim) ≡ ByName name.now }
         requires short { length name.now ≤ 255 }
-        requires free { child (sight_of self.old) directory.0 name.now ≡ None }
-        requires wanted { specs.wanted (context_at self.old context) (open_args_value args.now) ≡ wanted_view wanted }
+        requires free { child (sight_of self.old) directory.number name.now ≡ None }
+        requires wanted { specs.wanted (context_at self.old step.context) (open_args_value args.now) ≡ wanted_view wanted }
         requires bounded { IfSome wanted.list IsBounded }
-        requires room { HasRoom context out.old }
-        ensures { GivesOrDelays context.entry (opening (open_args_value args.now)) self.old handles.old out.old result self.new handles.new out.new }
+        requires room { HasRoom step.context out.old }
+        ensures { GivesOrDelays step.entry (opening (open_args_value args.now)) self.old out.old result self.new out.new }
     {
-        let (directory, before) = directory;
-        let caller = self.tree.member(context.caller);
+        let caller = self.tree.member(step.context.caller);
         if !is_own(&caller, &wanted) {
             return Err(Status::Perm);
         }
         if !size_fits(wanted.size) {
             return Err(Status::FBig);
         }
-        let at = self.tick(context.now).ok_or(Status::NoSpc)?;
-        let place = self.place(context, args, None)?;
-        let new = self.new_file(directory, wanted, &caller)?;
-        let file = self.add(directory, name, new, at)?;
-        let stateid = self.put_open(context, args.access % 256, place, file);
-        handles.current = Some(file);
-        let change = ChangeInfo {
-            before,
-            after: at.tick,
-        };
+        let at = self.tick(step.context.now).ok_or(Status::NoSpc)?;
+        let place = self.place(step.context, args, None)?;
+        let new = self.new_file(directory.number, wanted, &caller)?;
+        let file = self.add(directory.number, name, new, at)?;
+        let stateid = self.put_open(step.context, args.access % 256, place, file);
+        let change = directory.changed(at.tick);
         let set = sent_set(&args.how);
         put_result(
             OpResult::Open(OpenResult {
@@ -245,7 +238,10 @@ impl<A: Allocator + Copy> Export<A> {
             }),
             out,
         );
-        Ok(())
+        Ok(FileHandles {
+            current: Some(file),
+            ..step.handles
+        })
     }
 
     /// Makes room for the open of a file, and truncates the file, if it is to be. `NoSpc`: there is no room, or no tick is left.
@@ -282,24 +278,22 @@ impl<A: Allocator + Copy> Export<A> {
     /// Truncates an existing file, if it is to be, and opens it.
     fn open_found(
         &mut self,
-        context: Context<'_>,
-        handles: &mut FileHandles,
+        step: Step<'_>,
         file: u64,
         before: u64,
         truncates: bool,
         args: &OpenArgs<'_>,
         out: &mut Writer<A>,
-    ) -> Result<(), Status>
-        requires found { specs.found (open_args_value args.now) handles.old (sight_of self.old) ≡ Some file }
+    ) -> Result<FileHandles, Status>
+        requires found { specs.found (open_args_value args.now) step.handles (sight_of self.old) ≡ Some file }
         requires file { kind_of self.old.tree.world file ≡ Some Kind.File }
-        requires change { IsBefore (parts.claim (open_claim_value args.now.claim)) (sight_of self.old) handles.old before }
-        requires truncates { specs.truncates (context_at self.old context) (open_args_value args.now) ≡ truncates }
-        requires room { HasRoom context out.old }
-        ensures { GivesOrDelays context.entry (opening (open_args_value args.now)) self.old handles.old out.old result self.new handles.new out.new }
+        requires change { IsBefore (parts.claim (open_claim_value args.now.claim)) (sight_of self.old) step.handles before }
+        requires truncates { specs.truncates (context_at self.old step.context) (open_args_value args.now) ≡ truncates }
+        requires room { HasRoom step.context out.old }
+        ensures { GivesOrDelays step.entry (opening (open_args_value args.now)) self.old out.old result self.new out.new }
     {
-        let place = self.place_found(context, args, file, truncates)?;
-        let stateid = self.put_open(context, args.access % 256, place, file);
-        handles.current = Some(file);
+        let place = self.place_found(step.context, args, file, truncates)?;
+        let stateid = self.put_open(step.context, args.access % 256, place, file);
         let change = ChangeInfo {
             before,
             after: before,
@@ -313,42 +307,44 @@ impl<A: Allocator + Copy> Export<A> {
             }),
             out,
         );
-        Ok(())
+        Ok(FileHandles {
+            current: Some(file),
+            ..step.handles
+        })
     }
 }
 
-impl<A: Allocator + Copy> Export<A> {
+impl<A: Allocator + Copy> Realm<A> {
     /// Opens the file of the name, or creates it.
     fn open_at(
         &mut self,
-        context: Context<'_>,
-        handles: &mut FileHandles,
-        current: (u64, u64),
+        step: Step<'_>,
+        current: Directory,
         found: Option<u64>,
         wanted: Attrs<A>,
         args: &OpenArgs<'_>,
         out: &mut Writer<A>,
-    ) -> Result<(), Status>
-        requires here { handles.old.current ≡ Some current.0 }
-        requires change { IfByName (parts.claim (open_claim_value args.now.claim)) ((kind_of self.old.tree.world current.0 ≡ Some Kind.Directory) × (directory_change self.old.tree.world current.0 ≡ current.1)) }
-        requires found { specs.found (open_args_value args.now) handles.old (sight_of self.old) ≡ found }
+    ) -> Result<FileHandles, Status>
+        requires here { step.handles.current ≡ Some current.number }
+        requires change { IfByName (parts.claim (open_claim_value args.now.claim)) ((kind_of self.old.tree.world current.number ≡ Some Kind.Directory) × (directory_change self.old.tree.world current.number ≡ current.change)) }
+        requires found { specs.found (open_args_value args.now) step.handles (sight_of self.old) ≡ found }
         requires file { IfSome found (λ file. kind_of self.old.tree.world file ≡ Some Kind.File) }
         requires short { length (specs.name_in (parts.claim (open_claim_value args.now.claim))) ≤ 255 }
-        requires wanted { specs.wanted (context_at self.old context) (open_args_value args.now) ≡ wanted_view wanted }
+        requires wanted { specs.wanted (context_at self.old step.context) (open_args_value args.now) ≡ wanted_view wanted }
         requires bounded { IfSome wanted.list IsBounded }
-        requires room { HasRoom context out.old }
-        ensures { GivesOrDelays context.entry (opening (open_args_value args.now)) self.old handles.old out.old result self.new handles.new out.new }
+        requires room { HasRoom step.context out.old }
+        ensures { GivesOrDelays step.entry (opening (open_args_value args.now)) self.old out.old result self.new out.new }
     {
         let truncates = is_truncating(&args.how, wanted.size);
         match (found, &args.claim) {
             (Some(file), OpenClaim::ByName(_)) => {
-                self.open_found(context, handles, file, current.1, truncates, args, out)
+                self.open_found(step, file, current.change, truncates, args, out)
             }
             (Some(file), OpenClaim::ByHandle) => {
-                self.open_found(context, handles, file, 0, truncates, args, out)
+                self.open_found(step, file, 0, truncates, args, out)
             }
             (None, OpenClaim::ByName(name)) => {
-                self.open_new(context, handles, current, name.bytes, wanted, args, out)
+                self.open_new(step, current, name.bytes, wanted, args, out)
             }
             (None, OpenClaim::ByHandle) => unreachable!(),
         }
@@ -358,39 +354,32 @@ impl<A: Allocator + Copy> Export<A> {
     /// be created, an existing file truncated. `Delay`: there is no memory for it, and nothing has changed.
     pub fn open(
         &mut self,
-        context: Context<'_>,
-        handles: &mut FileHandles,
-        op: &Op<'_>,
+        step: Step<'_>,
         args: &OpenArgs<'_>,
         out: &mut Writer<A>,
-    ) -> Result<(), Status>
-        requires op { op_view op.now ≡ Known kinds.Open (open_args_value args.now) }
+    ) -> Result<FileHandles, Status>
         requires settled { self.old.tree.log.held ≡ [] }
-        requires room { HasRoom context out.old }
-        ensures { GivesOrDelays context.entry (open_file (open_args_value args.now)) self.old handles.old out.old result self.new handles.new out.new }
+        requires room { HasRoom step.context out.old }
+        ensures { GivesOrDelays step.entry (open_file (open_args_value args.now)) self.old out.old result self.new out.new }
     {
-        let current = handles.current.ok_or(Status::NoFileHandle)?;
+        let current = step.handles.current.ok_or(Status::NoFileHandle)?;
         let node = self.tree.object(current).ok_or(Status::Stale)?;
         check_current(&args.claim, node.kind())?;
         let before = node.change();
         check_arguments(args)?;
         let wanted = self.wanted_with(&args.how)?;
-        if !self.grants_first(op, *handles, context.caller) {
+        if !self.grants_first(step, &Op::Open(*args)) {
             return Err(Status::Access);
         }
-        let found = self.found(*handles, current, &args.claim);
+        let found = self.found(step.handles, current, &args.claim);
         check_found(&args.how, self.kind_of(found))?;
-        if !self.grants_opening(op, *handles, context.caller, found, wanted.size) {
+        if !self.grants_opening(step, &Op::Open(*args), found, wanted.size) {
             return Err(Status::Access);
         }
-        self.open_at(
-            context,
-            handles,
-            (current, before),
-            found,
-            wanted,
-            args,
-            out,
-        )
+        let current = Directory {
+            number: current,
+            change: before,
+        };
+        self.open_at(step, current, found, wanted, args, out)
     }
 }

@@ -11,16 +11,14 @@ ghost use Rattle.compound_run.specs.Opening.{HasPlace, IsPlace, placed, placed_s
 ghost use Rattle.compound_run.specs.Views.{context_at, open_view, opens_view, realm_of};
 
 use crate::context::Context;
-use crate::export::Export;
+use crate::limits::MAX_COUNT;
+use crate::realm::Realm;
 use nfs_ops::OpenArgs;
 use nfs_types::{StateId, Status};
 use std::alloc::{AllocError, Allocator, Global};
 
 /// The most files that may be open at once.
 const MAX_OPENS: usize = 4_096;
-
-/// A bound above all counters.
-const COUNTS: u64 = 1 << 63;
 
 /// A file that is open (RFC 8881, section 18.16).
 #[derive(Debug, Drop)]
@@ -97,7 +95,7 @@ fn find_owned<'o, A: Allocator>(
         && open.object == file)
 }
 
-impl<A: Allocator + Copy> Export<A> {
+impl<A: Allocator + Copy> Realm<A> {
     /// The owner's open of an object, if there is one.
     fn joined(
         &self,
@@ -155,7 +153,7 @@ impl<A: Allocator + Copy> Export<A> {
                 seqid: open.seqid,
             });
         }
-        if self.opens.len() >= MAX_OPENS || self.next_open >= COUNTS {
+        if self.opens.len() >= MAX_OPENS || self.next_open >= MAX_COUNT {
             return Err(Status::NoSpc);
         }
         match self.make_place(args.owner.bytes) {

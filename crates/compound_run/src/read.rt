@@ -1,8 +1,6 @@
 //! READ (RFC 8881, section 18.22).
 ghost use Rattle.std.specs.Prelude.{◌≡◌, ◌+◌, ◌≤◌, [], length};
 ghost use Rattle.xdr_wire.specs.Buffer.{Appends};
-ghost use Rattle.nfs_ops.specs.OpViews.{op_view};
-ghost use Rattle.nfs_ops.specs.Operations.{Known};
 ghost use Rattle.nfs_ops.specs.Results.{Done};
 ghost use Rattle.nfs_ops.specs.Views.{read_args_value};
 ghost use Rattle.nfs_ops.specs.declared.op_kind.OpKind.TheVariants as kinds;
@@ -13,9 +11,10 @@ ghost use Rattle.compound_run.specs.Runs.{spelled};
 ghost use Rattle.compound_run.specs.Views.{context_at, Gives, HasRoom};
 
 use crate::context::Context;
-use crate::export::Export;
 use crate::filehandles::FileHandles;
+use crate::realm::Realm;
 use crate::stateids::Purpose;
+use crate::step::Step;
 use access_guard::GuardedTree;
 use nfs_ops::{MAX_READ, Op, ReadArgs, write_read};
 use nfs_types::Status;
@@ -50,7 +49,7 @@ fn most_of(count: u32, room: usize) -> usize
     fits.min(count.min(MAX_READ) as usize)
 }
 
-impl<A: Allocator + Copy> Export<A> {
+impl<A: Allocator + Copy> Realm<A> {
     /// Writes the bytes of a file, in the room of the operation, straight from the tree.
     fn put_data(&self, context: Context<'_>, file: u64, args: &ReadArgs, out: &mut Writer<A>)
         requires room { HasRoom context out.old }
@@ -70,28 +69,25 @@ impl<A: Allocator + Copy> Export<A> {
     /// Bytes of the current file.
     pub fn read(
         &mut self,
-        context: Context<'_>,
-        handles: FileHandles,
-        op: &Op<'_>,
+        step: Step<'_>,
         args: &ReadArgs,
         out: &mut Writer<A>,
-    ) -> Result<(), Status>
-        requires op { op_view op.now ≡ Known kinds.Read (read_args_value args.now) }
+    ) -> Result<FileHandles, Status>
         requires settled { self.old.tree.log.held ≡ [] }
-        requires room { HasRoom context out.old }
-        ensures { Gives context.entry (read (read_args_value args.now)) self.old handles out.old result self.new handles out.new }
+        requires room { HasRoom step.context out.old }
+        ensures { Gives step.entry (read (read_args_value args.now)) self.old out.old result self.new out.new }
     {
-        let number = handles.current.ok_or(Status::NoFileHandle)?;
+        let number = step.handles.current.ok_or(Status::NoFileHandle)?;
         match self.tree.object(number).ok_or(Status::Stale)?.kind() {
             Kind::Directory => return Err(Status::IsDir),
             Kind::Link => return Err(Status::Symlink),
             Kind::File => {}
         }
-        self.check_stateid(context, number, &args.stateid, Purpose::ToRead)?;
-        if !self.grants_first(op, handles, context.caller) {
+        self.check_stateid(step.context, number, &args.stateid, Purpose::ToRead)?;
+        if !self.grants_first(step, &Op::Read(*args)) {
             return Err(Status::Access);
         }
-        self.put_data(context, number, args, out);
-        Ok(())
+        self.put_data(step.context, number, args, out);
+        Ok(step.handles)
     }
 }

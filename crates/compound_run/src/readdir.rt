@@ -2,10 +2,7 @@
 ghost use Rattle.std.specs.Prelude.{◌≡◌, ◌≤◌, ◌==◌, [], length, bit_and, Some, None, Err, IfErr, IfSome, IsSome, OnOk};
 ghost use Rattle.nfs_types.specs.Views.{bitmap_value};
 ghost use Rattle.nfs_ops.specs.ListingSteps.{Lists};
-ghost use Rattle.nfs_ops.specs.OpViews.{op_view};
-ghost use Rattle.nfs_ops.specs.Operations.{Known};
 ghost use Rattle.nfs_ops.specs.Views.{readdir_args_value};
-ghost use Rattle.nfs_ops.specs.declared.op_kind.OpKind.TheVariants as kinds;
 ghost use Rattle.node_tree.specs.World.{Name, name_after};
 ghost use Rattle.node_tree.specs.Judged.{judged_of};
 ghost use Rattle.compound_run.specs.Asking.{sight_of};
@@ -17,8 +14,9 @@ ghost use Rattle.compound_run.specs.Views.{context_at, Gives, HasRoom};
 ghost use Rattle.who_book.specs.Members.{member};
 
 use crate::context::Context;
-use crate::export::Export;
 use crate::filehandles::FileHandles;
+use crate::realm::Realm;
+use crate::step::Step;
 use access_guard::Demand;
 use access_rows::{Object, entry_demands, granted_attributes};
 use acl_list::mask;
@@ -78,7 +76,7 @@ fn put_entry<'t, A: Allocator, B: Allocator>(
     write_entry(given, out)
 }
 
-impl<A: Allocator + Copy> Export<A> {
+impl<A: Allocator + Copy> Realm<A> {
     /// The next entry of a directory above a cookie: its cookie and its object. `None`: there is none.
     fn next_child(&self, directory: u64, cookie: u64) -> Option<(u64, Object)>
         ensures none { result ≡ None → specs.names_above (sight_of self.now) directory cookie ≡ [] }
@@ -148,7 +146,7 @@ impl<A: Allocator + Copy> Export<A> {
 /// The entries of a directory above a cookie.
 #[derive(Drop)]
 struct Children<'t, A: Allocator + Copy> {
-    export: &'t mut Export<A>,
+    realm: &'t mut Realm<A>,
     context: Context<'t>,
     asked: Bitmap,
     directory: u64,
@@ -157,7 +155,7 @@ struct Children<'t, A: Allocator + Copy> {
 
 impl<A: Allocator + Copy> Entries for Children<'_, A> {
     ghost use Rattle.std.specs.Prelude.{ℕ};
-    ghost use Rattle.compound_run.specs.declared.export.Export as shape;
+    ghost use Rattle.compound_run.specs.declared.realm.Realm as shape;
     ghost use Rattle.compound_run.specs.Asking.{sight_of};
     ghost use Rattle.compound_run.specs.Readdir.{judged_above};
     ghost use Rattle.compound_run.specs.Views.{context_at};
@@ -165,24 +163,24 @@ impl<A: Allocator + Copy> Entries for Children<'_, A> {
 
     type Refusal = Demand;
 
-    ghost left = { λ c. judged_above (context_at c.export.now c.context) (bitmap_value c.asked) c.directory c.cookie (sight_of c.export.now) };
+    ghost left = { λ c. judged_above (context_at c.realm.now c.context) (bitmap_value c.asked) c.directory c.cookie (sight_of c.realm.now) };
 
-    ghost Kept = { ℕ × shape.Export A };
+    ghost Kept = { ℕ × shape.Realm A };
 
-    ghost kept = { λ c. (c.export.ghost_name, c.export.now) };
+    ghost kept = { λ c. (c.realm.ghost_name, c.realm.now) };
 
     fn write_next<B: Allocator>(&mut self, writer: &mut Writer<B>) -> Next<Demand> {
-        let next = self.export.next_child(self.directory, self.cookie);
+        let next = self.realm.next_child(self.directory, self.cookie);
         let Some((cookie, child)) = next else {
             return Next::End;
         };
-        let given = match self.export.judge(self.context.caller, child, &self.asked) {
+        let given = match self.realm.judge(self.context.caller, child, &self.asked) {
             Ok(given) => given,
             Err(demand) => return Next::Refused(demand),
         };
         let (directory, last) = (self.directory, self.cookie);
         match self
-            .export
+            .realm
             .put_next(self.context, directory, last, given, writer)
         {
             Ok(()) => {
@@ -194,7 +192,7 @@ impl<A: Allocator + Copy> Entries for Children<'_, A> {
     }
 }
 
-impl<A: Allocator + Copy> Export<A> {
+impl<A: Allocator + Copy> Realm<A> {
     /// Writes the entries of a directory that are returned; else nothing.
     fn put_listing(
         &mut self,
@@ -209,7 +207,7 @@ impl<A: Allocator + Copy> Export<A> {
         ensures state { self.new ≡ self.old }
     {
         let mut children = Children {
-            export: self,
+            realm: self,
             context,
             asked: args.asked,
             directory,
@@ -221,20 +219,19 @@ impl<A: Allocator + Copy> Export<A> {
     /// Writes the listing of a directory. Where an entry is refused for want of rdattr_error, the lines of the refused demand are held.
     fn list(
         &mut self,
-        context: Context<'_>,
-        handles: FileHandles,
+        step: Step<'_>,
         directory: u64,
         args: &ReadDirArgs,
         out: &mut Writer<A>,
-    ) -> Result<(), Status>
+    ) -> Result<FileHandles, Status>
         requires few { length self.old.tree.log.held ≤ MAX_FIRST_LINES }
-        requires room { HasRoom context out.old }
-        ensures { Gives context.entry (listing_of (readdir_args_value args.now) directory) self.old handles out.old result self.new handles out.new }
+        requires room { HasRoom step.context out.old }
+        ensures { Gives step.entry (listing_of (readdir_args_value args.now) directory) self.old out.old result self.new out.new }
     {
-        match self.put_listing(context, directory, args, out) {
-            Ok(()) => Ok(()),
+        match self.put_listing(step.context, directory, args, out) {
+            Ok(()) => Ok(step.handles),
             Err(ListFault::Refused(demand)) => {
-                self.grants(&[Some(demand)], context.caller, OP_READDIR);
+                self.grants(&[Some(demand)], step.context.caller, OP_READDIR);
                 Err(Status::Access)
             }
             Err(ListFault::TooSmall) => Err(Status::TooSmall),
@@ -244,18 +241,15 @@ impl<A: Allocator + Copy> Export<A> {
     /// Entries of the current directory, as many as fit. It takes no memory.
     pub fn readdir(
         &mut self,
-        context: Context<'_>,
-        handles: FileHandles,
-        op: &Op<'_>,
+        step: Step<'_>,
         args: &ReadDirArgs,
         out: &mut Writer<A>,
-    ) -> Result<(), Status>
-        requires op { op_view op.now ≡ Known kinds.ReadDir (readdir_args_value args.now) }
+    ) -> Result<FileHandles, Status>
         requires settled { self.old.tree.log.held ≡ [] }
-        requires room { HasRoom context out.old }
-        ensures { Gives context.entry (readdir (readdir_args_value args.now)) self.old handles out.old result self.new handles out.new }
+        requires room { HasRoom step.context out.old }
+        ensures { Gives step.entry (readdir (readdir_args_value args.now)) self.old out.old result self.new out.new }
     {
-        let directory = handles.current.ok_or(Status::NoFileHandle)?;
+        let directory = step.handles.current.ok_or(Status::NoFileHandle)?;
         let node = self.tree.object(directory).ok_or(Status::Stale)?;
         if !node.is_directory() {
             return Err(Status::NotDir);
@@ -263,9 +257,9 @@ impl<A: Allocator + Copy> Export<A> {
         if args.cookie == 1 || args.cookie == 2 {
             return Err(Status::BadCookie);
         }
-        if !self.grants_first(op, handles, context.caller) {
+        if !self.grants_first(step, &Op::ReadDir(*args)) {
             return Err(Status::Access);
         }
-        self.list(context, handles, directory, args, out)
+        self.list(step, directory, args, out)
     }
 }

@@ -4,17 +4,15 @@ ghost use Rattle.std.specs.Int.{w32, to_be_bytes};
 ghost use Rattle.xdr_wire.specs.Buffer.{Appends};
 ghost use Rattle.node_tree.specs.World.{kind_of, bytes_of};
 ghost use Rattle.nfs_ops.specs.Forms.{readlink_size};
-ghost use Rattle.nfs_ops.specs.OpViews.{op_view};
-ghost use Rattle.nfs_ops.specs.Operations.{Known};
 ghost use Rattle.nfs_ops.specs.Results.{Done};
 ghost use Rattle.nfs_ops.specs.declared.op_kind.OpKind.TheVariants as kinds;
 ghost use Rattle.compound_run.specs.Readlink.{readlink};
 ghost use Rattle.compound_run.specs.Runs.{spelled};
 ghost use Rattle.compound_run.specs.Views.{Gives, HasRoom};
 
-use crate::context::Context;
-use crate::export::Export;
 use crate::filehandles::FileHandles;
+use crate::realm::Realm;
+use crate::step::Step;
 use access_guard::GuardedTree;
 use nfs_ops::{OP_READLINK, Op, sizes_of_carried_bytes_are_exact};
 use nfs_types::Status;
@@ -68,7 +66,7 @@ fn put_text<A: Allocator + Copy>(tree: &GuardedTree<A>, link: u64, len: usize, o
     out.put_opaque_by(len, Text { tree, link });
 }
 
-impl<A: Allocator + Copy> Export<A> {
+impl<A: Allocator + Copy> Realm<A> {
     /// The number of bytes that the text of a link has.
     #[tactic(auto, using(crate::proofs::Texts::text_is_short))]
     fn text_length(&self, link: u64) -> u64
@@ -83,31 +81,24 @@ impl<A: Allocator + Copy> Export<A> {
     }
 
     /// The text of the current link.
-    pub fn readlink(
-        &mut self,
-        context: Context<'_>,
-        handles: FileHandles,
-        op: &Op<'_>,
-        out: &mut Writer<A>,
-    ) -> Result<(), Status>
-        requires op { op_view op.now ≡ Known kinds.ReadLink tt }
+    pub fn readlink(&mut self, step: Step<'_>, out: &mut Writer<A>) -> Result<FileHandles, Status>
         requires settled { self.old.tree.log.held ≡ [] }
-        requires room { HasRoom context out.old }
-        ensures { Gives context.entry readlink self.old handles out.old result self.new handles out.new }
+        requires room { HasRoom step.context out.old }
+        ensures { Gives step.entry readlink self.old out.old result self.new out.new }
     {
-        let number = handles.current.ok_or(Status::NoFileHandle)?;
+        let number = step.handles.current.ok_or(Status::NoFileHandle)?;
         match self.tree.object(number).ok_or(Status::Stale)?.kind() {
             Kind::Link => {}
             Kind::File | Kind::Directory => return Err(Status::WrongType),
         }
-        if !self.grants_first(op, handles, context.caller) {
+        if !self.grants_first(step, &Op::ReadLink) {
             return Err(Status::Access);
         }
         let length = self.text_length(number);
-        if text_size(length) > context.room as u64 {
-            return Err(context.too_big());
+        if text_size(length) > step.context.room as u64 {
+            return Err(step.context.too_big());
         }
         put_text(&self.tree, number, length as usize, out);
-        Ok(())
+        Ok(step.handles)
     }
 }

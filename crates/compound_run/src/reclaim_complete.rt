@@ -3,34 +3,33 @@ ghost use Rattle.nfs_ops.specs.Views.{reclaim_complete_args_value};
 ghost use Rattle.compound_run.specs.ReclaimComplete.{reclaim_complete};
 ghost use Rattle.compound_run.specs.Views.{Gives, HasRoom};
 
-use crate::context::Context;
-use crate::export::Export;
 use crate::filehandles::FileHandles;
-use crate::results::put_result;
+use crate::operation_results::put_result;
+use crate::realm::Realm;
+use crate::step::Step;
 use nfs_ops::{OpResult, ReclaimCompleteArgs};
 use nfs_types::Status;
 use std::alloc::Allocator;
 use xdr_wire::Writer;
 
-impl<A: Allocator + Copy> Export<A> {
+impl<A: Allocator + Copy> Realm<A> {
     /// The client of the session reclaims no more. For the file system of the current filehandle nothing changes. It takes no memory.
     pub fn reclaim_complete(
         &mut self,
-        context: Context<'_>,
-        handles: FileHandles,
+        step: Step<'_>,
         args: &ReclaimCompleteArgs,
         out: &mut Writer<A>,
-    ) -> Result<(), Status>
-        requires room { HasRoom context out.old }
-        ensures { Gives context.entry (reclaim_complete (reclaim_complete_args_value args.now)) self.old handles out.old result self.new handles out.new }
+    ) -> Result<FileHandles, Status>
+        requires room { HasRoom step.context out.old }
+        ensures { Gives step.entry (reclaim_complete (reclaim_complete_args_value args.now)) self.old out.old result self.new out.new }
     {
         if args.one_fs {
-            let number = handles.current.ok_or(Status::NoFileHandle)?;
+            let number = step.handles.current.ok_or(Status::NoFileHandle)?;
             self.tree.object(number).ok_or(Status::Stale)?;
         } else {
-            self.clients.reclaim_complete(context.client())?;
+            self.clients.reclaim_complete(step.context.client())?;
         }
         put_result(OpResult::ReclaimComplete, out);
-        Ok(())
+        Ok(step.handles)
     }
 }

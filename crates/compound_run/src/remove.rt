@@ -1,63 +1,60 @@
 //! REMOVE (RFC 8881, section 18.25).
 ghost use Rattle.std.specs.Prelude.{◌≡◌, ◌+◌, ◌<◌, []};
-ghost use Rattle.nfs_ops.specs.OpViews.{op_view};
-ghost use Rattle.nfs_ops.specs.Operations.{Known};
-ghost use Rattle.nfs_ops.specs.declared.op_kind.OpKind.TheVariants as kinds;
+ghost use Rattle.nfs_ops.specs.Views.{remove_args_value};
 ghost use Rattle.compound_run.specs.Remove.{remove};
 ghost use Rattle.compound_run.specs.Views.{Gives, HasRoom};
 
-use crate::context::Context;
-use crate::export::{Export, check};
+use crate::directory::Directory;
 use crate::filehandles::FileHandles;
-use crate::results::put_result;
-use nfs_ops::{ChangeInfo, Op, OpResult, RemoveResult};
+use crate::operation_results::put_result;
+use crate::realm::{Realm, check};
+use crate::step::Step;
+use nfs_ops::{Op, OpResult, RemoveArgs, RemoveResult};
 use nfs_types::Status;
 use std::alloc::Allocator;
 use xdr_wire::Writer;
 
-impl<A: Allocator + Copy> Export<A> {
+impl<A: Allocator + Copy> Realm<A> {
     /// Takes away a name of the current directory. The object goes with its last name. It takes no memory.
     pub fn remove(
         &mut self,
-        context: Context<'_>,
-        handles: FileHandles,
-        op: &Op<'_>,
-        name: &[u8],
+        step: Step<'_>,
+        args: &RemoveArgs<'_>,
         out: &mut Writer<A>,
-    ) -> Result<(), Status>
-        requires op { op_view op.now ≡ Known kinds.Remove name.now }
+    ) -> Result<FileHandles, Status>
         requires settled { self.old.tree.log.held ≡ [] }
-        requires room { HasRoom context out.old }
-        ensures { Gives context.entry (remove name.now) self.old handles out.old result self.new handles out.new }
+        requires room { HasRoom step.context out.old }
+        ensures { Gives step.entry (remove (remove_args_value args.now)) self.old out.old result self.new out.new }
     {
-        let number = handles.current.ok_or(Status::NoFileHandle)?;
-        let directory = self.tree.object(number).ok_or(Status::Stale)?;
-        if !directory.is_directory() {
+        let number = step.handles.current.ok_or(Status::NoFileHandle)?;
+        let node = self.tree.object(number).ok_or(Status::Stale)?;
+        if !node.is_directory() {
             return Err(Status::NotDir);
         }
-        let before = directory.change();
+        let directory = Directory {
+            number,
+            change: node.change(),
+        };
+        let name = args.name.bytes;
         check(name)?;
-        if !self.grants_first(op, handles, context.caller) {
+        if !self.grants_first(step, &Op::Remove(*args)) {
             return Err(Status::Access);
         }
         let child = self.find(number, name).ok_or(Status::NoEnt)?;
-        if !self.grants_second(op, handles, context.caller, Some(child), None) {
+        if !self.grants_second(step, &Op::Remove(*args), Some(child), None) {
             return Err(Status::Access);
         }
         if self.tree.has_entries(child) {
             return Err(Status::NotEmpty);
         }
-        let at = self.tick(context.now).ok_or(Status::NoSpc)?;
+        let at = self.tick(step.context.now).ok_or(Status::NoSpc)?;
         self.unlink(number, name, child, at);
         put_result(
             OpResult::Remove(RemoveResult {
-                change: ChangeInfo {
-                    before,
-                    after: at.tick,
-                },
+                change: directory.changed(at.tick),
             }),
             out,
         );
-        Ok(())
+        Ok(step.handles)
     }
 }

@@ -7,101 +7,42 @@ ghost use Rattle.access_guard.specs.Log.{settled};
 ghost use Rattle.compound_run.specs.Limits as limits;
 ghost use Rattle.compound_run.specs.Runs.{waits};
 ghost use Rattle.compound_run.specs.Telling.{is_delay};
-ghost use Rattle.compound_run.specs.Views.{context_at, point_at, GivesBy, HasRoom, IfRun};
+ghost use Rattle.compound_run.specs.Views.{context_at, handles_after, point_at, GivesBy, HasRoom, IfRun};
 ghost use Rattle.compound_run.specs.Written.{StepGives};
 
 use crate::context::Context;
-use crate::export::Export;
 use crate::filehandles::FileHandles;
 use crate::limits::MIN_ROOM;
-use crate::results::put_refusal;
-use nfs_ops::Op;
+use crate::operation_results::put_refusal;
+use crate::realm::Realm;
+use crate::step::Step;
+use nfs_ops::{Op, Placement};
 use nfs_types::Status;
 use std::alloc::Allocator;
 use xdr_wire::Writer;
 
-/// Whether this is an operation of sessions.
-fn is_of_sessions(op: &Op<'_>) -> bool
-    ensures { result ≡ specs.is_of_sessions (op_view op.now) }
-{
-    matches!(
-        op,
-        Op::ExchangeId(_)
-            | Op::CreateSession(_)
-            | Op::DestroySession(_)
-            | Op::Sequence(_)
-            | Op::DestroyClientId(_)
-            | Op::ReclaimComplete(_)
-    )
-}
-
-/// Whether an operation has to be the only one of its COMPOUND.
-fn is_lone(op: &Op<'_>) -> bool
-    ensures { result ≡ specs.is_lone (op_view op.now) }
-{
-    matches!(
-        op,
-        Op::ExchangeId(_) | Op::CreateSession(_) | Op::DestroySession(_) | Op::DestroyClientId(_)
-    )
-}
-
-/// Whether this is a SEQUENCE.
-fn is_sequence(op: &Op<'_>) -> bool
-    ensures { result ≡ specs.is_sequence (op_view op.now) }
-{
-    matches!(op, Op::Sequence(_))
-}
-
-/// The fault of an operation's place, if any: where there is no session its operations aren't supported. Behind a SEQUENCE
+/// The fault of an operation's place, if any: where there is no session its operations aren't supported. After a SEQUENCE
 /// there is no place for a further one, nor for an operation that has to be the only one of its COMPOUND.
 fn place_fault(context: Context<'_>, op: &Op<'_>) -> Option<Status>
     ensures { result ≡ specs.place_fault_in context.entry.calling (op_view op.now) }
 {
-    if !is_of_sessions(op) {
-        return None;
+    let placement = op.placement()?;
+    match (placement, context.calling) {
+        (Placement::Anywhere, _) => None,
+        (_, None) => Some(Status::NotSupp),
+        (Placement::InSession, Some(_)) => None,
+        (Placement::First, Some(_)) => Some(Status::SequencePos),
+        (Placement::Alone, Some(_)) => Some(Status::NotOnlyOp),
     }
-    if context.calling.is_none() {
-        return Some(Status::NotSupp);
-    }
-    if is_lone(op) {
-        return Some(Status::NotOnlyOp);
-    }
-    if is_sequence(op) {
-        return Some(Status::SequencePos);
-    }
-    None
 }
 
-/// Whether an operation is supported: it needs room for its result.
+/// Whether an operation is run among others: it needs room for its result.
 fn is_run(op: &Op<'_>) -> bool
     ensures { result ≡ specs.is_run (op_view op.now) }
 {
     matches!(
-        op,
-        Op::Access(_)
-            | Op::Close(_)
-            | Op::Commit(_)
-            | Op::Create(_)
-            | Op::GetAttr(_)
-            | Op::GetFh
-            | Op::Link(_)
-            | Op::Lookup(_)
-            | Op::LookupP
-            | Op::NVerify(_)
-            | Op::Open(_)
-            | Op::PutFh(_)
-            | Op::PutRootFh
-            | Op::Read(_)
-            | Op::ReadDir(_)
-            | Op::ReadLink
-            | Op::Remove(_)
-            | Op::Rename(_)
-            | Op::RestoreFh
-            | Op::SaveFh
-            | Op::SetAttr(_)
-            | Op::Verify(_)
-            | Op::Write(_)
-            | Op::ReclaimComplete(_)
+        op.placement(),
+        Some(Placement::Anywhere | Placement::InSession)
     )
 }
 
@@ -119,50 +60,49 @@ fn entry_fault(context: Context<'_>, op: &Op<'_>) -> Option<Status>
 }
 
 /// Whether an operation answers that it found no memory.
-fn is_delayed(answer: &Result<(), Status>) -> bool
+fn is_delayed(answer: &Result<FileHandles, Status>) -> bool
     ensures { result ≡ is_delay answer.now }
 {
     matches!(answer, Err(Status::Delay))
 }
 
-impl<A: Allocator + Copy> Export<A> {
-    /// Answers an operation behind its place and its room.
+impl<A: Allocator + Copy> Realm<A> {
+    /// Answers an operation that has its place, and room for its result.
     fn body(
         &mut self,
-        context: Context<'_>,
-        handles: &mut FileHandles,
+        step: Step<'_>,
         op: &Op<'_>,
         out: &mut Writer<A>,
-    ) -> Result<(), Status>
+    ) -> Result<FileHandles, Status>
         requires settled { self.old.tree.log.held ≡ [] }
-        requires room { IfRun (is_run (op_view op.now)) (HasRoom context out.old) }
-        ensures { GivesBy takes_memory_in body waits context.entry op.now self.old handles.old out.old result self.new handles.new out.new }
+        requires room { IfRun (is_run (op_view op.now)) (HasRoom step.context out.old) }
+        ensures { GivesBy takes_memory_in body waits step.entry op.now self.old out.old result self.new out.new }
     {
         match op {
-            Op::Access(args) => self.access(context, *handles, args.asked, out),
-            Op::Close(args) => self.close(context, *handles, args, out),
-            Op::Commit(_) => self.commit(context, *handles, out),
-            Op::Create(args) => self.create(context, handles, op, args, out),
-            Op::GetAttr(args) => self.getattr(context, *handles, op, args.asked, out),
-            Op::GetFh => self.getfh(context, *handles, out),
-            Op::Link(args) => self.link(context, *handles, op, args.name.bytes, out),
-            Op::Lookup(args) => self.lookup(context, handles, op, args.name.bytes, out),
-            Op::LookupP => self.lookupp(context, handles, op, out),
-            Op::NVerify(args) => self.nverify(context, *handles, op, &args.attributes, out),
-            Op::Open(args) => self.open(context, handles, op, args, out),
-            Op::PutFh(args) => self.putfh(context, handles, &args.handle, out),
-            Op::PutRootFh => self.putrootfh(context, handles, out),
-            Op::Read(args) => self.read(context, *handles, op, args, out),
-            Op::ReadDir(args) => self.readdir(context, *handles, op, args, out),
-            Op::ReadLink => self.readlink(context, *handles, op, out),
-            Op::Remove(args) => self.remove(context, *handles, op, args.name.bytes, out),
-            Op::Rename(args) => self.rename(context, *handles, op, args, out),
-            Op::RestoreFh => self.restorefh(context, handles, out),
-            Op::SaveFh => self.savefh(context, handles, out),
-            Op::SetAttr(args) => self.setattr(context, *handles, op, args, out),
-            Op::Verify(args) => self.verify(context, *handles, op, &args.attributes, out),
-            Op::Write(args) => self.write(context, *handles, op, args, out),
-            Op::ReclaimComplete(args) => self.reclaim_complete(context, *handles, args, out),
+            Op::Access(args) => self.access(step, args, out),
+            Op::Close(args) => self.close(step, args, out),
+            Op::Commit(_) => self.commit(step, out),
+            Op::Create(args) => self.create(step, args, out),
+            Op::GetAttr(args) => self.getattr(step, args, out),
+            Op::GetFh => self.getfh(step, out),
+            Op::Link(args) => self.link(step, args, out),
+            Op::Lookup(args) => self.lookup(step, args, out),
+            Op::LookupP => self.lookupp(step, out),
+            Op::NVerify(args) => self.nverify(step, args, out),
+            Op::Open(args) => self.open(step, args, out),
+            Op::PutFh(args) => self.putfh(step, args, out),
+            Op::PutRootFh => self.putrootfh(step, out),
+            Op::Read(args) => self.read(step, args, out),
+            Op::ReadDir(args) => self.readdir(step, args, out),
+            Op::ReadLink => self.readlink(step, out),
+            Op::Remove(args) => self.remove(step, args, out),
+            Op::Rename(args) => self.rename(step, args, out),
+            Op::RestoreFh => self.restorefh(step, out),
+            Op::SaveFh => self.savefh(step, out),
+            Op::SetAttr(args) => self.setattr(step, args, out),
+            Op::Verify(args) => self.verify(step, args, out),
+            Op::Write(args) => self.write(step, args, out),
+            Op::ReclaimComplete(args) => self.reclaim_complete(step, args, out),
             Op::Illegal => Err(Status::OpIllegal),
             Op::Bad(_) => Err(Status::BadXdr),
             Op::ExchangeId(_)
@@ -174,57 +114,54 @@ impl<A: Allocator + Copy> Export<A> {
         }
     }
 
-    /// Answers an operation that has its place, and room for its result.
+    /// Answers an operation, once it has its place, and room for its result.
     fn answer(
         &mut self,
-        context: Context<'_>,
-        handles: &mut FileHandles,
+        step: Step<'_>,
         op: &Op<'_>,
         out: &mut Writer<A>,
-    ) -> Result<(), Status>
+    ) -> Result<FileHandles, Status>
         requires settled { self.old.tree.log.held ≡ [] }
-        requires room { context.room + limits.REFUSAL_ROOM ≤ out.old.room }
-        ensures { GivesBy may_delay meaning waits context.entry op.now self.old handles.old out.old result self.new handles.new out.new }
+        requires room { step.context.room + limits.REFUSAL_ROOM ≤ out.old.room }
+        ensures { GivesBy may_delay meaning waits step.entry op.now self.old out.old result self.new out.new }
     {
-        if let Some(fault) = entry_fault(context, op) {
+        if let Some(fault) = entry_fault(step.context, op) {
             return Err(fault);
         }
-        self.body(context, handles, op, out)
+        self.body(step, op, out)
     }
 
     /// Runs an operation, and ends it: its lines go to the trail, unless it found no memory.
     fn run(
         &mut self,
-        context: Context<'_>,
-        handles: &mut FileHandles,
+        step: Step<'_>,
         op: &Op<'_>,
         out: &mut Writer<A>,
-    ) -> Result<(), Status>
+    ) -> Result<FileHandles, Status>
         requires settled { self.old.tree.log.held ≡ [] }
-        requires room { context.room + limits.REFUSAL_ROOM ≤ out.old.room }
-        ensures gives { GivesBy may_delay meaning (settled true) context.entry op.now self.old handles.old out.old result self.new handles.new out.new }
+        requires room { step.context.room + limits.REFUSAL_ROOM ≤ out.old.room }
+        ensures gives { GivesBy may_delay meaning (settled true) step.entry op.now self.old out.old result self.new out.new }
         ensures settled { self.new.tree.log.held ≡ [] }
     {
-        let result = self.answer(context, handles, op, out);
+        let result = self.answer(step, op, out);
         self.tree.settle(!is_delayed(&result));
         result
     }
 
-    /// Runs an operation, and writes its result. `Err`: it isn't OK.
+    /// Runs an operation, and writes its result. Answers the filehandles after it. `Err`: it isn't OK, and they stay.
     pub fn run_one(
         &mut self,
-        context: Context<'_>,
-        handles: &mut FileHandles,
+        step: Step<'_>,
         op: &Op<'_>,
         out: &mut Writer<A>,
-    ) -> Result<(), Status>
+    ) -> Result<FileHandles, Status>
         requires settled { self.old.tree.log.held ≡ [] }
-        requires room { context.room + limits.REFUSAL_ROOM ≤ out.old.room }
-        ensures gives { StepGives (context_at self.old context.entry) (op_view op.now) (point_at self.old handles.old) out.old result (point_at self.new handles.new) out.new }
+        requires room { step.context.room + limits.REFUSAL_ROOM ≤ out.old.room }
+        ensures gives { StepGives (context_at self.old step.entry.context) (op_view op.now) (point_at self.old step.entry.handles) out.old result (point_at self.new (handles_after step.entry.handles result)) out.new }
         ensures settled { self.new.tree.log.held ≡ [] }
     {
-        match self.run(context, handles, op, out) {
-            Ok(()) => Ok(()),
+        match self.run(step, op, out) {
+            Ok(handles) => Ok(handles),
             Err(status) => {
                 put_refusal(op.number(), status, out);
                 Err(status)

@@ -11,9 +11,9 @@ ghost use Rattle.compound_run.specs.Views.{context_at};
 
 use crate::compound::{CompoundArgs, Ended, put_tag, put_word};
 use crate::context::Context;
-use crate::export::Export;
 use crate::limits::REFUSAL_ROOM;
-use crate::results::put_result;
+use crate::operation_results::put_result;
+use crate::realm::Realm;
 use nfs_ops::{OpResult, SequenceResult};
 use std::alloc::Allocator;
 use xdr_wire::Writer;
@@ -22,34 +22,34 @@ impl CompoundArgs<'_> {
     /// Writes the result of SEQUENCE, and runs the operations behind it. The results end before `end`.
     fn run_sequenced<A: Allocator + Copy>(
         &self,
-        export: &mut Export<A>,
+        realm: &mut Realm<A>,
         context: Context<'_>,
         end: usize,
         given: SequenceResult,
         operations: &[u8],
         out: &mut Writer<A>,
     ) -> Ended
-        requires settled { export.old.tree.log.held ≡ [] }
+        requires settled { realm.old.tree.log.held ≡ [] }
         requires second { context.position ≡ 1 }
         requires some { 1 ≤ context.count }
         requires result { length out.old.bytes + limits.MIN_ROOM ≤ end }
         requires room { end + limits.REFUSAL_ROOM ≤ length out.old.bytes + out.old.room }
-        ensures answers { SequencedBehind (end + limits.REFUSAL_ROOM) (record (context_at export.old context.entry) { room = end - length out.old.bytes - length (spelled (Done kinds.Sequence (sequence_result_value given))) }) self.now.tag.now (sequence_told given) operations.now export.old out.old result export.new out.new }
-        ensures settled { export.new.tree.log.held ≡ [] }
+        ensures answers { SequencedBehind (end + limits.REFUSAL_ROOM) (record (context_at realm.old context.entry) { room = end - length out.old.bytes - length (spelled (Done kinds.Sequence (sequence_result_value given))) }) self.now.tag.now (sequence_told given) operations.now realm.old out.old result realm.new out.new }
+        ensures settled { realm.new.tree.log.held ≡ [] }
     {
         put_result(OpResult::Sequence(given), out);
         let second = Context {
             room: end - out.len(),
             ..context
         };
-        export.run_all(second, operations, out)
+        realm.run_all(second, operations, out)
     }
 
     /// Writes the results of a COMPOUND with this SEQUENCE and these operations behind it, behind what `out` holds: at
     /// most so many bytes. Status and number of the results are filled in once they are known.
     pub fn run_behind<A: Allocator + Copy>(
         &self,
-        export: &mut Export<A>,
+        realm: &mut Realm<A>,
         context: Context<'_>,
         limit: usize,
         given: SequenceResult,
@@ -57,13 +57,13 @@ impl CompoundArgs<'_> {
         out: &mut Writer<A>,
     )
         requires short { length self.now.tag.now ≤ limits.MAX_TAG }
-        requires settled { export.old.tree.log.held ≡ [] }
+        requires settled { realm.old.tree.log.held ≡ [] }
         requires second { context.position ≡ 1 }
         requires some { 1 ≤ context.count }
         requires least { 4072 ≤ limit }
         requires room { limit ≤ out.old.room }
-        ensures answers { WritesWithin limit (λ bytes. SequencedTo (record (context_at export.old context.entry) { room = first_room (limit + limits.REPLY_HEADER) self.now.tag.now - length (spelled (Done kinds.Sequence (sequence_result_value given))) }) self.now.tag.now (sequence_told given) operations.now export.old bytes export.new) out.old out.new }
-        ensures settled { export.new.tree.log.held ≡ [] }
+        ensures answers { WritesWithin limit (λ bytes. SequencedTo (record (context_at realm.old context.entry) { room = first_room (limit + limits.REPLY_HEADER) self.now.tag.now - length (spelled (Done kinds.Sequence (sequence_result_value given))) }) self.now.tag.now (sequence_told given) operations.now realm.old bytes realm.new) out.old out.new }
+        ensures settled { realm.new.tree.log.held ≡ [] }
     {
         let end = out.capacity() - (out.room() - limit) - REFUSAL_ROOM;
         let status_at = out.len();
@@ -71,7 +71,7 @@ impl CompoundArgs<'_> {
         put_tag(out, self.tag);
         let count_at = out.len();
         put_word(out, 0);
-        let ended = self.run_sequenced(export, context, end, given, operations, out);
+        let ended = self.run_sequenced(realm, context, end, given, operations, out);
         out.fill(count_at, ended.ran);
         out.fill(status_at, ended.status.number());
     }

@@ -10,10 +10,10 @@ ghost use Rattle.compound_run.specs.Views.{called, opens_view};
 
 use crate::compound::CompoundArgs;
 use crate::context::Context;
-use crate::export::Export;
 use crate::in_session::Coming;
 use crate::limits::{MAX_RESULTS, REFUSAL_ROOM};
 use crate::opens::Open;
+use crate::realm::Realm;
 use access_guard::{Guard, GuardedTree};
 use nfs_types::Moment;
 use node_tree::Tree;
@@ -47,7 +47,7 @@ pub enum RunEnd {
 /// A file server (RFC 8881).
 #[derive(Drop)]
 pub struct Server<A: Allocator + Copy = Global> {
-    export: Export<A>,
+    realm: Realm<A>,
 }
 
 impl<A: Allocator + Copy> Model for Server<A> {
@@ -57,9 +57,9 @@ impl<A: Allocator + Copy> Model for Server<A> {
 
     ghost Value = { State };
 
-    ghost view = { λ s. state_of s.export };
+    ghost view = { λ s. state_of s.realm };
 
-    ghost invariant = { λ s. s.export.tree.log.held ≡ [] };
+    ghost invariant = { λ s. s.realm.tree.log.held ≡ [] };
 }
 
 impl<A: Allocator + Copy> Server<A> {
@@ -75,7 +75,7 @@ impl<A: Allocator + Copy> Server<A> {
         ensures { IfOk result (λ server. server ≡ fresh tree book (non_zero_usize_get capacity)) }
     {
         Ok(Server {
-            export: Export {
+            realm: Realm {
                 alloc,
                 tree: GuardedTree::new(alloc, tree, book, capacity, hasher)?,
                 opens: Vec::new(alloc),
@@ -113,7 +113,7 @@ impl<A: Allocator + Copy> Server<A> {
             count: compound.count,
             room: MAX_RESULTS - REFUSAL_ROOM,
         };
-        compound.run(&mut self.export, context, out);
+        compound.run(&mut self.realm, context, out);
         RunEnd::Replied
     }
 
@@ -145,7 +145,7 @@ impl<A: Allocator + Copy> Server<A> {
             caller,
             now,
         };
-        self.export.answer_in_session(call, out);
+        self.realm.answer_in_session(call, out);
         RunEnd::Replied
     }
 
@@ -159,14 +159,14 @@ impl<A: Allocator + Copy> Server<A> {
         ensures ok { OnOk result (self.new ≡ with_book book self.old) }
         ensures err { OnErr result (self.new ≡ self.old) }
     {
-        self.export.tree.reload(book)
+        self.realm.tree.reload(book)
     }
 
     /// The tree.
     pub fn tree(&self) -> &Tree<A>
         ensures { result.now ≡ self.now.realm.world }
     {
-        self.export.tree.tree()
+        self.realm.tree.tree()
     }
 
     /// The guard, with the trail. Its remembered summaries are those of the lists now.
@@ -175,13 +175,13 @@ impl<A: Allocator + Copy> Server<A> {
         ensures capacity { result.now.memory.capacity ≡ self.now.settings.capacity }
         ensures agrees { Agrees result.now.memory.remembered self.now.settings.book self.now.settings.epoch self.now.realm.world }
     {
-        self.export.tree.guard()
+        self.realm.tree.guard()
     }
 
     /// The files that are open, by their numbers.
     pub fn opens(&self) -> &[Open<A>]
         ensures { opens_view result.now ≡ self.now.realm.opens }
     {
-        &self.export.opens
+        &self.realm.opens
     }
 }

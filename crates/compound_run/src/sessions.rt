@@ -5,8 +5,8 @@ ghost use Rattle.compound_run.specs.Sessions as specs;
 ghost use Rattle.compound_run.specs.ExchangeId as exchanges;
 ghost use Rattle.compound_run.specs.Views.{opens_view, realm_of};
 
-use crate::export::Export;
 use crate::opens::Open;
+use crate::realm::Realm;
 use std::alloc::Allocator;
 
 /// Whether these bytes are all zero.
@@ -53,7 +53,7 @@ fn keep_others_of<A: Allocator>(opens: &mut Vec<Open<A>, A>, client: u64)
     opens.retain(|open| open.client != client);
 }
 
-impl<A: Allocator + Copy> Export<A> {
+impl<A: Allocator + Copy> Realm<A> {
     /// Whether a client has files open.
     pub fn has_opens(&self, client: u64) -> bool
         ensures { result ≡ specs.has_opens client (opens_view self.now.opens.items) }

@@ -4,10 +4,7 @@ ghost use Rattle.acl_shape.specs.Bounds.{IsBounded};
 ghost use Rattle.acl_shape.specs.Permissions.{changed_high, changed_list};
 ghost use Rattle.nfs_types.specs.Sent.{has_list};
 ghost use Rattle.nfs_types.specs.Views.{stateid_value};
-ghost use Rattle.nfs_ops.specs.OpViews.{op_view};
-ghost use Rattle.nfs_ops.specs.Operations.{Known};
 ghost use Rattle.nfs_ops.specs.Views.{setattr_args_value};
-ghost use Rattle.nfs_ops.specs.declared.op_kind.OpKind.TheVariants as kinds;
 ghost use Rattle.node_tree.specs.Sound.{IsTick};
 ghost use Rattle.node_tree.specs.World.{kind_of, object};
 ghost use Rattle.compound_run.specs.Asking.{sight_of};
@@ -19,20 +16,19 @@ ghost use Rattle.compound_run.specs.Permits.{Permits, permitted, entitled};
 ghost use Rattle.compound_run.specs.Views.{context_at, GivesOrDelays, HasRoom, wanted_view, with_world, IsWanted};
 
 use crate::context::Context;
-use crate::export::{Export, status_of};
 use crate::filehandles::FileHandles;
-use crate::parts::put_parts;
-use crate::results::put_result;
+use crate::limits::MAX_COUNT;
+use crate::list_parts::put_parts;
+use crate::operation_results::put_result;
+use crate::realm::{Realm, status_of};
 use crate::stateids::Purpose;
+use crate::step::Step;
 use acl_shape::{Given, Permissions, changed_permissions};
 use nfs_ops::{Op, OpResult, SetAttrArgs, SetAttrResult};
 use nfs_types::{Attrs, Moment, StateId, Status};
 use node_tree::{At, Kind, MAX_BYTES};
 use std::alloc::{AllocError, Allocator};
 use xdr_wire::Writer;
-
-/// A bound above all counters.
-const COUNTS: u64 = 1 << 63;
 
 /// Whether a list or a part of a list is set.
 fn has_list<A: Allocator>(wanted: &Attrs<A>) -> bool
@@ -89,7 +85,7 @@ pub(crate) fn size_fits(size: Option<u64>) -> bool
     }
 }
 
-impl<A: Allocator + Copy> Export<A> {
+impl<A: Allocator + Copy> Realm<A> {
     /// The fault of a size that is to be set, if any: only a file has a size to set, which takes a stateid.
     fn check_size(
         &self,
@@ -134,7 +130,7 @@ impl<A: Allocator + Copy> Export<A> {
         if !sets_any(wanted) {
             return true;
         }
-        self.tree.next_tick() < COUNTS && self.tree.next_stamp() <= COUNTS - stamps(wanted)
+        self.tree.next_tick() < MAX_COUNT && self.tree.next_stamp() <= MAX_COUNT - stamps(wanted)
     }
 
     /// The list of an object after a mode and a list are set, and the high bits of its mode. `Delay`: there is no memory for it.
@@ -282,24 +278,21 @@ impl<A: Allocator + Copy> Export<A> {
     /// Sets attributes of the current object, all of those that are sent or none. `Delay`: there is no memory for them.
     pub fn setattr(
         &mut self,
-        context: Context<'_>,
-        handles: FileHandles,
-        op: &Op<'_>,
+        step: Step<'_>,
         args: &SetAttrArgs<'_>,
         out: &mut Writer<A>,
-    ) -> Result<(), Status>
-        requires op { op_view op.now ≡ Known kinds.SetAttr (setattr_args_value args.now) }
+    ) -> Result<FileHandles, Status>
         requires settled { self.old.tree.log.held ≡ [] }
-        requires room { HasRoom context out.old }
-        ensures { GivesOrDelays context.entry (setattr (setattr_args_value args.now)) self.old handles out.old result self.new handles out.new }
+        requires room { HasRoom step.context out.old }
+        ensures { GivesOrDelays step.entry (setattr (setattr_args_value args.now)) self.old out.old result self.new out.new }
     {
-        let number = handles.current.ok_or(Status::NoFileHandle)?;
+        let number = step.handles.current.ok_or(Status::NoFileHandle)?;
         if self.tree.object(number).is_none() {
             return Err(Status::Stale);
         }
         let wanted = self.wanted_on(number, args)?;
-        self.check_size(context, number, wanted.size, &args.stateid)?;
-        if !self.grants_sized(op, handles, context.caller, wanted.size) {
+        self.check_size(step.context, number, wanted.size, &args.stateid)?;
+        if !self.grants_sized(step, &Op::SetAttr(*args), wanted.size) {
             return Err(Status::Access);
         }
         if !size_fits(wanted.size) {
@@ -308,9 +301,9 @@ impl<A: Allocator + Copy> Export<A> {
         if !self.has_counts(&wanted) {
             return Err(Status::NoSpc);
         }
-        self.set_any(context.now, number, wanted)?;
+        self.set_any(step.context.now, number, wanted)?;
         let set = args.attributes.set;
         put_result(OpResult::SetAttr(SetAttrResult { set }), out);
-        Ok(())
+        Ok(step.handles)
     }
 }

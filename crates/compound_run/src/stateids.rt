@@ -7,8 +7,8 @@ ghost use Rattle.compound_run.specs.Stateids as specs;
 ghost use Rattle.compound_run.specs.Views.{context_at, open_view};
 
 use crate::context::Context;
-use crate::export::Export;
 use crate::opens::Open;
+use crate::realm::Realm;
 use nfs_types::{StateId, Status};
 use std::alloc::Allocator;
 
@@ -91,7 +91,7 @@ fn find_open<A: Allocator>(
         && open.object == object)
 }
 
-impl<A: Allocator + Copy> Export<A> {
+impl<A: Allocator + Copy> Realm<A> {
     /// The open of this number, client and object.
     fn open_named(&self, number: u64, client: u64, object: u64) -> Option<&Open<A>>
         ensures { option_map open_view (option_copied result) ≡ find (specs.is_open number client object) (sight_of self.now).opens }

@@ -3,9 +3,7 @@ ghost use Rattle.std.specs.Prelude.{◌≡◌, [], nat_eq, Some, None, Err, IsSo
 ghost use Rattle.std.specs.Cmp.Lexicographic.{pointwise};
 ghost use Rattle.nfs_types.specs.Given.{given_values};
 ghost use Rattle.nfs_types.specs.Views.{attributes_value, bitmap_value};
-ghost use Rattle.nfs_ops.specs.OpViews.{op_view};
-ghost use Rattle.nfs_ops.specs.Operations.{Known};
-ghost use Rattle.nfs_ops.specs.declared.op_kind.OpKind.TheVariants as kinds;
+ghost use Rattle.nfs_ops.specs.Views.{verify_args_value};
 ghost use Rattle.node_tree.specs.World.{object};
 ghost use Rattle.compound_run.specs.Asking.{sight_of};
 ghost use Rattle.compound_run.specs.Verify.{verify, is_same, set_fault};
@@ -14,10 +12,11 @@ ghost use Rattle.compound_run.specs.Views.{context_at, GivesOrDelays, HasRoom};
 ghost use Rattle.std.specs.Prelude.{IfOk};
 
 use crate::context::Context;
-use crate::export::Export;
 use crate::filehandles::FileHandles;
-use crate::results::put_result;
-use nfs_ops::{Op, OpResult, sizes_of_carried_bytes_are_exact};
+use crate::operation_results::put_result;
+use crate::realm::Realm;
+use crate::step::Step;
+use nfs_ops::{Op, OpResult, VerifyArgs, sizes_of_carried_bytes_are_exact};
 use nfs_types::{Attributes, Bitmap, GivenAttributes, Status};
 use std::alloc::{AllocError, Allocator};
 use xdr_wire::{Reader, Spell, Wire, Writer};
@@ -61,7 +60,7 @@ fn is_given<A: Allocator + Copy>(
     Ok(spelled.values.bytes == sent)
 }
 
-impl<A: Allocator + Copy> Export<A> {
+impl<A: Allocator + Copy> Realm<A> {
     /// Whether attributes of an object have these values. `Delay`: there is no memory to compare them.
     pub fn is_same(
         &self,
@@ -90,29 +89,26 @@ impl<A: Allocator + Copy> Export<A> {
     /// OK where attributes of the current object have these values. `Delay`: there is no memory to compare them.
     pub fn verify(
         &mut self,
-        context: Context<'_>,
-        handles: FileHandles,
-        op: &Op<'_>,
-        sent: &Attributes<'_>,
+        step: Step<'_>,
+        args: &VerifyArgs<'_>,
         out: &mut Writer<A>,
-    ) -> Result<(), Status>
-        requires op { op_view op.now ≡ Known kinds.Verify (attributes_value sent.now) }
+    ) -> Result<FileHandles, Status>
         requires settled { self.old.tree.log.held ≡ [] }
-        requires room { HasRoom context out.old }
-        ensures { GivesOrDelays context.entry (verify (attributes_value sent.now)) self.old handles out.old result self.new handles out.new }
+        requires room { HasRoom step.context out.old }
+        ensures { GivesOrDelays step.entry (verify (verify_args_value args.now)) self.old out.old result self.new out.new }
     {
-        let number = handles.current.ok_or(Status::NoFileHandle)?;
+        let number = step.handles.current.ok_or(Status::NoFileHandle)?;
         if self.tree.object(number).is_none() {
             return Err(Status::Stale);
         }
-        check_set(&sent.set)?;
-        if !self.grants_first(op, handles, context.caller) {
+        check_set(&args.attributes.set)?;
+        if !self.grants_first(step, &Op::Verify(*args)) {
             return Err(Status::Access);
         }
-        if !self.is_same(context, number, sent)? {
+        if !self.is_same(step.context, number, &args.attributes)? {
             return Err(Status::NotSame);
         }
         put_result(OpResult::Verify, out);
-        Ok(())
+        Ok(step.handles)
     }
 }

@@ -9,10 +9,8 @@ use Rattle.rpc_record.specs.Calling.{call_bytes}
 use Rattle.rpc_record.specs.Answered.{ReplyResult, answered}
 use Rattle.nfs_ops.specs.Items.{ItemHasSpelling, ItemIsNormal, item_spelling}
 use Rattle.nfs_ops.specs.Operations.{Operation, op_item}
-use Rattle.nfs_ops.specs.Results.{Outcome, Done, Refused, SetAttrRefused}
-use Rattle.nfs_ops.specs.Rows.{row}
+use Rattle.nfs_ops.specs.Results.{Outcome, outcome_number, outcome_status}
 use Rattle.nfs_ops.specs.ResultReading.{result_at}
-use Rattle.nfs_ops.specs.declared.op_kind.OpKind.TheVariants.{SetAttr}
 
 -- ---- writing
 
@@ -60,17 +58,6 @@ all_of (Ok (compound, [])) = Some compound
 all_of (Ok (compound, b ∷ rest)) = None
 all_of (Err fault) = None
 
--- the number of an operation's result, and its status
-abbrev pub number_of : Outcome → ℕ
-number_of (Done k v) = (row k).number
-number_of (Refused n status) = n
-number_of (SetAttrRefused status) = (row SetAttr).number
-
-abbrev pub status_of : Outcome → ℕ
-status_of (Done k v) = 0
-status_of (Refused n status) = status
-status_of (SetAttrRefused status) = status
-
 -- the answer to a call: all its operations are OK, or the last one run, of this number, has this status; or the record is no reply
 pub data Answer : Type 0 where
   AllDone : Answer
@@ -80,14 +67,14 @@ pub data Answer : Type 0 where
 -- Behind the last result no operation is left where that result is OK. Its status is the status of the COMPOUND.
 abbrev pub ended_by : List ℕ → ℕ → Outcome → Answer
 ended_by left status last =
-    if status_of last == status then (if status == 0 then (if length left == 0 then AllDone else NoReply) else LastRefused (number_of last) status) else NoReply
+    if outcome_status last == status then (if status == 0 then (if length left == 0 then AllDone else NoReply) else LastRefused (outcome_number last) status) else NoReply
 
 -- The results are results of the first operations asked, at least of one, and all but the last are OK.
 abbrev pub answer_of : List ℕ → ℕ → List Outcome → Answer
 answer_of asked status [] = NoReply
 answer_of [] status (o ∷ os) = NoReply
 answer_of (n ∷ left) status (o ∷ os) =
-    if number_of o == n then (if length os == 0 then ended_by left status o else if status_of o == 0 then answer_of left status os else NoReply) else NoReply
+    if outcome_number o == n then (if length os == 0 then ended_by left status o else if outcome_status o == 0 then answer_of left status os else NoReply) else NoReply
 
 -- the results of a COMPOUND of the operations of these numbers, with their answer
 pub record Said : Type 0 where

@@ -1,65 +1,18 @@
 //! The answer of a reply to the operations that were asked.
 ghost use Rattle.std.specs.Prelude.{◌≡◌, MatchResult, Ok, Err};
 ghost use Rattle.nfs_ops.specs.ResultViews.{read_view};
-ghost use Rattle.nfs_types.specs.Status as statuses;
-ghost use Rattle.nfs_client.specs.Compound.{number_of, status_of, ended_by, answer_of, all_of, compound_at, said};
+ghost use Rattle.nfs_client.specs.Compound.{ended_by, answer_of, all_of, compound_at, said};
 ghost use Rattle.nfs_client.specs.CompoundViews.{outcomes, ItemsGive, CompoundGives, Judges, Says};
 ghost use Rattle.nfs_client.specs.declared.fault.ToolFault.TheVariants as fault;
 
 use crate::fault::ToolFault;
-use nfs_ops::{
-    OP_ACCESS, OP_CLOSE, OP_COMMIT, OP_CREATE, OP_CREATE_SESSION, OP_DESTROY_CLIENTID,
-    OP_DESTROY_SESSION, OP_EXCHANGE_ID, OP_GETATTR, OP_GETFH, OP_LINK, OP_LOOKUP, OP_LOOKUPP,
-    OP_NVERIFY, OP_OPEN, OP_PUTFH, OP_PUTROOTFH, OP_READ, OP_READDIR, OP_READLINK,
-    OP_RECLAIM_COMPLETE, OP_REMOVE, OP_RENAME, OP_RESTOREFH, OP_SAVEFH, OP_SEQUENCE, OP_SETATTR,
-    OP_VERIFY, OP_WRITE, OpResult, read_result,
-};
-use nfs_types::Status;
+use nfs_ops::{OpResult, read_result};
 use rpc_record::read_reply;
 use std::alloc::Allocator;
 use xdr_wire::{Reader, XdrFault};
 
 /// The most bytes of a COMPOUND's tag, which has no bound but that of the record.
 const MAX_TAG: usize = 0xffff_ffff;
-
-/// The number of the operation of a result, and its status.
-fn heading(outcome: &OpResult<'_>) -> (u32, Status)
-    ensures number { result.0 ≡ number_of (read_view outcome.now) }
-    ensures status { statuses.number_of result.1 ≡ status_of (read_view outcome.now) }
-{
-    match outcome {
-        OpResult::Access(_) => (OP_ACCESS, Status::Ok),
-        OpResult::Close(_) => (OP_CLOSE, Status::Ok),
-        OpResult::Commit => (OP_COMMIT, Status::Ok),
-        OpResult::Create(_) => (OP_CREATE, Status::Ok),
-        OpResult::GetAttr(_) => (OP_GETATTR, Status::Ok),
-        OpResult::GetFh(_) => (OP_GETFH, Status::Ok),
-        OpResult::Link(_) => (OP_LINK, Status::Ok),
-        OpResult::Lookup => (OP_LOOKUP, Status::Ok),
-        OpResult::LookupP => (OP_LOOKUPP, Status::Ok),
-        OpResult::NVerify => (OP_NVERIFY, Status::Ok),
-        OpResult::Open(_) => (OP_OPEN, Status::Ok),
-        OpResult::PutFh => (OP_PUTFH, Status::Ok),
-        OpResult::PutRootFh => (OP_PUTROOTFH, Status::Ok),
-        OpResult::Read(_) => (OP_READ, Status::Ok),
-        OpResult::ReadDir(_) => (OP_READDIR, Status::Ok),
-        OpResult::ReadLink(_) => (OP_READLINK, Status::Ok),
-        OpResult::Remove(_) => (OP_REMOVE, Status::Ok),
-        OpResult::Rename(_) => (OP_RENAME, Status::Ok),
-        OpResult::RestoreFh => (OP_RESTOREFH, Status::Ok),
-        OpResult::SaveFh => (OP_SAVEFH, Status::Ok),
-        OpResult::SetAttr(_) => (OP_SETATTR, Status::Ok),
-        OpResult::Verify => (OP_VERIFY, Status::Ok),
-        OpResult::Write(_) => (OP_WRITE, Status::Ok),
-        OpResult::ExchangeId(_) => (OP_EXCHANGE_ID, Status::Ok),
-        OpResult::CreateSession(_) => (OP_CREATE_SESSION, Status::Ok),
-        OpResult::DestroySession => (OP_DESTROY_SESSION, Status::Ok),
-        OpResult::Sequence(_) => (OP_SEQUENCE, Status::Ok),
-        OpResult::DestroyClientId => (OP_DESTROY_CLIENTID, Status::Ok),
-        OpResult::ReclaimComplete => (OP_RECLAIM_COMPLETE, Status::Ok),
-        OpResult::Refused(op, status) => (*op, *status),
-    }
-}
 
 /// A record that can't be read is no reply.
 fn told<T>(read: Result<T, XdrFault>) -> Result<T, ToolFault>
@@ -111,12 +64,12 @@ fn read_compound<A: Allocator>(
 fn judge_last(left: &[u32], status: u32, last: &OpResult<'_>) -> Result<(), ToolFault>
     ensures { Judges result (ended_by left.now status (read_view last.now)) }
 {
-    let (op, told) = heading(last);
+    let told = last.status();
     if told.number() != status {
         return Err(ToolFault::Reply);
     }
     if status != 0 {
-        return Err(ToolFault::Refused(op, told));
+        return Err(ToolFault::Refused(last.number(), told));
     }
     if !left.is_empty() {
         return Err(ToolFault::Reply);
@@ -134,14 +87,13 @@ fn judge(asked: &[u32], status: u32, results: &[OpResult<'_>]) -> Result<(), Too
     let [number, left @ ..] = asked else {
         return Err(ToolFault::Reply);
     };
-    let (op, told) = heading(outcome);
-    if op != *number {
+    if outcome.number() != *number {
         return Err(ToolFault::Reply);
     }
     if others.is_empty() {
         return judge_last(left, status, outcome);
     }
-    if told.number() != 0 {
+    if outcome.status().number() != 0 {
         return Err(ToolFault::Reply);
     }
     judge(left, status, others)

@@ -1,12 +1,14 @@
 -- An operation with its arguments as it stands in a COMPOUND, and how the next one is read (RFC 8881, sections 16.2 and 18). The
 -- names of the reading's steps and of how they go on (`.._from`, `or_bad`) are for the prover alone.
 use Rattle.std.specs.Prelude.{ℕ, Bool, true, false, ◌&&◌, ◌||◌, nat_le, if◌then◌else◌, List, [], ◌∷◌, Option, Some, None, Ok, Err, is_ok}
+use Rattle.std.specs.Option.{option_map}
 use Rattle.xdr_wire.specs.Xdr.{Xdr, Value, uint}
 use Rattle.xdr_wire.specs.Reading.{Read as ReadOf, read_at}
 use Rattle.xdr_wire.specs.Wire.{in_normal_form}
 use Rattle.nfs_ops.specs.Items.{Item, numbered, number}
 use Rattle.nfs_ops.specs.Rows.{row, kind_at}
 use Rattle.nfs_ops.specs.declared.op_kind.OpKind.{OpKind}
+use Rattle.nfs_ops.specs.declared.op_kind.Placement.{Placement}
 
 pub data Operation : Type 0 where
   -- an operation with the value of its arguments
@@ -28,6 +30,15 @@ number_of (Known k v) = (row k).number
 number_of (Unsupported n) = n
 number_of Illegal = illegal
 number_of (Bad n) = n
+
+-- the operation without its arguments; an entry that can't be run is none
+abbrev pub kind_in : Operation → Option OpKind
+kind_in (Known k v) = Some k
+kind_in _ = None
+
+-- the place of an operation in a COMPOUND
+abbrev pub placement_of : Operation → Option Placement
+placement_of op = option_map (λ k. (row k).placement) (kind_in op)
 
 -- the number and the arguments, as they are written; without an operation the number alone
 abbrev pub op_item : Operation → Item

@@ -30,6 +30,17 @@ outcome_item (SetAttrRefused status) = record {
   value = ((row SetAttr).number, (status, []));
 }
 
+-- the number of the operation, and its status
+abbrev pub outcome_number : Outcome → ℕ
+outcome_number (Done k v) = (row k).number
+outcome_number (Refused n status) = n
+outcome_number (SetAttrRefused status) = (row SetAttr).number
+
+abbrev pub outcome_status : Outcome → ℕ
+outcome_status (Done k v) = 0
+outcome_status (Refused n status) = status
+outcome_status (SetAttrRefused status) = status
+
 -- The most bytes of a result. The bytes that an object or a request makes long count as many as they are.
 abbrev pub most : Outcome → ℕ
 most (Done k v) = (row k).most v

@@ -49,7 +49,7 @@ mod writing;
 
 // Operations and results.
 pub use op::Op;
-pub use op_kind::{OpKind, operation_name};
+pub use op_kind::{OpKind, Placement, operation_name};
 pub use op_result::OpResult;
 pub use reading::next_op;
 pub use result_reading::read_result;

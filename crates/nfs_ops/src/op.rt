@@ -1,5 +1,5 @@
 ghost use Rattle.std.specs.Prelude.{◌≡◌};
-ghost use Rattle.nfs_ops.specs.Operations.{number_of};
+ghost use Rattle.nfs_ops.specs.Operations.{kind_in, number_of, placement_of};
 
 use crate::access::AccessArgs;
 use crate::close::CloseArgs;
@@ -13,7 +13,7 @@ use crate::getattr::GetAttrArgs;
 use crate::link::LinkArgs;
 use crate::lookup::LookupArgs;
 use crate::nverify::NVerifyArgs;
-use crate::op_kind::rows;
+use crate::op_kind::{OpKind, Placement, rows};
 use crate::open::OpenArgs;
 use crate::putfh::PutFhArgs;
 use crate::read::ReadArgs;
@@ -101,11 +101,21 @@ pub enum Op<'a> {
 
 /// The number in the row of an operation, or the number of an entry without operation.
 macro_rules! number {
-    ($op:expr; $($row:ident $(($arguments:ident))? $number:ident $name:literal $(($given:ident))?,)*) => {
+    ($op:expr; $($row:ident $(($arguments:ident))? $number:ident $name:literal $place:ident $(($given:ident))?,)*) => {
         match $op {
             $(Op::$row { .. } => $crate::$number,)*
             Op::Unsupported(number) | Op::Bad(number) => *number,
             Op::Illegal => OP_ILLEGAL,
+        }
+    };
+}
+
+/// The kind of an operation, or that an entry is none.
+macro_rules! kind {
+    ($op:expr; $($row:ident $(($arguments:ident))? $number:ident $name:literal $place:ident $(($given:ident))?,)*) => {
+        match $op {
+            $(Op::$row { .. } => Some(OpKind::$row),)*
+            Op::Unsupported(_) | Op::Illegal | Op::Bad(_) => None,
         }
     };
 }
@@ -118,5 +128,20 @@ impl<'a> Op<'a> {
         ensures { result ≡ number_of (op_view self.now) }
     {
         rows!(number, self)
+    }
+
+    /// The operation without its arguments. `None`: this is no operation that can be run.
+    pub fn kind(&self) -> Option<OpKind>
+        ensures { result ≡ kind_in (op_view self.now) }
+    {
+        rows!(kind, self)
+    }
+
+    /// The place of the operation in a COMPOUND. `None`: this is no operation that can be run.
+    pub fn placement(&self) -> Option<Placement>
+        ensures { result ≡ placement_of (op_view self.now) }
+    {
+        let kind = self.kind()?;
+        Some(kind.placement())
     }
 }

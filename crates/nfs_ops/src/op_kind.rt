@@ -66,41 +66,54 @@ pub enum OpKind {
     ReclaimComplete,
 }
 
-/// The table of the operations, a row each: its variant, with its arguments if it takes any, its number, its name, and its
-/// result if it has one. Hands all rows to the macro `$by`, behind the tokens that are there for it.
+/// The place of an operation in a COMPOUND (RFC 8881, sections 2.10.2.1, 2.10.6 and 18.46).
+#[derive(Clone, Copy, Debug, PartialEq, Eq)]
+pub enum Placement {
+    /// Anywhere, with a session or without one.
+    Anywhere,
+    /// After a SEQUENCE alone.
+    InSession,
+    /// The first operation: SEQUENCE.
+    First,
+    /// The only operation.
+    Alone,
+}
+
+/// The table of the operations, a row each: its variant, with its arguments if it takes any, its number, its name, its place
+/// in a COMPOUND, and its result if it has one. Hands all rows to the macro `$by`, after the tokens that are there for it.
 macro_rules! rows {
     ($by:ident $(, $with:expr)*) => {
         $by! {
             $($with),*;
-            Access(arguments) OP_ACCESS b"ACCESS" (given),
-            Close(arguments) OP_CLOSE b"CLOSE" (given),
-            Commit(arguments) OP_COMMIT b"COMMIT",
-            Create(arguments) OP_CREATE b"CREATE" (given),
-            GetAttr(arguments) OP_GETATTR b"GETATTR" (given),
-            GetFh OP_GETFH b"GETFH" (given),
-            Link(arguments) OP_LINK b"LINK" (given),
-            Lookup(arguments) OP_LOOKUP b"LOOKUP",
-            LookupP OP_LOOKUPP b"LOOKUPP",
-            NVerify(arguments) OP_NVERIFY b"NVERIFY",
-            Open(arguments) OP_OPEN b"OPEN" (given),
-            PutFh(arguments) OP_PUTFH b"PUTFH",
-            PutRootFh OP_PUTROOTFH b"PUTROOTFH",
-            Read(arguments) OP_READ b"READ" (given),
-            ReadDir(arguments) OP_READDIR b"READDIR" (given),
-            ReadLink OP_READLINK b"READLINK" (given),
-            Remove(arguments) OP_REMOVE b"REMOVE" (given),
-            Rename(arguments) OP_RENAME b"RENAME" (given),
-            RestoreFh OP_RESTOREFH b"RESTOREFH",
-            SaveFh OP_SAVEFH b"SAVEFH",
-            SetAttr(arguments) OP_SETATTR b"SETATTR" (given),
-            Verify(arguments) OP_VERIFY b"VERIFY",
-            Write(arguments) OP_WRITE b"WRITE" (given),
-            ExchangeId(arguments) OP_EXCHANGE_ID b"EXCHANGE_ID" (given),
-            CreateSession(arguments) OP_CREATE_SESSION b"CREATE_SESSION" (given),
-            DestroySession(arguments) OP_DESTROY_SESSION b"DESTROY_SESSION",
-            Sequence(arguments) OP_SEQUENCE b"SEQUENCE" (given),
-            DestroyClientId(arguments) OP_DESTROY_CLIENTID b"DESTROY_CLIENTID",
-            ReclaimComplete(arguments) OP_RECLAIM_COMPLETE b"RECLAIM_COMPLETE",
+            Access(arguments) OP_ACCESS b"ACCESS" Anywhere (given),
+            Close(arguments) OP_CLOSE b"CLOSE" Anywhere (given),
+            Commit(arguments) OP_COMMIT b"COMMIT" Anywhere,
+            Create(arguments) OP_CREATE b"CREATE" Anywhere (given),
+            GetAttr(arguments) OP_GETATTR b"GETATTR" Anywhere (given),
+            GetFh OP_GETFH b"GETFH" Anywhere (given),
+            Link(arguments) OP_LINK b"LINK" Anywhere (given),
+            Lookup(arguments) OP_LOOKUP b"LOOKUP" Anywhere,
+            LookupP OP_LOOKUPP b"LOOKUPP" Anywhere,
+            NVerify(arguments) OP_NVERIFY b"NVERIFY" Anywhere,
+            Open(arguments) OP_OPEN b"OPEN" Anywhere (given),
+            PutFh(arguments) OP_PUTFH b"PUTFH" Anywhere,
+            PutRootFh OP_PUTROOTFH b"PUTROOTFH" Anywhere,
+            Read(arguments) OP_READ b"READ" Anywhere (given),
+            ReadDir(arguments) OP_READDIR b"READDIR" Anywhere (given),
+            ReadLink OP_READLINK b"READLINK" Anywhere (given),
+            Remove(arguments) OP_REMOVE b"REMOVE" Anywhere (given),
+            Rename(arguments) OP_RENAME b"RENAME" Anywhere (given),
+            RestoreFh OP_RESTOREFH b"RESTOREFH" Anywhere,
+            SaveFh OP_SAVEFH b"SAVEFH" Anywhere,
+            SetAttr(arguments) OP_SETATTR b"SETATTR" Anywhere (given),
+            Verify(arguments) OP_VERIFY b"VERIFY" Anywhere,
+            Write(arguments) OP_WRITE b"WRITE" Anywhere (given),
+            ExchangeId(arguments) OP_EXCHANGE_ID b"EXCHANGE_ID" Alone (given),
+            CreateSession(arguments) OP_CREATE_SESSION b"CREATE_SESSION" Alone (given),
+            DestroySession(arguments) OP_DESTROY_SESSION b"DESTROY_SESSION" Alone,
+            Sequence(arguments) OP_SEQUENCE b"SEQUENCE" First (given),
+            DestroyClientId(arguments) OP_DESTROY_CLIENTID b"DESTROY_CLIENTID" Alone,
+            ReclaimComplete(arguments) OP_RECLAIM_COMPLETE b"RECLAIM_COMPLETE" InSession,
         }
     };
 }
@@ -109,7 +122,7 @@ pub(crate) use rows;
 
 /// The number in the row of a kind.
 macro_rules! number {
-    ($kind:expr; $($row:ident $(($arguments:ident))? $number:ident $name:literal $(($given:ident))?,)*) => {
+    ($kind:expr; $($row:ident $(($arguments:ident))? $number:ident $name:literal $place:ident $(($given:ident))?,)*) => {
         match $kind {
             $(OpKind::$row => $crate::$number,)*
         }
@@ -118,7 +131,7 @@ macro_rules! number {
 
 /// The kind in the row of a number, if there is one.
 macro_rules! kind {
-    ($of:expr; $($row:ident $(($arguments:ident))? $number:ident $name:literal $(($given:ident))?,)*) => {
+    ($of:expr; $($row:ident $(($arguments:ident))? $number:ident $name:literal $place:ident $(($given:ident))?,)*) => {
         match $of {
             $($crate::$number => Some(OpKind::$row),)*
             _ => None,
@@ -128,9 +141,18 @@ macro_rules! kind {
 
 /// The name in the row of a kind.
 macro_rules! name {
-    ($kind:expr; $($row:ident $(($arguments:ident))? $number:ident $name:literal $(($given:ident))?,)*) => {
+    ($kind:expr; $($row:ident $(($arguments:ident))? $number:ident $name:literal $place:ident $(($given:ident))?,)*) => {
         match $kind {
             $(OpKind::$row => $name,)*
+        }
+    };
+}
+
+/// The place in the row of a kind.
+macro_rules! placement {
+    ($kind:expr; $($row:ident $(($arguments:ident))? $number:ident $name:literal $place:ident $(($given:ident))?,)*) => {
+        match $kind {
+            $(OpKind::$row => Placement::$place,)*
         }
     };
 }
@@ -159,6 +181,13 @@ impl OpKind {
         ensures short { length result.now ≤ 20 }
     {
         rows!(name, self)
+    }
+
+    /// The place of the operation in a COMPOUND.
+    pub fn placement(self) -> Placement
+        ensures { result ≡ (row self).placement }
+    {
+        rows!(placement, self)
     }
 }
 

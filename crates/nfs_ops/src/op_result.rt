@@ -1,3 +1,8 @@
+ghost use Rattle.std.specs.Prelude.{◌≡◌};
+ghost use Rattle.nfs_types.specs.Status as statuses;
+ghost use Rattle.nfs_ops.specs.Results.{outcome_number, outcome_status};
+ghost use Rattle.nfs_ops.specs.ResultViews.{read_view};
+
 use crate::access::AccessResult;
 use crate::always::Zeros;
 use crate::close::CloseResult;
@@ -7,6 +12,7 @@ use crate::exchange_id::ExchangeIdResult;
 use crate::getattr::GetAttrResult;
 use crate::getfh::GetFhResult;
 use crate::link::LinkResult;
+use crate::op_kind::rows;
 use crate::open::OpenResult;
 use crate::read::ReadResult;
 use crate::readdir::ReadDirResult;
@@ -81,4 +87,33 @@ pub enum OpResult<'a> {
     ReclaimComplete,
     /// The operation of this number has this status, which isn't OK.
     Refused(u32, Status),
+}
+
+/// The number in the row of a result, or that of a refusal.
+macro_rules! number {
+    ($outcome:expr; $($row:ident $(($arguments:ident))? $number:ident $name:literal $place:ident $(($given:ident))?,)*) => {
+        match $outcome {
+            $(OpResult::$row { .. } => $crate::$number,)*
+            OpResult::Refused(number, _) => *number,
+        }
+    };
+}
+
+impl OpResult<'_> {
+    /// The number of the operation.
+    pub fn number(&self) -> u32
+        ensures { result ≡ outcome_number (read_view self.now) }
+    {
+        rows!(number, self)
+    }
+
+    /// The status of the operation.
+    pub fn status(&self) -> Status
+        ensures { statuses.number_of result ≡ outcome_status (read_view self.now) }
+    {
+        match self {
+            OpResult::Refused(_, status) => *status,
+            _ => Status::Ok,
+        }
+    }
 }

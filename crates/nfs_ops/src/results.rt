@@ -84,7 +84,7 @@ macro_rules! done {
 
 /// Writes the result in the row of an operation that is OK, or a refusal.
 macro_rules! done_of {
-    ($outcome:expr, $writer:expr; $($row:ident $(($arguments:ident))? $number:ident $name:literal $(($given:ident))?,)*) => {
+    ($outcome:expr, $writer:expr; $($row:ident $(($arguments:ident))? $number:ident $name:literal $place:ident $(($given:ident))?,)*) => {
         match $outcome {
             $(OpResult::$row$(($given))? => done!($row $number $($given)?, $writer),)*
             OpResult::Refused(number, status) => write_refusal(number, status, $writer),

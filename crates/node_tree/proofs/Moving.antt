@@ -15,9 +15,7 @@ use Rattle.node_tree.specs.Limits.{ROOT, MAX_NAME, MAX_NAMES, MAX_LINKS}
 use Rattle.node_tree.specs.World.{World, Object, Name, object, kind_of, is_named, has_name, has_entries, child_named, is_one, is_directory_at, parent_of, name_count, link_count}
 use Rattle.node_tree.specs.Ways.{is_within}
 use Rattle.node_tree.specs.Changes.{changed, touched, retold, released, other_names, with_move}
-use Rattle.node_tree.specs.Refusals.{is_below, may_replace, may_move, has_left, has_room, move_refusal}
-use Rattle.node_tree.specs.declared.fault.TreeFault.{TreeFault}
-use Rattle.node_tree.specs.declared.fault.TreeFault.TheVariants.{Inval, Exist, NoSpc}
+use Rattle.node_tree.specs.Refusals.{is_below, may_replace, may_move, has_left, has_room}
 use Rattle.node_tree.specs.Judged.{judged, judged_of, KeepsJudged}
 use Rattle.node_tree.specs.Sound.{stamp_of, IsIn, IsRooted, IsSound, IsTick}
 use Rattle.node_tree.proofs.Objects.{option_map-changed}
@@ -309,49 +307,26 @@ emptied w sound child (Some target) may = λ n stands at.
       | false ↦ λ h. let f : not (is_directory_at w target) ≡ false = ap not is_directory in cc
     ] may
 
--- the tests that are left for a move that isn't below itself
-abbrev behind_it : Bool → Bool → Option TreeFault
-behind_it may space = cond (not may) (Some Exist) (cond space None (Some NoSpc))
+pub unrefused_move : (w : World) → IsSound w → (from to child : ℕ) (target : Option ℕ) → is_below (kind_of w) (parent_of w) w.next_number child to ≡ false
+    → may_replace (kind_of w) (has_entries w.names) child target ≡ true → may_move (name_count w.names to) w.next_cookie from to target ≡ true → MayMove w from to child target
+unrefused_move w sound from to child target below replaces moves =
+    let m = moves_in w from to target moves in
+    record { clear = cleared w child to below; empty = emptied w sound child target replaces; room = m.0; cookie = m.1 }
 
-pub unrefused_move : (w : World) → IsSound w → (from to child : ℕ) (target : Option ℕ) → is_one (Some child) target ≡ false → move_refusal w from to child target ≡ None → MayMove w from to child target
-unrefused_move w sound from to child target apart none =
-    let may = may_replace (kind_of w) (has_entries w.names) child target in
-    let space = may_move (name_count w.names to) w.next_cookie from to target in
-    elim (is_below (kind_of w) (parent_of w) w.next_number child to) as (λ b. is_below (kind_of w) (parent_of w) w.next_number child to ≡ b → cond b (Some Inval) (behind_it may space) ≡ None → MayMove w from to child target) [
-      | true ↦ λ _ h. cc
-      | false ↦ λ below. elim may as (λ b. may ≡ b → behind_it b space ≡ None → MayMove w from to child target) [
-        | false ↦ λ _ h. cc
-        | true ↦ λ replaces. elim space as (λ b. space ≡ b → behind_it true b ≡ None → MayMove w from to child target) [
-          | false ↦ λ _ h. cc
-          | true ↦ λ moves _. let m = moves_in w from to target moves in
-              record { clear = cleared w child to below; empty = emptied w sound child target replaces; room = m.0; cookie = m.1 }
-        ] refl
-      ] refl
-    ] refl (ap (λ b. cond b None (cond (is_below (kind_of w) (parent_of w) w.next_number child to) (Some Inval) (behind_it may space))) (sym apart) ∙ none)
-
-pub not_same : (target : Option ℕ) (child : ℕ) → false ≡ option_eq nat_eq target (Some child) → target ≡ Some child → ⊥
-not_same target child differs equal =
-    let t : option_eq nat_eq target (Some child) ≡ true = ap (λ o. option_eq nat_eq o (Some child)) equal ∙ (Decides-eqb child child).1 refl in cc
+-- a target that isn't the child is another object, if there is one
+pub another : (child : ℕ) (target : Option ℕ) → is_one (Some child) target ≡ false → target ≡ Some child → ⊥
+another child target differs equal =
+    let same : is_one (Some child) target ≡ true = ap (λ o. is_one (Some child) o) equal ∙ (Decides-eqb child child).1 refl in cc
 
 pub target_apart : (child : ℕ) (target : Option ℕ) → (target ≡ Some child → ⊥) → IfSome target (λ t. child ≢ t)
 target_apart child None apart = tt
 target_apart child (Some t) apart = λ same. apart (ap Some (sym same))
 
-not_one : (child : ℕ) (target : Option ℕ) → (target ≡ Some child → ⊥) → is_one (Some child) target ≡ false
-not_one child None apart = refl
-not_one child (Some t) apart = elim (child == t) as (λ b. (child == t) ≡ b → b ≡ false) [
-  | true ↦ λ at. absurd (apart (ap Some (sym ((Decides-eqb child t).0 at))))
-  | false ↦ λ _. refl
-] refl
-
 -- a move that isn't refused keeps the tree sound
 pub IsSound-unrefused_move : (w : World) → IsSound w → (from : ℕ) (old : List ℕ) (to : ℕ) (new : List ℕ) (child : ℕ) (target : Option ℕ) (at : At) → IsTick w at.tick
     → kind_of w to ≡ Some Directory → length new ≤ MAX_NAME → child_named w from old ≡ Some child → child_named w to new ≡ target → (target ≡ Some child → ⊥)
-    → None ≡ move_refusal w from to child target → IsSound (with_move w from old to new child target at)
-IsSound-unrefused_move w sound from old to new child target at tick live short leads taken apart none =
-    let may = unrefused_move w sound from to child target (not_one child target apart) (sym none) in
+    → is_below (kind_of w) (parent_of w) w.next_number child to ≡ false → may_replace (kind_of w) (has_entries w.names) child target ≡ true
+    → may_move (name_count w.names to) w.next_cookie from to target ≡ true → IsSound (with_move w from old to new child target at)
+IsSound-unrefused_move w sound from old to new child target at tick live short leads taken apart below replaces moves =
+    let may = unrefused_move w sound from to child target below replaces moves in
     IsSound-with_move w sound from old to new child target at tick live leads taken (target_apart child target apart) may.empty may.clear short may.room may.cookie
-
--- the counters that the move needs
-pub has_cookie : (w : World) → IsSound w → (from to child : ℕ) (target : Option ℕ) → (target ≡ Some child → ⊥) → None ≡ move_refusal w from to child target → w.next_cookie < 2 ^ 63
-has_cookie w sound from to child target apart none = (unrefused_move w sound from to child target (not_one child target apart) (sym none)).cookie

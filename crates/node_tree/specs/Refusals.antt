@@ -4,7 +4,7 @@ use Rattle.std.specs.Prelude.{ℕ, ◌+◌, ◌^◌, ◌==◌, Bool, true, ◌&&
 use Rattle.std.specs.Option.{option_map_or}
 use Rattle.acl_list.specs.declared.entry.Kind.{Kind}
 use Rattle.node_tree.specs.declared.fault.TreeFault.{TreeFault}
-use Rattle.node_tree.specs.declared.fault.TreeFault.TheVariants.{Exist, NoEnt, NotEmpty, Inval, FBig, MLink, NoSpc}
+use Rattle.node_tree.specs.declared.fault.TreeFault.TheVariants.{Exist, NoEnt, NotEmpty, FBig, MLink, NoSpc}
 use Rattle.node_tree.specs.Limits.{MAX_BYTES, MAX_NAMES, MAX_OBJECTS, MAX_LINKS}
 use Rattle.node_tree.specs.World.{World, child_named, is_one, kind_of, name_count, link_count, has_entries, parent_of, is_directory_in}
 use Rattle.node_tree.specs.Ways.{is_met}
@@ -76,19 +76,6 @@ link_refusal w directory name number =
 abbrev pub unlink_refusal : World → ℕ → List ℕ → Option TreeFault
 unlink_refusal w directory name =
     option_map_or (λ child. if has_entries w.names child then Some NotEmpty else None) (child_named w directory name) (Some NoEnt)
-
--- a child gets another name, of a target that may be absent
-abbrev pub move_refusal : World → ℕ → ℕ → ℕ → Option ℕ → Option TreeFault
-move_refusal w from to child target =
-    if is_one (Some child) target then None
-    else if is_below (kind_of w) (parent_of w) w.next_number child to then Some Inval
-    else if not (may_replace (kind_of w) (has_entries w.names) child target) then Some Exist
-    else if may_move (name_count w.names to) w.next_cookie from to target then None
-    else Some NoSpc
-
--- RENAME
-abbrev pub rename_refusal : World → ℕ → List ℕ → ℕ → List ℕ → Option TreeFault
-rename_refusal w from old to new = option_map_or (λ child. move_refusal w from to child (child_named w to new)) (child_named w from old) (Some NoEnt)
 
 -- WRITE
 abbrev pub write_refusal : ℕ → List ℕ → Option TreeFault

@@ -8,7 +8,7 @@ use thiserror::Error;
 /// Why a change was refused. The tree is then as it was.
 #[derive(Clone, Copy, Debug, PartialEq, Eq, Error)]
 pub enum TreeFault {
-    /// NFS4ERR_EXIST: the name is taken, in `rename` by an object that can't be replaced.
+    /// NFS4ERR_EXIST: the name is taken.
     #[error("the name is taken")]
     Exist,
     /// NFS4ERR_NOENT: there is no such name.
@@ -17,9 +17,6 @@ pub enum TreeFault {
     /// NFS4ERR_NOTEMPTY: the directory has names.
     #[error("the directory isn't empty")]
     NotEmpty,
-    /// NFS4ERR_INVAL: the directory would come to lie below itself.
-    #[error("a directory below itself")]
-    Inval,
     /// NFS4ERR_FBIG: the file would have more than [`crate::MAX_BYTES`] bytes.
     #[error("the file would be too big")]
     FBig,

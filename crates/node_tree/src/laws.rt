@@ -5,8 +5,8 @@ ghost use Rattle.node_tree.specs.World.{World, kind_of};
 ghost use Rattle.node_tree.specs.Ways.{is_within, LiesWithin};
 ghost use Rattle.node_tree.specs.Sound.{IsSound};
 
-/// The walk up from a directory tells whether it is another directory or lies below it: so `rename` refuses with
-/// [`crate::TreeFault::Inval`] exactly the moves of a directory below itself.
+/// The walk up from a directory tells whether it is another directory or lies below it: so [`crate::Tree::is_below`] holds for
+/// exactly the moves of a directory below itself.
 pub fn way_up_tells_what_lies_below()
     ensures { (w : World) (directory number : ℕ) → IsSound w → kind_of w number ≡ Some Directory → (is_within w directory number ≡ true) ↔ LiesWithin w.names directory number }
 {}

@@ -6,7 +6,7 @@ ghost use Rattle.node_tree.specs.World.{object, kind_of, bytes_at, child_named, 
 ghost use Rattle.node_tree.specs.Ways.{is_within};
 ghost use Rattle.node_tree.specs.Changes.{alone, made, changed, touched, retold, without, released, other_names, written, resized, with_new, with_link, without_name, with_move, with_bytes, with_size, with_list, with_owner};
 ghost use Rattle.node_tree.specs.Sound.{most_bytes, Rises};
-ghost use Rattle.node_tree.specs.Refusals.{add_refusal, link_refusal, has_left, has_room, has_object_room, may_link, may_name, may_add, is_below, may_replace, may_move, move_refusal, rename_refusal};
+ghost use Rattle.node_tree.specs.Refusals.{add_refusal, link_refusal, has_left, has_room, has_object_room, may_link, may_name, may_add, is_below, may_replace, may_move};
 
 use crate::at::At;
 use crate::edits;
@@ -260,41 +260,6 @@ impl<A: Allocator + Copy> Store<A> {
             Some(_) => self.has_cookie(),
             None => (from == to || self.has_room(to)) && self.has_cookie(),
         }
-    }
-
-    /// Why a child may not get another name, of a target that may be absent.
-    pub fn move_fault(
-        &self,
-        from: u64,
-        to: u64,
-        child: u64,
-        target: Option<u64>,
-    ) -> Option<TreeFault>
-        ensures { result ≡ move_refusal self.now from to child target }
-    {
-        if target == Some(child) {
-            return None;
-        }
-        if self.is_below(child, to) {
-            return Some(TreeFault::Inval);
-        }
-        if !self.may_replace(child, target) {
-            return Some(TreeFault::Exist);
-        }
-        if self.may_move(from, to, target) {
-            return None;
-        }
-        Some(TreeFault::NoSpc)
-    }
-
-    /// Why the child of a name may not get another name.
-    pub fn rename_fault(&self, from: u64, old: &[u8], to: u64, new: &[u8]) -> Option<TreeFault>
-        ensures { result ≡ rename_refusal self.now from old.now to new.now }
-    {
-        let Some(child) = self.find(from, old) else {
-            return Some(TreeFault::NoEnt);
-        };
-        self.move_fault(from, to, child, self.find(to, new))
     }
 }
 

@@ -1,11 +1,11 @@
 //! The tree: the changes that it refuses, and that it stays a tree.
-ghost use Rattle.std.specs.Prelude.{◌≡◌, ◌≢◌, ◌<◌, ◌≤◌, ◌^◌, ◌++◌, [], length, drop, MatchOption, OnOk, OnErr, IfOk, IsOk, IsOkUnless, IfSome, IsSome, Some};
+ghost use Rattle.std.specs.Prelude.{◌≡◌, ◌≢◌, ◌<◌, ◌≤◌, ◌^◌, ◌++◌, [], length, drop, MatchOption, OnOk, OnErr, IfOk, IsOk, IsOkUnless, IfSome, IsSome, Some, true, false};
 ghost use Rattle.std.specs.Option.{option_copied};
 ghost use Rattle.acl_shape.specs.Bounds.{IsBounded};
 ghost use Rattle.node_tree.specs.Limits.{ROOT, MAX_NAME, MAX_LINKS};
-ghost use Rattle.node_tree.specs.World.{object, kind_of, bytes_of, bytes_at, child_named, name_after, has_entries, link_count, parent_of};
+ghost use Rattle.node_tree.specs.World.{object, kind_of, bytes_of, bytes_at, child_named, name_after, has_entries, link_count, name_count, parent_of, is_one};
 ghost use Rattle.node_tree.specs.Changes.{alone, root_of, made, with_new, with_link, unlinked, renamed, with_write, with_size, with_list, with_owner};
-ghost use Rattle.node_tree.specs.Refusals.{add_refusal, link_refusal, unlink_refusal, rename_refusal, write_refusal, resize_refusal};
+ghost use Rattle.node_tree.specs.Refusals.{add_refusal, link_refusal, unlink_refusal, is_below, may_replace, may_move, write_refusal, resize_refusal};
 ghost use Rattle.node_tree.specs.Judged.{KeepsJudged};
 ghost use Rattle.node_tree.specs.Sample.{sample};
 ghost use Rattle.node_tree.specs.Sound.{IsSound, IsTick, IsNextName, most_bytes};
@@ -14,6 +14,7 @@ use crate::at::{At, from_start};
 use crate::entry::DirEntry;
 use crate::fault::TreeFault;
 use crate::limits::{MAX_BYTES, ROOT};
+use crate::moved::Move;
 use crate::node::{NewObject, Node};
 use crate::store::Store;
 use acl_list::{AclList, Kind};
@@ -112,12 +113,27 @@ impl<A: Allocator + Copy> Tree<A> {
         self.store.list_after(directory, cookie)
     }
 
-    /// Why [`Tree::rename`] would be refused, want of memory apart: the first line of its table that fits. `None`: it would be done
-    /// (RENAME: RFC 8881, section 18.26). The names and directories may be absent.
-    pub fn rename_fault(&self, from: u64, old: &[u8], to: u64, new: &[u8]) -> Option<TreeFault>
-        ensures { result ≡ rename_refusal self.now from old.now to new.now }
+    /// Whether a child is a directory that another directory is, or lies below. It walks up from that directory.
+    pub fn is_below(&self, child: u64, directory: u64) -> bool
+        ensures { result ≡ is_below (kind_of self.now) (parent_of self.now) self.now.next_number child directory }
     {
-        self.store.rename_fault(from, old, to, new)
+        self.store.is_below(child, directory)
+    }
+
+    /// Whether a child may take the place of a target, which may be absent (RENAME: RFC 8881, section 18.26): a directory that of an
+    /// empty directory, another object that of no directory.
+    pub fn may_replace(&self, child: u64, target: Option<u64>) -> bool
+        ensures { result ≡ may_replace (kind_of self.now) (has_entries self.now.names) child target }
+    {
+        self.store.may_replace(child, target)
+    }
+
+    /// Whether there is space for a child's new name, of a target that may be absent: another directory that has
+    /// [`crate::MAX_NAMES`] names has none for one more, and no cookie is 2^63.
+    pub fn may_move(&self, from: u64, to: u64, target: Option<u64>) -> bool
+        ensures { result ≡ may_move (name_count self.now.names to) self.now.next_cookie from to target }
+    {
+        self.store.may_move(from, to, target)
     }
 
     /// Copies the bytes of a file, or the text of a link, at an offset into a buffer, as far as both go, and answers how many
@@ -249,51 +265,37 @@ impl<A: Allocator + Copy> Tree<A> {
         Ok(())
     }
 
-    /// Gives the child of a name another name of at most 255 bytes, in the same directory or in another (RENAME: RFC 8881,
-    /// section 18.26). It takes a cookie. The times of both directories are set, and the `time_metadata` of the child and of a
-    /// target that has other names. The first line that fits is the answer:
+    /// Gives a child another name, in the same directory or in another (RENAME: RFC 8881, section 18.26). It takes a cookie. The
+    /// times of both directories are set, and the `time_metadata` of the child and of a target that has other names. `Err`: there
+    /// is no memory for it, and nothing changes.
     ///
-    /// | The old name | The new name | | |
-    /// |---|---|---|---|
-    /// | absent | any | | [`TreeFault::NoEnt`] |
-    /// | any | of the same object | | nothing changes |
-    /// | of a directory | in that directory, or below it | | [`TreeFault::Inval`] |
-    /// | of no directory | of a directory | | [`TreeFault::Exist`] |
-    /// | of a directory | of no directory | | [`TreeFault::Exist`] |
-    /// | of a directory | of a directory that has names | | [`TreeFault::Exist`] |
-    /// | any | absent | in another directory that has [`crate::MAX_NAMES`] names | [`TreeFault::NoSpc`] |
-    /// | any | any | the cookie would be 2^63 | [`TreeFault::NoSpc`] |
-    /// | any | any | there is no memory for it | [`TreeFault::Memory`] |
-    /// | any | absent | | the child has the new name |
-    /// | of no directory | of no directory | | the child has the new name, and the target has lost it |
-    /// | of a directory | of an empty directory | | the child has the new name, and the target is gone |
-    pub fn rename(
-        &mut self,
-        from: u64,
-        old: &[u8],
-        to: u64,
-        new: &[u8],
-        at: At,
-    ) -> Result<(), TreeFault>
+    /// | The child | The target | |
+    /// |---|---|---|
+    /// | any | absent | the child has the new name |
+    /// | no directory | no directory | the child has the new name, and the target has lost it |
+    /// | a directory | an empty directory | the child has the new name, and the target is gone |
+    pub fn rename(&mut self, moved: Move<'_>, at: At) -> Result<(), AllocError>
         requires tick { IsTick self.old at.tick }
-        requires live { kind_of self.old to ≡ Some Kind.Directory }
-        requires short { length new.now ≤ MAX_NAME }
-        ensures refused { MatchOption (rename_refusal self.old from old.now to new.now) (IsOkUnless result TreeFault.Memory) (λ fault. result ≡ Err fault) }
-        ensures same { IfSome (child_named self.old from old.now) (λ child. child_named self.old to new.now ≡ Some child → IsOk result) }
-        ensures ok { OnOk result (self.new ≡ renamed self.old from old.now to new.now at) }
+        requires live { kind_of self.old moved.to ≡ Some Kind.Directory }
+        requires short { length moved.new.now ≤ MAX_NAME }
+        requires child { child_named self.old moved.from moved.old.now ≡ Some moved.child }
+        requires target { child_named self.old moved.to moved.new.now ≡ moved.target }
+        requires other { is_one (Some moved.child) moved.target ≡ false }
+        requires above { is_below (kind_of self.old) (parent_of self.old) self.old.next_number moved.child moved.to ≡ false }
+        requires replaces { may_replace (kind_of self.old) (has_entries self.old.names) moved.child moved.target ≡ true }
+        requires space { may_move (name_count self.old.names moved.to) self.old.next_cookie moved.from moved.to moved.target ≡ true }
+        ensures ok { OnOk result (self.new ≡ renamed self.old moved.entry.from moved.entry.old.now moved.entry.to moved.entry.new.now at) }
         ensures err { OnErr result (self.new ≡ self.old) }
         ensures judged { KeepsJudged self.old self.new }
     {
-        let Some(child) = self.store.find(from, old) else {
-            return Err(TreeFault::NoEnt);
-        };
-        let target = self.store.find(to, new);
-        if let Some(fault) = self.store.move_fault(from, to, child, target) {
-            return Err(fault);
-        }
-        if target == Some(child) {
-            return Ok(());
-        }
+        let Move {
+            from,
+            old,
+            to,
+            new,
+            child,
+            target,
+        } = moved;
         self.store.rename(from, old, to, new, child, target, at)?;
         Ok(())
     }

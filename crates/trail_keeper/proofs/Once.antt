@@ -2,8 +2,8 @@
 use Rattle.std.proofs.Common.{◌≡◌, ◌∙◌, ◌+◌, ◌-◌, ◌++◌, ℕ, List, Option, length, drop, ap, subst, arith}
 use Rattle.std.specs.Io.KnownBytes.{Appends}
 use Rattle.std.proofs.lemmas.List.{length-append}
-use Rattle.trail_lines.specs.Appended.{lost_text, new_text, text_of}
-use Rattle.trail_lines.proofs.Kept.{tells_each}
+use Rattle.trail_keeper.specs.Appended.{lost_text, new_text, text_of}
+use Rattle.trail_keeper.proofs.Kept.{tells_each}
 use Rattle.trail_keeper.specs.Keeping.{KeptOnce}
 
 pub kept_once : {W : Type 0} (contents : W → Option (List ℕ)) → KeptOnce contents

@@ -3,9 +3,9 @@ use Rattle.std.specs.Prelude.{◌≡◌, ℕ, ◌-◌, Bool, true, false, List, 
 use Rattle.std.specs.Io.KnownBytes.{Appends}
 use Rattle.access_guard.specs.Log.{Log}
 use Rattle.access_guard.specs.declared.line.Line.{Line}
-use Rattle.trail_lines.specs.Appended.{lost_text, new_text, text_of}
-use Rattle.trail_lines.specs.Told.{IsLogOf}
-use Rattle.trail_lines.specs.Written.{WritesFront}
+use Rattle.trail_keeper.specs.Appended.{lost_text, new_text, text_of}
+use Rattle.trail_keeper.specs.Told.{IsLogOf}
+use Rattle.trail_keeper.specs.Written.{WritesFront}
 use Rattle.trail_keeper.specs.declared.keeper.TrailKeeper.{TrailKeeper}
 
 -- The lines behind the seen ones are appended to the bytes of the writer, and are seen.

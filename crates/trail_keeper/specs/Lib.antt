@@ -1,1 +1,4 @@
+pub mod Appended
+pub mod Written
+pub mod Told
 pub mod Keeping

@@ -2,10 +2,10 @@
 ghost use Rattle.std.specs.Prelude.{◌≡◌, false};
 ghost use Rattle.trail_keeper.specs.Keeping.{KeepsSo};
 
+use crate::appending::append_new;
 use access_guard::Guard;
 use std::alloc::Allocator;
 use std::io::Write;
-use trail_lines::append_new;
 
 /// Appends the lines of a trail to a writer, each once and with a newline. Once the writer has failed, nothing more is appended.
 #[derive(Drop)]

@@ -1,8 +1,10 @@
-//! A keeper of an audit trail: it appends the trail's lines to a writer, each once, until the writer fails.
+//! The audit trail's new lines, appended to a writer: by a call that is told which were seen, and by a keeper that counts them.
 #![tactic(auto)]
 
+mod appending;
 mod keeper;
 mod laws;
 
+pub use appending::append_new;
 pub use keeper::TrailKeeper;
-pub use laws::each_line_is_kept_once;
+pub use laws::{each_line_is_kept_once, each_line_is_told, settling_adds_lines};

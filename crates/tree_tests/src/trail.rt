@@ -1,4 +1,4 @@
-//! Tests of `trail_lines`: the bytes that are appended, and writers that fail.
+//! Tests of `append_new` of `trail_keeper`: the bytes that are appended, and writers that fail.
 
 mod appended;
 mod failing;

@@ -5,7 +5,7 @@ use std::alloc::Global;
 use std::hash::RandomState;
 use std::process::Abort;
 use std::test::Fail;
-use trail_lines::append_new;
+use trail_keeper::append_new;
 
 /// Appends the lines behind the first `seen`, and gives the total that is answered.
 fn append(guard: &Guard, seen: u64, file: &mut Vec<u8>) -> Option<u64> {

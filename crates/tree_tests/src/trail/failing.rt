@@ -7,7 +7,7 @@ use std::io;
 use std::io::{ErrorKind, Write};
 use std::process::Abort;
 use std::test::Fail;
-use trail_lines::append_new;
+use trail_keeper::append_new;
 
 /// A writer that takes at most `piece` bytes at once and `room` in all, and then fails, or takes nothing more.
 #[derive(Drop)]

@@ -1,12 +1,12 @@
 //! Calls of a tree, each an operation of its own: it takes the next tick, at the second of that tick.
 ghost use Rattle.std.specs.Prelude.{◌≡◌, ◌≢◌, IsTrue, IfSome, IsSome, Some};
-ghost use Rattle.node_tree.specs.World.{object, kind_of};
+ghost use Rattle.node_tree.specs.World.{object, kind_of, is_one};
 ghost use Rattle.node_tree.specs.Sound.{IsTick};
 
 use acl_list::{AclList, Kind};
 use acl_shape::is_bounded;
-use node_tree::{At, Moment, NewObject, Tree, TreeFault};
-use std::alloc::Allocator;
+use node_tree::{At, Moment, Move, NewObject, Tree, TreeFault};
+use std::alloc::{AllocError, Allocator};
 
 /// The outcome of a call, or of a look.
 #[derive(Clone, Copy, Debug, PartialEq, Eq)]
@@ -17,6 +17,8 @@ pub enum Outcome {
     Made(u64),
     /// The call was refused.
     Refused(TreeFault),
+    /// A directory would come to lie below itself.
+    GoesBelow,
     /// The call's requirements don't hold.
     Misused,
     /// A number was seen.
@@ -123,6 +125,16 @@ pub fn unlink<A: Allocator + Copy>(tree: &mut Tree<A>, directory: u64, name: &[u
     came_to(tree.unlink(directory, name, at))
 }
 
+/// Whether the target of a new name is the child itself.
+fn is_one(child: u64, target: Option<u64>) -> bool
+    ensures { result ≡ is_one (Some child) target }
+{
+    match target {
+        Some(target) => child == target,
+        None => false,
+    }
+}
+
 pub fn rename<A: Allocator + Copy>(
     tree: &mut Tree<A>,
     from: u64,
@@ -139,7 +151,34 @@ pub fn rename<A: Allocator + Copy>(
     if new.len() > 255 {
         return Outcome::Misused;
     }
-    came_to(tree.rename(from, old, to, new, at))
+    let Some(child) = tree.find(from, old) else {
+        return Outcome::Refused(TreeFault::NoEnt);
+    };
+    let target = tree.find(to, new);
+    if is_one(child, target) {
+        return Outcome::Done;
+    }
+    if tree.is_below(child, to) {
+        return Outcome::GoesBelow;
+    }
+    if !tree.may_replace(child, target) {
+        return Outcome::Refused(TreeFault::Exist);
+    }
+    if !tree.may_move(from, to, target) {
+        return Outcome::Refused(TreeFault::NoSpc);
+    }
+    let moved = Move {
+        from,
+        old,
+        to,
+        new,
+        child,
+        target,
+    };
+    match tree.rename(moved, at) {
+        Ok(()) => Outcome::Done,
+        Err(AllocError) => Outcome::Refused(TreeFault::Memory),
+    }
 }
 
 pub fn write<A: Allocator + Copy>(

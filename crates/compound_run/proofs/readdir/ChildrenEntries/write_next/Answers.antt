@@ -13,9 +13,9 @@ use Rattle.compound_run.proofs.readdir.ChildrenEntries.write_next.Goals as goal
 
 pub returns-in-Err-clause-gives : goal.returns-in-Err-clause-gives
 returns-in-Err-clause-gives g c =
-    let context = context_at c.args.self.now.export.now c.args.self.now.context in
+    let context = context_at c.args.self.now.realm.now c.args.self.now.context in
     let asked = bitmap_value c.args.self.now.asked in
-    let s = sight_of c.args.self.now.export.now in
+    let s = sight_of c.args.self.now.realm.now in
     let next = c.in-Some.ensures.some in (
       judged_above context asked c.args.self.now.directory c.in-Some.cookie s,
       next_judged context asked s c.args.self.now.directory c.args.self.now.cookie _ c.in-Some.cookie c.in-Some.child (Err c.in-Err.demand) next (search rules),
@@ -25,9 +25,9 @@ returns-in-Err-clause-gives g c =
 pub returns-in-Ok-put_next-clause-gives : goal.returns-in-Ok-put_next-clause-gives
 unfolding linked
 returns-in-Ok-put_next-clause-gives g c =
-    let context = context_at c.args.self.now.export.now c.args.self.now.context in
+    let context = context_at c.args.self.now.realm.now c.args.self.now.context in
     let asked = bitmap_value c.args.self.now.asked in
-    let s = sight_of c.args.self.now.export.now in
+    let s = sight_of c.args.self.now.realm.now in
     let next = c.in-Some.ensures.some in
     let given = c.in-Ok.given in
     let same = c.judge.ensures.state in
@@ -42,9 +42,9 @@ returns-in-Ok-put_next-clause-gives g c =
 pub returns-in-Err-put_next-clause-gives : goal.returns-in-Err-put_next-clause-gives
 unfolding linked
 returns-in-Err-put_next-clause-gives g c =
-    let context = context_at c.args.self.now.export.now c.args.self.now.context in
+    let context = context_at c.args.self.now.realm.now c.args.self.now.context in
     let asked = bitmap_value c.args.self.now.asked in
-    let s = sight_of c.args.self.now.export.now in
+    let s = sight_of c.args.self.now.realm.now in
     let next = c.in-Some.ensures.some in
     let given = c.in-Ok.given in
     let same = c.judge.ensures.state in

@@ -11,7 +11,7 @@ returns g c =
     record {
       answers = (
         h.0,
-        answers_call c.args.self.now (state_of c.self.inside.export) (state_of c.answer_in_session.new.self) call (args_of c.in-Some.compound) c.in-Some.compound.operations.now h.0 (sym c.self.view_is) (search rules) h.1,
+        answers_call c.args.self.now (state_of c.self.inside.realm) (state_of c.answer_in_session.new.self) call (args_of c.in-Some.compound) c.in-Some.compound.operations.now h.0 (sym c.self.view_is) (search rules) h.1,
         h.2,
         h.3,
       );

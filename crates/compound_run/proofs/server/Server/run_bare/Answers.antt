@@ -11,7 +11,7 @@ returns g c =
     record {
       answers = (
         h.0,
-        answers c.args.self.now call (args_of c.in-Some.compound) c.in-Some.compound.operations.now h.0 c.self.inside.export c.run.new.export (sym c.self.view_is) (search rules) (search rules) h.1,
+        answers c.args.self.now call (args_of c.in-Some.compound) c.in-Some.compound.operations.now h.0 c.self.inside.realm c.run.new.realm (sym c.self.view_is) (search rules) (search rules) h.1,
         h.2,
         h.3,
       );

@@ -1,0 +1,201 @@
+//! The realm that is served, with the calls that operations need.
+ghost use Rattle.std.specs.Prelude.{◌≡◌, ◌≢◌, ◌<◌, ◌≤◌, ◌^◌, if◌then◌else◌, length, true, false, Ok, Err, Some, None, IfOk, IfSome, IsSome, IsOkUnless, MatchResult, OnOk, OnErr};
+ghost use Rattle.acl_shape.specs.Bounds.{IsBounded};
+ghost use Rattle.nfs_types.specs.Name.{name_fault};
+ghost use Rattle.node_tree.specs.World.{object, kind_of, has_entries, link_count, is_one};
+ghost use Rattle.node_tree.specs.Changes.{made, with_new, with_link, with_write, unlinked, renamed};
+ghost use Rattle.node_tree.specs.Sound.{IsTick, most_bytes};
+ghost use Rattle.node_tree.specs.Refusals.{has_left, may_name};
+ghost use Rattle.compound_run.specs.Sight.{child, whole};
+ghost use Rattle.compound_run.specs.Meaning.{names_at};
+ghost use Rattle.compound_run.specs.Create.{can_add};
+ghost use Rattle.compound_run.specs.Rename.{goes_below, can_replace, can_move};
+ghost use Rattle.compound_run.specs.Write.{fits};
+ghost use Rattle.compound_run.specs.Realm.{with_loss};
+ghost use Rattle.compound_run.specs.Views.{realm_of, with_world, settings_of};
+
+use crate::limits::MAX_COUNT;
+use crate::opens::Open;
+use access_guard::GuardedTree;
+use nfs_types::{Moment, Status, check_name};
+use node_tree::{At, Kind, MAX_LINKS, Move, NewObject, TreeFault};
+use session_slots::Clients;
+use std::alloc::{AllocError, Allocator, Global};
+
+/// The realm that is served: the tree, with the guard of its lists, the open files, and the clients.
+#[derive(Drop)]
+pub(crate) struct Realm<A: Allocator + Copy = Global> {
+    pub alloc: A,
+    pub tree: GuardedTree<A>,
+    /// The open files, by rising number.
+    pub opens: Vec<Open<A>, A>,
+    /// The number that the next open gets.
+    pub next_open: u64,
+    /// The clients and their sessions.
+    pub clients: Clients<A>,
+}
+
+/// The fault of a name, if any.
+pub(crate) fn check(name: &[u8]) -> Result<(), Status>
+    ensures fault { MatchResult result (λ done. name_fault name.now ≡ None) (λ status. name_fault name.now ≡ Some status) }
+    ensures short { OnOk result (length name.now ≤ 255) }
+{
+    match check_name(name) {
+        Some(fault) => Err(fault),
+        None => Ok(()),
+    }
+}
+
+/// The status of a change that can only be refused for want of space or memory.
+pub(crate) fn status_of(fault: TreeFault) -> Status
+    ensures memory { fault ≡ TreeFault.Memory → result ≡ Status.Delay }
+    ensures space { fault ≡ TreeFault.NoSpc → result ≡ Status.NoSpc }
+{
+    match fault {
+        TreeFault::Memory => Status::Delay,
+        _ => Status::NoSpc,
+    }
+}
+
+impl<A: Allocator + Copy> Realm<A> {
+    /// The child of a name in a directory.
+    pub fn find(&self, directory: u64, name: &[u8]) -> Option<u64>
+        ensures child { result ≡ child (whole (realm_of self.now)) directory name.now }
+        ensures live { IfSome result (λ child. IsSome (object self.now.tree.world child)) }
+    {
+        self.tree.find(directory, name)
+    }
+
+    /// When a change is made at this moment, if the counter of ticks has one left.
+    pub fn tick(&self, now: Moment) -> Option<At>
+        ensures value { result ≡ (if has_left self.now.tree.world.next_tick then Some (record { tick = self.now.tree.world.next_tick; moment = now }) else None) }
+        ensures tick { IfSome result (λ at. IsTick self.now.tree.world at.tick) }
+    {
+        let tick = self.tree.next_tick();
+        if tick >= MAX_COUNT {
+            return None;
+        }
+        Some(At { tick, moment: now })
+    }
+
+    /// Creates an object under a free name. `NoSpc`: there is no space for it. `Delay`: there is no memory for it.
+    pub fn add(
+        &mut self,
+        directory: u64,
+        name: &[u8],
+        new: NewObject<A>,
+        at: At,
+    ) -> Result<u64, Status>
+        requires tick { IsTick self.old.tree.world at.tick }
+        requires live { kind_of self.old.tree.world directory ≡ Some Kind.Directory }
+        requires short { length name.now ≤ 255 }
+        requires bounded { IsBounded new.list }
+        requires bytes { length new.bytes.items ≤ most_bytes new.kind }
+        requires free { child (whole (realm_of self.old)) directory name.now ≡ None }
+        ensures full { can_add (whole (realm_of self.old)) directory ≡ false → result ≡ Err Status.NoSpc }
+        ensures space { can_add (whole (realm_of self.old)) directory ≡ true → IsOkUnless result Status.Delay }
+        ensures number { IfOk result (λ number. number ≡ self.old.tree.world.next_number) }
+        ensures ok { OnOk result (self.new ≡ record self.old { tree = record self.old.tree { world = with_new self.old.tree.world directory name.now (made new self.old.tree.world.next_stamp at) at } }) }
+        ensures err { OnErr result (self.new ≡ self.old) }
+    {
+        self.tree.add(directory, name, new, at).map_err(status_of)
+    }
+
+    /// Writes bytes into a file, within its limit. `Delay`: there is no memory for them.
+    pub fn write_bytes(&mut self, file: u64, offset: u64, more: &[u8], at: At) -> Result<(), Status>
+        requires tick { IsTick self.old.tree.world at.tick }
+        requires file { kind_of self.old.tree.world file ≡ Some Kind.File }
+        requires fits { fits offset more.now ≡ true }
+        ensures space { IsOkUnless result Status.Delay }
+        ensures ok { OnOk result (self.new ≡ with_world (with_write self.old.tree.world file offset more.now at) self.old) }
+        ensures err { OnErr result (self.new ≡ self.old) }
+    {
+        self.tree.write(file, offset, more, at).map_err(status_of)
+    }
+
+    /// Gives an object a free name. `NoSpc`: there is no space for it. `Delay`: there is no memory for it.
+    pub fn add_name(
+        &mut self,
+        directory: u64,
+        name: &[u8],
+        number: u64,
+        at: At,
+    ) -> Result<(), Status>
+        requires tick { IsTick self.old.tree.world at.tick }
+        requires live { kind_of self.old.tree.world directory ≡ Some Kind.Directory }
+        requires there { IsSome (object self.old.tree.world number) }
+        requires plain { kind_of self.old.tree.world number ≢ Some Kind.Directory }
+        requires short { length name.now ≤ 255 }
+        requires free { child (whole (realm_of self.old)) directory name.now ≡ None }
+        requires few { link_count self.old.tree.world.names number < MAX_LINKS }
+        ensures full { may_name (names_at (whole (realm_of self.old)) directory) self.old.tree.world.next_cookie ≡ false → result ≡ Err Status.NoSpc }
+        ensures space { may_name (names_at (whole (realm_of self.old)) directory) self.old.tree.world.next_cookie ≡ true → IsOkUnless result Status.Delay }
+        ensures ok { OnOk result (self.new ≡ record self.old { tree = record self.old.tree { world = with_link self.old.tree.world directory name.now number at } }) }
+        ensures err { OnErr result (self.new ≡ self.old) }
+    {
+        self.tree
+            .link(directory, name, number, at)
+            .map_err(status_of)
+    }
+
+    /// Takes away the name of a child without entries. Where that was its last name its opens are closed.
+    pub fn unlink(&mut self, directory: u64, name: &[u8], target: u64, at: At)
+        requires tick { IsTick self.old.tree.world at.tick }
+        requires child { child (whole (realm_of self.old)) directory name.now ≡ Some target }
+        requires empty { has_entries self.old.tree.world.names target ≡ false }
+        ensures realm { realm_of self.new ≡ with_loss (unlinked self.old.tree.world directory name.now at) (Some target) (realm_of self.old) }
+        ensures log { self.new.tree.log ≡ self.old.tree.log }
+        ensures settings { settings_of self.new ≡ settings_of self.old }
+    {
+        if self.tree.unlink(directory, name, at).is_err() {
+            unreachable!();
+        }
+        self.end_opens(target);
+    }
+
+    /// Gives a child another name that it may have. `Delay`: there is no memory for it.
+    fn move_name(&mut self, moved: Move<'_>, at: At) -> Result<(), Status>
+        requires tick { IsTick self.old.tree.world at.tick }
+        requires live { kind_of self.old.tree.world moved.to ≡ Some Kind.Directory }
+        requires short { length moved.new.now ≤ 255 }
+        requires child { child (whole (realm_of self.old)) moved.from moved.old.now ≡ Some moved.child }
+        requires target { child (whole (realm_of self.old)) moved.to moved.new.now ≡ moved.target }
+        requires other { is_one (Some moved.child) moved.target ≡ false }
+        requires above { goes_below (whole (realm_of self.old)) moved.child moved.to ≡ false }
+        requires may { can_replace (whole (realm_of self.old)) moved.child moved.target ≡ true }
+        requires space { can_move (whole (realm_of self.old)) moved.from moved.to moved.target ≡ true }
+        ensures space { IsOkUnless result Status.Delay }
+        ensures ok { OnOk result (self.new ≡ with_world (renamed self.old.tree.world moved.entry.from moved.entry.old.now moved.entry.to moved.entry.new.now at) self.old) }
+        ensures err { OnErr result (self.new ≡ self.old) }
+    {
+        match self.tree.rename(moved, at) {
+            Ok(()) => Ok(()),
+            Err(AllocError) => Err(Status::Delay),
+        }
+    }
+
+    /// Gives a child another name that it may have. A target of that name loses it; where that was its last name its opens are
+    /// closed. `Delay`: there is no memory for it.
+    pub fn rename_child(&mut self, moved: Move<'_>, at: At) -> Result<(), Status>
+        requires tick { IsTick self.old.tree.world at.tick }
+        requires live { kind_of self.old.tree.world moved.to ≡ Some Kind.Directory }
+        requires short { length moved.new.now ≤ 255 }
+        requires child { child (whole (realm_of self.old)) moved.from moved.old.now ≡ Some moved.child }
+        requires target { child (whole (realm_of self.old)) moved.to moved.new.now ≡ moved.target }
+        requires other { is_one (Some moved.child) moved.target ≡ false }
+        requires above { goes_below (whole (realm_of self.old)) moved.child moved.to ≡ false }
+        requires may { can_replace (whole (realm_of self.old)) moved.child moved.target ≡ true }
+        requires space { can_move (whole (realm_of self.old)) moved.from moved.to moved.target ≡ true }
+        ensures space { IsOkUnless result Status.Delay }
+        ensures ok { OnOk result (realm_of self.new ≡ with_loss (renamed self.old.tree.world moved.entry.from moved.entry.old.now moved.entry.to moved.entry.new.now at) moved.entry.target (realm_of self.old)) }
+        ensures err { OnErr result (self.new ≡ self.old) }
+        ensures log { self.new.tree.log ≡ self.old.tree.log }
+        ensures settings { settings_of self.new ≡ settings_of self.old }
+    {
+        self.move_name(moved, at)?;
+        if let Some(replaced) = moved.target {
+            self.end_opens(replaced);
+        }
+        Ok(())
+    }
+}

@@ -1,0 +1,89 @@
+-- Writing in pieces, one behind the other.
+use Rattle.std.proofs.Common.{◌≡◌, ◌+◌, drop, take, Bor, ℕ, List, [], ◌∷◌, ◌++◌, ◌<◌, length, ◌-◌, replicate, suc, arith, Option, Some, None, Result, Ok, Err, sym, ap, ◌∙◌, append_assoc}
+use Rattle.std.proofs.lemmas.List.{append-nil, drop-drop, drop-replicate, take-append-drop}
+use Rattle.std.proofs.Math.Seq.{take-add, take-append-add}
+use Rattle.std.specs.Map.Iter.{TakesFirst, deref}
+use Rattle.std.specs.Io.KnownBytes.{Appends, Keeps}
+use Rattle.access_guard.specs.declared.line.Line.{Line}
+use Rattle.trail_keeper.specs.Appended.{line_bytes, text_of}
+use Rattle.trail_keeper.specs.Written.{WriteGives, WritesFront}
+
+pub appends_trans : (a b c : Option (List ℕ)) (bs cs : List ℕ) → Appends a b bs → Appends b c cs → Appends a c (bs ++ cs)
+appends_trans None b c bs cs p q = tt
+appends_trans (Some x) None c bs cs p q = absurd p
+appends_trans (Some x) (Some y) None bs cs p q = absurd q
+appends_trans (Some x) (Some y) (Some z) bs cs p q = q ∙ ap (λ (l : List ℕ). l ++ cs) p ∙ append_assoc x bs cs
+
+pub appends_none : (a : Option (List ℕ)) → Appends a a []
+appends_none None = tt
+appends_none (Some x) = sym (append-nil x)
+
+-- ---- one piece
+
+-- bytes that are written in two parts
+pub written_more : (a b c : Option (List ℕ)) (done n : ℕ) (bytes : List ℕ) → Appends a b (take done bytes) → Appends b c (take n (drop done bytes)) → Appends a c (take (done + n) bytes)
+written_more a b c done n bytes p q = rw (take-add done n bytes) (appends_trans a b c (take done bytes) (take n (drop done bytes)) p q)
+
+-- the writer failed behind these bytes
+pub front_written : (a b c : Option (List ℕ)) (done : ℕ) (bytes : List ℕ) → Appends a b (take done bytes) → Keeps b c → WritesFront a c bytes
+front_written a b c done bytes p q = (take done bytes, drop done bytes, sym (take-append-drop done bytes), keeps a b c (take done bytes) p q)
+  where
+    keeps : (a b c : Option (List ℕ)) (bs : List ℕ) → Appends a b bs → Keeps b c → Appends a c bs
+    keeps None b c bs p q = tt
+    keeps (Some x) None c bs p q = absurd p
+    keeps (Some x) (Some y) None bs p q = absurd q
+    keeps (Some x) (Some y) (Some z) bs p q = q ∙ p
+
+-- the writer took nothing
+pub took_none : (a b : Option (List ℕ)) → Appends a b [] → Keeps a b
+took_none None b p = tt
+took_none (Some x) None p = absurd p
+took_none (Some x) (Some y) p = p ∙ append-nil x
+
+-- ---- pieces behind one another
+
+-- a front of the bytes behind a piece
+pub front_behind : (a b c : Option (List ℕ)) (bs cs : List ℕ) → Appends a b bs → WritesFront b c cs → WritesFront a c (bs ++ cs)
+front_behind a b c bs cs p (front, rest, is, q) =
+    (bs ++ front, rest, ap (λ (l : List ℕ). bs ++ l) is ∙ sym (append_assoc bs front rest), appends_trans a b c bs front p q)
+
+-- a front of a piece is a front of the bytes that begin with the piece
+pub front_before : (a b : Option (List ℕ)) (bs cs : List ℕ) → WritesFront a b bs → WritesFront a b (bs ++ cs)
+front_before a b bs cs (front, rest, is, q) = (front, rest ++ cs, ap (λ (l : List ℕ). l ++ cs) is ∙ append_assoc front rest cs, q)
+
+-- a front of equal bytes
+pub front_of : (a b : Option (List ℕ)) (bs cs : List ℕ) → bs ≡ cs → WritesFront a b bs → WritesFront a b cs
+front_of a b bs cs same (front, rest, is, q) = (front, rest, sym same ∙ is, q)
+
+pub then_more : {X E : Type 0} (r : Result X E) (a b c : Option (List ℕ)) (bs cs : List ℕ) → Appends a b bs → WriteGives b c cs r → WriteGives a c (bs ++ cs) r
+then_more (Ok x) a b c bs cs p q = appends_trans a b c bs cs p q
+then_more (Err e) a b c bs cs p q = front_behind a b c bs cs p q
+
+-- ---- lines
+
+-- a text at the front of enough newlines, and one of them
+pub newline_behind : (text : List ℕ) (most : ℕ) → length text < most → take (length text + 1) (text ++ drop (length text) (replicate most 10)) ≡ text ++ 10 ∷ []
+newline_behind text most short =
+    let more : most - length text ≡ suc (most - length text - 1) = omega arith in
+    take-append-add text (drop (length text) (replicate most 10)) 1
+    ∙ ap (λ (l : List ℕ). text ++ take 1 l) (drop-replicate (length text) most 10)
+    ∙ ap (λ (n : ℕ). text ++ take 1 (replicate n 10)) more
+
+-- the lines so far, and those that are left
+pub lines_step : (all left left' : List Line) (line : Line) (written : List ℕ) → text_of all ≡ written ++ text_of left → left ≡ line ∷ left'
+    → text_of all ≡ (written ++ line_bytes line) ++ text_of left'
+lines_step all left left' line written so_far first =
+    so_far ∙ ap (λ (l : List Line). written ++ text_of l) first ∙ sym (append_assoc written (line_bytes line) (text_of left'))
+
+next_is : (s t : List Line) (r : Option (Bor Line)) → TakesFirst (deref {X = Line}) s r t → t ≡ drop 1 s
+next_is s t None q = q.1 ∙ sym (ap (drop 1) q.0)
+next_is s t (Some x) q = sym (ap (drop 1) q)
+
+-- a call of `next` behind the first n lines
+pub next_behind : (lines s t : List Line) (r : Option (Bor Line)) (n : ℕ) → s ≡ drop n lines → TakesFirst (deref {X = Line}) s r t → t ≡ drop (n + 1) lines
+next_behind lines s t r n e q = next_is s t r q ∙ ap (drop 1) e ∙ drop-drop 1 n lines
+
+-- ---- a call that failed
+
+pub stopped : {X E : Type 0} (r : Result X E) (e : E) (a b : Option (List ℕ)) (bs : List ℕ) → r ≡ Err e → WritesFront a b bs → WriteGives a b bs r
+stopped r e a b bs is front = rw is front

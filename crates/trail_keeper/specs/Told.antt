@@ -1,0 +1,23 @@
+-- The lines that are appended, of all that were ever put into a trail.
+use Rattle.std.specs.Prelude.{◌≡◌, ◌<◌, ◌+◌, ◌-◌, ◌^◌, true, List, ◌++◌, length, drop}
+use Rattle.circular_buffer.specs.Buffer.{keep_last}
+use Rattle.access_guard.specs.Log.{Log, settled}
+use Rattle.access_guard.specs.declared.line.Line.{Line}
+use Rattle.trail_keeper.specs.Appended.{lost_text, new_text, text_of}
+
+-- the log of these lines: the last 4,096 of them, and how many they are
+pub record IsLogOf (lines : List Line) (log : Log) : Type 0 where
+  pub kept : log.trail ≡ keep_last 4096 lines
+  pub counted : log.total ≡ length lines
+
+-- Each line behind the earlier ones is appended: by its text, in order, or, of more than 4,096, as one of so many that are
+-- missing, whose number comes first.
+abbrev pub TellsEach : Type 0
+TellsEach =
+    (earlier later : List Line) (log : Log) → IsLogOf (earlier ++ later) log
+    → let missing = length later - 4096 in new_text (length earlier) log ≡ lost_text missing ++ text_of (drop missing later)
+
+-- an operation that ends puts its lines behind the others, as long as 64 bits count them
+abbrev pub SettlingAdds : Type 0
+SettlingAdds =
+    (lines : List Line) (log : Log) → IsLogOf lines log → length lines + length log.held < 2 ^ 64 → IsLogOf (lines ++ log.held) (settled true log)

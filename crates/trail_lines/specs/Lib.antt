@@ -1,3 +1,0 @@
-pub mod Appended
-pub mod Written
-pub mod Told
