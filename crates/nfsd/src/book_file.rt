@@ -23,16 +23,13 @@ pub(crate) struct BookFile<'a, R> {
     rt: &'a R,
     alloc: Global,
     path: Option<&'a str>,
-    /// The stamp of the file just before its last read; none, where there was no regular file.
+    /// The stamp of the file just before its last read; none, where the system told none.
     stamp: Option<Stamp>,
 }
 
-/// The stamp of a regular file now. `None`: there is none; reading another one, such as a pipe, might never end.
+/// The stamp of a file now.
 fn stamp_of(files: &impl Files, path: &str) -> Option<Stamp> {
     let told = fs::metadata(files, path).ok()?;
-    if !told.is_file() {
-        return None;
-    }
     Some(Stamp {
         node: told.ino(),
         seconds: told.mtime(),
@@ -58,9 +55,6 @@ impl<'a, R: Files + Alloc + Eprint> BookFile<'a, R> {
             return Ok(Book::default(self.alloc));
         };
         self.stamp = stamp_of(self.rt, path);
-        if self.stamp.is_none() {
-            return Err(Fault::File);
-        }
         let Ok(text) = fs::read_to_string(self.rt, path) else {
             return Err(Fault::File);
         };

@@ -5,11 +5,9 @@ use crate::{Fault, TURNS, ended};
 use nfs_hub::{Clock, Hub, ServeEnd, serve};
 use nfsd_options::Options;
 use std::alloc::Global;
-use std::fs;
 use std::fs::OpenOptions;
 use std::io;
 use std::net::{Ipv4Addr, Net, SocketAddrV4, TcpListener, TcpStream};
-use std::os::unix::fs::MetadataExt;
 use std::rt::Files;
 use trail_keeper::TrailKeeper;
 
@@ -19,8 +17,8 @@ fn serve_stream<C: Clock>(hub: &mut Hub, stream: &TcpStream, clock: &C) -> Serve
     serve(hub, &mut &*stream, &mut &*stream, clock, TURNS)
 }
 
-/// Serves as many connections as the options say, one after the other, and says whether each ended after a whole record. `Err` of the
-/// outer result: standard output can't be written.
+/// Serves as many connections as the options say, one after the other, and says whether each ended behind a whole record. `Err` of the
+/// outer result: standard output or standard error can't be written.
 fn serve_all<
     R: Net<Listener = TcpListener, Stream = TcpStream> + Files + Alloc + Print + Eprint,
     C: Clock,
@@ -36,11 +34,11 @@ fn serve_all<
         return Ok(Err(Fault::Socket));
     };
     println!(rt; "listening on 127.0.0.1:{port}")?;
-    Ok(serve_streams(rt, hub, clock, &listener, options.connections, book))
+    serve_streams(rt, hub, clock, &listener, options.connections, book)
 }
 
-/// Accepts this many streams and serves one after the other, each by the book at the time when it has come, and says whether each
-/// ended after a whole record. `Err`: the socket gives no connection.
+/// Accepts so many streams and serves one after the other, each by the book at the time when it has come, and says whether each ended
+/// behind a whole record. `Err` of the outer result: standard error can't be written.
 pub(crate) fn serve_streams<R: Files + Alloc + Eprint, C: Clock>(
     rt: &R,
     hub: &mut Hub,
@@ -48,17 +46,17 @@ pub(crate) fn serve_streams<R: Files + Alloc + Eprint, C: Clock>(
     listener: &TcpListener,
     connections: u32,
     book: &mut BookFile<'_, R>,
-) -> Result<bool, Fault> {
+) -> io::Result<Result<bool, Fault>> {
     let mut are_whole = true;
     for _connection in 0..connections {
         let Ok((stream, _)) = listener.accept() else {
-            return Err(Fault::Socket);
+            return Ok(Err(Fault::Socket));
         };
         book.load_into(hub);
-        let is_whole = ended(rt, serve_stream(hub, &stream, clock));
+        let is_whole = ended(rt, serve_stream(hub, &stream, clock))?;
         are_whole = are_whole && is_whole;
     }
-    Ok(are_whole)
+    Ok(Ok(are_whole))
 }
 
 /// The file of the trail, to append to; the file is created where there is none.
@@ -68,33 +66,16 @@ pub(crate) fn open_trail<R: Files>(rt: &R, file: &str) -> Result<R::File, Fault>
     how.open(rt, file).map_err(|_| Fault::Trail)
 }
 
-/// Whether a file is that of the book, by whatever name.
-fn is_book<R: Files>(rt: &R, options: &Options<'_>, file: &str) -> bool {
-    match options.book {
-        Some(book) => is_same(rt, book, file),
-        None => false,
-    }
-}
-
-/// Whether two names are those of one file that is there.
-fn is_same<R: Files>(rt: &R, first: &str, second: &str) -> bool {
-    let (Ok(first), Ok(second)) = (fs::metadata(rt, first), fs::metadata(rt, second)) else {
-        return false;
-    };
-    first.dev() == second.dev() && first.ino() == second.ino()
-}
-
-/// The keeper of the trail, where the options name its file. The file of the book is none.
+/// The keeper of the trail, where the options name its file.
 fn trail<R: Files>(rt: &R, options: &Options<'_>) -> Result<Option<TrailKeeper<R::File>>, Fault> {
     match options.trail {
-        Some(file) if is_book(rt, options, file) => Err(Fault::Trail),
         Some(file) => Ok(Some(TrailKeeper::new(open_trail(rt, file)?))),
         None => Ok(None),
     }
 }
 
 /// Serves by the options, from a port of 127.0.0.1. The value is whether all went well; `Err`: no more connections can be served; of the
-/// outer result: standard output can't be written.
+/// outer result: standard output or standard error can't be written.
 pub(crate) fn serve_options<
     R: Net<Listener = TcpListener, Stream = TcpStream> + Files + Alloc + Print + Eprint,
     C: Clock,

@@ -14,7 +14,6 @@ mod together;
 use anyhow::Result;
 use book_file::BookFile;
 use clock::SystemClock;
-use listening::serve_options;
 use nfs_hub::{Hub, HubFault, ServeEnd, serve};
 use nfsd_options::Options;
 use std::alloc::Global;
@@ -62,63 +61,50 @@ fn hub<R: Files + Alloc + Eprint>(
     made.map_err(|_| Fault::Hub(HubFault::Memory as u8))
 }
 
-/// Says on standard error how a connection ended that didn't end after a whole record. Whether it ended after one. What can't be
-/// said isn't said.
-fn ended<R: Eprint>(rt: &R, end: ServeEnd) -> bool {
+/// Tells the end of a connection that didn't end behind a whole record. Whether it ended behind one.
+fn ended<R: Eprint>(rt: &R, end: ServeEnd) -> io::Result<bool> {
     if end == ServeEnd::Ended {
-        return true;
+        return Ok(true);
     }
-    let _ = eprintln!(rt; "nfsd: end {}", end as u8);
-    false
-}
-
-/// Serves one connection, from standard input to standard output.
-fn serve_bare(rt: &HostRuntime, hub: &mut Hub) -> bool {
-    let clock = SystemClock::new(rt);
-    let end = serve(hub, &mut rt.reader(), &mut io::writer(rt), &clock, TURNS);
-    ended(rt, end)
-}
-
-/// Serves by the options, over a hub of its own. The value is whether all went well. `Err` of the outer result: there is no
-/// randomness, or standard output can't be written.
-fn serve_hub(rt: &HostRuntime, alloc: Global, options: &Options<'_>) -> Result<Result<bool, Fault>> {
-    let mut book = BookFile::new(rt, alloc, options.book);
-    let mut hub = match hub(alloc, options, &mut book, RandomState::new(rt)?) {
-        Ok(hub) => hub,
-        Err(fault) => return Ok(Err(fault)),
-    };
-    if options.bare {
-        return Ok(Ok(serve_bare(rt, &mut hub)));
-    }
-    let clock = SystemClock::new(rt);
-    Ok(serve_options(rt, alloc, &mut hub, &clock, options, book)?)
-}
-
-/// The status of the program, by what came of serving. A fault is said on standard error.
-fn status<R: Eprint>(rt: &R, served: Result<bool, Fault>) -> ExitCode {
-    match served {
-        Ok(true) => ExitCode::SUCCESS,
-        Ok(false) => ExitCode::FAILURE,
-        Err(fault) => {
-            let _ = eprintln!(rt; "nfsd: {fault}");
-            ExitCode::FAILURE
-        }
-    }
-}
-
-/// Serves by the words of the command line.
-fn run_words(rt: &HostRuntime, alloc: Global, words: &[String]) -> Result<ExitCode> {
-    match Options::read(alloc, words) {
-        Ok(options) => Ok(status(rt, serve_hub(rt, alloc, &options)?)),
-        Err(error) => {
-            rt.eprint(&error)?;
-            Ok(ExitCode::from(2))
-        }
-    }
+    eprintln!(rt; "nfsd: end {}", end as u8)?;
+    Ok(false)
 }
 
 fn main(rt: HostRuntime) -> Result<ExitCode> {
     let alloc = rt.alloc();
     let words: Vec<String> = env::args(&rt)?.collect(alloc)?;
-    run_words(&rt, alloc, words.as_slice())
+    let options = match Options::read(alloc, words.as_slice()) {
+        Ok(options) => options,
+        Err(error) => {
+            rt.eprint(&error)?;
+            return Ok(ExitCode::from(2));
+        }
+    };
+    let clock = SystemClock::new(&rt);
+    let mut book = BookFile::new(&rt, alloc, options.book);
+    let served = match hub(alloc, &options, &mut book, RandomState::new(&rt)?) {
+        Ok(mut hub) => {
+            if options.bare {
+                let end = serve(
+                    &mut hub,
+                    &mut rt.reader(),
+                    &mut io::writer(&rt),
+                    &clock,
+                    TURNS,
+                );
+                Ok(ended(&rt, end)?)
+            } else {
+                listening::serve_options(&rt, alloc, &mut hub, &clock, &options, book)?
+            }
+        }
+        Err(fault) => Err(fault),
+    };
+    match served {
+        Ok(true) => Ok(ExitCode::SUCCESS),
+        Ok(false) => Ok(ExitCode::FAILURE),
+        Err(fault) => {
+            eprintln!(rt; "nfsd: {fault}")?;
+            Ok(ExitCode::FAILURE)
+        }
+    }
 }

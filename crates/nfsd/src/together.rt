@@ -12,24 +12,24 @@ use std::net::Net;
 use std::rt::Files;
 use trail_keeper::TrailKeeper;
 
-/// Says how serving ended, unless all were served. The value is whether all were; `Err`: no more connections can be served.
-fn all_ended<R: Eprint>(rt: &R, end: AllEnd) -> Result<bool, Fault> {
+/// Tells the end of serving, unless all were served. The value is whether all were; `Err`: no more connections can be served.
+fn all_ended<R: Eprint>(rt: &R, end: AllEnd) -> io::Result<Result<bool, Fault>> {
     match end {
-        AllEnd::Served => Ok(true),
-        AllEnd::Turns => Ok(ended(rt, ServeEnd::Turns)),
-        AllEnd::Wait => Err(Fault::Socket),
-        AllEnd::Keep => Err(Fault::Trail),
+        AllEnd::Served => Ok(Ok(true)),
+        AllEnd::Turns => Ok(Ok(ended(rt, ServeEnd::Turns)?)),
+        AllEnd::Wait => Ok(Err(Fault::Socket)),
+        AllEnd::Keep => Ok(Err(Fault::Trail)),
     }
 }
 
-/// Serves this many streams, several at a time.
+/// Serves so many streams, several at a time.
 pub(crate) fn serve_together<R: Eprint, S: Streams<Global>, C: Clock>(
     rt: &R,
     hub: &mut Hub,
     streams: &mut S,
     clock: &C,
     connections: u32,
-) -> Result<bool, Fault> {
+) -> io::Result<Result<bool, Fault>> {
     let limits = Limits {
         places: MAX_CONNECTIONS,
         connections: u64::from(connections),
@@ -38,14 +38,14 @@ pub(crate) fn serve_together<R: Eprint, S: Streams<Global>, C: Clock>(
     all_ended(rt, serve_all(hub, streams, clock, limits))
 }
 
-/// Serves this many streams, one after the other.
+/// Serves so many streams, one after the other.
 pub(crate) fn serve_in_turn<R: Eprint, S: Streams<Global>, C: Clock>(
     rt: &R,
     hub: &mut Hub,
     streams: &mut S,
     clock: &C,
     connections: u32,
-) -> Result<bool, Fault> {
+) -> io::Result<Result<bool, Fault>> {
     let limits = Limits {
         places: 1,
         connections: 1,
@@ -53,14 +53,16 @@ pub(crate) fn serve_in_turn<R: Eprint, S: Streams<Global>, C: Clock>(
     };
     let mut are_served = true;
     for _connection in 0..connections {
-        let is_served = all_ended(rt, serve_all(hub, streams, clock, limits))?;
-        are_served = are_served && is_served;
+        match all_ended(rt, serve_all(hub, streams, clock, limits))? {
+            Ok(is_served) => are_served = are_served && is_served,
+            Err(fault) => return Ok(Err(fault)),
+        }
     }
-    Ok(are_served)
+    Ok(Ok(are_served))
 }
 
 /// Listens, and serves as many connections as the options say, while the trail is kept by a keeper, if there is one, and the book is
-/// loaded anew where its file changes. `Err` of the outer result: standard output can't be written.
+/// loaded anew where its file changes. `Err` of the outer result: standard output or standard error can't be written.
 pub(crate) fn serve_kept<R: Net + Files + Alloc + Print + Eprint, C: Clock, W: Write + Drop>(
     rt: &R,
     alloc: Global,
@@ -75,10 +77,9 @@ pub(crate) fn serve_kept<R: Net + Files + Alloc + Print + Eprint, C: Clock, W: W
         return Ok(Err(Fault::Socket));
     };
     println!(rt; "listening on 127.0.0.1:{port}")?;
-    let served = if options.concurrent {
+    if options.concurrent {
         serve_together(rt, hub, &mut sockets, clock, options.connections)
     } else {
         serve_in_turn(rt, hub, &mut sockets, clock, options.connections)
-    };
-    Ok(served)
+    }
 }
