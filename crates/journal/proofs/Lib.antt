@@ -1,0 +1,4 @@
+pub mod Standing
+pub mod Choosing
+pub mod Crash
+pub mod Gathering
