@@ -4,4 +4,6 @@ pub mod Disk
 pub mod Files
 pub mod Frames
 pub mod Keeping
+pub mod Living
 pub mod Opening
+pub mod Steps

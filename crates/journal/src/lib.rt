@@ -15,5 +15,8 @@ pub use disk::{Disk, LoadFault, Slot};
 pub use frames::{Frame, Frames};
 pub use head::Head;
 pub use journal::{Checkpoint, Journal, JournalFault};
-pub use laws::a_crash_leaves_a_front;
+pub use laws::{
+    a_crash_leaves_a_front, a_sync_keeps_all, an_emptied_file_is_begun, what_is_appended_comes_later,
+    what_is_kept_is_chosen,
+};
 pub use opening::{Chosen, OpenFault, choose};
