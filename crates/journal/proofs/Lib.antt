@@ -5,3 +5,4 @@ pub mod Gathering
 pub mod Steps
 pub mod Heads
 pub mod Living
+pub mod Replacing

@@ -54,7 +54,7 @@ more_contents (f ∷ kept) more c is = by_test (f.kind == END) (contents kept) (
         content_of : List Bytes → List Bytes → Content
         content_of parts records = record { parts = parts; records = records }
 
-generation_first : (key generation : ℕ) (kept : List Frame) (c : Content) (more : Bytes) → contents kept ≡ Some c → AreFit key generation 0 kept → generation_at key (all_framed key generation 0 kept ++ more) ≡ generation
+pub generation_first : (key generation : ℕ) (kept : List Frame) (c : Content) (more : Bytes) → contents kept ≡ Some c → AreFit key generation 0 kept → generation_at key (all_framed key generation 0 kept ++ more) ≡ generation
 generation_first key generation [] c more is fit = absurd (apart is)
   where
     apart : None ≡ Some c → ⊥
@@ -112,18 +112,18 @@ module _ (key generation : ℕ) (kept later : List Frame) (going : Bool) (checkp
 
   stays : Stays key generation kept later checkpoint x ⊎ Chance key generation kept later d m.more
   stays = ⊎_elim
-    (λ (fronts : IsFront kept x.frames × IsFront x.frames (kept ++ later)).
-    let content : contents x.frames ≡ Some (record { parts = checkpoint.parts; records = checkpoint.records ++ bodies fronts.0.more }) =
-    ap contents fronts.0.is ∙ more_contents kept fronts.0.more checkpoint whole in
-    inl (record {
-      rank_is = ap (rank_of x.generation) content ∙ generation_is;
-      kept_stand = fronts.0;
-      front = fronts.0.more;
-      of_later = record { more = fronts.1.more; is = same_more kept fronts.0.more later fronts.1.more (fronts.1.is ∙ ap (λ (l : List Frame). l ++ fronts.1.more) fronts.0.is) };
-      content = content;
-    }))
-    (λ (chance : (0 < d.loose) × Fluke key generation (length kept) later m.more). inr (chance.0, inl chance.1))
-    (crash_law key generation kept later going d w left x.frames x.rest m holds)
+      (λ (fronts : IsFront kept x.frames × IsFront x.frames (kept ++ later)).
+      let content : contents x.frames ≡ Some (record { parts = checkpoint.parts; records = checkpoint.records ++ bodies fronts.0.more }) =
+      ap contents fronts.0.is ∙ more_contents kept fronts.0.more checkpoint whole in
+      inl (record {
+        rank_is = ap (rank_of x.generation) content ∙ generation_is;
+        kept_stand = fronts.0;
+        front = fronts.0.more;
+        of_later = record { more = fronts.1.more; is = same_more kept fronts.0.more later fronts.1.more (fronts.1.is ∙ ap (λ (l : List Frame). l ++ fronts.1.more) fronts.0.is) };
+        content = content;
+      }))
+      (λ (chance : (0 < d.loose) × Fluke key generation (length kept) later m.more). inr (chance.0, inl chance.1))
+      (crash_law key generation kept later going d w left x.frames x.rest m holds)
 
   -- something alarming in it is a chance
   by_chance : (unknown : Bool) → IsFront kept x.frames → Alarm key generation (length x.frames) unknown x.rest → Chance key generation kept later d m.more
@@ -131,7 +131,7 @@ module _ (key generation : ℕ) (kept later : List Frame) (going : Bool) (checkp
       let fluke = alarmed unknown front alarm in
       (fluke.0, inr fluke.1)
 
-at_rest_is : (d : Disk) (old file : Bytes) → d ≡ settled old → MayLeave d file → file ≡ old
+pub at_rest_is : (d : Disk) (old file : Bytes) → d ≡ settled old → MayLeave d file → file ≡ old
 at_rest_is d old file is m =
     let few : length m.more ≤ 0 = subst (λ (n : ℕ). length m.more ≤ n) (ap (λ (e : Disk). e.loose) is) m.few in
     m.is ∙ ap (λ (l : Bytes). l ++ m.more) (ap (λ (e : Disk). e.safe) is)
@@ -186,46 +186,46 @@ live_law key generation A kept later going checkpoint acts live a b m n =
     let b_is : b ≡ live.old = at_rest_is (on_disk B acts) live.old b live.at_rest n in
     let other_has : (y : File) → Has key b y → Has key live.old y = λ y has. subst (λ (l : Bytes). Has key l y) b_is has in (
       λ slot number content chosen.
-      ⊎_elim
-      (λ (st : Stays key generation kept later checkpoint chosen.both.in_a).
-      inl (first_lives key generation kept later checkpoint d m.more a b live.some chosen.both.in_a chosen.both.in_b st (live.passed.lesser chosen.both.in_b (other_has chosen.both.in_b chosen.both.has_b)) slot number content chosen.slot_is chosen.generation_is chosen.content_is))
-      (λ (chance : Chance key generation kept later d m.more). inr chance)
-      (stays key generation kept later going checkpoint d live.written live.whole a m chosen.both.in_a chosen.both.has_a),
+          ⊎_elim
+          (λ (st : Stays key generation kept later checkpoint chosen.both.in_a).
+          inl (first_lives key generation kept later checkpoint d m.more a b live.some chosen.both.in_a chosen.both.in_b st (live.passed.lesser chosen.both.in_b (other_has chosen.both.in_b chosen.both.has_b)) slot number content chosen.slot_is chosen.generation_is chosen.content_is))
+          (λ (chance : Chance key generation kept later d m.more). inr chance)
+          (stays key generation kept later going checkpoint d live.written live.whole a m chosen.both.in_a chosen.both.has_a),
       λ unknown refused.
-      let x = refused.both.in_a in
-      let y = refused.both.in_b in
-      let lesser = live.passed.lesser y (other_has y refused.both.has_b) in
-      ⊎_elim
-      (λ (st : Stays key generation kept later checkpoint x).
-      wrong key generation kept later checkpoint d m.more a b live.some unknown (greater (rank x) (rank y)) (length x.frames) (length y.frames) x.rest y.rest (Chance key generation kept later d m.more)
-        (first_is_greater (rank x) (rank y) (subst (λ (k : ℕ). rank y < k) (sym st.rank_is) lesser) ∙ st.rank_is)
-        (by_chance key generation kept later going checkpoint d live.written live.whole a m x refused.both.has_a unknown st.kept_stand)
-        (λ alarm. absurd (live.passed.quiet y (other_has y refused.both.has_b) unknown alarm))
-        refused.wrong)
-      (λ (chance : Chance key generation kept later d m.more). chance)
-      (stays key generation kept later going checkpoint d live.written live.whole a m x refused.both.has_a),
+          let x = refused.both.in_a in
+          let y = refused.both.in_b in
+          let lesser = live.passed.lesser y (other_has y refused.both.has_b) in
+          ⊎_elim
+          (λ (st : Stays key generation kept later checkpoint x).
+          wrong key generation kept later checkpoint d m.more a b live.some unknown (greater (rank x) (rank y)) (length x.frames) (length y.frames) x.rest y.rest (Chance key generation kept later d m.more)
+          (first_is_greater (rank x) (rank y) (subst (λ (k : ℕ). rank y < k) (sym st.rank_is) lesser) ∙ st.rank_is)
+          (by_chance key generation kept later going checkpoint d live.written live.whole a m x refused.both.has_a unknown st.kept_stand)
+          (λ alarm. absurd (live.passed.quiet y (other_has y refused.both.has_b) unknown alarm))
+          refused.wrong)
+          (λ (chance : Chance key generation kept later d m.more). chance)
+          (stays key generation kept later going checkpoint d live.written live.whole a m x refused.both.has_a),
     )
 live_law key generation B kept later going checkpoint acts live a b m n =
     let d = on_disk B acts in
     let a_is : a ≡ live.old = at_rest_is (on_disk A acts) live.old a live.at_rest m in
     let other_has : (x : File) → Has key a x → Has key live.old x = λ x has. subst (λ (l : Bytes). Has key l x) a_is has in (
       λ slot number content chosen.
-      ⊎_elim
-      (λ (st : Stays key generation kept later checkpoint chosen.both.in_b).
-      inl (second_lives key generation kept later checkpoint d n.more a b live.some chosen.both.in_a chosen.both.in_b st (live.passed.lesser chosen.both.in_a (other_has chosen.both.in_a chosen.both.has_a)) slot number content chosen.slot_is chosen.generation_is chosen.content_is))
-      (λ (chance : Chance key generation kept later d n.more). inr chance)
-      (stays key generation kept later going checkpoint d live.written live.whole b n chosen.both.in_b chosen.both.has_b),
+          ⊎_elim
+          (λ (st : Stays key generation kept later checkpoint chosen.both.in_b).
+          inl (second_lives key generation kept later checkpoint d n.more a b live.some chosen.both.in_a chosen.both.in_b st (live.passed.lesser chosen.both.in_a (other_has chosen.both.in_a chosen.both.has_a)) slot number content chosen.slot_is chosen.generation_is chosen.content_is))
+          (λ (chance : Chance key generation kept later d n.more). inr chance)
+          (stays key generation kept later going checkpoint d live.written live.whole b n chosen.both.in_b chosen.both.has_b),
       λ unknown refused.
-      let x = refused.both.in_a in
-      let y = refused.both.in_b in
-      let lesser = live.passed.lesser x (other_has x refused.both.has_a) in
-      ⊎_elim
-      (λ (st : Stays key generation kept later checkpoint y).
-      wrong key generation kept later checkpoint d n.more a b live.some unknown (greater (rank x) (rank y)) (length x.frames) (length y.frames) x.rest y.rest (Chance key generation kept later d n.more)
-        (second_is_greater (rank x) (rank y) (subst (λ (k : ℕ). rank x < k) (sym st.rank_is) lesser) ∙ st.rank_is)
-        (λ alarm. absurd (live.passed.quiet x (other_has x refused.both.has_a) unknown alarm))
-        (by_chance key generation kept later going checkpoint d live.written live.whole b n y refused.both.has_b unknown st.kept_stand)
-        refused.wrong)
-      (λ (chance : Chance key generation kept later d n.more). chance)
-      (stays key generation kept later going checkpoint d live.written live.whole b n y refused.both.has_b),
+          let x = refused.both.in_a in
+          let y = refused.both.in_b in
+          let lesser = live.passed.lesser x (other_has x refused.both.has_a) in
+          ⊎_elim
+          (λ (st : Stays key generation kept later checkpoint y).
+          wrong key generation kept later checkpoint d n.more a b live.some unknown (greater (rank x) (rank y)) (length x.frames) (length y.frames) x.rest y.rest (Chance key generation kept later d n.more)
+          (second_is_greater (rank x) (rank y) (subst (λ (k : ℕ). rank x < k) (sym st.rank_is) lesser) ∙ st.rank_is)
+          (λ alarm. absurd (live.passed.quiet x (other_has x refused.both.has_a) unknown alarm))
+          (by_chance key generation kept later going checkpoint d live.written live.whole b n y refused.both.has_b unknown st.kept_stand)
+          refused.wrong)
+          (λ (chance : Chance key generation kept later d n.more). chance)
+          (stays key generation kept later going checkpoint d live.written live.whole b n y refused.both.has_b),
     )

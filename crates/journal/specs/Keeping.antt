@@ -1,7 +1,10 @@
 -- What the calls of a checkpoint and of a journal do.
-use Rattle.std.specs.Prelude.{◌≡◌, ◌⊎◌, ◌<◌, ◌+◌, ℕ, Bool, true, false, [], length, Result, Ok, Err}
+use Rattle.std.specs.Prelude.{◌≡◌, ◌⊎◌, ◌<◌, ◌+◌, ℕ, Bool, true, false, [], length, Result, Ok, Err, List}
 use Rattle.journal.specs.declared.disk.Slot.{Slot}
-use Rattle.journal.specs.Disk.{Act, Appended, Tore, Synced, Unsynced, Emptied, Unemptied, other}
+use Rattle.journal.specs.declared.disk.Slot.TheVariants.{A, B}
+use Rattle.journal.specs.declared.opening.OpenFault.{OpenFault}
+use Rattle.journal.specs.declared.opening.OpenFault.TheVariants.{Failed as NotRead, Version, Damaged, Memory as NoMemory}
+use Rattle.journal.specs.Disk.{Act, Appended, Tore, Synced, Unsynced, Emptied, Unemptied, Found, Unfound, other}
 use Rattle.journal.specs.Frames.{Frame, END, MAX_BODY, framed, frame_with, IsFit}
 use Rattle.journal.specs.declared.journal.Checkpoint.{Checkpoint}
 use Rattle.journal.specs.declared.journal.Journal.{Journal}
@@ -67,3 +70,18 @@ FinishGives adds c (Err Failed) old new =
     ((c.has_failed ≡ true) × (new ≡ old))
     ⊎ (adds old (Tore c.slot (framed c.key c.generation c.number end_frame)) new
     ⊎ Twice adds (Appended c.slot (framed c.key c.generation c.number end_frame)) (Unsynced c.slot) old new)
+
+-- both files were found, the first one first
+abbrev pub BothFound : {D : Type 0} → Adding D → List ℕ → List ℕ → D → D → Type 0
+BothFound adds a b old new = Twice adds (Found A a) (Found B b) old new
+
+-- The first file wasn't found, or it was and then the second one wasn't.
+abbrev pub NotBoth : {D : Type 0} → Adding D → D → D → Type 0
+NotBoth adds old new = adds old (Unfound A) new ⊎ ((a : List ℕ) × Twice adds (Found A a) (Unfound B) old new)
+
+-- why two files weren't loaded: one can't be read or synced, or there is no memory
+abbrev pub UnloadedSo : {D : Type 0} → Adding D → OpenFault → D → D → Type 0
+UnloadedSo adds NotRead old new = NotBoth adds old new
+UnloadedSo adds Version old new = ⊥
+UnloadedSo adds Damaged old new = ⊥
+UnloadedSo adds NoMemory old new = NotBoth adds old new

@@ -6,4 +6,5 @@ pub mod Frames
 pub mod Keeping
 pub mod Living
 pub mod Opening
+pub mod Replacing
 pub mod Steps

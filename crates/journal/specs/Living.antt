@@ -41,7 +41,7 @@ Chance key generation kept later d more =
 abbrev pub Survives : ℕ → ℕ → Slot → List Frame → List Frame → Content → Disk → Bytes → Bytes → Bytes → Type 0
 Survives key generation s kept later checkpoint d more a b =
     ((slot : Slot) (number : ℕ) (content : Option Content) → Chooses key a b slot number content
-      → IsKept s generation later checkpoint slot number content ⊎ Chance key generation kept later d more)
+    → IsKept s generation later checkpoint slot number content ⊎ Chance key generation kept later d more)
     × ((unknown : Bool) → Refuses key a b unknown → Chance key generation kept later d more)
 
 abbrev pub LiveLaw : Type 0

@@ -1,6 +1,7 @@
 //! The laws of a crash.
 ghost use Rattle.journal.specs.Crash.{CrashLaw};
 ghost use Rattle.journal.specs.Living.{LiveLaw};
+ghost use Rattle.journal.specs.Replacing.{FinishLaw, RenewLaw, ReplacingLaw, StartLaw};
 ghost use Rattle.journal.specs.Steps.{AppendLaw, BeginLaw, SyncLaw};
 
 /// A crash leaves a front of the frames that were appended to a file, and all that are kept, unless a digest fits by chance.
@@ -27,4 +28,25 @@ pub fn a_sync_keeps_all()
 /// nothing is refused, unless a digest fits by chance.
 pub fn what_is_kept_is_chosen()
     ensures { LiveLaw }
+{}
+
+/// Two files that were found, of which one is chosen, are a base for a checkpoint in the other one.
+pub fn what_is_chosen_is_replaced()
+    ensures { StartLaw }
+{}
+
+/// A file all of whose records are kept is a base for a checkpoint in the other one.
+pub fn what_is_kept_is_replaced()
+    ensures { RenewLaw }
+{}
+
+/// While a checkpoint is written into one file, a crash at any moment leaves what is chosen with the other file as it was, or with the whole
+/// new checkpoint, and nothing is refused, unless a digest fits by chance.
+pub fn the_old_file_counts_until_the_new_one_is_whole()
+    ensures { ReplacingLaw }
+{}
+
+/// A sync of a file whose checkpoint is whole makes it the one that counts.
+pub fn a_checkpoint_that_is_synced_counts()
+    ensures { FinishLaw }
 {}

@@ -16,7 +16,9 @@ pub use frames::{Frame, Frames};
 pub use head::Head;
 pub use journal::{Checkpoint, Journal, JournalFault};
 pub use laws::{
-    a_crash_leaves_a_front, a_sync_keeps_all, an_emptied_file_is_begun, what_is_appended_comes_later,
-    what_is_kept_is_chosen,
+    a_checkpoint_that_is_synced_counts, a_crash_leaves_a_front, a_sync_keeps_all,
+    an_emptied_file_is_begun, the_old_file_counts_until_the_new_one_is_whole,
+    what_is_appended_comes_later, what_is_chosen_is_replaced, what_is_kept_is_chosen,
+    what_is_kept_is_replaced,
 };
-pub use opening::{Chosen, OpenFault, choose};
+pub use opening::{Chosen, OpenFault, choose, load};

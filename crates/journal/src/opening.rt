@@ -1,10 +1,11 @@
 //! Which of two files counts, and what it has.
 ghost use Rattle.std.specs.Prelude.{◌≡◌, ◌∷◌, [], List, map, if◌then◌else◌, MatchResult, false};
 ghost use Rattle.journal.specs.Files.{if_whole, Alarm};
+ghost use Rattle.journal.specs.Keeping.{BothFound, UnloadedSo};
 ghost use Rattle.journal.specs.Opening.{Chooses, RefusesSo, ChecksSo, ExaminesSo, greater};
 
 use crate::alarm::alarm;
-use crate::disk::Slot;
+use crate::disk::{Disk, LoadFault, Slot};
 use crate::reading::{Bodies, FileRead, read_file};
 use std::alloc::Allocator;
 use thiserror::Error;
@@ -38,8 +39,25 @@ pub struct Chosen<'a, A: Allocator> {
     pub parts: Vec<&'a [u8], A>,
     /// The records after it.
     pub records: Vec<&'a [u8], A>,
-    /// The number of bytes after the records.
-    pub torn: usize,
+}
+
+/// Loads both files, the first one first; each is synced before it is read, so that nothing is chosen that a later crash could take back.
+pub fn load<D: Disk, A: Allocator + Copy>(
+    disk: &mut D,
+    alloc: A,
+) -> Result<(Vec<u8, A>, Vec<u8, A>), OpenFault>
+    ensures { MatchResult result (λ files. BothFound D.adds files.0.items files.1.items disk.old disk.new) (λ e. UnloadedSo D.adds e disk.old disk.new) }
+{
+    let a = match disk.load(alloc, Slot::A) {
+        Ok(a) => a,
+        Err(LoadFault::Failed) => return Err(OpenFault::Failed),
+        Err(LoadFault::Memory) => return Err(OpenFault::Memory),
+    };
+    match disk.load(alloc, Slot::B) {
+        Ok(b) => Ok((a, b)),
+        Err(LoadFault::Failed) => Err(OpenFault::Failed),
+        Err(LoadFault::Memory) => Err(OpenFault::Memory),
+    }
 }
 
 impl<'a, A: Allocator> FileRead<'a, A> {
@@ -107,7 +125,7 @@ fn counting<'a, A: Allocator>(slot: Slot, file: FileRead<'a, A>) -> Chosen<'a, A
     let FileRead {
         generation: _,
         number: _,
-        rest,
+        rest: _,
         bodies,
     } = file;
     let Bodies {
@@ -125,7 +143,6 @@ fn counting<'a, A: Allocator>(slot: Slot, file: FileRead<'a, A>) -> Chosen<'a, A
         is_whole,
         parts,
         records,
-        torn: rest.len(),
     }
 }
 
