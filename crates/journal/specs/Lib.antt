@@ -1,0 +1,10 @@
+pub mod Crash
+pub mod Digest
+pub mod Disk
+pub mod Files
+pub mod Frames
+pub mod Keeping
+pub mod Living
+pub mod Opening
+pub mod Replacing
+pub mod Steps

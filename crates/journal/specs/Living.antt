@@ -1,0 +1,51 @@
+-- What a crash leaves of two files while records are appended to one of them.
+use Rattle.std.specs.Prelude.{◌≡◌, ◌⊎◌, ◌<◌, ℕ, Bool, List, [], ◌∷◌, ◌++◌, length, Option, Some, None}
+use Rattle.journal.specs.declared.disk.Slot.{Slot}
+use Rattle.journal.specs.declared.disk.Slot.TheVariants.{A, B}
+use Rattle.journal.specs.Disk.{Act, Disk, other, settled, on_disk, MayLeave}
+use Rattle.journal.specs.Frames.{Bytes, Frame}
+use Rattle.journal.specs.Files.{File, Has, Content, contents, bodies, rank, Alarm}
+use Rattle.journal.specs.Opening.{Chooses, Refuses, in_slot}
+use Rattle.journal.specs.Crash.{IsFront, IsWritten, Fluke, HeadFluke}
+
+-- a file with these bytes has a lesser generation than that one, or no whole checkpoint, and nothing of it says that something is wrong
+pub record IsPassed (key generation : ℕ) (bytes : Bytes) : Type 0 where
+  pub lesser : (x : File) → Has key bytes x → rank x < generation
+  pub quiet : (x : File) → Has key bytes x → (unknown : Bool) → Alarm key generation (length x.frames) unknown x.rest → ⊥
+
+-- After these acts this file counts: its checkpoint and the first records are kept, later ones were appended; and the other file is settled,
+-- and passed by.
+pub record IsLive (key generation : ℕ) (s : Slot) (kept later : List Frame) (going : Bool) (checkpoint : Content) (acts : List Act) : Type 0 where
+  pub written : IsWritten key generation kept later going (on_disk s acts)
+  pub whole : contents kept ≡ Some checkpoint
+  pub some : 0 < generation
+  pub old : Bytes
+  pub at_rest : on_disk (other s) acts ≡ settled old
+  pub passed : IsPassed key generation old
+
+-- This file counts, with its checkpoint, all records that are kept, and a front of the later ones.
+pub record IsKept (s : Slot) (generation : ℕ) (later : List Frame) (checkpoint : Content) (slot : Slot) (number : ℕ) (content : Option Content) : Type 0 where
+  pub slot_is : slot ≡ s
+  pub generation_is : number ≡ generation
+  pub front : List Frame
+  pub of_later : IsFront front later
+  pub content_is : content ≡ Some (record { parts = checkpoint.parts; records = checkpoint.records ++ bodies front })
+
+-- a digest fits by chance in bytes that weren't synced: those of a frame, or that of a head
+abbrev pub Chance : ℕ → ℕ → List Frame → List Frame → Disk → Bytes → Type 0
+Chance key generation kept later d more =
+    (0 < d.loose) × (Fluke key generation (length kept) later more ⊎ HeadFluke key generation generation (kept ++ later) more)
+
+-- **What is chosen after a crash is a checkpoint and records that are a front of what was appended, with all that is kept; and nothing is
+-- refused**, unless a digest fits by chance.
+abbrev pub Survives : ℕ → ℕ → Slot → List Frame → List Frame → Content → Disk → Bytes → Bytes → Bytes → Type 0
+Survives key generation s kept later checkpoint d more a b =
+    ((slot : Slot) (number : ℕ) (content : Option Content) → Chooses key a b slot number content
+    → IsKept s generation later checkpoint slot number content ⊎ Chance key generation kept later d more)
+    × ((unknown : Bool) → Refuses key a b unknown → Chance key generation kept later d more)
+
+abbrev pub LiveLaw : Type 0
+LiveLaw = (key generation : ℕ) (s : Slot) (kept later : List Frame) (going : Bool) (checkpoint : Content) (acts : List Act)
+    → IsLive key generation s kept later going checkpoint acts
+    → (a b : Bytes) → (m : MayLeave (on_disk A acts) a) → (n : MayLeave (on_disk B acts) b)
+    → Survives key generation s kept later checkpoint (on_disk s acts) (in_slot s m.more n.more) a b
