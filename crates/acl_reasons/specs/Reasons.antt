@@ -25,7 +25,8 @@ lowest_bit test = option_map_or (λ place. 2 ^ place) (find test places) 0
 
 -- the bit of the place is in the mask, and the entry at the index denies it
 abbrev pub is_denied : (Who → Bool) → List Entry → ℕ → ℕ → ℕ → Bool
-is_denied names entries mask index place = has_bit mask place && is_denied_by index (mentioned (mention names entries place))
+is_denied names entries mask index place =
+    has_bit mask place && is_denied_by index (mentioned (mention names entries place))
 
 -- the lowest bit of the mask that the entry at the index denies
 abbrev pub denied_bit : (Who → Bool) → List Entry → ℕ → ℕ → ℕ

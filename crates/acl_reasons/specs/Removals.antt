@@ -1,5 +1,5 @@
 -- The reason for the decision on a removal, by the lists of the parent and of the target (RFC 8881, section 6.2.1.3.2).
-use Rattle.std.specs.Prelude.{ℕ, Bool, List}
+use Rattle.std.specs.Prelude.{ℕ, List}
 use Rattle.rpc_record.specs.Identity.{Identity}
 use Rattle.acl_list.specs.Places as places
 use Rattle.acl_list.specs.Deciding.{is_true_for, mention, mentioned}
@@ -30,8 +30,9 @@ by_parent (AllowedBy index) unmentioned = ByDeleteChild index
 by_parent (DeniedBy index) unmentioned = DeleteChildDenied index
 by_parent Unmentioned unmentioned = unmentioned
 
--- By the mentions of DELETE on the target and of DELETE_CHILD on the parent, and the verdict on ADD_FILE on the parent: an ALLOW of
--- either suffices; else the parent's DENY refuses, else the target's; where neither is mentioned ADD_FILE decides.
+-- By the mentions of DELETE on the target and of DELETE_CHILD on the parent, and the verdict on ADD_FILE on the parent.
+-- An ALLOW of either suffices; else the parent's DENY refuses, else the target's; where neither is mentioned ADD_FILE
+-- decides.
 abbrev pub by_mentions : Mention → Mention → Verdict → RemovalReason
 by_mentions (AllowedBy index) on_parent add = ByDelete index
 by_mentions (DeniedBy index) on_parent add = by_parent on_parent (DeleteDenied index)
@@ -42,4 +43,5 @@ mention_on side caller place = mentioned (mention (is_true_for side.owner side.g
 
 abbrev pub removal_reason : Side → Side → Identity → RemovalReason
 removal_reason parent target caller =
-    by_mentions (mention_on target caller places.delete) (mention_on parent caller places.delete_child) (verdict (is_true_for parent.owner parent.group caller) parent.list ADD_FILE)
+    by_mentions (mention_on target caller places.delete) (mention_on parent caller places.delete_child)
+    (verdict (is_true_for parent.owner parent.group caller) parent.list ADD_FILE)

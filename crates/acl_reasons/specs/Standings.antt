@@ -1,4 +1,4 @@
--- Whether an entry decides on access for a requester, and if not why (RFC 8881, sections 6.2.1.1, 6.2.1.4.1 and 6.2.1.5).
+-- Whether an entry decides on access for a requester, and if not why (RFC 8881, section 6.2.1).
 use Rattle.std.specs.Prelude.{Bool, true, false, not, if◌then◌else◌}
 use Rattle.acl_list.specs.Mask.{has_bit}
 use Rattle.acl_list.specs.Places.{inherit_only}
@@ -20,7 +20,10 @@ other_than (GroupOf gid) = NoMember
 -- an AUDIT or ALARM entry watches, an INHERIT_ONLY entry is for children alone, and another's entry is for others
 abbrev pub standing : (Who → Bool) → Entry → Standing
 standing names e =
-    if not (allows_or_denies e.kind) then Watches else if has_bit e.flags inherit_only then InheritOnly else if names e.who then Applies else other_than e.who
+    if not (allows_or_denies e.kind) then Watches
+    else if has_bit e.flags inherit_only then InheritOnly
+    else if names e.who then Applies
+    else other_than e.who
 
 abbrev pub is_applying : Standing → Bool
 is_applying Applies = true

@@ -1,4 +1,4 @@
-//! Why lists grant or refuse: the reason for a verdict, and for the decision on a removal (RFC 8881, sections 6.2.1 and 6.2.1.3.2).
+//! Why lists grant or refuse a mask (RFC 8881, section 6.2.1), and a removal (section 6.2.1.3.2).
 #![tactic(auto)]
 
 mod reason;

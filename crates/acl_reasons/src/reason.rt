@@ -28,7 +28,8 @@ pub enum Reason {
     },
 }
 
-/// Why an object's list grants the mask to the caller or refuses it. The object has this owner and group. It takes no memory.
+/// Why an object's list grants the mask to the caller or refuses it. The object has this owner and group. It takes no
+/// memory.
 ///
 /// It is the verdict of [`acl_list::judge`] with the bit that its entry denies.
 pub fn why<A: Allocator>(

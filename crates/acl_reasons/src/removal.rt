@@ -19,7 +19,7 @@ pub struct Governed<'a, A: Allocator = Global> {
     pub group: u32,
 }
 
-/// Why a name of a target may be removed from its parent or not (RFC 8881, section 6.2.1.3.2). Entries are by their index from 0.
+/// Why a name of a target may be removed from its parent or not (RFC 8881, section 6.2.1.3.2). Entries count from 0.
 #[derive(Clone, Copy, Debug, PartialEq, Eq)]
 pub enum RemovalReason {
     /// Granted: this entry of the target's list allows DELETE.

@@ -21,7 +21,8 @@ pub enum Standing {
     Applies,
 }
 
-/// Whether an entry of an object's list decides on access for the caller, and if not why. The object has this owner and group.
+/// Whether an entry of an object's list decides on access for the caller, and if not why. The object has this owner and
+/// group.
 pub fn standing_of(entry: &Entry, owner: u32, group: u32, caller: &Caller) -> Standing
     ensures exact { result ≡ specs.standing (is_true_for owner group caller.now) entry.now }
     ensures applies { specs.is_applying result ≡ applies (is_true_for owner group caller.now) entry.now }

@@ -89,7 +89,8 @@ letters_after letters aliases bits (byte ∷ more) =
 
 -- a number with one more hexadecimal digit, as far as it has 32 bits
 abbrev pub number_with : ℕ → ℕ → Option ℕ
-number_with number byte = option_and_then (λ digit. if nat_lt number 268435456 then Some (16 * number + digit) else None) (hex_digit_value byte)
+number_with number byte =
+    option_and_then (λ digit. if nat_lt number 268435456 then Some (16 * number + digit) else None) (hex_digit_value byte)
 
 -- The bits so far with the number so far and with those that follow, each after a + (43). A number isn't 0.
 abbrev pub numbers_after : ℕ → ℕ → List ℕ → Option ℕ
@@ -120,7 +121,8 @@ permissions_in object text = both_in object text (split_at 43 text)
 -- the letters of the bits that are there
 abbrev pub letters_text : Letters → ℕ → List ℕ
 letters_text [] bits = []
-letters_text (row ∷ more) bits = if bit_and bits row.1 == 0 then letters_text more bits else row.0 ∷ letters_text more bits
+letters_text (row ∷ more) bits =
+    if bit_and bits row.1 == 0 then letters_text more bits else row.0 ∷ letters_text more bits
 
 -- a text, if the bit is there
 abbrev pub text_if : ℕ → ℕ → List ℕ → List ℕ
@@ -128,7 +130,8 @@ text_if bits bit text = if bit_and bits bit == 0 then [] else text
 
 -- the bits of the mask that have no letter
 abbrev pub retention_text : ℕ → List ℕ
-retention_text bits = text_if bits mask.WRITE_RETENTION (codes "+200") ++ text_if bits mask.WRITE_RETENTION_HOLD (codes "+400")
+retention_text bits =
+    text_if bits mask.WRITE_RETENTION (codes "+200") ++ text_if bits mask.WRITE_RETENTION_HOLD (codes "+400")
 
 abbrev pub permissions_text : ℕ → List ℕ
 permissions_text bits = letters_text permission_letters bits ++ retention_text bits

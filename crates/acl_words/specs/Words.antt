@@ -28,7 +28,12 @@ letter_of Audit = 85
 letter_of Alarm = 76
 
 abbrev pub kind_at : ℕ → Option EntryKind
-kind_at byte = if byte == 65 then Some Allow else if byte == 68 then Some Deny else if byte == 85 then Some Audit else if byte == 76 then Some Alarm else None
+kind_at byte =
+    if byte == 65 then Some Allow
+    else if byte == 68 then Some Deny
+    else if byte == 85 then Some Audit
+    else if byte == 76 then Some Alarm
+    else None
 
 -- the type of a text of one letter
 abbrev pub kind_in : List ℕ → Option EntryKind
@@ -71,11 +76,12 @@ lettered object kind flags (Some parts) = do
 
 -- in the hexadecimal form the principal is all after the third colon
 abbrev pub said_by : Kind → EntryKind → List ℕ → List ℕ → List ℕ → Option (ℕ × ℕ) → Result Said Field
-said_by object kind flags rest who (Some numbers) = Ok (record { kind = kind; flags = numbers.0; mask = numbers.1; who = who })
+said_by object kind flags rest who (Some numbers) =
+    Ok (record { kind = kind; flags = numbers.0; mask = numbers.1; who = who })
 said_by object kind flags rest who None = lettered object kind flags (split_at_last 58 rest)
 
--- The entry of a text: three colons (58) at least, the type, then the other fields. It is hexadecimal where its second field is two
--- hexadecimal digits and its third eight, and else in letters.
+-- The entry of a text: three colons (58) at least, the type, then the other fields. It is hexadecimal where its second
+-- field is two hexadecimal digits and its third eight, and else in letters.
 unfoldable pub said_in : Kind → List ℕ → Result Said Field
 said_in object text = do
   first ← or_fault Form (split_at 58 text)
@@ -92,13 +98,15 @@ third_field who = front_or who (split_at 58 who)
 
 -- Letters say the entry: each bit of the mask has a text, and the text isn't one of the hexadecimal form.
 unfoldable pub is_lettered : Said → Bool
-is_lettered e = (bit_and e.mask mask.DEFINED == e.mask) && is_none (numbers_in (letters_text flag_letters e.flags) (third_field e.who))
+is_lettered e =
+    (bit_and e.mask mask.DEFINED == e.mask) && is_none (numbers_in (letters_text flag_letters e.flags) (third_field e.who))
 
 abbrev pub letters_front : Said → List ℕ
 letters_front e = letter_of e.kind ∷ 58 ∷ letters_text flag_letters e.flags ++ 58 ∷ []
 
 abbrev pub numbers_front : Said → List ℕ
-numbers_front e = letter_of e.kind ∷ 58 ∷ encode_lower (e.flags ∷ []) ++ 58 ∷ encode_lower (to_be_bytes w32 e.mask) ++ 58 ∷ []
+numbers_front e =
+    letter_of e.kind ∷ 58 ∷ encode_lower (e.flags ∷ []) ++ 58 ∷ encode_lower (to_be_bytes w32 e.mask) ++ 58 ∷ []
 
 -- what is written before the principal
 abbrev pub front_text : Said → List ℕ

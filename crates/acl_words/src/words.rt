@@ -129,9 +129,9 @@ fn lettered<'a>(
 impl<'a> Words<'a> {
     /// The entry of a text, for an object of this kind: on a directory a `W` has `D` too.
     ///
-    /// An entry is hexadecimal where its second field is two hexadecimal digits and its third eight, and else in letters. In letters
-    /// the principal ends at the last colon, and in the hexadecimal form it is all after the third. `Err` has the first field
-    /// that can't be read; the principal is taken as it is.
+    /// An entry is hexadecimal where its second field is two hexadecimal digits and its third eight, and else in
+    /// letters. In letters the principal ends at the last colon, and in the hexadecimal form it is all after the third.
+    /// `Err` has the first field that can't be read; the principal is taken as it is.
     #[tactic(auto, unfolding(crate::specs::Words::said_in))]
     pub fn read(object: Kind, text: &'a [u8]) -> Result<Self, Field>
         ensures { MatchResult result (λ w. specs.said_in object text.now ≡ Ok (said w)) (λ fault. specs.said_in object text.now ≡ Err fault) }
@@ -232,9 +232,8 @@ impl<'a> Words<'a> {
         text
     }
 
-    /// Puts the words of the entry: in letters where they say it, else in the hexadecimal form. They are read as this entry:
-    /// [`crate::words_are_read_again`]. `Err`:
-    /// there is no memory for them, and nothing is put.
+    /// Puts the words of the entry: in letters where they say it, else in the hexadecimal form. They are read as this
+    /// entry: [`crate::words_are_read_again`]. `Err`: there is no memory for them, and nothing is put.
     pub fn put<A: Allocator>(&self, out: &mut Vec<u8, A>) -> Result<(), AllocError>
         ensures ok { OnOk result (out.new.items ≡ out.old.items ++ specs.said_text (said self.now)) }
         ensures err { OnErr result (out.new.items ≡ out.old.items) }

@@ -1,4 +1,4 @@
-use Rattle.std.proofs.Common.{◌≡◌, refl, ap, ◌∙◌}
+use Rattle.std.proofs.Common.{refl, ap, ◌∙◌}
 use Rattle.acl_list.specs.Places as places
 use Rattle.acl_list.specs.declared.answer.Verdict.{Verdict}
 use Rattle.acl_list.specs.declared.answer.Mention.{Mention}
