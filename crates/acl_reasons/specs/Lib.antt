@@ -1,0 +1,4 @@
+pub mod Standings
+pub mod Reasons
+pub mod Removals
+pub mod SideViews

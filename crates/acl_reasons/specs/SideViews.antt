@@ -1,0 +1,6 @@
+-- What decides on access to an object, without the place of its list.
+use Rattle.acl_reasons.specs.Removals.{Side}
+use Rattle.acl_reasons.specs.declared.removal.Governed.{Governed}
+
+abbrev pub side : {A : Type 0} → Governed A → Side
+side g = record { owner = g.owner; group = g.group; list = g.list.now }

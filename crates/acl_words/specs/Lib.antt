@@ -1,0 +1,7 @@
+pub mod Fields
+pub mod Letters
+pub mod Words
+pub mod WordViews
+pub mod Entries
+pub mod Lists
+pub mod Help
