@@ -32,7 +32,8 @@ class Machine:
     def do(self, who, command, second=False, seconds=60):
         """The status of a command in the guest ("late" where its seconds weren't enough), and what it said."""
         self.agent.settimeout(seconds + PATIENCE)
-        self.lines.write(json.dumps({"who": who, "command": command, "second": second, "seconds": seconds}) + "\n")
+        asked = {"who": who, "command": command, "second": second, "seconds": seconds, "now": time.time()}
+        self.lines.write(json.dumps(asked) + "\n")
         self.lines.flush()
         answer = json.loads(self.lines.readline())
         return answer["status"], answer["said"]
