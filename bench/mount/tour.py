@@ -6,6 +6,8 @@ import time
 from dataclasses import dataclass, field
 
 HERE = os.path.dirname(os.path.abspath(__file__))
+# how many lines of a trail are shown of a step
+SHOWN = 12
 STEP = re.compile(r"(root|alice|bob)(@second)?\$ (.*)")
 
 
@@ -94,5 +96,5 @@ def written(step):
     """A step with what came of it, as a text of the tour has it."""
     status, said, trail = step.came
     lines = [f"{step.who}{'@second' * step.second}$ " + step.command.replace("\n", "\n> ")]
-    lines += [f"| {line}" for line in said] + [f"! {line}" for line in trail]
+    lines += [f"| {line}" for line in said] + [f"! {line}" for line in trail[:SHOWN]] + ["! ..."] * (len(trail) > SHOWN)
     return "\n".join(lines + [f"= {status}"] * (status != 0))
