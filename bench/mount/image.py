@@ -12,20 +12,22 @@ LINKS = {"awk": "mawk", "vi": "vim.tiny", "python3": "python3.11"}
 
 # what the guest needs none of, below /usr and beside it
 LEFT_OUT = (
-    *("../boot", "bin/git-shell", "bin/scalar", "bin/perl5*", "lib/git-core/*http*", "lib/git-core/git-daemon", "lib/git-core/git-imap-send"),
-    *("lib/git-core/git-sh*", "lib/git-core/scalar", "lib/python3.11/pydoc_data", "lib/systemd", "lib/*/gconv", "share/bash-completion"),
+    *("../boot", "bin/git-shell", "bin/perl5*", "bin/scalar"),
+    *("lib/git-core/*http*", "lib/git-core/git-daemon", "lib/git-core/git-imap-send", "lib/git-core/git-sh*"),
+    *("lib/git-core/scalar", "lib/python3.11/pydoc_data", "lib/systemd", "lib/*/gconv", "share/bash-completion"),
     *("share/doc", "share/i18n", "share/info", "share/locale", "share/man", "share/vim"),
 )
 
 # what the guest loads by itself or on demand; the modules that these need come along
-MODULES = ("virtio_pci", "virtio_net", "virtio_rng", "nfsv3", "nfsv4", "nfs_layout_nfsv41_files", "nfs_layout_flexfiles")
+MODULES = ("virtio_pci", "virtio_net", "virtio_rng", "nfsv4", "nfs_layout_nfsv41_files", "nfs_layout_flexfiles")
 
 
 def packages():
     """The packages' names, with the kernel's own package in place of the one that depends on it."""
     with open(f"{HERE}/packages.txt", encoding="utf-8") as it:
         kernel, *others = [word for line in it if not line.startswith("#") for word in line.split()]
-    said = subprocess.run(["apt-cache", "depends", "--important", kernel], capture_output=True, text=True, check=True).stdout
+    words = ["apt-cache", "depends", "--important", kernel]
+    said = subprocess.run(words, capture_output=True, text=True, check=True).stdout
     return [said.split("Depends:")[1].split()[0], *others]
 
 
@@ -73,7 +75,7 @@ def archive(tree, busybox, path):
 
 
 def made(room):
-    """The kernel and the initramfs: Debian's part, which is made once in a room, and behind it what stands in guest/."""
+    """The kernel and the initramfs: Debian's part, which is made once in a room, and after it what stands in guest/."""
     kernel, debian, busybox = (f"{room}/{name}" for name in ("vmlinuz", "debian.cpio", "busybox"))
     if not os.path.exists(debian):
         tree = f"{room}/tree"

@@ -13,7 +13,8 @@ class Machine:
         with socket.create_server(("127.0.0.1", 0)) as listener:
             listener.settimeout(1)
             with open(console, "wb") as it:
-                self.qemu = subprocess.Popen(words(kernel, initramfs, listener.getsockname()[1]), stdin=subprocess.DEVNULL, stdout=it, stderr=it)
+                how = {"stdin": subprocess.DEVNULL, "stdout": it, "stderr": it}
+                self.qemu = subprocess.Popen(words(kernel, initramfs, listener.getsockname()[1]), **how)
             self.agent = self.accepted(listener, time.time() + BOOT)
         if not self.agent:
             self.stop()

@@ -29,6 +29,9 @@ class Step:
         status, said, trail = self.came
         return str(status) == self.status and fits(self.said, said) and fits(self.trail, trail)
 
+    def shows_a_lack(self):
+        return self.lacks != ""
+
     def is_refused(self):
         """Some list refused something in it."""
         return any(line.startswith("DENY") for line in self.trail)
@@ -44,7 +47,7 @@ class Scene:
 
 
 def fits(wanted, came):
-    """Each line that came is the one that is wanted, in which * stands for any text; a line ... stands for any lines."""
+    """Each line that came is the one that is wanted. In it * stands for any text, and a line ... for any lines."""
     if not wanted:
         return not came
     if wanted[0] == "...":
@@ -66,7 +69,8 @@ def read(path):
             if word == "scene":
                 scenes.append(Scene(rest))
             elif found:
-                scenes[-1].steps.append(Step(f"{os.path.basename(path)}:{number}", found[1], bool(found[2]), found[3], lacks=lacks))
+                place = f"{os.path.basename(path)}:{number}"
+                scenes[-1].steps.append(Step(place, found[1], bool(found[2]), found[3], lacks=lacks))
                 lacks = ""
             elif word == "lacks":
                 lacks = rest
@@ -89,7 +93,8 @@ def read(path):
 
 def texts(names):
     """The paths of the tour's texts, in their order: those whose name begins with one of these words, or all."""
-    return [it for it in sorted(glob.glob(f"{HERE}/tour/*.txt")) if not names or os.path.basename(it).startswith(tuple(names))]
+    paths = sorted(glob.glob(f"{HERE}/tour/*.txt"))
+    return [it for it in paths if not names or os.path.basename(it).startswith(tuple(names))]
 
 
 def written(step):
