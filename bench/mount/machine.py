@@ -15,7 +15,11 @@ class Machine:
             with open(console, "wb") as it:
                 how = {"stdin": subprocess.DEVNULL, "stdout": it, "stderr": it}
                 self.qemu = subprocess.Popen(words(kernel, initramfs, listener.getsockname()[1]), **how)
-            self.agent = self.accepted(listener, time.time() + BOOT)
+            try:
+                self.agent = self.accepted(listener, time.time() + BOOT)
+            except BaseException:
+                self.stop()
+                raise
         if not self.agent:
             self.stop()
             raise SystemExit(f"mount: the guest doesn't come up; {console} has what it said")
