@@ -40,7 +40,10 @@ class Machine:
         asked = {"who": who, "command": command, "second": second, "seconds": seconds, "now": time.time()}
         self.lines.write(json.dumps(asked) + "\n")
         self.lines.flush()
-        answer = json.loads(self.lines.readline())
+        line = self.lines.readline()
+        if not line:
+            raise SystemExit("mount: the guest has ended")
+        answer = json.loads(line)
         return answer["status"], answer["said"]
 
     def stop(self):
