@@ -13,3 +13,4 @@ pub mod RunningOpens
 pub mod Alike
 pub mod SessionOpens
 pub mod Disclosing
+pub mod RowsStand

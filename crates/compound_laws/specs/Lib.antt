@@ -2,3 +2,4 @@ pub mod Disclosure
 pub mod EntriesExact
 pub mod LiveOpens
 pub mod Reloads
+pub mod RowsAsked

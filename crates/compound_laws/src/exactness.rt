@@ -1,5 +1,5 @@
 //! When an operation is OK, when it is refused access, and when it may be delayed.
-ghost use Rattle.std.specs.Prelude.{◌≡◌, ◌≢◌, ◌↔◌, ◌⊎◌, if◌then◌else◌, false, List, ◌∷◌, ◌++◌, Option, Some, None, Result, Ok, Err};
+ghost use Rattle.std.specs.Prelude.{◌≡◌, ◌≢◌, ◌↔◌, ◌⊎◌, if◌then◌else◌, true, false, List, ◌∷◌, ◌++◌, Option, Some, None, Result, Ok, Err, unwrap_or};
 ghost use Rattle.rpc_record.specs.Identity.{Identity};
 ghost use Rattle.nfs_types.specs.declared.status.Status.{Status};
 ghost use Rattle.nfs_types.specs.declared.status.Status.TheVariants as statuses;
@@ -10,6 +10,7 @@ ghost use Rattle.nfs_ops.specs.declared.op_kind.OpKind.TheVariants as kinds;
 ghost use Rattle.nfs_ops.specs.Results.{Outcome};
 ghost use Rattle.node_tree.specs.Judged.{judged_of};
 ghost use Rattle.node_tree.specs.Sound.{IsSound};
+ghost use Rattle.access_rows.specs.Rows.{Demands};
 ghost use Rattle.access_rows.specs.declared.demand.Demand.{Demand};
 ghost use Rattle.compound_run.specs.Realm.{Realm};
 ghost use Rattle.compound_run.specs.Context.{Context, Handles};
@@ -20,6 +21,7 @@ ghost use Rattle.compound_run.specs.Operations.{meaning, may_delay};
 ghost use Rattle.compound_run.specs.Runs.{Point, Steps, outcome, traced};
 ghost use Rattle.compound_run.specs.Exact.{ArePassed, ArePassedOrSuffice, IsRefusedByRow, EndsInRefusal};
 ghost use Rattle.compound_laws.specs.EntriesExact.{GivesExactly, IsUnlisted, MeetsRefused};
+ghost use Rattle.compound_laws.specs.RowsAsked.{first_of, second_of, IsAsked, IsOntoItself, SomeSuffices};
 
 /// An outcome behind a row of demands comes only where the lists grant each of them; else the outcome is ACCESS.
 pub fn rows_decide()
@@ -40,6 +42,29 @@ pub fn access_is_exact()
     ensures exact { (m : Meaning) (r : Realm) → (outcome m r ≡ Err statuses.Access) ↔ IsRefusedByRow m.caller (whole r) m.questions }
     ensures told { (m : Meaning) (r : Realm) → outcome m r ≡ Err statuses.Access →
         (row : IsRefusedByRow m.caller (whole r) m.questions) × EndsInRefusal m.caller m.number (judged_of r.world) (row.demands (whole r)) (traced m r) }
+{}
+
+/// Each row that the table of demands has for an operation stands among its questions, or demands nothing at any place: the first row,
+/// and the second, which depends on the objects of the operation's names.
+pub fn each_row_is_asked()
+    ensures first { (c : Context) (h : Handles) (op : Operation) → IsAsked (first_of c h op) (meaning c h op).questions }
+    ensures second { (c : Context) (h : Handles) (op : Operation) → IsAsked (second_of c h op) (meaning c h op).questions }
+{}
+
+/// So an operation that is OK was granted each demand of its rows; but for the second row of a RENAME whose names are those of one
+/// object, which changes nothing.
+pub fn ok_is_granted()
+    ensures first { (c : Context) (h : Handles) (op : Operation) (r : Realm) (o : Outcome) → outcome (meaning c h op) r ≡ Ok o →
+        all_granted (judged_of r.world) c.caller (first_of c h op (whole r)) ≡ true }
+    ensures second { (c : Context) (h : Handles) (op : Operation) (r : Realm) (o : Outcome) → outcome (meaning c h op) r ≡ Ok o →
+        (all_granted (judged_of r.world) c.caller (second_of c h op (whole r)) ≡ true) ⊎ IsOntoItself h op (whole r) }
+{}
+
+/// Where a row isn't granted the answer is the fault of a question before it, else ACCESS; unless a question before it suffices.
+pub fn refused_is_access()
+    ensures { (m : Meaning) (r : Realm) (before behind : List Question) (row : Sight → Demands) → m.questions ≡ before ++ Row row ∷ behind →
+        all_granted (judged_of r.world) m.caller (row (whole r)) ≡ false →
+        (outcome m r ≡ Err (unwrap_or (failure m.caller (whole r) before) statuses.Access)) ⊎ SomeSuffices (whole r) before }
 {}
 
 /// An operation that takes no memory never answers DELAY: all but CREATE, LINK, NVERIFY, OPEN, RENAME, SETATTR, VERIFY and

@@ -10,8 +10,8 @@ mod repeats;
 
 pub use disclosure::{operations_disclose_nothing, sessions_disclose_nothing};
 pub use exactness::{
-    access_is_exact, ok_is_exact, others_never_delay, readdir_gives_exactly,
-    readdir_is_refused_exactly, rows_decide,
+    access_is_exact, each_row_is_asked, ok_is_exact, ok_is_granted, others_never_delay,
+    readdir_gives_exactly, readdir_is_refused_exactly, refused_is_access, rows_decide,
 };
 pub use opens::{calls_keep_opens, opens_hold_at_first, operations_keep_opens};
 pub use repeats::repeats_change_nothing;

@@ -14,8 +14,8 @@ abbrev pub AreMarked : ℕ → List Frame → Type 0
 AreMarked count [] = Unit {0}
 AreMarked count (f ∷ frames) = (f.safe ≤ count) × AreMarked count frames
 
--- The file has frames of a generation: the kept ones, which are on the disk, and after them the later ones. After a call that failed a part
--- of the last one may be missing.
+-- The file has frames of a generation: the kept ones, which are on the disk, and after them the later ones. After a
+-- call that failed a part of the last one may be missing.
 pub record IsWritten (key generation : ℕ) (kept later : List Frame) (going : Bool) (d : Disk) : Type 0 where
   pub safe : d.safe ≡ all_framed key generation 0 kept
   pub unsynced : going ≡ true → d.unsynced ≡ all_framed key generation (length kept) later
@@ -24,8 +24,8 @@ pub record IsWritten (key generation : ℕ) (kept later : List Frame) (going : B
   pub kept_marked : AreMarked (length kept) kept
   pub later_marked : AreMarked (length kept) later
 
--- What was torn has come out as a frame by chance: after some of the later frames, in their order, stands another frame than the next of
--- them, at its place, and its digests fit.
+-- What was torn has come out as a frame by chance: after some of the later frames, in their order, stands another frame
+-- than the next of them, at its place, and its digests fit.
 pub record Fluke (key generation number : ℕ) (later : List Frame) (more : Bytes) : Type 0 where
   pub front : List Frame
   pub left : List Frame
@@ -42,8 +42,8 @@ abbrev pub IsHeadOf : ℕ → ℕ → ℕ → List Frame → Head → Type 0
 IsHeadOf key generation number [] h = ⊥
 IsHeadOf key generation number (f ∷ frames) h = (h ≡ head_for key generation number f) ⊎ IsHeadOf key generation (number + 1) frames h
 
--- What was torn has come out as a head by chance: a head of no lesser generation whose digest fits, and it is that of no frame that was
--- appended.
+-- What was torn has come out as a head by chance: a head of no lesser generation whose digest fits, and it is that of
+-- no frame that was appended.
 pub record HeadFluke (key generation least : ℕ) (all : List Frame) (more : Bytes) : Type 0 where
   pub place : ℕ
   pub head : Head
@@ -51,8 +51,11 @@ pub record HeadFluke (key generation least : ℕ) (all : List Frame) (more : Byt
   pub recent : least ≤ head.generation
   pub stray : IsHeadOf key generation 0 all head → ⊥
 
--- **A crash leaves a front of the frames that were appended, and all that are kept**, unless there is a fluke in bytes that weren't synced.
+-- **A crash leaves a front of the frames that were appended, and all that are kept**, unless there is a fluke in bytes
+-- that weren't synced.
 abbrev pub CrashLaw : Type 0
 CrashLaw = (key generation : ℕ) (kept later : List Frame) (going : Bool) (d : Disk) → IsWritten key generation kept later going d
-    → (left : Bytes) (frames : List Frame) (rest : Bytes) → (m : MayLeave d left) → Holds key generation 0 left frames rest
-    → (IsFront kept frames × IsFront frames (kept ++ later)) ⊎ ((0 < d.loose) × Fluke key generation (length kept) later m.more)
+    → (left : Bytes) (frames : List Frame) (rest : Bytes) → (m : MayLeave d left)
+    → Holds key generation 0 left frames rest
+    → (IsFront kept frames × IsFront frames (kept ++ later)) ⊎ ((0 < d.loose)
+    × Fluke key generation (length kept) later m.more)

@@ -69,7 +69,8 @@ on_disk s (Unsynced t ∷ acts) = on_disk s acts
 on_disk s (Emptied t ∷ acts) = if_same s t after_emptying (on_disk s acts)
 on_disk s (Unemptied t ∷ acts) = if_same s t after_emptying (on_disk s acts)
 
--- A crash leaves the safe bytes, and after them any bytes, no more than are loose: writes may be lost, torn, reordered and spoiled.
+-- A crash leaves the safe bytes, and after them any bytes, no more than are loose: writes may be lost, torn, reordered
+-- and spoiled.
 pub record MayLeave (d : Disk) (file : List ℕ) : Type 0 where
   pub more : List ℕ
   pub is : file ≡ d.safe ++ more

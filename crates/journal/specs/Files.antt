@@ -35,7 +35,8 @@ abbrev pub with_part : Bytes → Option Content → Option Content
 with_part part None = None
 with_part part (Some x) = Some (record { parts = part ∷ x.parts; records = x.records })
 
--- The frames before the first end are the parts, and those after it the records. Without an end the checkpoint isn't whole, and there is none.
+-- The frames before the first end are the parts, and those after it the records. Without an end the checkpoint isn't
+-- whole, and there is none.
 abbrev pub contents : List Frame → Option Content
 contents [] = None
 contents (f ∷ frames) = if f.kind == END then Some (record { parts = []; records = bodies frames }) else with_part f.body (contents frames)
@@ -48,8 +49,8 @@ rank_of generation (Some x) = generation
 abbrev pub rank : File → ℕ
 rank x = rank_of x.generation (contents x.frames)
 
--- What a head after the frames of a file says where something is wrong: its version isn't known; or the file was longer, since more frames
--- than stand in it had been synced.
+-- What a head after the frames of a file says where something is wrong: its version isn't known; or the file was
+-- longer, since more frames than stand in it had been synced.
 abbrev pub SaysSo : Bool → ℕ → Head → Type 0
 SaysSo true count h = h.version ≢ VERSION
 SaysSo false count h = (h.version ≡ VERSION) × (count < h.safe)
@@ -76,8 +77,8 @@ abbrev pub ScansSo : ℕ → ℕ → ℕ → Bytes → Option Bool → Type 0
 ScansSo key least count rest None = (unknown : Bool) → Alarm key least count unknown rest → ⊥
 ScansSo key least count rest (Some unknown) = Alarm key least count unknown rest
 
--- the content of a file of which some frames are left to read, by what was read so far: whether the end of the checkpoint was, the parts,
--- and the records
+-- the content of a file of which some frames are left to read, by what was read so far: whether the end of the
+-- checkpoint was, the parts, and the records
 abbrev pub after_those : List Bytes → List Bytes → Option Content → Option Content
 after_those parts records None = None
 after_those parts records (Some x) = Some (record { parts = parts ++ x.parts; records = records ++ x.records })
@@ -91,7 +92,8 @@ abbrev pub if_whole : Bool → List Bytes → List Bytes → Option Content
 if_whole true parts records = Some (record { parts = parts; records = records })
 if_whole false parts records = None
 
--- This is what a file has: its generation, as many frames, the rest, whether its checkpoint is whole, and then its parts and records.
+-- This is what a file has: its generation, as many frames, the rest, whether its checkpoint is whole, and then its
+-- parts and records.
 pub record IsRead (key : ℕ) (bytes : Bytes) (generation number : ℕ) (rest : Bytes) (whole : Bool) (parts records : List Bytes) : Type 0 where
   pub frames : List Frame
   pub has : Has key bytes (record { generation = generation; frames = frames; rest = rest })

@@ -1,4 +1,4 @@
--- The frames of a file, one after the other: each is a head, the digest of the head, and a body (RFC 4506, sections 4.5, 4.10 and 4.14).
+-- The frames of a file, one after the other: each is a struct of a head, its digest and a body (RFC 4506, section 4.14).
 use Rattle.std.specs.Prelude.{◌≡◌, ◌==◌, ◌+◌, ℕ, Bool, false, List, [], ◌∷◌, ◌++◌, length, if◌then◌else◌, Option, Some, None, Ok, Err}
 use Rattle.xdr_wire.specs.Xdr.{Xdr, Value, hyper, opaque, pair, HasSpelling, spelling}
 use Rattle.xdr_wire.specs.Reading.{Read, read_at}
@@ -111,8 +111,8 @@ fitting key generation number (Ok x) =
     if in_place key generation number (head_of x.0.0) x.0.1.0 x.0.1.1 then Some (frame_of (head_of x.0.0) x.0.1.1, x.1) else None
 fitting key generation number (Err e) = None
 
--- The frame of this place at the front of the bytes, and the bytes after it. There is none where no whole frame of this version, generation
--- and number stands there whose digests fit.
+-- The frame of this place at the front of the bytes, and the bytes after it. There is none where no whole frame of this
+-- version, generation and number stands there whose digests fit.
 unfoldable pub frame_at : ℕ → ℕ → ℕ → Bytes → Option (Frame × Bytes)
 frame_at key generation number bytes = fitting key generation number (read_at form bytes)
 
@@ -120,7 +120,8 @@ frame_at key generation number bytes = fitting key generation number (read_at fo
 abbrev pub Stand : ℕ → ℕ → ℕ → List Frame → Bytes → Bytes → Type 0
 Stand key generation number [] bytes rest = rest ≡ bytes
 Stand key generation number (f ∷ frames) bytes rest =
-    (after : Bytes) × (frame_at key generation number bytes ≡ Some (f, after)) × Stand key generation (number + 1) frames after rest
+    (after : Bytes) × (frame_at key generation number bytes ≡ Some (f, after))
+    × Stand key generation (number + 1) frames after rest
 
 -- These are all frames of the bytes: the next one doesn't stand at the front of the rest.
 pub record Holds (key generation number : ℕ) (bytes : Bytes) (frames : List Frame) (rest : Bytes) : Type 0 where

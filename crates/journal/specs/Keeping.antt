@@ -21,11 +21,12 @@ pub record Twice {D : Type 0} (adds : Adding D) (first second : Act) (old new : 
   pub one : adds old first mid
   pub two : adds mid second new
 
--- The frame is appended, or it is too long, or memory is refused or no number is left, and nothing has changed; or the disk has failed: before,
--- or now, and then a crash may leave the frame.
+-- The frame is appended, or it is too long, or memory is refused or no number is left, and nothing has changed; or the
+-- disk has failed: before, or now, and then a crash may leave the frame.
 abbrev pub FrameGives : {D : Type 0} → Adding D → Slot → ℕ → ℕ → ℕ → Frame → Bool → ℕ → Bool → Result (Unit {0}) JournalFault → D → D → Type 0
 FrameGives adds slot key generation number f failed number' failed' (Ok done) old new =
-    adds old (Appended slot (framed key generation number f)) new × IsFit key generation number f × (failed ≡ false) × (number' ≡ number + 1) × (failed' ≡ false)
+    adds old (Appended slot (framed key generation number f)) new × IsFit key generation number f
+    × (failed ≡ false) × (number' ≡ number + 1) × (failed' ≡ false)
 FrameGives adds slot key generation number f failed number' failed' (Err TooLong) old new =
     (MAX_BODY < length f.body) × (new ≡ old) × (number' ≡ number) × (failed' ≡ failed)
 FrameGives adds slot key generation number f failed number' failed' (Err Memory) old new = (new ≡ old) × (number' ≡ number) × (failed' ≡ failed)
@@ -33,16 +34,18 @@ FrameGives adds slot key generation number f failed number' failed' (Err Full) o
     (number ≡ 18446744073709551615) × (new ≡ old) × (number' ≡ number) × (failed' ≡ failed)
 FrameGives adds slot key generation number f failed number' failed' (Err Failed) old new =
     ((failed ≡ true) × (new ≡ old) × (number' ≡ number) × (failed' ≡ true))
-    ⊎ (adds old (Tore slot (framed key generation number f)) new × IsFit key generation number f × (failed ≡ false) × (number' ≡ number + 1) × (failed' ≡ true))
+    ⊎ (adds old (Tore slot (framed key generation number f)) new × IsFit key generation number f × (failed ≡ false)
+    × (number' ≡ number + 1) × (failed' ≡ true))
 
 -- All is kept, or the disk has failed: before, or now.
 abbrev pub SyncGives : {D : Type 0} → Adding D → Slot → Bool → Bool → Bool → D → D → Type 0
 SyncGives adds slot failed failed' true old new = adds old (Synced slot) new × (failed ≡ false) × (failed' ≡ false)
 SyncGives adds slot failed failed' false old new =
-    ((failed ≡ true) × (new ≡ old) × (failed' ≡ true)) ⊎ (adds old (Unsynced slot) new × (failed ≡ false) × (failed' ≡ true))
+    ((failed ≡ true) × (new ≡ old) × (failed' ≡ true)) ⊎ (adds old (Unsynced slot) new × (failed ≡ false)
+    × (failed' ≡ true))
 
--- A checkpoint of the next generation begins in the other file, which was emptied and then synced; or no generation is left, and nothing has
--- changed; or the disk has failed.
+-- A checkpoint of the next generation begins in the other file, which was emptied and then synced; or no generation is
+-- left, and nothing has changed; or the disk has failed.
 abbrev pub BeginGives : {D : Type 0} → Adding D → ℕ → Slot → ℕ → Result Checkpoint JournalFault → D → D → Type 0
 BeginGives adds key slot generation (Ok c) old new =
     Twice adds (Emptied (other slot)) (Synced (other slot)) old new
@@ -56,8 +59,8 @@ BeginGives adds key slot generation (Err Failed) old new =
 abbrev pub end_frame : Frame
 end_frame = frame_with END 0 []
 
--- The checkpoint's end is appended, and then all of its file is synced; or memory is refused or no number is left, and nothing has changed;
--- or the disk has failed.
+-- The checkpoint's end is appended, and then all of its file is synced; or memory is refused or no number is left, and
+-- nothing has changed; or the disk has failed.
 abbrev pub FinishGives : {D : Type 0} → Adding D → Checkpoint → Result Journal JournalFault → D → D → Type 0
 FinishGives adds c (Ok j) old new =
     Twice adds (Appended c.slot (framed c.key c.generation c.number end_frame)) (Synced c.slot) old new

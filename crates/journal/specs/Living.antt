@@ -8,13 +8,14 @@ use Rattle.journal.specs.Files.{File, Has, Content, contents, bodies, rank, Alar
 use Rattle.journal.specs.Opening.{Chooses, Refuses, in_slot}
 use Rattle.journal.specs.Crash.{IsFront, IsWritten, Fluke, HeadFluke}
 
--- a file with these bytes has a lesser generation than that one, or no whole checkpoint, and nothing of it says that something is wrong
+-- a file with these bytes has a lesser generation than that one, or no whole checkpoint, and nothing of it says that
+-- something is wrong
 pub record IsPassed (key generation : ℕ) (bytes : Bytes) : Type 0 where
   pub lesser : (x : File) → Has key bytes x → rank x < generation
   pub quiet : (x : File) → Has key bytes x → (unknown : Bool) → Alarm key generation (length x.frames) unknown x.rest → ⊥
 
--- After these acts this file counts: its checkpoint and the first records are kept, later ones were appended; and the other file is settled,
--- and passed by.
+-- After these acts this file counts: its checkpoint and the first records are kept, later ones were appended; and the
+-- other file is settled, and passed by.
 pub record IsLive (key generation : ℕ) (s : Slot) (kept later : List Frame) (going : Bool) (checkpoint : Content) (acts : List Act) : Type 0 where
   pub written : IsWritten key generation kept later going (on_disk s acts)
   pub whole : contents kept ≡ Some checkpoint
@@ -34,10 +35,11 @@ pub record IsKept (s : Slot) (generation : ℕ) (later : List Frame) (checkpoint
 -- a digest fits by chance in bytes that weren't synced: those of a frame, or that of a head
 abbrev pub Chance : ℕ → ℕ → List Frame → List Frame → Disk → Bytes → Type 0
 Chance key generation kept later d more =
-    (0 < d.loose) × (Fluke key generation (length kept) later more ⊎ HeadFluke key generation generation (kept ++ later) more)
+    (0 < d.loose) × (Fluke key generation (length kept) later more
+    ⊎ HeadFluke key generation generation (kept ++ later) more)
 
--- **What is chosen after a crash is a checkpoint and records that are a front of what was appended, with all that is kept; and nothing is
--- refused**, unless a digest fits by chance.
+-- **What is chosen after a crash is a checkpoint and records that are a front of what was appended, with all that is
+-- kept; and nothing is refused**, unless a digest fits by chance.
 abbrev pub Survives : ℕ → ℕ → Slot → List Frame → List Frame → Content → Disk → Bytes → Bytes → Bytes → Type 0
 Survives key generation s kept later checkpoint d more a b =
     ((slot : Slot) (number : ℕ) (content : Option Content) → Chooses key a b slot number content

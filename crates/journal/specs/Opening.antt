@@ -25,17 +25,19 @@ abbrev pub in_slot : {X : Type 0} → Slot → X → X → X
 in_slot A x y = x
 in_slot B x y = y
 
--- Something is wrong with two files, of which the second has these bytes: in the rest of either stands a head, of no lesser generation than
--- the file that counts, that has a version that isn't known or says that its file was longer; or no checkpoint is whole, and the second file
--- isn't empty, which is begun only after the first one is kept.
+-- Something is wrong with two files, of which the second has these bytes: in the rest of either stands a head, of no
+-- lesser generation than the file that counts, that has a version that isn't known or says that its file was longer; or
+-- no checkpoint is whole, and the second file isn't empty, which is begun only after the first one is kept.
 abbrev pub IsWrongAt : ℕ → Bool → ℕ → ℕ → Bytes → ℕ → Bytes → Bytes → Type 0
 IsWrongAt key unknown least count_a rest_a count_b rest_b b =
-    Alarm key least count_a unknown rest_a ⊎ (Alarm key least count_b unknown rest_b ⊎ ((unknown ≡ false) × (least ≡ 0) × (b ≢ [])))
+    Alarm key least count_a unknown rest_a ⊎ (Alarm key least count_b unknown rest_b
+    ⊎ ((unknown ≡ false) × (least ≡ 0) × (b ≢ [])))
 
 abbrev pub IsWrong : ℕ → Bool → File → File → Bytes → Type 0
 IsWrong key unknown x y b = IsWrongAt key unknown (greater (rank x) (rank y)) (length x.frames) x.rest (length y.frames) y.rest b
 
--- Nothing is wrong, and this file counts, with its generation and its content; neither, of generation 0, where the journal is new.
+-- Nothing is wrong, and this file counts, with its generation and its content; neither, of generation 0, where the
+-- journal is new.
 pub record Chooses (key : ℕ) (a b : Bytes) (slot : Slot) (generation : ℕ) (content : Option Content) : Type 0 where
   pub both : Both key a b
   pub right : (unknown : Bool) → IsWrong key unknown both.in_a both.in_b b → ⊥

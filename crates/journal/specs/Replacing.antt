@@ -9,15 +9,16 @@ use Rattle.journal.specs.Opening.{Chooses, Refuses, in_slot}
 use Rattle.journal.specs.Crash.{IsFront, IsWritten, Fluke, HeadFluke}
 use Rattle.journal.specs.Living.{IsLive}
 
--- A file with these bytes counts, with this generation and this content, and nothing of it says that something is wrong. Where the journal is
--- new it is the second one, and empty, of generation 0.
+-- A file with these bytes counts, with this generation and this content, and nothing of it says that something is
+-- wrong. Where the journal is new it is the second one, and empty, of generation 0.
 pub record IsBase (key generation : ℕ) (s : Slot) (content : Option Content) (bytes : Bytes) : Type 0 where
   pub rank_is : (x : File) → Has key bytes x → rank x ≡ generation
   pub content_is : (x : File) → Has key bytes x → contents x.frames ≡ content
   pub quiet : (x : File) → Has key bytes x → (unknown : Bool) → Alarm key generation (length x.frames) unknown x.rest → ⊥
   pub new_is : generation ≡ 0 → (s ≡ B) × (bytes ≡ [])
 
--- After these acts this file counts and is settled, and frames of a checkpoint of the next generation were appended to the other one.
+-- After these acts this file counts and is settled, and frames of a checkpoint of the next generation were appended to
+-- the other one.
 pub record IsReplaced (key generation : ℕ) (s : Slot) (content : Option Content) (later : List Frame) (going : Bool) (acts : List Act) : Type 0 where
   pub old : Bytes
   pub at_rest : on_disk s acts ≡ settled old
@@ -44,16 +45,18 @@ pub record IsNew (s : Slot) (generation : ℕ) (later : List Frame) (slot : Slot
   pub content_is : chosen ≡ contents front
   pub whole : (x : Content) × (contents front ≡ Some x)
 
--- **What is chosen after a crash is the old file, as it was, or the new one, with its whole checkpoint; and nothing is refused**, unless a
--- digest fits by chance.
+-- **What is chosen after a crash is the old file, as it was, or the new one, with its whole checkpoint; and nothing is
+-- refused**, unless a digest fits by chance.
 abbrev pub ReplacingLaw : Type 0
 ReplacingLaw = (key generation : ℕ) (s : Slot) (content : Option Content) (later : List Frame) (going : Bool) (acts : List Act)
     → IsReplaced key generation s content later going acts
     → (a b : Bytes) → (m : MayLeave (on_disk A acts) a) → (n : MayLeave (on_disk B acts) b)
     → ((slot : Slot) (number : ℕ) (chosen : Option Content) → Chooses key a b slot number chosen
     → IsOld s generation content slot number chosen
-    ⊎ (IsNew s generation later slot number chosen ⊎ ChanceInNew key generation later (on_disk (other s) acts) (in_slot s n.more m.more)))
-    × ((unknown : Bool) → Refuses key a b unknown → ChanceInNew key generation later (on_disk (other s) acts) (in_slot s n.more m.more))
+    ⊎ (IsNew s generation later slot number chosen
+    ⊎ ChanceInNew key generation later (on_disk (other s) acts) (in_slot s n.more m.more)))
+    × ((unknown : Bool) → Refuses key a b unknown
+    → ChanceInNew key generation later (on_disk (other s) acts) (in_slot s n.more m.more))
 
 -- a sync of the new file, whose checkpoint is whole, makes it the one that counts
 abbrev pub FinishLaw : Type 0
@@ -61,7 +64,8 @@ FinishLaw = (key generation : ℕ) (s : Slot) (content : Option Content) (later 
     → IsReplaced key generation s content later true acts → contents later ≡ Some checkpoint
     → IsLive key (generation + 1) (other s) later [] true checkpoint (Synced (other s) ∷ acts)
 
--- Two files that were found, of which one is chosen, are a base for a checkpoint in the other one, which is emptied and then synced.
+-- Two files that were found, of which one is chosen, are a base for a checkpoint in the other one, which is emptied and
+-- then synced.
 abbrev pub StartLaw : Type 0
 StartLaw = (key : ℕ) (a b : Bytes) (s : Slot) (generation : ℕ) (content : Option Content) → Chooses key a b s generation content
     → IsReplaced key generation s content [] true (Synced (other s) ∷ Emptied (other s) ∷ Found B b ∷ Found A a ∷ [])

@@ -19,4 +19,5 @@ AppendLaw = (key generation : ℕ) (kept later : List Frame) (s : Slot) (acts : 
 -- after a sync all frames are kept, and after one that failed those that were
 abbrev pub SyncLaw : Type 0
 SyncLaw = (key generation : ℕ) (kept later : List Frame) (s : Slot) (acts : List Act) → IsWritten key generation kept later true (on_disk s acts)
-    → IsWritten key generation (kept ++ later) [] true (on_disk s (Synced s ∷ acts)) × IsWritten key generation kept later false (on_disk s (Unsynced s ∷ acts))
+    → IsWritten key generation (kept ++ later) [] true (on_disk s (Synced s ∷ acts))
+    × IsWritten key generation kept later false (on_disk s (Unsynced s ∷ acts))

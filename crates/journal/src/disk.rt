@@ -25,8 +25,8 @@ pub enum LoadFault {
 
 /// Two files that are only appended to and emptied. After a call that fails no other call is made.
 ///
-/// An implementation says by `adds` which act a call adds to a list of acts, wherever that list is kept, so that the acts of a disk can
-/// stand beside others in one list; a real file claims nothing.
+/// An implementation says by `adds` which act a call adds to a list of acts, wherever that list is kept, so that the
+/// acts of a disk can stand beside others in one list; a real file claims nothing.
 pub trait Disk {
     // one of these was made of the other by this act
     ghost adds: { Self → Act → Self → Type 0 } = { λ old act new. Unit {0} };
@@ -39,7 +39,8 @@ pub trait Disk {
     fn append(&mut self, slot: Slot, bytes: &[u8]) -> bool
         ensures { adds self.old (appended result slot bytes.now) self.new };
 
-    /// Waits until all that was done with a file is on the disk. `false`: that failed, and what was done since the last sync may be lost.
+    /// Waits until all that was done with a file is on the disk. `false`: that failed, and what was done since the last
+    /// sync may be lost.
     fn sync(&mut self, slot: Slot) -> bool
         ensures { adds self.old (synced result slot) self.new };
 

@@ -98,8 +98,8 @@ pub(crate) fn frame_bytes<A: Allocator>(
 }
 
 impl<'a> Frames<'a> {
-    /// Takes the next frame. `None`: no whole frame of this version, generation and number whose digests fit stands at the front, and
-    /// nothing is taken.
+    /// Takes the next frame. `None`: no whole frame of this version, generation and number whose digests fit stands at
+    /// the front, and nothing is taken.
     #[tactic(auto, unfolding(crate::specs::Frames::frame_at))]
     pub fn next(&mut self) -> Option<Frame<'a>>
         requires { self.old.number + length self.old.rest.now < 2 ^ 64 }

@@ -102,8 +102,8 @@ fn append_frame<D: Disk, A: Allocator>(
 }
 
 impl Checkpoint {
-    /// Begins a checkpoint of the next generation in the other file than the one that counts, which has this slot and this generation: empties
-    /// the other file and syncs it. At an error the file that counts is as it was.
+    /// Begins a checkpoint of the next generation in the other file than the one that counts, which has this slot and
+    /// this generation: empties the other file and syncs it. At an error the file that counts is as it was.
     pub fn begin<D: Disk>(
         disk: &mut D,
         key: u64,
@@ -157,8 +157,8 @@ impl Checkpoint {
         )
     }
 
-    /// Ends the checkpoint and syncs its file, which counts from then on. Each crash until then leaves the other file to count, or this one
-    /// with its whole checkpoint.
+    /// Ends the checkpoint and syncs its file, which counts from then on. Each crash until then leaves the other file
+    /// to count, or this one with its whole checkpoint.
     pub fn finish<D: Disk, A: Allocator>(
         self,
         disk: &mut D,
@@ -222,7 +222,8 @@ impl Journal {
         )
     }
 
-    /// Keeps all records that were appended: each crash from now on leaves them. `false`: the disk has failed, now or before.
+    /// Keeps all records that were appended: each crash from now on leaves them. `false`: the disk has failed, now or
+    /// before.
     pub fn sync<D: Disk>(&mut self, disk: &mut D) -> bool
         ensures gives { SyncGives D.adds self.old.slot self.old.has_failed self.new.has_failed result disk.old disk.new }
         ensures key { self.new.key ≡ self.old.key }

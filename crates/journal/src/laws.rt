@@ -4,7 +4,8 @@ ghost use Rattle.journal.specs.Living.{LiveLaw};
 ghost use Rattle.journal.specs.Replacing.{FinishLaw, RenewLaw, ReplacingLaw, StartLaw};
 ghost use Rattle.journal.specs.Steps.{AppendLaw, BeginLaw, SyncLaw};
 
-/// A crash leaves a front of the frames that were appended to a file, and all that are kept, unless a digest fits by chance.
+/// A crash leaves a front of the frames that were appended to a file, and all that are kept, unless a digest fits by
+/// chance.
 pub fn a_crash_leaves_a_front()
     ensures { CrashLaw }
 {}
@@ -24,8 +25,8 @@ pub fn a_sync_keeps_all()
     ensures { SyncLaw }
 {}
 
-/// While records are appended to one file, a crash at any moment leaves what is chosen with all that is kept and a front of the rest, and
-/// nothing is refused, unless a digest fits by chance.
+/// While records are appended to one file, a crash at any moment leaves what is chosen with all that is kept and a
+/// front of the rest, and nothing is refused, unless a digest fits by chance.
 pub fn what_is_kept_is_chosen()
     ensures { LiveLaw }
 {}
@@ -40,8 +41,8 @@ pub fn what_is_kept_is_replaced()
     ensures { RenewLaw }
 {}
 
-/// While a checkpoint is written into one file, a crash at any moment leaves what is chosen with the other file as it was, or with the whole
-/// new checkpoint, and nothing is refused, unless a digest fits by chance.
+/// While a checkpoint is written into one file, a crash at any moment leaves what is chosen with the other file as it
+/// was, or with the whole new checkpoint, and nothing is refused, unless a digest fits by chance.
 pub fn the_old_file_counts_until_the_new_one_is_whole()
     ensures { ReplacingLaw }
 {}

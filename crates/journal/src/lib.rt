@@ -1,4 +1,4 @@
-//! A journal in two files: checkpoints, and records that are appended after them, kept by a sync and found again after a crash.
+//! A journal in two files: checkpoints, and records after them, kept by a sync and found again after a crash.
 #![tactic(auto)]
 
 mod alarm;

@@ -1,0 +1,8 @@
+use Rattle.compound_laws.proofs.RowsStand.{first_is_granted, second_is_granted}
+use Rattle.compound_laws.proofs.exactness.ok_is_granted.Goals as goal
+
+pub returns-clause-first : goal.returns-clause-first
+returns-clause-first c = first_is_granted
+
+pub returns-clause-second : goal.returns-clause-second
+returns-clause-second c = second_is_granted

@@ -1,0 +1,5 @@
+use Rattle.compound_laws.proofs.RowsStand.{is_refused}
+use Rattle.compound_laws.proofs.exactness.refused_is_access.Goals as goal
+
+pub returns : goal.returns
+returns c = is_refused

@@ -1,0 +1,63 @@
+-- The rows of each operation by the table of demands, at the facts of its place (RFC 8881, sections 6.2.1.3 and 18), and their place among
+-- its questions.
+use Rattle.std.specs.Prelude.{◌≡◌, ◌⊎◌, List, [], ◌∷◌, Option, Some, None, true, false}
+use Rattle.rpc_record.specs.Identity.{Identity}
+use Rattle.nfs_ops.specs.Operations.{Operation, Known}
+use Rattle.nfs_ops.specs.declared.op_kind.OpKind.TheVariants as kinds
+use Rattle.access_rows.specs.Rows.{Demands, first_demands, second_demands}
+use Rattle.access_rows.specs.declared.demand.Demand.{Demand}
+use Rattle.compound_run.specs.Context.{Context, Handles}
+use Rattle.compound_run.specs.Sight.{Sight, child}
+use Rattle.compound_run.specs.Questions.{Question, Holds, Valid, Row, Suffices}
+use Rattle.compound_run.specs.Rows.{first_facts, sized_facts, second_facts, opening_facts}
+use Rattle.compound_run.specs.Meaning.{here}
+use Rattle.compound_run.specs.Open as opens
+use Rattle.compound_run.specs.Rename as renames
+use Rattle.compound_run.specs.Setattr.{wanted_on}
+
+-- ---- the rows
+
+-- The first row: of SETATTR with the sizes of the file before and after it, of WRITE with the size before it.
+abbrev pub first_of : Context → Handles → Operation → Sight → Demands
+first_of c h (Known kinds.SetAttr v) s = first_demands (Known kinds.SetAttr v) (sized_facts s h (wanted_on c v (here h) s).size)
+first_of c h (Known kinds.Write v) s = first_demands (Known kinds.Write v) (sized_facts s h None)
+first_of c h op s = first_demands op (first_facts s h)
+
+-- The second row, by the objects of the names: the file of OPEN, the child of REMOVE, the child and the target of RENAME.
+abbrev pub second_of : Context → Handles → Operation → Sight → Demands
+second_of c h (Known kinds.Open v) s =
+    second_demands (Known kinds.Open v) (opening_facts s h (opens.found v h s) (opens.wanted c v).size)
+second_of c h (Known kinds.Remove name) s = second_demands (Known kinds.Remove name) (second_facts s h (child s (here h) name) None)
+second_of c h (Known kinds.Rename v) s =
+    second_demands (Known kinds.Rename v) (second_facts s h (renames.moved h v s) (renames.replaced h v s))
+second_of c h op s = second_demands op (second_facts s h None None)
+
+-- nothing is demanded
+abbrev pub IsEmpty : Demands → Type 0
+IsEmpty [] = Unit {0}
+IsEmpty (None ∷ demands) = IsEmpty demands
+IsEmpty (Some demand ∷ demands) = ⊥
+
+-- ---- their place
+
+-- the row is one of the questions
+abbrev pub IsAmong : (Sight → Demands) → List Question → Type 0
+IsAmong row [] = ⊥
+IsAmong row (q ∷ questions) = (q ≡ Row row) ⊎ IsAmong row questions
+
+-- the row is asked, or it never demands anything
+abbrev pub IsAsked : (Sight → Demands) → List Question → Type 0
+IsAsked row questions = IsAmong row questions ⊎ ((s : Sight) → IsEmpty (row s))
+
+-- one of the questions suffices: those behind it aren't put
+abbrev pub SomeSuffices : Sight → List Question → Type 0
+SomeSuffices s [] = ⊥
+SomeSuffices s (Suffices test ∷ questions) = (test s ≡ true) ⊎ SomeSuffices s questions
+SomeSuffices s (Holds test status is ∷ questions) = SomeSuffices s questions
+SomeSuffices s (Valid fault may ∷ questions) = SomeSuffices s questions
+SomeSuffices s (Row demands ∷ questions) = SomeSuffices s questions
+
+-- a RENAME whose two names are those of one object
+abbrev pub IsOntoItself : Handles → Operation → Sight → Type 0
+IsOntoItself h (Known kinds.Rename v) s = renames.is_same h v s ≡ true
+IsOntoItself h op s = ⊥

@@ -1,0 +1,14 @@
+//! Samples of XDR forms of one's own, one of each shape (a struct, unions, a chain, an array with a normal form), and of names for READDIR.
+#![tactic(auto)]
+
+mod bitmap;
+mod channel;
+mod children;
+mod claim;
+mod listing;
+
+pub use bitmap::Bitmap;
+pub use channel::Channel;
+pub use children::{Child, Children};
+pub use claim::{Claim, Mark, Stable};
+pub use listing::{Entry, Listing};

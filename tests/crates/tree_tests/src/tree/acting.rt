@@ -1,0 +1,256 @@
+//! Calls of a tree, each an operation of its own: it takes the next tick, at the second of that tick.
+
+use acl_list::{AclList, Kind};
+use acl_shape::is_bounded;
+use node_tree::{At, Moment, Move, NewObject, Tree, TreeFault};
+use std::alloc::{AllocError, Allocator};
+
+/// The outcome of a call, or of a look.
+#[derive(Clone, Copy, Debug, PartialEq, Eq)]
+pub enum Outcome {
+    /// The call was done.
+    Done,
+    /// The call was done, and made this object.
+    Made(u64),
+    /// The call was refused.
+    Refused(TreeFault),
+    /// A directory would come to lie below itself.
+    GoesBelow,
+    /// The call's requirements don't hold.
+    Misused,
+    /// A number was seen.
+    Is(u64),
+    /// There is none.
+    Absent,
+    /// The seconds in which the data and the metadata of an object were changed last.
+    Changed(i64, i64),
+    /// The cookie and the child of a name.
+    Entry(u64, u64),
+    /// The next tick and the next stamp.
+    Counters(u64, u64),
+    /// How many bytes were read, and what stands then in a buffer of four nines.
+    Bytes(usize, [u8; 4]),
+}
+
+fn came_to(answer: Result<(), TreeFault>) -> Outcome {
+    match answer {
+        Ok(()) => Outcome::Done,
+        Err(fault) => Outcome::Refused(fault),
+    }
+}
+
+/// The next tick, at the second of that number.
+fn now<A: Allocator + Copy>(tree: &Tree<A>) -> Option<At> {
+    let tick = tree.next_tick();
+    if tick >= 1 << 62 {
+        return None;
+    }
+    Some(At {
+        tick,
+        moment: Moment {
+            seconds: tick as i64,
+            nanoseconds: 0,
+        },
+    })
+}
+
+fn kind<A: Allocator + Copy>(tree: &Tree<A>, number: u64) -> Option<Kind> {
+    tree.object(number).map(|node| node.kind())
+}
+
+/// A new file or directory of the owner 0, with an empty list.
+pub fn add<A: Allocator + Copy>(
+    tree: &mut Tree<A>,
+    alloc: A,
+    directory: u64,
+    name: &[u8],
+    kind_of_new: Kind,
+) -> Outcome {
+    let Some(at) = now(tree) else {
+        return Outcome::Misused;
+    };
+    let Some(Kind::Directory) = kind(tree, directory) else {
+        return Outcome::Misused;
+    };
+    let list = AclList::new(alloc);
+    if name.len() > 255 || !is_bounded(&list) {
+        return Outcome::Misused;
+    }
+    let new = NewObject {
+        kind: kind_of_new,
+        bytes: Vec::new(alloc),
+        owner: 0,
+        group: 0,
+        list,
+        high: 0,
+    };
+    match tree.add(directory, name, new, at) {
+        Ok(number) => Outcome::Made(number),
+        Err(fault) => Outcome::Refused(fault),
+    }
+}
+
+pub fn link<A: Allocator + Copy>(
+    tree: &mut Tree<A>,
+    directory: u64,
+    name: &[u8],
+    number: u64,
+) -> Outcome {
+    let Some(at) = now(tree) else {
+        return Outcome::Misused;
+    };
+    let Some(Kind::Directory) = kind(tree, directory) else {
+        return Outcome::Misused;
+    };
+    let Some(Kind::File) = kind(tree, number) else {
+        return Outcome::Misused;
+    };
+    if name.len() > 255 {
+        return Outcome::Misused;
+    }
+    came_to(tree.link(directory, name, number, at))
+}
+
+pub fn unlink<A: Allocator + Copy>(tree: &mut Tree<A>, directory: u64, name: &[u8]) -> Outcome {
+    let Some(at) = now(tree) else {
+        return Outcome::Misused;
+    };
+    came_to(tree.unlink(directory, name, at))
+}
+
+/// Whether the target of a new name is the child itself.
+fn is_one(child: u64, target: Option<u64>) -> bool {
+    match target {
+        Some(target) => child == target,
+        None => false,
+    }
+}
+
+pub fn rename<A: Allocator + Copy>(
+    tree: &mut Tree<A>,
+    from: u64,
+    old: &[u8],
+    to: u64,
+    new: &[u8],
+) -> Outcome {
+    let Some(at) = now(tree) else {
+        return Outcome::Misused;
+    };
+    let Some(Kind::Directory) = kind(tree, to) else {
+        return Outcome::Misused;
+    };
+    if new.len() > 255 {
+        return Outcome::Misused;
+    }
+    let Some(child) = tree.find(from, old) else {
+        return Outcome::Refused(TreeFault::NoEnt);
+    };
+    let target = tree.find(to, new);
+    if is_one(child, target) {
+        return Outcome::Done;
+    }
+    if tree.is_below(child, to) {
+        return Outcome::GoesBelow;
+    }
+    if !tree.may_replace(child, target) {
+        return Outcome::Refused(TreeFault::Exist);
+    }
+    if !tree.may_move(from, to, target) {
+        return Outcome::Refused(TreeFault::NoSpc);
+    }
+    let moved = Move {
+        from,
+        old,
+        to,
+        new,
+        child,
+        target,
+    };
+    match tree.rename(moved, at) {
+        Ok(()) => Outcome::Done,
+        Err(AllocError) => Outcome::Refused(TreeFault::Memory),
+    }
+}
+
+pub fn write<A: Allocator + Copy>(
+    tree: &mut Tree<A>,
+    file: u64,
+    offset: u64,
+    more: &[u8],
+) -> Outcome {
+    let Some(at) = now(tree) else {
+        return Outcome::Misused;
+    };
+    let Some(Kind::File) = kind(tree, file) else {
+        return Outcome::Misused;
+    };
+    came_to(tree.write(file, offset, more, at))
+}
+
+pub fn resize<A: Allocator + Copy>(tree: &mut Tree<A>, file: u64, size: u64) -> Outcome {
+    let Some(at) = now(tree) else {
+        return Outcome::Misused;
+    };
+    let Some(Kind::File) = kind(tree, file) else {
+        return Outcome::Misused;
+    };
+    came_to(tree.resize(file, size, at))
+}
+
+pub fn set_list<A: Allocator + Copy>(tree: &mut Tree<A>, number: u64, list: AclList<A>) -> Outcome {
+    let Some(at) = now(tree) else {
+        return Outcome::Misused;
+    };
+    if tree.next_stamp() >= 1 << 62 || !is_bounded(&list) {
+        return Outcome::Misused;
+    }
+    tree.set_list(number, list, 0, at);
+    Outcome::Done
+}
+
+pub fn set_owner<A: Allocator + Copy>(
+    tree: &mut Tree<A>,
+    number: u64,
+    owner: u32,
+    group: u32,
+) -> Outcome {
+    let Some(at) = now(tree) else {
+        return Outcome::Misused;
+    };
+    if tree.next_stamp() >= 1 << 62 {
+        return Outcome::Misused;
+    }
+    tree.set_owner(number, owner, group, at);
+    Outcome::Done
+}
+
+/// How many bytes a file has.
+pub fn size<A: Allocator + Copy>(tree: &Tree<A>, number: u64) -> Option<u64> {
+    Some(tree.object(number)?.size())
+}
+
+/// The tick of the last change.
+pub fn change<A: Allocator + Copy>(tree: &Tree<A>, number: u64) -> Option<u64> {
+    Some(tree.object(number)?.change())
+}
+
+/// The stamp.
+pub fn stamp<A: Allocator + Copy>(tree: &Tree<A>, number: u64) -> Option<u64> {
+    Some(tree.object(number)?.stamp())
+}
+
+/// The seconds of the two times.
+pub fn times<A: Allocator + Copy>(tree: &Tree<A>, number: u64) -> Option<(i64, i64)> {
+    let node = tree.object(number)?;
+    Some((node.time_modify().seconds, node.time_metadata().seconds))
+}
+
+/// The cookie and the child of the next name of a directory.
+pub fn after<A: Allocator + Copy>(
+    tree: &Tree<A>,
+    directory: u64,
+    cookie: u64,
+) -> Option<(u64, u64)> {
+    let entry = tree.list_after(directory, cookie)?;
+    Some((entry.cookie(), entry.child()))
+}

@@ -1,0 +1,7 @@
+//! The tests of `xdr_wire`.
+
+mod compound;
+mod memory;
+mod reader;
+mod sequences;
+mod writer;

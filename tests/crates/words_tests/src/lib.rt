@@ -1,0 +1,7 @@
+//! Tests of lists in words, and of reasons: `acl_words` and `acl_reasons`.
+#![tactic(auto)]
+
+#[cfg(test)]
+mod reasons;
+#[cfg(test)]
+mod words;
