@@ -14,3 +14,4 @@ pub mod Alike
 pub mod SessionOpens
 pub mod Disclosing
 pub mod RowsStand
+pub mod Telling

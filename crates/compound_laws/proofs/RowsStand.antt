@@ -1,7 +1,7 @@
 -- Each row of the table is among the questions of its operation; what is OK was granted, and what isn't granted is refused.
 use Rattle.std.proofs.Common.{◌≡◌, ◌⊎◌, Bool, true, false, cond, List, refl, sym, subst}
 use Rattle.std.proofs.Common.{inl, inr}
-use Rattle.std.specs.Prelude.{[], ◌∷◌, ◌++◌, Option, Some, None, Result, Ok, Err, unwrap_or}
+use Rattle.std.specs.Prelude.{[], ◌∷◌, ◌++◌, Option, Some, None, Ok, Err, unwrap_or}
 use Rattle.rpc_record.specs.Identity.{Identity}
 use Rattle.nfs_types.specs.declared.status.Status.{Status}
 use Rattle.nfs_types.specs.declared.status.Status.TheVariants as statuses
@@ -20,7 +20,7 @@ use Rattle.compound_run.specs.Questions.{Question, Holds, Valid, Row, Suffices, 
 use Rattle.compound_run.specs.Exact.{ArePassedOrSuffice}
 use Rattle.compound_run.specs.Operations.{meaning}
 use Rattle.compound_run.proofs.Exactly.{passed}
-use Rattle.compound_laws.specs.RowsAsked.{first_of, second_of, IsAmong, IsAsked, SomeSuffices, IsOntoItself}
+use Rattle.compound_laws.specs.RowsAsked.{first_of, second_of, IsAsked, SomeSuffices, IsOntoItself}
 
 -- ---- their place
 
@@ -53,7 +53,7 @@ first_is_asked c h (Known kinds.ExchangeId v) = inr (λ s. tt)
 first_is_asked c h (Known kinds.CreateSession v) = inr (λ s. tt)
 first_is_asked c h (Known kinds.DestroySession v) = inr (λ s. tt)
 first_is_asked c h (Known kinds.Sequence v) = inr (λ s. tt)
-first_is_asked c h (Known kinds.DestroyClientid v) = inr (λ s. tt)
+first_is_asked c h (Known kinds.DestroyClientId v) = inr (λ s. tt)
 first_is_asked c h (Unsupported n) = inr (λ s. tt)
 first_is_asked c h Illegal = inr (λ s. tt)
 first_is_asked c h (Bad n) = inr (λ s. tt)
@@ -87,7 +87,7 @@ second_is_asked c h (Known kinds.ExchangeId v) = inr (λ s. tt)
 second_is_asked c h (Known kinds.CreateSession v) = inr (λ s. tt)
 second_is_asked c h (Known kinds.DestroySession v) = inr (λ s. tt)
 second_is_asked c h (Known kinds.Sequence v) = inr (λ s. tt)
-second_is_asked c h (Known kinds.DestroyClientid v) = inr (λ s. tt)
+second_is_asked c h (Known kinds.DestroyClientId v) = inr (λ s. tt)
 second_is_asked c h (Unsupported n) = inr (λ s. tt)
 second_is_asked c h Illegal = inr (λ s. tt)
 second_is_asked c h (Bad n) = inr (λ s. tt)
@@ -130,7 +130,7 @@ first_granted c h (Known kinds.ExchangeId v) s p = refl
 first_granted c h (Known kinds.CreateSession v) s p = refl
 first_granted c h (Known kinds.DestroySession v) s p = refl
 first_granted c h (Known kinds.Sequence v) s p = refl
-first_granted c h (Known kinds.DestroyClientid v) s p = refl
+first_granted c h (Known kinds.DestroyClientId v) s p = refl
 first_granted c h (Unsupported n) s p = refl
 first_granted c h Illegal s p = refl
 first_granted c h (Bad n) s p = refl
@@ -169,7 +169,7 @@ second_granted c h (Known kinds.ExchangeId v) s p = inl refl
 second_granted c h (Known kinds.CreateSession v) s p = inl refl
 second_granted c h (Known kinds.DestroySession v) s p = inl refl
 second_granted c h (Known kinds.Sequence v) s p = inl refl
-second_granted c h (Known kinds.DestroyClientid v) s p = inl refl
+second_granted c h (Known kinds.DestroyClientId v) s p = inl refl
 second_granted c h (Unsupported n) s p = inl refl
 second_granted c h Illegal s p = inl refl
 second_granted c h (Bad n) s p = inl refl
@@ -191,34 +191,38 @@ second_is_granted c h op r o is = second_granted c h op (whole r) (ok c h op r o
 
 -- ---- what isn't granted
 
+-- ACCESS, where nothing failed before
+abbrev OrAccess : (more before : Option Status) → Type 0
+OrAccess more before = more ≡ Some (unwrap_or before statuses.Access)
+
+unless_test : {B : Type 0} (b : Bool) (status : Status) (more before : Option Status) → OrAccess more before ⊎ B
+    → OrAccess (cond b more (Some status)) (cond b before (Some status)) ⊎ B
+unless_test true status more before goes = goes
+unless_test false status more before goes = inl refl
+
+unless_fault : {B : Type 0} (fault more before : Option Status) → OrAccess more before ⊎ B → OrAccess (first_fault fault more) (first_fault fault before) ⊎ B
+unless_fault None more before goes = goes
+unless_fault (Some status) more before goes = inl refl
+
+unless_enough : {B : Type 0} (b : Bool) (more before : Option Status) → OrAccess more before ⊎ B
+    → OrAccess (cond b None more) (cond b None before) ⊎ ((b ≡ true) ⊎ B)
+unless_enough true more before goes = inr (inl refl)
+unless_enough false more before (inl fails) = inl fails
+unless_enough false more before (inr sufficed) = inr (inr sufficed)
+
 -- the first failure of questions of which one is a row that isn't granted
 fails : (caller : Identity) (s : Sight) (before behind : List Question) (row : Sight → Demands) → all_granted s.lists caller (row s) ≡ false
     → (failure caller s (before ++ Row row ∷ behind) ≡ Some (unwrap_or (failure caller s before) statuses.Access)) ⊎ SomeSuffices s before
 fails caller s [] behind row refused = inl (rw refused refl)
-fails caller s (Holds test status is ∷ before) behind row refused = of (test s)
-  where
-    of : (b : Bool) → (cond b (failure caller s (before ++ Row row ∷ behind)) (Some status) ≡ Some (unwrap_or (cond b (failure caller s before) (Some status)) statuses.Access)) ⊎ SomeSuffices s before
-    of true = fails caller s before behind row refused
-    of false = inl refl
-fails caller s (Valid fault may ∷ before) behind row refused = of (fault s)
-  where
-    of : (f : Option Status) → (first_fault f (failure caller s (before ++ Row row ∷ behind)) ≡ Some (unwrap_or (first_fault f (failure caller s before)) statuses.Access)) ⊎ SomeSuffices s before
-    of None = fails caller s before behind row refused
-    of (Some status) = inl refl
-fails caller s (Row demands ∷ before) behind row refused = of (all_granted s.lists caller (demands s))
-  where
-    of : (b : Bool) → (cond b (failure caller s (before ++ Row row ∷ behind)) (Some statuses.Access) ≡ Some (unwrap_or (cond b (failure caller s before) (Some statuses.Access)) statuses.Access)) ⊎ SomeSuffices s before
-    of true = fails caller s before behind row refused
-    of false = inl refl
-fails caller s (Suffices test ∷ before) behind row refused = of (test s) refl
-  where
-    of : (b : Bool) → test s ≡ b → (cond b None (failure caller s (before ++ Row row ∷ behind)) ≡ Some (unwrap_or (cond b None (failure caller s before)) statuses.Access)) ⊎ ((test s ≡ true) ⊎ SomeSuffices s before)
-    of true is = inr (inl is)
-    of false is = later (fails caller s before behind row refused)
-
-    later : {A B C : Type 0} → A ⊎ B → A ⊎ (C ⊎ B)
-    later (inl a) = inl a
-    later (inr b) = inr (inr b)
+fails caller s (Holds test status is ∷ before) behind row refused =
+    unless_test (test s) status (failure caller s (before ++ Row row ∷ behind)) (failure caller s before) (fails caller s before behind row refused)
+fails caller s (Valid fault may ∷ before) behind row refused =
+    unless_fault (fault s) (failure caller s (before ++ Row row ∷ behind)) (failure caller s before) (fails caller s before behind row refused)
+fails caller s (Row demands ∷ before) behind row refused =
+    unless_test (all_granted s.lists caller (demands s)) statuses.Access (failure caller s (before ++ Row row ∷ behind)) (failure caller s before)
+    (fails caller s before behind row refused)
+fails caller s (Suffices test ∷ before) behind row refused =
+    unless_enough (test s) (failure caller s (before ++ Row row ∷ behind)) (failure caller s before) (fails caller s before behind row refused)
 
 -- the answer after a failure
 answered : (f : Option Status) (given : Outcome) (status : Status) → f ≡ Some status → told f given ≡ Err status

@@ -3,3 +3,4 @@ pub mod EntriesExact
 pub mod LiveOpens
 pub mod Reloads
 pub mod RowsAsked
+pub mod WrongLookup

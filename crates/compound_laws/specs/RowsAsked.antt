@@ -1,11 +1,9 @@
--- The rows of each operation by the table of demands, at the facts of its place (RFC 8881, sections 6.2.1.3 and 18), and their place among
--- its questions.
-use Rattle.std.specs.Prelude.{◌≡◌, ◌⊎◌, List, [], ◌∷◌, Option, Some, None, true, false}
-use Rattle.rpc_record.specs.Identity.{Identity}
+-- The rows of each operation by the table of demands, at the facts of its place, and their place among its questions
+-- (RFC 8881, sections 6.2.1.3 and 18).
+use Rattle.std.specs.Prelude.{◌≡◌, ◌⊎◌, List, [], ◌∷◌, Some, None, true}
 use Rattle.nfs_ops.specs.Operations.{Operation, Known}
 use Rattle.nfs_ops.specs.declared.op_kind.OpKind.TheVariants as kinds
 use Rattle.access_rows.specs.Rows.{Demands, first_demands, second_demands}
-use Rattle.access_rows.specs.declared.demand.Demand.{Demand}
 use Rattle.compound_run.specs.Context.{Context, Handles}
 use Rattle.compound_run.specs.Sight.{Sight, child}
 use Rattle.compound_run.specs.Questions.{Question, Holds, Valid, Row, Suffices}
@@ -19,7 +17,8 @@ use Rattle.compound_run.specs.Setattr.{wanted_on}
 
 -- The first row: of SETATTR with the sizes of the file before and after it, of WRITE with the size before it.
 abbrev pub first_of : Context → Handles → Operation → Sight → Demands
-first_of c h (Known kinds.SetAttr v) s = first_demands (Known kinds.SetAttr v) (sized_facts s h (wanted_on c v (here h) s).size)
+first_of c h (Known kinds.SetAttr v) s =
+    first_demands (Known kinds.SetAttr v) (sized_facts s h (wanted_on c v (here h) s).size)
 first_of c h (Known kinds.Write v) s = first_demands (Known kinds.Write v) (sized_facts s h None)
 first_of c h op s = first_demands op (first_facts s h)
 
@@ -27,7 +26,8 @@ first_of c h op s = first_demands op (first_facts s h)
 abbrev pub second_of : Context → Handles → Operation → Sight → Demands
 second_of c h (Known kinds.Open v) s =
     second_demands (Known kinds.Open v) (opening_facts s h (opens.found v h s) (opens.wanted c v).size)
-second_of c h (Known kinds.Remove name) s = second_demands (Known kinds.Remove name) (second_facts s h (child s (here h) name) None)
+second_of c h (Known kinds.Remove name) s =
+    second_demands (Known kinds.Remove name) (second_facts s h (child s (here h) name) None)
 second_of c h (Known kinds.Rename v) s =
     second_demands (Known kinds.Rename v) (second_facts s h (renames.moved h v s) (renames.replaced h v s))
 second_of c h op s = second_demands op (second_facts s h None None)

@@ -8,7 +8,9 @@ mod exactness;
 mod opens;
 mod repeats;
 
-pub use disclosure::{operations_disclose_nothing, sessions_disclose_nothing};
+pub use disclosure::{
+    a_lookup_that_tells_names_discloses, operations_disclose_nothing, sessions_disclose_nothing,
+};
 pub use exactness::{
     access_is_exact, each_row_is_asked, ok_is_exact, ok_is_granted, others_never_delay,
     readdir_gives_exactly, readdir_is_refused_exactly, refused_is_access, rows_decide,
