@@ -1,9 +1,13 @@
-//! Tests of a server that no script sees from outside: the trail on disks of every size, the numbers of faults and ends, and the last epoch of a book.
+//! Tests of a server that no script sees from outside: the trail on disks of every size, an endless reader, what is remembered, numbers, and the last epoch of a book.
 #![tactic(auto)]
 
 #[cfg(test)]
 mod disk;
 #[cfg(test)]
+mod endless;
+#[cfg(test)]
 mod kept;
 #[cfg(test)]
 mod numbers;
+#[cfg(test)]
+mod remembered;
