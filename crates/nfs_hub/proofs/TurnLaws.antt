@@ -19,7 +19,7 @@ use Rattle.nfs_hub.specs.declared.fault.HubFault.TheVariants as fault
 use Rattle.nfs_hub.specs.Answer.{Served}
 use Rattle.nfs_hub.specs.Hub.{IsHub, Goes, LeadsTo, ConnectGives, ConsumeGives, BreaksSo, IsUnchanged, SameConnection, broken_at, pending_at, next_number}
 use Rattle.nfs_hub.proofs.Hubs.{pending_is}
-use Rattle.nfs_hub.specs.Served.{Read_at, Turn, Turns, Passes, PassGives, TurnsRun, TurnsEnd, IsLeft, BreaksIn, Writes, Serves, AreShort, MAX_PIECE, broken_end, refused_end, bytes_of}
+use Rattle.nfs_hub.specs.Served.{Read_at, Turn, Turns, Passes, PassGives, TurnsRun, TurnsEnd, IsLeft, BreaksIn, Writes, Serves, IsPiece, ArePieces, MAX_PIECE, broken_end, refused_end, bytes_of}
 
 pub appends_trans : (a b c : Option (List ℕ)) (bs cs : List ℕ) → Appends a b bs → Appends b c cs → Appends a c (bs ++ cs)
 appends_trans None b c bs cs p q = tt
@@ -112,9 +112,9 @@ breaks_in id piece now old fed new out breaks at served s is = of (s.connection 
     of None came = tt
     of (Some c) came = rw served (subst (λ (o : Option (List ℕ)). IfSome o (λ pending. CameToBreak now s.served c.pending (c.rest ++ piece) fed.service pending)) at came)
 
--- a front of a buffer is as short as the buffer
-pub short_take : (n : ℕ) (buf : List ℕ) → n ≤ length buf → length buf ≤ MAX_PIECE → length (take n buf) ≤ MAX_PIECE
-short_take n buf within short = let e = length-take-le n buf within in omega (arith, e, within, short)
+-- a front of a buffer is a piece
+pub piece_of : (n : ℕ) (buf : List ℕ) → (n ≡ 0 → ⊥) → n ≤ length buf → length buf ≤ MAX_PIECE → IsPiece (take n buf)
+piece_of n buf some within short = let e = length-take-le n buf within in (omega (arith, e, some), omega (arith, e, within, short))
 
 pub pending_there : {A : Type 0} (hub : Hub A) (id : ℕ) (b : Bool) → broken_at hub id ≡ Some b → IsSome (pending_at hub id)
 pending_there {A = A} hub id b e = of (get nat_cmp hub.connections id) e
@@ -153,9 +153,9 @@ pub bytes_push : (pieces : List Read_at) (piece : Read_at) → bytes_of (pieces 
 bytes_push [] piece = append-nil piece.0
 bytes_push (p ∷ pieces) piece = ap (λ (bs : List ℕ). p.0 ++ bs) (bytes_push pieces piece) ∙ sym (append_assoc p.0 (bytes_of pieces) piece.0)
 
-pub short_push : (pieces : List Read_at) (piece : Read_at) → AreShort pieces → length piece.0 ≤ MAX_PIECE → AreShort (pieces ++ piece ∷ [])
-short_push [] piece all h = (h, tt)
-short_push (p ∷ pieces) piece all h = (all.0, short_push pieces piece all.1 h)
+pub pieces_push : (pieces : List Read_at) (piece : Read_at) → ArePieces pieces → IsPiece piece.0 → ArePieces (pieces ++ piece ∷ [])
+pieces_push [] piece all h = (h, tt)
+pieces_push (p ∷ pieces) piece all h = (all.0, pieces_push pieces piece all.1 h)
 
 pub length_push : (pieces : List Read_at) (piece : Read_at) → length (pieces ++ piece ∷ []) ≡ length pieces + 1
 length_push pieces piece = length-append pieces (piece ∷ [])
@@ -168,13 +168,13 @@ pub record Going {A : Type 0} (id count most : ℕ) (old : State) (hub : Hub A) 
 
 pub going_none : {A : Type 0} (id most : ℕ) (hub : Hub A) (left held : Option (List ℕ)) (s : State) → IsHub hub s → Going id 0 most s hub left left held held
 going_none id most hub left held s is = record {
-  run = record { pieces = []; written = []; state = s; turns = (refl, refl); is = is; read = consumes_none left; few = omega (arith); short = tt };
+  run = record { pieces = []; written = []; state = s; turns = (refl, refl); is = is; read = consumes_none left; few = omega (arith); are = tt };
   wrote = appends_none held;
   turned = refl;
 }
 
 module _ {A : Type 0} {id most : ℕ} {s : State} {hub : Hub A} {left left' : Option (List ℕ)} (run : TurnsRun id most s hub left left') where
-  abbrev pub run_more : (piece : Read_at) (new : Hub A) (left'' : Option (List ℕ)) → length run.pieces + 1 ≤ most → length piece.0 ≤ MAX_PIECE → Consumes left' left'' piece.0 → (out : List ℕ) → Passes id piece hub new out → TurnsRun id most s new left left''
+  abbrev pub run_more : (piece : Read_at) (new : Hub A) (left'' : Option (List ℕ)) → length run.pieces + 1 ≤ most → IsPiece piece.0 → Consumes left' left'' piece.0 → (out : List ℕ) → Passes id piece hub new out → TurnsRun id most s new left left''
   run_more piece new left'' more short read out p =
       let a = p run.state run.is in
       record {
@@ -185,7 +185,7 @@ module _ {A : Type 0} {id most : ℕ} {s : State} {hub : Hub A} {left left' : Op
         is = a.2;
         read = rw (bytes_push run.pieces piece) (consumes_trans left left' left'' (bytes_of run.pieces) piece.0 run.read read);
         few = rw (length_push run.pieces piece) more;
-        short = short_push run.pieces piece run.short short;
+        are = pieces_push run.pieces piece run.are short;
       }
 
   -- a read that gave nothing
@@ -198,7 +198,7 @@ module _ {A : Type 0} {id most : ℕ} {s : State} {hub : Hub A} {left left' : Op
     is = run.is;
     read = consumes_kept left left' left'' (bytes_of run.pieces) run.read keeps;
     few = run.few;
-    short = run.short;
+    are = run.are;
   }
 
   abbrev pub run_end : (left'' : Option (List ℕ)) → Consumes left' left'' [] → TurnsRun id most s hub left left''
@@ -210,12 +210,12 @@ module _ {A : Type 0} {id most : ℕ} {s : State} {hub : Hub A} {left left' : Op
     is = run.is;
     read = subst (λ (bs : List ℕ). Consumes left left'' bs) (append-nil (bytes_of run.pieces)) (consumes_trans left left' left'' (bytes_of run.pieces) [] run.read read);
     few = run.few;
-    short = run.short;
+    are = run.are;
   }
 
 -- one turn more
 abbrev pub going_more : {A : Type 0} {id count most : ℕ} {s : State} {hub : Hub A} {left left' held held' : Option (List ℕ)} (going : Going id count most s hub left left' held held') (piece : Read_at) (new : Hub A) (left'' held'' : Option (List ℕ))
-    → count + 1 ≤ most → length piece.0 ≤ MAX_PIECE → Consumes left' left'' piece.0 → (out : List ℕ) → Passes id piece hub new out → Appends held' held'' out → Going id (count + 1) most s new left left'' held held''
+    → count + 1 ≤ most → IsPiece piece.0 → Consumes left' left'' piece.0 → (out : List ℕ) → Passes id piece hub new out → Appends held' held'' out → Going id (count + 1) most s new left left'' held held''
 going_more {held = held} {held' = held'} going piece new left'' held'' more short read out p wrote = record {
   run = run_more going.run piece new left'' (rw going.turned more) short read out p;
   wrote = appends_trans held held' held'' going.run.written out going.wrote wrote;
@@ -292,7 +292,7 @@ module _ {A : Type 0} (hub : Hub A) (id : ℕ) (s : State) (is : IsHub hub s) wh
 
 -- a turn that ends the serving
 pub pass_ends : {A : Type 0} (why : ServeEnd) (id count most : ℕ) (piece : Read_at) (hub new : Hub A) (s : State) (left left' left'' held held' held'' : Option (List ℕ))
-    → PassGives (Some why) id piece hub new held' held'' → count + 1 ≤ most → length piece.0 ≤ MAX_PIECE → Consumes left' left'' piece.0 → Going id count most s hub left left' held held' → TurnsEnd id most why s new left left'' held held''
+    → PassGives (Some why) id piece hub new held' held'' → count + 1 ≤ most → IsPiece piece.0 → Consumes left' left'' piece.0 → Going id count most s hub left left' held held' → TurnsEnd id most why s new left left'' held held''
 pass_ends end.Broken id count most piece hub new s left left' left'' held held' held'' p more short read going =
     let now = going_more going piece new left'' held'' more short read p.0 p.1 p.2 in
     let run = going.run in (

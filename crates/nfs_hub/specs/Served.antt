@@ -70,10 +70,13 @@ Turns id (piece ∷ pieces) old written new =
 abbrev pub bytes_of : List Read_at → List ℕ
 bytes_of pieces = flat_map (λ p. p.0) pieces
 
--- each piece has at most 4,096 bytes
-abbrev pub AreShort : List Read_at → Type 0
-AreShort [] = Unit {0}
-AreShort (piece ∷ pieces) = (length piece.0 ≤ MAX_PIECE) × AreShort pieces
+-- a piece has at least a byte and at most 4,096
+abbrev pub IsPiece : List ℕ → Type 0
+IsPiece piece = (0 < length piece) × (length piece ≤ MAX_PIECE)
+
+abbrev pub ArePieces : List Read_at → Type 0
+ArePieces [] = Unit {0}
+ArePieces (piece ∷ pieces) = IsPiece piece.0 × ArePieces pieces
 
 -- the end of serving a connection that a piece broke
 abbrev pub broken_end : HubFault → ServeEnd
@@ -84,7 +87,7 @@ broken_end fault.TooMany = Memory
 broken_end fault.Exhausted = Memory
 
 -- Turns of a connection that is open, from one state of the hub to another, at most so many: the pieces were read, each of
--- at most 4,096 bytes, and these bytes were taken.
+-- 1 to 4,096 bytes, and these bytes were taken.
 pub record TurnsRun {A : Type 0} (id most : ℕ) (old : State) (hub : Hub A) (left left' : Option (List ℕ)) : Type 0 where
   pub pieces : List Read_at
   pub written : List ℕ
@@ -93,7 +96,7 @@ pub record TurnsRun {A : Type 0} (id most : ℕ) (old : State) (hub : Hub A) (le
   pub is : IsHub hub state
   pub read : Consumes left left' (bytes_of pieces)
   pub few : length pieces ≤ most
-  pub short : AreShort pieces
+  pub are : ArePieces pieces
 
 -- in the last turn the stream or a record of it breaks
 pub record BrokeLast (id : ℕ) (old : State) (pieces : List Read_at) (written : List ℕ) (new : State) : Type 0 where

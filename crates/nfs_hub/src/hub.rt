@@ -1,5 +1,5 @@
 //! The server and its connections.
-ghost use Rattle.std.specs.Prelude.{◌≡◌, ◌≢◌, ◌↔◌, ◌≤◌, ◌<◌, ◌^◌, ℕ, List, [], ◌∷◌, ◌++◌, min, length, take, drop, true, false, Some, None, Ok, Err, IfOk, IsErrOf, IsNone, MatchOption, IfSome, IsTrue, option_map, is_err};
+ghost use Rattle.std.specs.Prelude.{◌≡◌, ◌≢◌, ◌↔◌, ◌≤◌, ◌<◌, ◌^◌, ℕ, List, [], ◌∷◌, ◌++◌, min, length, take, drop, true, false, Some, None, Ok, Err, IfOk, IsErrOf, IsNone, MatchOption, IfSome, IsTrue, OnErr, option_map, is_err};
 ghost use Rattle.nfs_hub.specs.Answer.{Served, with_sessions, without_sessions};
 ghost use Rattle.nfs_hub.specs.Machine.{Event, Connect, Piece, Take, Close, Reload};
 
@@ -47,7 +47,8 @@ pub struct Hub<A: Allocator + Copy = Global> {
 
 impl<A: Allocator + Copy> Hub<A> {
     ghost use Rattle.nfs_hub.specs.Machine.{State};
-    ghost use Rattle.nfs_hub.specs.Hub.{IsHub, LeadsTo, Goes, ConnectGives, ReloadGives, TakeGives, ConsumeGives, BreaksSo, broken_at, pending_at};
+    ghost use Rattle.nfs_hub.specs.Connection.{taken_of};
+    ghost use Rattle.nfs_hub.specs.Hub.{IsHub, LeadsTo, Goes, FrontGives, ConnectGives, ReloadGives, TakeGives, ConsumeGives, BreaksSo, broken_at, pending_at};
 
     /// A hub of this server, with no connection open.
     fn over(alloc: A, service: Service<A>) -> Self
@@ -128,10 +129,11 @@ impl<A: Allocator + Copy> Hub<A> {
     }
 
     /// Moves as many of a connection's first pending bytes as fit to the front of the buffer, and says how many. `NoSuch`
-    /// exactly where the number is no open connection's. A broken connection gives its bytes until it is closed.
+    /// exactly where the number is no open connection's, and nothing happened. A broken connection gives its bytes until it is closed.
     pub fn take_out(&mut self, conn: ConnId, buf: &mut [u8]) -> Result<usize, HubFault>
         ensures leads { IfOk result (λ n. (first : Served) (events : List Event) → LeadsTo first events self.old → LeadsTo first (Take conn n ∷ events) self.new) }
         ensures goes { IfOk result (λ n. Goes (Take conn n) self.old self.new) }
+        ensures nothing { OnErr result ((first : Served) (events : List Event) → LeadsTo first events self.old → LeadsTo first events self.new) }
         ensures gives { TakeGives conn result self.old self.new buf.old buf.new }
     {
         let Some(bytes) = self.pending(conn) else {
@@ -155,6 +157,7 @@ impl<A: Allocator + Copy> Hub<A> {
     pub fn consume(&mut self, conn: ConnId, most: usize) -> Result<usize, HubFault>
         ensures leads { IfOk result (λ n. (first : Served) (events : List Event) → LeadsTo first events self.old → LeadsTo first (Take conn n ∷ events) self.new) }
         ensures goes { IfOk result (λ n. Goes (Take conn n) self.old self.new) }
+        ensures nothing { OnErr result ((first : Served) (events : List Event) → LeadsTo first events self.old → LeadsTo first events self.new) }
         ensures gives { ConsumeGives conn most result self.old self.new }
     {
         match self.connections.get_mut(&conn.number) {
@@ -171,8 +174,8 @@ impl<A: Allocator + Copy> Hub<A> {
         Some(self.connections.get(&conn.number)?.broken)
     }
 
-    /// Whether a connection that isn't broken is inside a record.
-    pub(crate) fn is_inside(&self, conn: ConnId) -> bool
+    /// Whether a connection that isn't broken is inside a record; of any other nothing is said.
+    pub fn is_inside(&self, conn: ConnId) -> bool
         ensures { (s : State) → IsHub self.now s → broken_at self.now conn ≡ Some false → IfSome (s.connection conn) (λ c. IsTrue result ↔ (c.rest ≢ [])) }
     {
         match self.connections.get(&conn.number) {
@@ -217,5 +220,36 @@ impl<A: Allocator + Copy> Hub<A> {
                 ConnectionFault::Broken => HubFault::Broken,
                 ConnectionFault::Memory => HubFault::Memory,
             })
+    }
+    /// Takes a front of the next piece of a connection's stream: up to and with the last byte of the first record that ends in it, or all of
+    /// it where none does, and says how many bytes that is. The record is answered at this moment, and its reply is pending. So what is left
+    /// of the piece, fed after that, has the effect that [`Hub::feed`] of the whole piece would have, and at most one record is run.
+    ///
+    /// The faults are those of [`Hub::feed`]; a piece that breaks the connection answers no record.
+    pub fn feed_record(
+        &mut self,
+        conn: ConnId,
+        piece: &[u8],
+        now: Moment,
+    ) -> Result<usize, HubFault>
+        ensures leads { (first : Served) (events : List Event) → LeadsTo first events self.old → LeadsTo first (Piece conn (take (taken_of result piece.now) piece.now) now ∷ events) self.new }
+        ensures goes { Goes (Piece conn (take (taken_of result piece.now) piece.now) now) self.old self.new }
+        ensures front { FrontGives conn piece.now result self.old self.new }
+        ensures within { IfOk result (λ n. n ≤ length piece.now) }
+        ensures further { IfOk result (λ n. 0 < length piece.now → 0 < n) }
+        ensures no_such { IsErrOf result HubFault.NoSuch ↔ IsNone (broken_at self.old conn) }
+        ensures broken { broken_at self.new conn ≡ option_map (λ was. is_err result) (broken_at self.old conn) }
+        ensures stays { broken_at self.old conn ≡ Some true → result ≡ Err HubFault.Broken }
+        ensures breaks { result ≡ Err HubFault.Broken → broken_at self.old conn ≡ Some false → BreaksSo conn piece.now now self.old self.new }
+        ensures faults { (result ≢ Err HubFault.TooMany) × (result ≢ Err HubFault.Exhausted) }
+    {
+        let Some(connection) = self.connections.get_mut(&conn.number) else {
+            return Err(HubFault::NoSuch);
+        };
+        match connection.feed_record(&mut self.service, piece, now) {
+            Ok(n) => Ok(n),
+            Err(ConnectionFault::Broken) => Err(HubFault::Broken),
+            Err(ConnectionFault::Memory) => Err(HubFault::Memory),
+        }
     }
 }

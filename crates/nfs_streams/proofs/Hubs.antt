@@ -1,6 +1,6 @@
 -- The answers of the hub about a connection that is open in its state.
-use Rattle.std.proofs.Common.{◌≡◌, ◌≢◌, ◌≤◌, ℕ, Bool, false, List, [], ◌∷◌, length, arith, Option, Some, None, option_map, sym, ap, subst, ◌∙◌, inl, inr}
-use Rattle.std.specs.Prelude.{MatchOption}
+use Rattle.std.proofs.Common.{◌≡◌, ◌≢◌, ◌≤◌, ℕ, Bool, false, List, [], ◌∷◌, length, arith, Option, Some, None, option_map, refl, sym, ap, subst, ◌∙◌, inl, inr}
+use Rattle.std.specs.Prelude.{◌↔◌, true, IfSome, IsTrue, MatchOption}
 use Rattle.std.specs.Option.{unwrap_or}
 use Rattle.std.specs.Borrow.{Bor}
 use Rattle.std.specs.Ordering.{nat_cmp}
@@ -11,7 +11,9 @@ use Rattle.nfs_hub.specs.declared.hub.Hub.{Hub}
 use Rattle.nfs_hub.specs.Answer.{Served}
 use Rattle.nfs_hub.specs.Machine.{Connected, State, OnConnection, ChangesConnection}
 use Rattle.nfs_hub.specs.Hub.{IsHub, SameConnection, IsUnchanged, pending_at, broken_at}
-use Rattle.nfs_streams.specs.Seats.{IsFresh, AreWaiting, is_broken_at}
+use Rattle.nfs_streams.specs.Seats.{IsFresh, AreWaiting}
+use Rattle.nfs_streams.specs.Standing.{StreamEnds}
+use Rattle.nfs_streams.specs.declared.streams.StreamEnd.TheVariants as end
 use Rattle.nfs_streams.proofs.Lists.{none_some}
 
 same_bytes : {A : Type 0} (o : Option (Connection A)) (p : Option Connected) (c : Connected) → SameConnection o p → p ≡ Some c → option_map (λ (x : Connection A). x.pending.bytes) o ≡ Some c.pending
@@ -30,12 +32,8 @@ module _ {A : Type 0} (hub : Hub A) (state : State) (is : IsHub hub state) where
   pub pending_of : (id : ℕ) (c : Connected) → state.connection id ≡ Some c → pending_at hub id ≡ Some c.pending
   pending_of id c e = same_bytes (get nat_cmp hub.connections id) (state.connection id) c (is.connections id) e
 
-  broken_of : (id : ℕ) (c : Connected) → state.connection id ≡ Some c → broken_at hub id ≡ Some c.broken
+  pub broken_of : (id : ℕ) (c : Connected) → state.connection id ≡ Some c → broken_at hub id ≡ Some c.broken
   broken_of id c e = same_broken (get nat_cmp hub.connections id) (state.connection id) c (is.connections id) e
-
-  -- whether a connection is broken is what the hub tells of it
-  pub told_broken : (id : ℕ) (c : Connected) (b : Bool) → state.connection id ≡ Some c → is_broken_at hub id ≡ b → c.broken ≡ b
-  told_broken id c b e told = ap (λ (o : Option Bool). unwrap_or o false) (sym (broken_of id c e)) ∙ told
 
   -- an unchanged hub is in its state before
   pub unchanged : (new : Hub A) → IsUnchanged hub new → IsHub new state
@@ -74,6 +72,25 @@ lent hub id (Some bytes) d is pending at = same bytes.now pending (is ∙ at)
   where
     same : (x y : List ℕ) → Some x ≡ Some y → y ≡ x
     same x y e = cc
+
+-- a stream has ended inside a record, or after a whole one
+module _ {A : Type 0} (hub : Hub A) (id : ℕ) (b : Bool) (tells : (s : State) → IsHub hub s → broken_at hub id ≡ Some false → IfSome (s.connection id) (λ c. IsTrue b ↔ (c.rest ≢ []))) where
+  told_inside : (s : State) → IsHub hub s → (c : Connected) → s.connection id ≡ Some c → c.broken ≡ false → IsTrue b ↔ (c.rest ≢ [])
+  told_inside s is c opened whole =
+      subst (λ (o : Option Connected). IfSome o (λ d. IsTrue b ↔ (d.rest ≢ []))) opened (tells s is (broken_of hub s is id c opened ∙ ap (λ (x : Bool). Some x) whole))
+
+  pub ends_inside : b ≡ true → StreamEnds end.Inside hub id
+  ends_inside yes_is s is c opened whole = (told_inside s is c opened whole).0 yes_is
+
+  pub ends_between : b ≡ false → StreamEnds end.Ended hub id
+  ends_between no_is s is c opened whole = empty c.rest (told_inside s is c opened whole)
+    where
+      empty : (rest : List ℕ) → IsTrue b ↔ (rest ≢ []) → rest ≡ []
+      empty [] told = refl
+      empty (x ∷ rest) told = let true_is : b ≡ true = told.1 (λ e. cc) in absurd (both b true_is no_is)
+        where
+          both : (b : Bool) → b ≡ true → b ≡ false → ⊥
+          both b e f = cc
 
 -- no bytes wait
 pub drained : {A : Type 0} (hub : Hub A) (id : ℕ) (bytes : List ℕ) → AreWaiting hub id bytes → length bytes ≡ 0 → AreWaiting hub id []

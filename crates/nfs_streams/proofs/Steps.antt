@@ -1,9 +1,10 @@
 -- Each act of serving, as a step from one stage to the next.
-use Rattle.std.proofs.Common.{◌≡◌, ◌≢◌, ◌≤◌, ◌<◌, ℕ, ◌+◌, Bool, true, false, List, [], ◌∷◌, ◌++◌, length, take, Option, Some, None, refl, sym, ap, subst, ◌∙◌, option_map, inl, inr, arith}
+use Rattle.std.proofs.Common.{◌≡◌, ◌≢◌, ◌≤◌, ◌<◌, ℕ, ◌+◌, ◌-◌, Bool, true, false, List, [], ◌∷◌, ◌++◌, length, take, Option, Some, None, refl, sym, ap, subst, ◌∙◌, option_map, inl, inr, arith}
 use Rattle.std.specs.Ordering.{nat_cmp}
 use Rattle.std.specs.BTreeMap.{get}
-use Rattle.std.specs.Prelude.{ℤ, Result, MatchOption, IfOk, Err, Ok, min, set, drop}
-use Rattle.std.proofs.lemmas.List.{set-set, length-append, length-take-le, take-append-le}
+use Rattle.std.specs.Prelude.{ℤ, Result, ◌⊎◌, MatchOption, IfSome, IfOk, Err, Ok, min, set, drop, is_some, is_err}
+use Rattle.std.proofs.lemmas.List.{set-set, length-append, length-take-le, take-append-le, take-append-drop}
+use Rattle.std.proofs.Math.Seq.{take-length}
 use Rattle.std.proofs.lemmas.Bool.{cases_eq}
 use Rattle.who_book.specs.Content.{Content}
 use Rattle.compound_run.specs.State.{State as ServerState}
@@ -13,53 +14,200 @@ use Rattle.nfs_hub.specs.declared.hub.Hub.{Hub}
 use Rattle.nfs_hub.specs.declared.fault.HubFault.{HubFault}
 use Rattle.nfs_hub.specs.declared.fault.HubFault.TheVariants as fault
 use Rattle.nfs_hub.specs.Answer.{Served as ServedState, reloaded}
-use Rattle.nfs_hub.specs.Machine.{Connected, State, Connect, Piece, Take, Close, Reload, Step, PieceOn, TakeOn, ChangesConnection, fresh}
-use Rattle.nfs_hub.specs.Hub.{IsHub, Goes, ConnectGives, ConsumeGives, IsUnchanged, SameConnection, pending_at, broken_at}
+use Rattle.nfs_hub.specs.Connection.{TakesFront, taken_of}
+use Rattle.nfs_hub.specs.Machine.{Connected, State, Connect, Piece, Take, Close, Reload, Step, PieceOn, TakeOn, ChangesConnection, CameToBreak, fresh}
+use Rattle.nfs_hub.specs.Hub.{IsHub, Goes, FrontGives, BreaksSo, ConnectGives, ConsumeGives, IsUnchanged, SameConnection, pending_at, broken_at}
 use Rattle.nfs_streams.specs.declared.peer.Peer.{Peer}
+use Rattle.nfs_streams.specs.declared.streams.Moved.{Moved}
+use Rattle.nfs_streams.specs.declared.streams.Moved.TheVariants as moved
+use Rattle.nfs_streams.specs.declared.streams.StreamEnd.{StreamEnd}
+use Rattle.nfs_streams.specs.declared.streams.StreamEnd.TheVariants as end
 use Rattle.nfs_streams.specs.declared.serving.AllEnd.TheVariants.{Served, Turns, Wait, Keep}
-use Rattle.nfs_streams.specs.Acts.{Act, JustKnocked, IsSettled, Waited, Knocked, Admitted, Closed, Heard, Ended, Told, Failed, Kept, Lost, Loaded, Adds, Has, conn_at, knocked}
-use Rattle.nfs_streams.specs.Runs.{On, StepAt, CanHear, IsSpent, IsWaiting}
-use Rattle.nfs_streams.specs.Seats.{Stands, AreWaiting, is_broken_at, IsSeated, IsFresh, place_at, taken}
-use Rattle.nfs_streams.specs.Standing.{Origin, Stage, Listening, Full, Answering, Stopped, Ending, Way, Standing, IsClosing, closed_stage}
-use Rattle.nfs_streams.proofs.Lists.{none_some, set_here, set_there, set_back, taken_swap, adds_on, closed_here, closed_there, admitted_here, admitted_there}
-use Rattle.nfs_streams.proofs.Hubs.{pending_of, told_broken, stepped}
+use Rattle.nfs_streams.specs.Acts.{Act, Just, IsSettled, Waited, Knocked, Admitted, Closed, Heard, Ended, Unread, Looked, Loaded, Begun, Given, Kept, Lost, Told, Unwritten, Adds, Has, conn_at, ahead, fault_at, of_streams, went}
+use Rattle.nfs_streams.specs.Runs.{On, StepAt, AnswersOne, FaultIs, CanHear, IsSpent, IsWaiting, MayHear, MayClose, most_open}
+use Rattle.nfs_streams.specs.Seats.{Stands, AreWaiting, Knows, IsSeated, IsFresh, place_at, taken}
+use Rattle.nfs_streams.specs.Standing.{Origin, Stage, Listening, Knocking, Full, Looking, Giving, Piecing, Unkept, Answering, Stopped, Ending, Way, Standing, StreamEnds, IsClosing, ends_at, broken_end, closed_stage}
+use Rattle.nfs_streams.proofs.Lists.{none_some, set_here, set_there, set_back, taken_swap, adds_on, closed_here, closed_there, admitted_here, admitted_there, ahead_heard, turns_heard, ahead_heard_there, turns_heard_there, ahead_given, fault_given, left_given, ahead_given_there, fault_given_there, left_begun, ahead_admitted, turns_admitted, fault_admitted, ahead_admitted_there, turns_admitted_there, fault_admitted_there}
+use Rattle.nfs_streams.proofs.Hubs.{pending_of, broken_of, stepped}
 use Rattle.nfs_streams.proofs.Changing.{Here, changed, some_peer, here_at, one_place, stays_at, stands_as, stands_in}
 
--- ---- a piece is read and fed
+-- ---- a stream is read
 
 -- the bytes that wait are pending on the connection of the place
-waiting_at : {A : Type 0} {start : ℕ} {hub : Hub A} {places : List (Option Peer)} {acts : List Act} {s : State} (st : Stands start hub places acts s) (i : ℕ) (p : Peer) (h : Here i p acts s) (bytes : List ℕ) → AreWaiting hub p.conn bytes → h.connected.pending ≡ bytes
+waiting_at : {A : Type 0} {start : ℕ} {hub : Hub A} {places : List (Option (Peer A))} {acts : List Act} {s : State} (st : Stands start hub places acts s) (i : ℕ) (p : Peer A) (h : Here i p acts s) (bytes : List ℕ) → AreWaiting hub p.conn bytes → h.connected.pending ≡ bytes
 waiting_at {hub = hub} {s = s} st i p h bytes waiting = waiting h.connected.pending (pending_of hub s st.is p.conn h.connected h.opened)
 
-module _ {A : Type 0} {n : ℕ} {o : Origin} {hub : Hub A} {left : ℕ} {before : Option (List Act)} (ps : List (Option Peer)) (i : ℕ) (p : Peer) (lt : i < length ps) (st : Standing (Listening n) o hub (set ps i (Some p)) left before) where
-  -- the connection can hear
-  abbrev can_hear : AreWaiting hub p.conn [] → is_broken_at hub p.conn ≡ false → On st.acts i st.machine CanHear
-  can_hear drained whole =
-      let h = here_at st.stands i p (set_here ps i (Some p) lt) in
-      (p.conn, h.connected, h.conn, h.opened, (told_broken hub st.machine st.stands.is p.conn h.connected false h.opened whole, waiting_at st.stands i p h [] drained))
+-- a connection without a fault is whole
+whole_at : {A : Type 0} {i : ℕ} {p : Peer A} {acts : List Act} {s : State} (h : Here i p acts s) → p.fault ≡ None → h.connected.broken ≡ false
+whole_at h none = h.sound ∙ ap (λ (f : Option HubFault). is_some f) none
 
-  pub heard : (hub' : Hub A) (piece : List ℕ) (now : Moment) (z : ℤ) (after : Option (List Act)) → AreWaiting hub p.conn [] → is_broken_at hub p.conn ≡ false → length piece ≤ 4096 → Goes (Piece p.conn piece now) hub hub' → Adds before after (Heard i piece ∷ [])
-      → Standing (Listening n) o hub' (set ps i (Some (record p { since = z }))) left after
-  heard hub' piece now z after drained whole short goes said =
-      let h = here_at st.stands i p (set_here ps i (Some p) lt) in
-      let can = can_hear drained whole in
-      let g = goes st.machine st.stands.is in
-      let u = stepped p.conn (PieceOn piece now) st.machine h.connected g.0 h.opened g.1 in
-      let acts' = Heard i piece ∷ st.acts in
+nothing : List ℕ
+nothing = []
+
+module _ {A : Type 0} {start : ℕ} {hub : Hub A} {acts : List Act} {s : State} (ps : List (Option (Peer A))) (i : ℕ) (p : Peer A) (lt : i < length ps) (st : Stands start hub (set ps i (Some p)) acts s) where
+  abbrev here : Here i p acts s
+  here = here_at st i p (set_here ps i (Some p) lt)
+
+  -- the connection can hear
+  can_hear : AreWaiting hub p.conn [] → p.fault ≡ None → On acts i s CanHear
+  can_hear drained none = (p.conn, here.connected, here.conn, here.opened, (whole_at here none, waiting_at st i p here [] drained))
+
+  -- the stream may be read
+  may_hear : IsSettled acts → AreWaiting hub p.conn [] → p.fault ≡ None → p.ahead ≡ [] → MayHear acts i s
+  may_hear settled drained none given = (settled, here.knows.0 ∙ given, can_hear drained none)
+
+heard_knows : {A : Type 0} (acts : List Act) (i : ℕ) (bytes : List ℕ) (p p' : Peer A) → Knows acts i p → p.ahead ≡ [] → p'.ahead ≡ bytes → p'.turns ≡ p.turns + 1 → p'.fault ≡ p.fault → Knows (Heard i bytes ∷ acts) i p'
+heard_knows acts i bytes p p' k none is turns fault = (
+  ahead_heard acts i bytes ∙ ap (λ (l : List ℕ). l ++ bytes) (k.0 ∙ none) ∙ sym is,
+  turns_heard acts i bytes ∙ ap (λ (n : ℕ). n + 1) k.1 ∙ sym turns,
+  k.2 ∙ sym fault,
+)
+
+module _ {A : Type 0} {n : ℕ} {o : Origin} {hub : Hub A} {left : ℕ} {before : Option (List Act)} (ps : List (Option (Peer A))) (i : ℕ) (p : Peer A) (lt : i < length ps) (st : Standing (Listening n) o hub (set ps i (Some p)) left before) where
+  pub heard : (bytes : List ℕ) (p' : Peer A) (after : Option (List Act)) → AreWaiting hub p.conn [] → p.fault ≡ None → p.ahead ≡ [] → length bytes ≤ 65536 → p.turns < o.limits.reads → Adds before after (Heard i bytes ∷ [])
+      → p'.conn ≡ p.conn → p'.ahead ≡ bytes → p'.turns ≡ p.turns + 1 → p'.fault ≡ p.fault → Standing (Listening n) o hub (set ps i (Some p')) left after
+  heard bytes p' after drained none given short few said conn is turns fault =
+      let h = here ps i p lt st.stands in
+      let acts' = Heard i bytes ∷ st.acts in
+      record {
+        acts = acts';
+        machine = st.machine;
+        way = ((st.machine, st.way.0, (may_hear ps i p lt st.stands st.way.2 drained none given, short, omega (arith, few, h.knows.1)), refl), st.way.1, tt);
+        stands = stays_at ps i p p' st.stands lt conn hub acts' st.machine st.stands.is (λ k ne. refl) refl
+            (inl (record { peer = p'; connected = h.connected; here = refl; numbered = conn; opened = h.opened; sound = h.sound ∙ ap (λ (f : Option HubFault). is_some f) (sym fault) })) (λ j. refl) refl
+            (heard_knows st.acts i bytes p p' h.knows given is turns fault)
+            (λ j ne. (ahead_heard_there st.acts i j bytes ne, turns_heard_there st.acts i j bytes ne, refl));
+        adds = adds_on o.first before after (of_streams st.acts) (Heard i bytes ∷ []) st.adds said;
+        fewer = st.fewer;
+      }
+
+  -- nothing was read
+  pub unheard : (bytes : List ℕ) (after : Option (List Act)) → p.ahead ≡ [] → bytes ≡ [] → Adds before after [] → Standing (Listening n) o hub (set ps i (Some (record p { ahead = bytes }))) left after
+  unheard bytes after given none said =
+      subst (λ (l : List ℕ). Standing (Listening n) o hub (set ps i (Some (record p { ahead = l }))) left after) (given ∙ sym none)
+      (record { acts = st.acts; machine = st.machine; way = st.way; stands = st.stands; adds = adds_on o.first before after (of_streams st.acts) [] st.adds said; fewer = st.fewer })
+
+-- ---- bytes are given
+
+-- a piece begins where no reply waits
+pub begins : {A : Type 0} {n m : ℕ} {o : Origin} {hub : Hub A} {left : ℕ} {now : Option (List Act)} (ps : List (Option (Peer A))) (i : ℕ) (p : Peer A) → i < length ps → (most : ℕ) → p.fault ≡ None → (most ≡ m) ⊎ ((most ≡ 4096) × AreWaiting hub p.conn [])
+    → Standing (Piecing n i m) o hub (set ps i (Some p)) left now → Standing (Piecing n i most) o hub (set ps i (Some p)) left now
+begins {n = n} {o = o} {hub = hub} {left = left} {now = now} ps i p lt most none (inl same) st = subst (λ (k : ℕ). Standing (Piecing n i k) o hub (set ps i (Some p)) left now) (sym same) st
+begins ps i p lt most none (inr new) st = record {
+  acts = Begun i ∷ st.acts;
+  machine = st.machine;
+  way = (
+    (st.machine, st.way.0, (st.way.2, can_hear ps i p lt st.stands new.1 none), refl),
+    st.way.1,
+    tt,
+    inr st.way.3,
+    st.way.4,
+    omega (arith, new.0, left_begun st.acts i),
+  );
+  stands = stands_as (Begun i ∷ st.acts) (λ j. refl) (λ j. (refl, refl, refl)) refl st.stands;
+  adds = st.adds;
+  fewer = st.fewer;
+}
+
+-- the fault of the hub
+abbrev pub fault_of : Result ℕ HubFault → Option HubFault
+fault_of (Ok k) = None
+fault_of (Err why) = Some why
+
+some_same : (x y : Bool) → Some x ≡ Some y → x ≡ y
+some_same x y e = cc
+
+take_shorter : (k m : ℕ) (l : List ℕ) → k ≤ length (take m l) → take k (take m l) ≡ take k l
+take_shorter k m l le = sym (take-append-le k (take m l) (drop m l) le) ∙ ap (λ (t : List ℕ). take k t) (take-append-drop m l)
+
+-- at most one record is answered
+answers_one : (r : Result ℕ HubFault) (rest front : List ℕ) (old new : State) (pending pending' : List ℕ) → TakesFront r rest front old.served pending new.served pending' → AnswersOne rest (take (taken_of r front) front) old new
+answers_one (Ok k) rest front old new pending pending' (inl record_ends) = inr record_ends
+answers_one (Ok k) rest front old new pending pending' (inr none) = inl none.2
+answers_one (Err why) rest front old new pending pending' none = inl none.0
+
+-- the fault is said of the machine
+fault_is : (r : Result ℕ HubFault) (acts : List Act) (i id : ℕ) (front : List ℕ) (now : Moment) (old new : State) (c d : Connected) → conn_at acts i ≡ Some id → old.connection id ≡ Some c → new.connection id ≡ Some d → d.broken ≡ is_err r
+    → (r ≡ Err fault.Broken → CameToBreak now old.served c.pending (c.rest ++ front) new.served d.pending) → FaultIs (fault_of r) acts i (take (taken_of r front) front) now old new
+fault_is (Ok k) acts i id front now old new c d conn was is broken breaks = (id, d, conn, is, broken)
+fault_is (Err fault.Broken) acts i id front now old new c d conn was is broken breaks =
+    (id, d, conn, is, (broken, (id, c, conn, was, subst (λ (l : List ℕ). CameToBreak now old.served c.pending (c.rest ++ l) new.served d.pending) (sym (take-length front)) (breaks refl))))
+fault_is (Err fault.Memory) acts i id front now old new c d conn was is broken breaks = (id, d, conn, is, broken)
+fault_is (Err fault.NoSuch) acts i id front now old new c d conn was is broken breaks = (id, d, conn, is, broken)
+fault_is (Err fault.TooMany) acts i id front now old new c d conn was is broken breaks = (id, d, conn, is, broken)
+fault_is (Err fault.Exhausted) acts i id front now old new c d conn was is broken breaks = (id, d, conn, is, broken)
+
+some_fault : (r : Result ℕ HubFault) → is_some (fault_of r) ≡ is_err r
+some_fault (Ok k) = refl
+some_fault (Err why) = refl
+
+given_knows : {A : Type 0} (acts : List Act) (i : ℕ) (bytes : List ℕ) (why : Option HubFault) (p p' : Peer A) → Knows acts i p → p'.ahead ≡ drop (length bytes) p.ahead → p'.turns ≡ p.turns → p'.fault ≡ why → Knows (Given i bytes why ∷ acts) i p'
+given_knows acts i bytes why p p' k is turns fault = (
+  ahead_given acts i bytes why ∙ ap (λ (l : List ℕ). drop (length bytes) l) k.0 ∙ sym is,
+  k.1 ∙ sym turns,
+  fault_given acts i bytes why ∙ sym fault,
+)
+
+module _ {A : Type 0} {n most : ℕ} {o : Origin} {hub : Hub A} {left : ℕ} {now : Option (List Act)} (ps : List (Option (Peer A))) (i : ℕ) (p : Peer A) (lt : i < length ps) (st : Standing (Piecing n i most) o hub (set ps i (Some p)) left now) where
+  pub gave : (hub' : Hub A) (r : Result ℕ HubFault) (front : List ℕ) (moment : Moment) (p' : Peer A) → p.fault ≡ None → front ≡ take most p.ahead → length front ≤ most → taken_of r front ≤ length front
+      → Goes (Piece p.conn (take (taken_of r front) front) moment) hub hub' → FrontGives p.conn front r hub hub' → broken_at hub' p.conn ≡ option_map (λ was. is_err r) (broken_at hub p.conn)
+      → (r ≡ Err fault.Broken → broken_at hub p.conn ≡ Some false → BreaksSo p.conn front moment hub hub')
+      → p'.conn ≡ p.conn → p'.turns ≡ p.turns → p'.fault ≡ fault_of r → p'.ahead ≡ drop (taken_of r front) p.ahead → Standing (Unkept n i (most - taken_of r front)) o hub' (set ps i (Some p')) left now
+  gave hub' r front moment p' none is_front within few goes gives broken breaks conn turns why is =
+      let h = here ps i p lt st.stands in
+      let id = p.conn in
+      let c = h.connected in
+      let s = st.machine in
+      let k = taken_of r front in
+      let bytes = take k front in
+      let len : length bytes ≡ k = length-take-le k front few in
+      let whole : c.broken ≡ false = whole_at h none in
+      let was : broken_at hub id ≡ Some false = broken_of hub s st.stands.is id c h.opened ∙ ap (λ (b : Bool). Some b) whole in
+      let g = goes s st.stands.is in
+      let u = stepped id (PieceOn bytes moment) s c g.0 h.opened g.1 in
+      let d = u.after in
+      let told : broken_at hub' id ≡ Some (is_err r) = broken ∙ ap (λ (x : Option Bool). option_map (λ was. is_err r) x) was in
+      let is_broken : d.broken ≡ is_err r = some_same d.broken (is_err r) (sym (broken_of hub' g.0 g.2 id d u.changed) ∙ told) in
+      let now_pending : pending_at hub' id ≡ Some d.pending = pending_of hub' g.0 g.2 id d u.changed in
+      let same_served : hub'.service ≡ g.0.served = sym g.2.served in
+      let takes : TakesFront r c.rest front s.served c.pending g.0.served d.pending =
+      subst (λ (w : ServedState). TakesFront r c.rest front s.served c.pending w d.pending) same_served
+      (subst (λ (x : Option (List ℕ)). IfSome x (λ pending. TakesFront r c.rest front s.served c.pending hub'.service pending)) now_pending
+      (subst (λ (x : Option Connected). IfSome x (λ e. e.broken ≡ false → IfSome (pending_at hub' id) (λ pending. TakesFront r e.rest front s.served e.pending hub'.service pending))) h.opened (gives s st.stands.is) whole)) in
+      let came : r ≡ Err fault.Broken → CameToBreak moment s.served c.pending (c.rest ++ front) g.0.served d.pending = λ told.
+      subst (λ (w : ServedState). CameToBreak moment s.served c.pending (c.rest ++ front) w d.pending) same_served
+      (subst (λ (x : Option (List ℕ)). IfSome x (λ pending. CameToBreak moment s.served c.pending (c.rest ++ front) hub'.service pending)) now_pending
+      (subst (λ (x : Option Connected). IfSome x (λ e. IfSome (pending_at hub' id) (λ pending. CameToBreak moment s.served e.pending (e.rest ++ front) hub'.service pending))) h.opened (breaks told was s st.stands.is))) in
+      let acts' = Given i bytes (fault_of r) ∷ st.acts in
+      let front_of : bytes ≡ take (length bytes) (ahead st.acts i) =
+      ap (λ (l : List ℕ). take k l) is_front ∙ take_shorter k most p.ahead (omega (arith, few, ap (λ (l : List ℕ). length l) is_front)) ∙ ap (λ (m : ℕ). take m p.ahead) (sym len) ∙ ap (λ (l : List ℕ). take (length bytes) l) (sym h.knows.0) in
       record {
         acts = acts';
         machine = g.0;
-        way = ((st.machine, st.way.0, (st.way.2, short, can), (now, (p.conn, can.2, g.1))), st.way.1, tt);
-        stands = stays_at ps i p (record p { since = z }) st.stands lt refl hub' acts' g.0 g.2 u.others u.next
-            (inl (record { peer = record p { since = z }; connected = u.after; here = refl; numbered = refl; opened = u.changed })) (λ j. refl) refl;
-        adds = adds_on o.first before after st.acts (Heard i piece ∷ []) st.adds said;
+        way = (
+          (
+            s,
+            st.way.0,
+            (st.way.2, st.way.4, st.way.3, (id, c, h.conn, h.opened, whole), omega (arith, len, few, within, st.way.5), front_of),
+            (moment, (id, h.conn, g.1), (id, c, h.conn, h.opened, answers_one r c.rest front s g.0 c.pending d.pending takes), fault_is r st.acts i id front moment s g.0 c d h.conn h.opened u.changed is_broken came),
+          ),
+          st.way.1,
+          tt,
+          st.way.4,
+          omega (arith, len, st.way.5, left_given st.acts i bytes (fault_of r)),
+        );
+        stands = stays_at ps i p p' st.stands lt conn hub' acts' g.0 g.2 u.others u.next
+            (inl (record { peer = p'; connected = d; here = refl; numbered = conn; opened = u.changed; sound = is_broken ∙ sym (some_fault r) ∙ ap (λ (f : Option HubFault). is_some f) (sym why) })) (λ j. refl) refl
+            (given_knows st.acts i bytes (fault_of r) p p' h.knows (is ∙ ap (λ (m : ℕ). drop m p.ahead) (sym len)) turns why)
+            (λ j ne. (ahead_given_there st.acts i j bytes (fault_of r) ne, refl, fault_given_there st.acts i j bytes (fault_of r) ne));
+        adds = st.adds;
         fewer = st.fewer;
       }
 
 -- ---- bytes are written
 
 -- bytes wait to be written
-abbrev is_waiting : {A : Type 0} {start : ℕ} {hub : Hub A} {acts : List Act} {s : State} (ps : List (Option Peer)) (i : ℕ) (p : Peer) (st : Stands start hub (set ps i (Some p)) acts s) → i < length ps → (bytes : List ℕ) → AreWaiting hub p.conn bytes → 0 < length bytes → On acts i s IsWaiting
+abbrev is_waiting : {A : Type 0} {start : ℕ} {hub : Hub A} {acts : List Act} {s : State} (ps : List (Option (Peer A))) (i : ℕ) (p : Peer A) (st : Stands start hub (set ps i (Some p)) acts s) → i < length ps → (bytes : List ℕ) → AreWaiting hub p.conn bytes → 0 < length bytes → On acts i s IsWaiting
 is_waiting {acts = acts} ps i p st lt bytes waiting some =
     let h = here_at st i p (set_here ps i (Some p) lt) in
     (p.conn, h.connected, h.conn, h.opened, λ none. let len : length bytes ≡ 0 = ap (λ (l : List ℕ). length l) (sym (waiting_at st i p h bytes waiting) ∙ none) in absurd (omega (arith, len, some)))
@@ -76,7 +224,7 @@ module _ {A : Type 0} (id k : ℕ) (hub hub' : Hub A) (result : Result ℕ HubFa
   front_of : take k front ≡ take (length (take k front)) bytes
   front_of = sym (take-append-le k front rest le) ∙ ap (λ (l : List ℕ). take k l) (sym parts) ∙ ap (λ (m : ℕ). take m bytes) (sym (length-take-le k front le))
 
-module _ {A : Type 0} {n : ℕ} {o : Origin} {hub : Hub A} {left : ℕ} {before : Option (List Act)} (ps : List (Option Peer)) (i : ℕ) (p : Peer) (lt : i < length ps) (st : Standing (Answering n) o hub (set ps i (Some p)) left before) (bytes : List ℕ) (waiting : AreWaiting hub p.conn bytes) (some : 0 < length bytes) where
+module _ {A : Type 0} {n : ℕ} {o : Origin} {hub : Hub A} {left : ℕ} {before : Option (List Act)} (ps : List (Option (Peer A))) (i : ℕ) (p : Peer A) (lt : i < length ps) (st : Standing (Answering n) o hub (set ps i (Some p)) left before) (bytes : List ℕ) (waiting : AreWaiting hub p.conn bytes) (some : 0 < length bytes) where
   pub told : (front rest : List ℕ) (k : ℕ) (z : ℤ) (hub' : Hub A) (result : Result ℕ HubFault) (after : Option (List Act)) → bytes ≡ front ++ rest → length front ≤ 131072 → k ≤ length front → ConsumeGives p.conn k result hub hub' → IfOk result (λ n. Goes (Take p.conn n) hub hub')
       → Adds before after (Told i (take k front) ∷ []) → Standing (Answering n) o hub' (set ps i (Some (record p { since = z }))) left after
   told front rest k z hub' result after parts short le gives goes said =
@@ -100,22 +248,23 @@ module _ {A : Type 0} {n : ℕ} {o : Origin} {hub : Hub A} {left : ℕ} {before 
           inr (subst (λ (w : ServedState). Has (Kept w.state) st.acts) (sym u.does.0) st.way.3),
         );
         stands = stays_at ps i p (record p { since = z }) st.stands lt refl hub' acts' g.0 g.2 u.others u.next
-            (inl (record { peer = record p { since = z }; connected = u.after; here = refl; numbered = refl; opened = u.changed })) (λ j. refl) refl;
-        adds = adds_on o.first before after st.acts (Told i written ∷ []) st.adds said;
+            (inl (record { peer = record p { since = z }; connected = u.after; here = refl; numbered = refl; opened = u.changed; sound = ap (λ (d : Connected). d.broken) u.does.2 ∙ h.sound })) (λ j. refl) refl
+            h.knows (λ j ne. (refl, refl, refl));
+        adds = adds_on o.first before after (of_streams st.acts) (Told i written ∷ []) st.adds said;
         fewer = st.fewer;
       }
 
 -- ---- a connection is closed
 
 -- behind the same acts and others that admit and close no stream, a connection is closed
-pub record Shut {A : Type 0} (start : ℕ) (hub' : Hub A) (places' : List (Option Peer)) (place : ℕ) (acts : List Act) (s : State) : Type 0 where
+pub record Shut {A : Type 0} (start : ℕ) (hub' : Hub A) (places' : List (Option (Peer A))) (place : ℕ) (why : StreamEnd) (acts : List Act) (s : State) : Type 0 where
   pub machine : State
   pub step : StepAt acts place Close s machine
-  pub stands : Stands start hub' places' (Closed place ∷ acts) machine
+  pub stands : Stands start hub' places' (Closed place why ∷ acts) machine
   pub served : machine.served ≡ s.served
 
-shut : {A : Type 0} {start : ℕ} {hub : Hub A} {acts : List Act} {s : State} (ps : List (Option Peer)) (i : ℕ) (p : Peer) (st : Stands start hub (set ps i (Some p)) acts s) → i < length ps → (hub' : Hub A) → Goes (Close p.conn) hub hub' → Shut start hub' (set ps i None) i acts s
-shut {acts = acts} {s = s} ps i p st lt hub' goes =
+shut : {A : Type 0} {start : ℕ} {hub : Hub A} {acts : List Act} {s : State} (ps : List (Option (Peer A))) (i : ℕ) (p : Peer A) (why : StreamEnd) (st : Stands start hub (set ps i (Some p)) acts s) → i < length ps → (hub' : Hub A) → Goes (Close p.conn) hub hub' → Shut start hub' (set ps i None) i why acts s
+shut {acts = acts} {s = s} ps i p why st lt hub' goes =
     let at = set_here ps i (Some p) lt in
     let h = here_at st i p at in
     let g = goes s st.is in
@@ -124,7 +273,7 @@ shut {acts = acts} {s = s} ps i p st lt hub' goes =
       machine = g.0;
       step = (p.conn, h.conn, g.1);
       stands = changed st lt (record {
-        was = λ q e. ap (λ (r : Peer). r.conn) (sym (some_peer p q e));
+        was = λ q e. ap (λ (r : Peer _). r.conn) (sym (some_peer p q e));
         alone = λ j q ne there same. ne (one_place st i j p q at (set_there ps i j (Some p) ne ∙ there) same);
         is = g.2;
         fresh = λ k le. elim (cases_eq k p.conn) [
@@ -134,124 +283,200 @@ shut {acts = acts} {s = s} ps i p st lt hub' goes =
         others = g.1.2.others;
         seat = inr (record { not_here = λ q e. absurd (none_some q e); closed = λ le. gone });
         now = λ q e. absurd (none_some q e);
-        gone = λ e. closed_here acts i;
-        conns = λ j ne. closed_there acts i j ne;
+        knows = λ q e. absurd (none_some q e);
+        gone = λ e. closed_here acts i why;
+        conns = λ j ne. closed_there acts i j why ne;
+        same = λ j ne. (refl, refl, refl);
         count = omega (arith, st.count, taken_swap ps i (Some p) None lt);
       });
       served = g.1.0;
     }
 
-module _ {A : Type 0} {n : ℕ} {o : Origin} {hub : Hub A} {left : ℕ} {before : Option (List Act)} (ps : List (Option Peer)) (i : ℕ) (p : Peer) (lt : i < length ps) (st : Standing (Listening n) o hub (set ps i (Some p)) left before) (hub' : Hub A) (after : Option (List Act)) (goes : Goes (Close p.conn) hub hub') where
+module _ {A : Type 0} {n : ℕ} {o : Origin} {hub : Hub A} {left : ℕ} {before : Option (List Act)} (ps : List (Option (Peer A))) (i : ℕ) (p : Peer A) (lt : i < length ps) (st : Standing (Listening n) o hub (set ps i (Some p)) left before) (hub' : Hub A) (after : Option (List Act)) (goes : Goes (Close p.conn) hub hub') where
   -- the stream has ended
-  pub ended : (mid : Option (List Act)) → AreWaiting hub p.conn [] → is_broken_at hub p.conn ≡ false → Adds before mid (Ended i ∷ []) → Adds mid after (Closed i ∷ []) → Standing (Listening n) o hub' (set ps i None) left after
-  ended mid drained whole said closed =
+  pub ended : (why : StreamEnd) (mid : Option (List Act)) → AreWaiting hub p.conn [] → p.fault ≡ None → p.ahead ≡ [] → StreamEnds why hub p.conn → Adds before mid (Ended i ∷ []) → Adds mid after (Closed i why ∷ []) → Standing (Listening n) o hub' (set ps i None) left after
+  ended why mid drained none given ends said closed =
       let over = Ended i ∷ st.acts in
-      let x = shut ps i p (stands_as over (λ j. refl) refl st.stands) lt hub' goes in
+      let h = here ps i p lt st.stands in
+      let x = shut ps i p why (stands_as over (λ j. refl) (λ j. (refl, refl, refl)) refl st.stands) lt hub' goes in
       record {
-        acts = Closed i ∷ over;
+        acts = Closed i why ∷ over;
         machine = x.machine;
-        way = ((st.machine, (st.machine, st.way.0, (st.way.2, can_hear ps i p lt st drained whole), refl), inl (inl refl), x.step), st.way.1, tt);
+        way = ((st.machine, (st.machine, st.way.0, may_hear ps i p lt st.stands st.way.2 drained none given, refl), may_end why over st.machine p.conn h.connected refl h.conn h.opened (ends st.machine st.stands.is h.connected h.opened (whole_at h none)), x.step), st.way.1, tt);
         stands = x.stands;
-        adds = adds_on o.first mid after over (Closed i ∷ []) (adds_on o.first before mid st.acts (Ended i ∷ []) st.adds said) closed;
+        adds = adds_on o.first mid after (of_streams over) (Closed i why ∷ []) (adds_on o.first before mid (of_streams st.acts) (Ended i ∷ []) st.adds said) closed;
+        fewer = st.fewer;
+      }
+    where
+      may_end : (why : StreamEnd) (acts : List Act) (s : State) (id : ℕ) (c : Connected) → Just (Ended i) acts → conn_at acts i ≡ Some id → s.connection id ≡ Some c → ends_at why c → MayClose o.limits acts i why s
+      may_end end.Ended acts s id c just conn opened at = (just, (id, c, conn, opened, at))
+      may_end end.Inside acts s id c just conn opened at = (just, (id, c, conn, opened, at))
+      may_end end.Broken acts s id c just conn opened at = absurd at
+      may_end end.Memory acts s id c just conn opened at = absurd at
+      may_end end.Read acts s id c just conn opened at = absurd at
+      may_end end.Write acts s id c just conn opened at = absurd at
+      may_end end.Turns acts s id c just conn opened at = absurd at
+      may_end end.Quiet acts s id c just conn opened at = absurd at
+      may_end end.Stopped acts s id c just conn opened at = absurd at
+
+  -- reading has failed
+  pub unread : (mid : Option (List Act)) → AreWaiting hub p.conn [] → p.fault ≡ None → p.ahead ≡ [] → Adds before mid (Unread i ∷ []) → Adds mid after (Closed i end.Read ∷ []) → Standing (Listening n) o hub' (set ps i None) left after
+  unread mid drained none given said closed =
+      let over = Unread i ∷ st.acts in
+      let x = shut ps i p end.Read (stands_as over (λ j. refl) (λ j. (refl, refl, refl)) refl st.stands) lt hub' goes in
+      record {
+        acts = Closed i end.Read ∷ over;
+        machine = x.machine;
+        way = ((st.machine, (st.machine, st.way.0, may_hear ps i p lt st.stands st.way.2 drained none given, refl), refl, x.step), st.way.1, tt);
+        stands = x.stands;
+        adds = adds_on o.first mid after (of_streams over) (Closed i end.Read ∷ []) (adds_on o.first before mid (of_streams st.acts) (Unread i ∷ []) st.adds said) closed;
+        fewer = st.fewer;
+      }
+
+  -- the turns are used up
+  pub worn : AreWaiting hub p.conn [] → p.fault ≡ None → p.ahead ≡ [] → o.limits.reads ≤ p.turns → Adds before after (Closed i end.Turns ∷ []) → Standing (Listening n) o hub' (set ps i None) left after
+  worn drained none given many closed =
+      let h = here ps i p lt st.stands in
+      let x = shut ps i p end.Turns st.stands lt hub' goes in
+      record {
+        acts = Closed i end.Turns ∷ st.acts;
+        machine = x.machine;
+        way = ((st.machine, st.way.0, (st.way.2, omega (arith, many, h.knows.1), h.knows.0 ∙ given, can_hear ps i p lt st.stands drained none), x.step), st.way.1, tt);
+        stands = x.stands;
+        adds = adds_on o.first before after (of_streams st.acts) (Closed i end.Turns ∷ []) st.adds closed;
         fewer = st.fewer;
       }
 
   -- the connection is broken
-  pub spent : AreWaiting hub p.conn [] → is_broken_at hub p.conn ≡ true → Adds before after (Closed i ∷ []) → Standing (Listening n) o hub' (set ps i None) left after
-  spent drained broken closed =
-      let h = here_at st.stands i p (set_here ps i (Some p) lt) in
+  pub spent : (f : HubFault) → AreWaiting hub p.conn [] → p.fault ≡ Some f → Adds before after (Closed i (broken_end f) ∷ []) → Standing (Listening n) o hub' (set ps i None) left after
+  spent f drained broken closed =
+      let h = here ps i p lt st.stands in
       let is_spent : On st.acts i st.machine IsSpent =
-      (p.conn, h.connected, h.conn, h.opened, (told_broken hub st.machine st.stands.is p.conn h.connected true h.opened broken, waiting_at st.stands i p h [] drained)) in
-      let x = shut ps i p st.stands lt hub' goes in
+      (p.conn, h.connected, h.conn, h.opened, (h.sound ∙ ap (λ (x : Option HubFault). is_some x) broken, waiting_at st.stands i p h [] drained)) in
+      let x = shut ps i p (broken_end f) st.stands lt hub' goes in
       record {
-        acts = Closed i ∷ st.acts;
+        acts = Closed i (broken_end f) ∷ st.acts;
         machine = x.machine;
-        way = ((st.machine, st.way.0, inr (inl (st.way.2, is_spent)), x.step), st.way.1, tt);
+        way = ((st.machine, st.way.0, may_spend f st.acts st.machine st.way.2 (h.knows.2 ∙ broken) is_spent, x.step), st.way.1, tt);
         stands = x.stands;
-        adds = adds_on o.first before after st.acts (Closed i ∷ []) st.adds closed;
+        adds = adds_on o.first before after (of_streams st.acts) (Closed i (broken_end f) ∷ []) st.adds closed;
         fewer = st.fewer;
       }
+    where
+      may_spend : (f : HubFault) (acts : List Act) (s : State) → IsSettled acts → fault_at acts i ≡ Some f → On acts i s IsSpent → MayClose o.limits acts i (broken_end f) s
+      may_spend fault.Broken acts s settled why spent = (settled, why, spent)
+      may_spend fault.Memory acts s settled why spent = (settled, (fault.Memory, why, λ e. cc), spent)
+      may_spend fault.NoSuch acts s settled why spent = (settled, (fault.NoSuch, why, λ e. cc), spent)
+      may_spend fault.TooMany acts s settled why spent = (settled, (fault.TooMany, why, λ e. cc), spent)
+      may_spend fault.Exhausted acts s settled why spent = (settled, (fault.Exhausted, why, λ e. cc), spent)
 
 -- writing to the stream has failed
-pub failed : {A : Type 0} {n : ℕ} {o : Origin} {hub : Hub A} {left : ℕ} {before : Option (List Act)} (ps : List (Option Peer)) (i : ℕ) (p : Peer) → i < length ps → Standing (Answering n) o hub (set ps i (Some p)) left before → (bytes : List ℕ) → AreWaiting hub p.conn bytes → 0 < length bytes
-    → (hub' : Hub A) (mid after : Option (List Act)) → Goes (Close p.conn) hub hub' → Adds before mid (Failed i ∷ []) → Adds mid after (Closed i ∷ []) → Standing (Answering n) o hub' (set ps i None) left after
+pub failed : {A : Type 0} {n : ℕ} {o : Origin} {hub : Hub A} {left : ℕ} {before : Option (List Act)} (ps : List (Option (Peer A))) (i : ℕ) (p : Peer A) → i < length ps → Standing (Answering n) o hub (set ps i (Some p)) left before → (bytes : List ℕ) → AreWaiting hub p.conn bytes → 0 < length bytes
+    → (hub' : Hub A) (mid after : Option (List Act)) → Goes (Close p.conn) hub hub' → Adds before mid (Unwritten i ∷ []) → Adds mid after (Closed i end.Write ∷ []) → Standing (Answering n) o hub' (set ps i None) left after
 failed {o = o} {before = before} ps i p lt st bytes waiting some hub' mid after goes said closed =
-    let over = Failed i ∷ st.acts in
-    let x = shut ps i p (stands_as over (λ j. refl) refl st.stands) lt hub' goes in
+    let over = Unwritten i ∷ st.acts in
+    let x = shut ps i p end.Write (stands_as over (λ j. refl) (λ j. (refl, refl, refl)) refl st.stands) lt hub' goes in
     record {
-      acts = Closed i ∷ over;
+      acts = Closed i end.Write ∷ over;
       machine = x.machine;
       way = (
-        (st.machine, (st.machine, st.way.0, (st.way.2, st.way.3, is_waiting ps i p st.stands lt bytes waiting some), refl), inl (inr refl), x.step),
+        (st.machine, (st.machine, st.way.0, (st.way.2, st.way.3, is_waiting ps i p st.stands lt bytes waiting some), refl), refl, x.step),
         st.way.1,
         tt,
         inr (inr (subst (λ (w : ServedState). Has (Kept w.state) st.acts) (sym x.served) st.way.3)),
       );
       stands = x.stands;
-      adds = adds_on o.first mid after over (Closed i ∷ []) (adds_on o.first before mid st.acts (Failed i ∷ []) st.adds said) closed;
+      adds = adds_on o.first mid after (of_streams over) (Closed i end.Write ∷ []) (adds_on o.first before mid (of_streams st.acts) (Unwritten i ∷ []) st.adds said) closed;
       fewer = st.fewer;
     }
+
+-- a write that took nothing or failed
+pub unwritten : (r : Moved) (i : ℕ) (bytes : List ℕ) (before after : Option (List Act)) → (r ≡ moved.Over) ⊎ (r ≡ moved.Failed) → Adds before after (went i r bytes) → Adds before after (Unwritten i ∷ [])
+unwritten r i bytes before after (inl is) said = subst (λ (m : Moved). Adds before after (went i m bytes)) is said
+unwritten r i bytes before after (inr is) said = subst (λ (m : Moved). Adds before after (went i m bytes)) is said
+
+pub not_some : {X : Type 0} (o : Option X) → is_some o ≡ false → o ≡ None
+not_some None e = refl
+not_some (Some x) e = absurd (cc)
 
 -- another stream has just come while the limit of open connections is reached, or serving has stopped
-closed_way : (stage : Stage) (o : Origin) (place : ℕ) (acts : List Act) (s s' : State) → IsClosing stage → Way stage o acts s → StepAt acts place Close s s' → Way (closed_stage stage) o (Closed place ∷ acts) s'
-closed_way (Listening n) o place acts s s' may way step = absurd may
-closed_way (Full n) o place acts s s' may way step = ((s, way.0, inr (inr (way.2, way.3)), step), way.1, tt)
-closed_way (Answering n) o place acts s s' may way step = absurd may
-closed_way (Stopped end n) o place acts s s' may way step = absurd may
-closed_way (Ending served at) o place acts s s' may way step =
-    (Closed place ∷ way.0, ap (λ (l : List Act). Closed place ∷ l) way.1, (place, s, refl, way.2, subst (λ (l : List Act). StepAt l place Close s s') way.1 step))
+closed_way : (stage : Stage) (o : Origin) (place : ℕ) (why : StreamEnd) (acts : List Act) (s s' : State) → IsClosing stage why → Way stage o acts s → StepAt acts place Close s s' → Way (closed_stage stage) o (Closed place why ∷ acts) s'
+closed_way (Listening n) o place why acts s s' may way step = absurd may
+closed_way (Knocking n) o place why acts s s' may way step = absurd may
+closed_way (Full n) o place why acts s s' may way step =
+    subst (λ (e : StreamEnd). Way (Listening n) o (Closed place e ∷ acts) s') (sym may) ((s, way.0, (way.2, way.3, way.4), step), way.1, tt)
+closed_way (Looking n) o place why acts s s' may way step = absurd may
+closed_way (Giving n) o place why acts s s' may way step = absurd may
+closed_way (Piecing n at left) o place why acts s s' may way step = absurd may
+closed_way (Unkept n at left) o place why acts s s' may way step = absurd may
+closed_way (Answering n) o place why acts s s' may way step = absurd may
+closed_way (Stopped end n) o place why acts s s' may way step = absurd may
+closed_way (Ending served at) o place why acts s s' may way step =
+    (Closed place why ∷ way.0, ap (λ (l : List Act). Closed place why ∷ l) way.1, (place, s, ap (λ (e : StreamEnd). Closed place e) may, way.2, subst (λ (l : List Act). StepAt l place Close s s') way.1 step))
 
-pub closes : {A : Type 0} {stage : Stage} {o : Origin} {hub : Hub A} {left : ℕ} {before : Option (List Act)} (ps : List (Option Peer)) (i : ℕ) (p : Peer) → i < length ps → IsClosing stage → Standing stage o hub (set ps i (Some p)) left before → (hub' : Hub A) (after : Option (List Act)) → Goes (Close p.conn) hub hub'
-    → Adds before after (Closed i ∷ []) → Standing (closed_stage stage) o hub' (set ps i None) left after
-closes {stage = stage} {o = o} {before = before} ps i p lt may st hub' after goes closed =
-    let x = shut ps i p st.stands lt hub' goes in
+pub closes : {A : Type 0} {stage : Stage} {o : Origin} {hub : Hub A} {left : ℕ} {before : Option (List Act)} (ps : List (Option (Peer A))) (i : ℕ) (p : Peer A) (why : StreamEnd) → i < length ps → IsClosing stage why → Standing stage o hub (set ps i (Some p)) left before → (hub' : Hub A) (after : Option (List Act)) → Goes (Close p.conn) hub hub'
+    → Adds before after (Closed i why ∷ []) → Standing (closed_stage stage) o hub' (set ps i None) left after
+closes {stage = stage} {o = o} {before = before} ps i p why lt may st hub' after goes closed =
+    let x = shut ps i p why st.stands lt hub' goes in
     record {
-      acts = Closed i ∷ st.acts;
+      acts = Closed i why ∷ st.acts;
       machine = x.machine;
-      way = closed_way stage o i st.acts st.machine x.machine may st.way x.step;
+      way = closed_way stage o i why st.acts st.machine x.machine may st.way x.step;
       stands = x.stands;
-      adds = adds_on o.first before after st.acts (Closed i ∷ []) st.adds closed;
+      adds = adds_on o.first before after (of_streams st.acts) (Closed i why ∷ []) st.adds closed;
       fewer = st.fewer;
     }
 
+settled_knock : (acts : List Act) → Just Knocked acts → IsSettled acts
+settled_knock [] knock = absurd knock
+settled_knock (act ∷ acts) knock = subst (λ (a : Act). IsSettled (a ∷ acts)) (sym knock) tt
+
 -- a stage at which no connection is closed goes on unchanged
-pub unclosed : {A : Type 0} (stage : Stage) (o : Origin) (hub : Hub A) (places : List (Option Peer)) (left : ℕ) (now : Option (List Act)) → IsClosing stage → Standing stage o hub places left now → Standing (closed_stage stage) o hub places left now
-unclosed (Listening n) o hub places left now may st = absurd may
-unclosed (Full n) o hub places left now may st = record { acts = st.acts; machine = st.machine; way = (st.way.0, st.way.1, settled st.acts st.way.2); stands = st.stands; adds = st.adds; fewer = st.fewer }
-  where
-    settled : (acts : List Act) → JustKnocked acts → IsSettled acts
-    settled [] knock = absurd knock
-    settled (act ∷ acts) knock = subst (λ (a : Act). IsSettled (a ∷ acts)) (sym knock) tt
-unclosed (Answering n) o hub places left now may st = absurd may
-unclosed (Stopped end n) o hub places left now may st = absurd may
-unclosed (Ending served at) o hub places left now may st = st
+pub unclosed : {A : Type 0} (stage : Stage) (o : Origin) (hub : Hub A) (places : List (Option (Peer A))) (left : ℕ) (why : StreamEnd) (now : Option (List Act)) → IsClosing stage why → Standing stage o hub places left now → Standing (closed_stage stage) o hub places left now
+unclosed (Listening n) o hub places left why now may st = absurd may
+unclosed (Knocking n) o hub places left why now may st = absurd may
+unclosed (Full n) o hub places left why now may st = record { acts = st.acts; machine = st.machine; way = (st.way.0, st.way.1, settled_knock st.acts st.way.2); stands = st.stands; adds = st.adds; fewer = st.fewer }
+unclosed (Looking n) o hub places left why now may st = absurd may
+unclosed (Giving n) o hub places left why now may st = absurd may
+unclosed (Piecing n at k) o hub places left why now may st = absurd may
+unclosed (Unkept n at k) o hub places left why now may st = absurd may
+unclosed (Answering n) o hub places left why now may st = absurd may
+unclosed (Stopped end n) o hub places left why now may st = absurd may
+unclosed (Ending served at) o hub places left why now may st = st
 
 -- no act was added
-pub quiet : {A : Type 0} {stage : Stage} {o : Origin} {hub : Hub A} {places : List (Option Peer)} {left : ℕ} {before : Option (List Act)} (after : Option (List Act)) → Adds before after [] → Standing stage o hub places left before → Standing stage o hub places left after
-quiet {o = o} {before = before} after said st = record { acts = st.acts; machine = st.machine; way = st.way; stands = st.stands; adds = adds_on o.first before after st.acts [] st.adds said; fewer = st.fewer }
+pub quiet : {A : Type 0} {stage : Stage} {o : Origin} {hub : Hub A} {places : List (Option (Peer A))} {left : ℕ} {before : Option (List Act)} (after : Option (List Act)) → Adds before after [] → Standing stage o hub places left before → Standing stage o hub places left after
+quiet {o = o} {before = before} after said st = record { acts = st.acts; machine = st.machine; way = st.way; stands = st.stands; adds = adds_on o.first before after (of_streams st.acts) [] st.adds said; fewer = st.fewer }
 
 -- ---- a stream comes
 
-pub knocks : {A : Type 0} {n : ℕ} {o : Origin} {hub : Hub A} {places : List (Option Peer)} {left : ℕ} {before : Option (List Act)} (after : Option (List Act)) (b : Bool) → Adds before after (knocked b) → Standing (Listening n) o hub places left before → Standing (Listening n) o hub places left after
-knocks {o = o} {before = before} after true said st = record {
-  acts = Knocked ∷ st.acts;
-  machine = st.machine;
-  way = ((st.machine, st.way.0, st.way.2, refl), st.way.1, tt);
-  stands = stands_as (Knocked ∷ st.acts) (λ j. refl) refl st.stands;
-  adds = adds_on o.first before after st.acts (Knocked ∷ []) st.adds said;
-  fewer = st.fewer;
-}
-knocks {o = o} {before = before} after false said st = record { acts = st.acts; machine = st.machine; way = st.way; stands = st.stands; adds = adds_on o.first before after st.acts [] st.adds said; fewer = st.fewer }
+module _ {A : Type 0} {n : ℕ} {o : Origin} {hub : Hub A} {places : List (Option (Peer A))} {left : ℕ} {before : Option (List Act)} (after : Option (List Act)) (said : Adds before after (Knocked ∷ [])) (st : Standing (Listening n) o hub places left before) where
+  pub knocks : Standing (Knocking n) o hub places left after
+  knocks = record {
+    acts = Knocked ∷ st.acts;
+    machine = st.machine;
+    way = ((st.machine, st.way.0, st.way.2, refl), st.way.1, refl);
+    stands = stands_as (Knocked ∷ st.acts) (λ j. refl) (λ j. (refl, refl, refl)) refl st.stands;
+    adds = adds_on o.first before after (of_streams st.acts) (Knocked ∷ []) st.adds said;
+    fewer = st.fewer;
+  }
 
-pub knocks_full : {A : Type 0} {n : ℕ} {o : Origin} {hub : Hub A} {places : List (Option Peer)} {left : ℕ} {before : Option (List Act)} (after : Option (List Act)) → o.most ≤ taken places → Adds before after (Knocked ∷ []) → Standing (Listening n) o hub places left before → Standing (Full n) o hub places left after
-knocks_full {o = o} {before = before} after many said st = record {
-  acts = Knocked ∷ st.acts;
-  machine = st.machine;
-  way = ((st.machine, st.way.0, st.way.2, refl), st.way.1, refl, omega (arith, st.stands.count));
-  stands = stands_as (Knocked ∷ st.acts) (λ j. refl) refl st.stands;
-  adds = adds_on o.first before after st.acts (Knocked ∷ []) st.adds said;
-  fewer = st.fewer;
-}
+  pub knocks_full : o.limits.makes_room ≡ true → most_open o.limits ≤ taken places → Standing (Full n) o hub places left after
+  knocks_full makes many = record {
+    acts = Knocked ∷ st.acts;
+    machine = st.machine;
+    way = ((st.machine, st.way.0, st.way.2, refl), st.way.1, refl, makes, omega (arith, many, st.stands.count));
+    stands = stands_as (Knocked ∷ st.acts) (λ j. refl) (λ j. (refl, refl, refl)) refl st.stands;
+    adds = adds_on o.first before after (of_streams st.acts) (Knocked ∷ []) st.adds said;
+    fewer = st.fewer;
+  }
+
+-- the stream isn't admitted
+pub put_off : {A : Type 0} {n : ℕ} {o : Origin} {hub : Hub A} {places : List (Option (Peer A))} {left : ℕ} {now : Option (List Act)} → Standing (Knocking n) o hub places left now → Standing (Listening n) o hub places left now
+put_off st = record { acts = st.acts; machine = st.machine; way = (st.way.0, st.way.1, settled_knock st.acts st.way.2); stands = st.stands; adds = st.adds; fewer = st.fewer }
+
+pub put_off_full : {A : Type 0} {n : ℕ} {o : Origin} {hub : Hub A} {places : List (Option (Peer A))} {left : ℕ} {now : Option (List Act)} → Standing (Full n) o hub places left now → Standing (Listening n) o hub places left now
+put_off_full st = record { acts = st.acts; machine = st.machine; way = (st.way.0, st.way.1, settled_knock st.acts st.way.2); stands = st.stands; adds = st.adds; fewer = st.fewer }
 
 -- ---- a stream is admitted
 
@@ -276,24 +501,23 @@ opened hub hub' t id is is_fresh gives g =
       | inr new ↦ (next, new.0, new.1, new.2)
     ]
 
-pub admits : {A : Type 0} {n : ℕ} {o : Origin} {hub : Hub A} {left : ℕ} {before : Option (List Act)} (ps : List (Option Peer)) (i id left' : ℕ) (z : ℤ) (hub' : Hub A) (mid after : Option (List Act)) → i < length ps → i < 16 → Standing (Listening n) o hub (set ps i None) left before → taken (set ps i None) < o.most → left ≡ left' + 1
-    → Adds before mid (Knocked ∷ []) → Goes Connect hub hub' → ConnectGives (Ok id) hub hub' → Adds mid after (Admitted i id ∷ []) → Standing (Listening n) o hub' (set ps i (Some (record { conn = id; since = z }))) left' after
-admits {o = o} {hub = hub} {before = before} ps i id left' z hub' mid after lt below st few less said goes gives let_in =
-    let peer : Peer = record { conn = id; since = z } in
+pub admits : {A : Type 0} {n : ℕ} {o : Origin} {hub : Hub A} {left : ℕ} {before : Option (List Act)} (ps : List (Option (Peer A))) (i id left' : ℕ) (peer : Peer A) (hub' : Hub A) (after : Option (List Act)) → i < length ps → i < 16 → Standing (Knocking n) o hub (set ps i None) left before → taken (set ps i None) < most_open o.limits → left ≡ left' + 1
+    → peer.conn ≡ id → peer.turns ≡ 0 → peer.fault ≡ None → peer.ahead ≡ []
+    → Goes Connect hub hub' → ConnectGives (Ok id) hub hub' → Adds before after (Admitted i id ∷ []) → Standing (Listening n) o hub' (set ps i (Some peer)) left' after
+admits {o = o} {hub = hub} {before = before} ps i id left' peer hub' after lt below st few less conn turns fault is goes gives let_in =
     let at = set_here ps i None lt in
     let was = st.stands in
     let s = st.machine in
     let g = goes s was.is in
     let w = opened hub hub' s id was.is was.fresh gives g in
-    let knock = Knocked ∷ st.acts in
-    let acts' = Admitted i id ∷ knock in
-    let free : conn_at st.acts i ≡ None = subst (λ (x : Option Peer). IsSeated was.owner st.acts i x) at (was.seated i) in
+    let acts' = Admitted i id ∷ st.acts in
+    let free : conn_at st.acts i ≡ None = subst (λ (x : Option (Peer _)). IsSeated was.owner st.acts i x) at (was.seated i) in
     let now : g.0.connection id ≡ Some fresh = ap (λ (k : ℕ). g.0.connection k) w.0 ∙ w.3.changed in
     let others : (k : ℕ) → k ≢ id → g.0.connection k ≡ s.connection k = λ k ne. w.3.others k (λ e. ne (e ∙ sym w.0)) in
     record {
       acts = acts';
       machine = g.0;
-      way = ((s, (s, st.way.0, st.way.2, refl), (refl, free, omega (arith, was.count), below), (w.0, g.1, now)), st.way.1, tt);
+      way = ((s, st.way.0, (st.way.2, free, omega (arith, few, was.count), below), (w.0, g.1, now)), st.way.1, tt);
       stands = changed was lt (record {
         was = λ q e. absurd (none_some q e);
         alone = λ j q ne there same.
@@ -304,13 +528,15 @@ admits {o = o} {hub = hub} {before = before} ps i id left' z hub' mid after lt b
             let ne : k ≢ id = λ e. absurd (omega (arith, e, w.0, w.2)) in
             others k ne ∙ was.fresh k (omega (arith, w.2));
         others = others;
-        seat = inl (record { peer = peer; connected = fresh; here = refl; numbered = refl; opened = now });
-        now = λ q e. let same : q ≡ peer = sym (some_peer peer q e) in (ap (λ (r : Peer). r.conn) same, admitted_here knock i id);
+        seat = inl (record { peer = peer; connected = fresh; here = refl; numbered = conn; opened = now; sound = ap (λ (f : Option HubFault). is_some f) (sym fault) });
+        now = λ q e. let same : q ≡ peer = sym (some_peer peer q e) in (ap (λ (r : Peer _). r.conn) same ∙ conn, admitted_here st.acts i id);
+        knows = λ q e. subst (λ (r : Peer _). Knows acts' i r) (some_peer peer q e) (ahead_admitted st.acts i id ∙ sym is, turns_admitted st.acts i id ∙ sym turns, fault_admitted st.acts i id ∙ sym fault);
         gone = λ e. absurd (none_some peer (sym e));
-        conns = λ j ne. admitted_there knock i id j ne;
+        conns = λ j ne. admitted_there st.acts i id j ne;
+        same = λ j ne. (ahead_admitted_there st.acts i id j ne, turns_admitted_there st.acts i id j ne, fault_admitted_there st.acts i id j ne);
         count = omega (arith, was.count, taken_swap ps i None (Some peer) lt);
       });
-      adds = adds_on o.first mid after knock (Admitted i id ∷ []) (adds_on o.first before mid st.acts (Knocked ∷ []) st.adds said) let_in;
+      adds = adds_on o.first before after (of_streams st.acts) (Admitted i id ∷ []) st.adds let_in;
       fewer = omega (arith, st.fewer, less);
     }
 
@@ -322,7 +548,7 @@ refused_is hub hub' fault.Memory gives = gives.2
 refused_is hub hub' fault.NoSuch gives = absurd gives
 refused_is hub hub' fault.Broken gives = absurd gives
 
-pub refused : {A : Type 0} {stage : Stage} {o : Origin} {hub : Hub A} {places : List (Option Peer)} {left : ℕ} {now : Option (List Act)} (hub' : Hub A) (why : HubFault) → ConnectGives (Err why) hub hub' → Standing stage o hub places left now → Standing stage o hub' places left now
+pub refused : {A : Type 0} {stage : Stage} {o : Origin} {hub : Hub A} {places : List (Option (Peer A))} {left : ℕ} {now : Option (List Act)} (hub' : Hub A) (why : HubFault) → ConnectGives (Err why) hub hub' → Standing stage o hub places left now → Standing stage o hub' places left now
 refused {hub = hub} hub' why gives st = record {
   acts = st.acts;
   machine = st.machine;
@@ -332,40 +558,51 @@ refused {hub = hub} hub' why gives st = record {
   fewer = st.fewer;
 }
 
--- ---- a book is loaded
+-- ---- it is asked for another book
 
-pub loads : {A : Type 0} {n : ℕ} {o : Origin} {hub : Hub A} {places : List (Option Peer)} {left : ℕ} {before : Option (List Act)} (hub' : Hub A) (book : Content) (after : Option (List Act)) → Goes (Reload book) hub hub' → Adds before after (Loaded book ∷ []) → Standing (Listening n) o hub places left before → Standing (Listening n) o hub' places left after
-loads {o = o} {places = places} {before = before} hub' book after goes said st =
-    let was = st.stands in
-    let g = goes st.machine was.is in
-    let s' : State = record st.machine { served = reloaded book st.machine.served } in
-    let now : Stands o.start.next hub' places st.acts s' = record {
-      is = subst (λ (w : State). IsHub hub' w) g.1 g.2;
-      fresh = was.fresh;
-      owner = was.owner;
-      each = was.each;
-      seated = was.seated;
-      count = was.count;
-    } in
-    record {
-      acts = Loaded book ∷ st.acts;
-      machine = s';
-      way = ((st.machine, st.way.0, st.way.2, refl), st.way.1, tt);
-      stands = stands_as (Loaded book ∷ st.acts) (λ j. refl) refl now;
-      adds = adds_on o.first before after st.acts (Loaded book ∷ []) st.adds said;
-      fewer = st.fewer;
-    }
+module _ {A : Type 0} {n : ℕ} {o : Origin} {hub : Hub A} {places : List (Option (Peer A))} {left : ℕ} {before : Option (List Act)} (after : Option (List Act)) (st : Standing (Listening n) o hub places left before) where
+  pub looks : Adds before after (Looked ∷ []) → Standing (Looking n) o hub places left after
+  looks said = record {
+    acts = Looked ∷ st.acts;
+    machine = st.machine;
+    way = ((st.machine, st.way.0, st.way.2, refl), st.way.1, tt, tt);
+    stands = stands_as (Looked ∷ st.acts) (λ j. refl) (λ j. (refl, refl, refl)) refl st.stands;
+    adds = adds_on o.first before after (of_streams st.acts) (Looked ∷ []) st.adds said;
+    fewer = st.fewer;
+  }
+
+  pub loads : (hub' : Hub A) (book : Content) → Goes (Reload book) hub hub' → Adds before after (Loaded book ∷ []) → Standing (Looking n) o hub' places left after
+  loads hub' book goes said =
+      let was = st.stands in
+      let g = goes st.machine was.is in
+      let s' : State = record st.machine { served = reloaded book st.machine.served } in
+      let now : Stands o.start.next hub' places st.acts s' = record {
+        is = subst (λ (w : State). IsHub hub' w) g.1 g.2;
+        fresh = was.fresh;
+        owner = was.owner;
+        each = was.each;
+        seated = was.seated;
+        count = was.count;
+      } in
+      record {
+        acts = Loaded book ∷ st.acts;
+        machine = s';
+        way = ((st.machine, st.way.0, st.way.2, refl), st.way.1, tt, tt);
+        stands = stands_as (Loaded book ∷ st.acts) (λ j. refl) (λ j. (refl, refl, refl)) refl now;
+        adds = adds_on o.first before after (of_streams st.acts) (Loaded book ∷ []) st.adds said;
+        fewer = st.fewer;
+      }
 
 -- ---- serving has waited, and the trail is kept
 
-module _ {A : Type 0} {n : ℕ} {o : Origin} {hub : Hub A} {places : List (Option Peer)} {left : ℕ} {before : Option (List Act)} (st : Standing (Listening n) o hub places left before) (after : Option (List Act)) where
+module _ {A : Type 0} {n : ℕ} {o : Origin} {hub : Hub A} {places : List (Option (Peer A))} {left : ℕ} {before : Option (List Act)} (st : Standing (Listening n) o hub places left before) (after : Option (List Act)) where
   pub waited : Adds before after (Waited true ∷ []) → Standing (Listening (n + 1)) o hub places left after
   waited said = record {
     acts = Waited true ∷ st.acts;
     machine = st.machine;
     way = ((st.machine, st.way.0, st.way.2, refl), ap (λ (k : ℕ). k + 1) st.way.1, tt);
-    stands = stands_as (Waited true ∷ st.acts) (λ j. refl) refl st.stands;
-    adds = adds_on o.first before after st.acts (Waited true ∷ []) st.adds said;
+    stands = stands_as (Waited true ∷ st.acts) (λ j. refl) (λ j. (refl, refl, refl)) refl st.stands;
+    adds = adds_on o.first before after (of_streams st.acts) (Waited true ∷ []) st.adds said;
     fewer = st.fewer;
   }
 
@@ -374,20 +611,21 @@ module _ {A : Type 0} {n : ℕ} {o : Origin} {hub : Hub A} {places : List (Optio
     acts = Waited false ∷ st.acts;
     machine = st.machine;
     way = ((st.machine, st.way.0, st.way.2, refl), ap (λ (k : ℕ). k + 1) st.way.1, refl);
-    stands = stands_as (Waited false ∷ st.acts) (λ j. refl) refl st.stands;
-    adds = adds_on o.first before after st.acts (Waited false ∷ []) st.adds said;
+    stands = stands_as (Waited false ∷ st.acts) (λ j. refl) (λ j. (refl, refl, refl)) refl st.stands;
+    adds = adds_on o.first before after (of_streams st.acts) (Waited false ∷ []) st.adds said;
     fewer = st.fewer;
   }
 
-  pub keeps : (state : ServerState) → ((t : State) → IsHub hub t → t.served.state ≡ state) → Adds before after (Kept state ∷ []) → Standing (Answering n) o hub places left after
+module _ {A : Type 0} {n : ℕ} {o : Origin} {hub : Hub A} {places : List (Option (Peer A))} {left : ℕ} {before : Option (List Act)} (st : Standing (Looking n) o hub places left before) (after : Option (List Act)) where
+  pub keeps : (state : ServerState) → ((t : State) → IsHub hub t → t.served.state ≡ state) → Adds before after (Kept state ∷ []) → Standing (Giving n) o hub places left after
   keeps state serves said =
       let is : st.machine.served.state ≡ state = serves st.machine st.stands.is in
       record {
         acts = Kept state ∷ st.acts;
         machine = st.machine;
-        way = ((st.machine, st.way.0, (st.way.2, sym is), refl), st.way.1, tt, inl (ap (λ (x : ServerState). Kept x) (sym is)));
-        stands = stands_as (Kept state ∷ st.acts) (λ j. refl) refl st.stands;
-        adds = adds_on o.first before after st.acts (Kept state ∷ []) st.adds said;
+        way = ((st.machine, st.way.0, (st.way.2, sym is), refl), st.way.1, tt, inl (ap (λ (x : ServerState). Kept x) (sym is)), st.way.3);
+        stands = stands_as (Kept state ∷ st.acts) (λ j. refl) (λ j. (refl, refl, refl)) refl st.stands;
+        adds = adds_on o.first before after (of_streams st.acts) (Kept state ∷ []) st.adds said;
         fewer = st.fewer;
       }
 
@@ -396,35 +634,71 @@ module _ {A : Type 0} {n : ℕ} {o : Origin} {hub : Hub A} {places : List (Optio
     acts = Lost ∷ st.acts;
     machine = st.machine;
     way = ((st.machine, st.way.0, st.way.2, refl), st.way.1, refl);
-    stands = stands_as (Lost ∷ st.acts) (λ j. refl) refl st.stands;
-    adds = adds_on o.first before after st.acts (Lost ∷ []) st.adds said;
+    stands = stands_as (Lost ∷ st.acts) (λ j. refl) (λ j. (refl, refl, refl)) refl st.stands;
+    adds = adds_on o.first before after (of_streams st.acts) (Lost ∷ []) st.adds said;
     fewer = st.fewer;
   }
 
-pub answered : {A : Type 0} {n : ℕ} {o : Origin} {hub : Hub A} {places : List (Option Peer)} {left : ℕ} {now : Option (List Act)} → Standing (Answering n) o hub places left now → Standing (Listening n) o hub places left now
-answered st = record { acts = st.acts; machine = st.machine; way = (st.way.0, st.way.1, st.way.2); stands = st.stands; adds = st.adds; fewer = st.fewer }
+module _ {A : Type 0} {n i m : ℕ} {o : Origin} {hub : Hub A} {places : List (Option (Peer A))} {left : ℕ} {before : Option (List Act)} (st : Standing (Unkept n i m) o hub places left before) (after : Option (List Act)) where
+  pub keeps_given : (state : ServerState) → ((t : State) → IsHub hub t → t.served.state ≡ state) → Adds before after (Kept state ∷ []) → Standing (Piecing n i m) o hub places left after
+  keeps_given state serves said =
+      let is : st.machine.served.state ≡ state = serves st.machine st.stands.is in
+      record {
+        acts = Kept state ∷ st.acts;
+        machine = st.machine;
+        way = ((st.machine, st.way.0, (st.way.2, sym is), refl), st.way.1, tt, inl (ap (λ (x : ServerState). Kept x) (sym is)), st.way.3, st.way.4);
+        stands = stands_as (Kept state ∷ st.acts) (λ j. refl) (λ j. (refl, refl, refl)) refl st.stands;
+        adds = adds_on o.first before after (of_streams st.acts) (Kept state ∷ []) st.adds said;
+        fewer = st.fewer;
+      }
+
+  pub loses_given : Adds before after (Lost ∷ []) → Standing (Stopped Keep n) o hub places left after
+  loses_given said = record {
+    acts = Lost ∷ st.acts;
+    machine = st.machine;
+    way = ((st.machine, st.way.0, st.way.2, refl), st.way.1, refl);
+    stands = stands_as (Lost ∷ st.acts) (λ j. refl) (λ j. (refl, refl, refl)) refl st.stands;
+    adds = adds_on o.first before after (of_streams st.acts) (Lost ∷ []) st.adds said;
+    fewer = st.fewer;
+  }
+
+-- ---- from one stage to the next without an act
+
+module _ {A : Type 0} {n : ℕ} {o : Origin} {hub : Hub A} {places : List (Option (Peer A))} {left : ℕ} {now : Option (List Act)} where
+  pub unbegun : (i : ℕ) → Standing (Giving n) o hub places left now → Standing (Piecing n i 0) o hub places left now
+  unbegun i st = record { acts = st.acts; machine = st.machine; way = (st.way.0, st.way.1, st.way.2, st.way.3, st.way.4, omega arith); stands = st.stands; adds = st.adds; fewer = st.fewer }
+
+  pub given : (i m : ℕ) → Standing (Piecing n i m) o hub places left now → Standing (Giving n) o hub places left now
+  given i m st = record { acts = st.acts; machine = st.machine; way = (st.way.0, st.way.1, st.way.2, st.way.3, st.way.4); stands = st.stands; adds = st.adds; fewer = st.fewer }
+
+  pub answers : Standing (Giving n) o hub places left now → Standing (Answering n) o hub places left now
+  answers st = record { acts = st.acts; machine = st.machine; way = (st.way.0, st.way.1, st.way.2, st.way.3); stands = st.stands; adds = st.adds; fewer = st.fewer }
+
+  pub answered : Standing (Answering n) o hub places left now → Standing (Listening n) o hub places left now
+  answered st = record { acts = st.acts; machine = st.machine; way = (st.way.0, st.way.1, st.way.2); stands = st.stands; adds = st.adds; fewer = st.fewer }
 
 -- ---- at one of the places
 
 -- a step at a place
-pub at_place : {A : Type 0} (stage stage' : Stage) (o : Origin) (hub new : Hub A) (ps : List (Option Peer)) (i left : ℕ) (x y : Option Peer) (before after : Option (List Act)) → i < length ps → place_at ps i ≡ x → (Standing stage o hub (set ps i x) left before → Standing stage' o new (set ps i y) left after)
+pub at_place : {A : Type 0} (stage stage' : Stage) (o : Origin) (hub new : Hub A) (ps : List (Option (Peer A))) (i left : ℕ) (x y : Option (Peer A)) (before after : Option (List Act)) → i < length ps → place_at ps i ≡ x → (Standing stage o hub (set ps i x) left before → Standing stage' o new (set ps i y) left after)
     → Standing stage o hub ps left before → Standing stage' o new (set ps i y) left after
-at_place stage stage' o hub new ps i left x y before after lt at does st = does (subst (λ (l : List (Option Peer)). Standing stage o hub l left before) (sym (set_back ps i x at)) st)
+at_place stage stage' o hub new ps i left x y before after lt at does st = does (subst (λ (l : List (Option (Peer _))). Standing stage o hub l left before) (sym (set_back ps i x at)) st)
 
 -- a step at a place that has had another connection meanwhile
-pub gone_at : {A : Type 0} (stage : Stage) (o : Origin) (new : Hub A) (ps : List (Option Peer)) (i left : ℕ) (x y : Option Peer) (after : Option (List Act)) → Standing stage o new (set ps i y) left after → Standing stage o new (set (set ps i x) i y) left after
-gone_at stage o new ps i left x y after st = subst (λ (l : List (Option Peer)). Standing stage o new l left after) (sym (set-set ps i x y)) st
+pub gone_at : {A : Type 0} (stage : Stage) (o : Origin) (new : Hub A) (ps : List (Option (Peer A))) (i left : ℕ) (x y : Option (Peer A)) (after : Option (List Act)) → Standing stage o new (set ps i y) left after → Standing stage o new (set (set ps i x) i y) left after
+gone_at stage o new ps i left x y after st = subst (λ (l : List (Option (Peer _))). Standing stage o new l left after) (sym (set-set ps i x y)) st
 
 -- a stream is admitted at a free place
-pub admits_at : {A : Type 0} {n : ℕ} {o : Origin} {hub : Hub A} {left : ℕ} {before : Option (List Act)} (ps : List (Option Peer)) (i id left' : ℕ) (z : ℤ) (hub' : Hub A) (mid after : Option (List Act)) → i < length ps → i < 16 → place_at ps i ≡ None → Standing (Listening n) o hub ps left before → taken ps < o.most → left ≡ left' + 1
-    → Adds before mid (Knocked ∷ []) → Goes Connect hub hub' → ConnectGives (Ok id) hub hub' → Adds mid after (Admitted i id ∷ []) → Standing (Listening n) o hub' (set ps i (Some (record { conn = id; since = z }))) left' after
-admits_at {n = n} {o = o} {hub = hub} {left = left} {before = before} ps i id left' z hub' mid after lt below free st few less said goes gives let_in =
+pub admits_at : {A : Type 0} {n : ℕ} {o : Origin} {hub : Hub A} {left : ℕ} {before : Option (List Act)} (ps : List (Option (Peer A))) (i id left' : ℕ) (peer : Peer A) (hub' : Hub A) (after : Option (List Act)) → i < length ps → i < 16 → place_at ps i ≡ None → Standing (Knocking n) o hub ps left before → taken ps < most_open o.limits → left ≡ left' + 1
+    → peer.conn ≡ id → peer.turns ≡ 0 → peer.fault ≡ None → peer.ahead ≡ []
+    → Goes Connect hub hub' → ConnectGives (Ok id) hub hub' → Adds before after (Admitted i id ∷ []) → Standing (Listening n) o hub' (set ps i (Some peer)) left' after
+admits_at {n = n} {o = o} {hub = hub} {left = left} {before = before} ps i id left' peer hub' after lt below free st few less conn turns fault is goes gives let_in =
     let same = sym (set_back ps i None free) in
-    admits ps i id left' z hub' mid after lt below (subst (λ (l : List (Option Peer)). Standing (Listening n) o hub l left before) same st) (subst (λ (l : List (Option Peer)). taken l < o.most) same few) less said goes gives let_in
+    admits ps i id left' peer hub' after lt below (subst (λ (l : List (Option (Peer _))). Standing (Knocking n) o hub l left before) same st) (subst (λ (l : List (Option (Peer _))). taken l < most_open o.limits) same few) less conn turns fault is goes gives let_in
 
 -- serving stops at its stage
-pub stops_served : {A : Type 0} {n : ℕ} {o : Origin} {hub : Hub A} {places : List (Option Peer)} {left : ℕ} {now : Option (List Act)} → Standing (Listening n) o hub places left now → Standing (Stopped Served n) o hub places left now
+pub stops_served : {A : Type 0} {n : ℕ} {o : Origin} {hub : Hub A} {places : List (Option (Peer A))} {left : ℕ} {now : Option (List Act)} → Standing (Listening n) o hub places left now → Standing (Stopped Served n) o hub places left now
 stops_served st = record { acts = st.acts; machine = st.machine; way = (st.way.0, st.way.1, tt); stands = st.stands; adds = st.adds; fewer = st.fewer }
 
-pub stops_turned : {A : Type 0} {n : ℕ} {o : Origin} {hub : Hub A} {places : List (Option Peer)} {left : ℕ} {now : Option (List Act)} → Standing (Listening n) o hub places left now → Standing (Stopped Turns n) o hub places left now
+pub stops_turned : {A : Type 0} {n : ℕ} {o : Origin} {hub : Hub A} {places : List (Option (Peer A))} {left : ℕ} {now : Option (List Act)} → Standing (Listening n) o hub places left now → Standing (Stopped Turns n) o hub places left now
 stops_turned st = record { acts = st.acts; machine = st.machine; way = (st.way.0, st.way.1, tt); stands = st.stands; adds = st.adds; fewer = st.fewer }

@@ -1,6 +1,6 @@
 -- From events that lead to the hub to the end of serving.
 use Rattle.std.proofs.Common.{◌≡◌, ◌≢◌, ◌≤◌, ℕ, List, [], ◌∷◌, ◌++◌, length, Option, Some, None, refl, sym, ap, subst, ◌∙◌, inl, inr, append_assoc, arith}
-use Rattle.std.specs.Prelude.{MatchOption, min}
+use Rattle.std.specs.Prelude.{MatchOption}
 use Rattle.std.proofs.lemmas.Bool.{cases_eq}
 use Rattle.nfs_hub.specs.declared.hub.Hub.{Hub}
 use Rattle.nfs_hub.specs.Answer.{Served as ServedState, reloaded}
@@ -8,9 +8,9 @@ use Rattle.nfs_hub.specs.Machine.{Connected, State, Event, Connect, Piece, Take,
 use Rattle.nfs_hub.specs.Hub.{LeadsTo}
 use Rattle.nfs_streams.specs.declared.peer.Peer.{Peer}
 use Rattle.nfs_streams.specs.declared.serving.AllEnd.{AllEnd}
-use Rattle.nfs_streams.specs.declared.serving.AllEnd.TheVariants.{Served, Turns, Wait, Keep}
+use Rattle.nfs_streams.specs.declared.serving.AllEnd.TheVariants.{Served, Turns, Wait, Keep, Memory}
 use Rattle.nfs_streams.specs.declared.serving.Limits.{Limits}
-use Rattle.nfs_streams.specs.Acts.{Act, Waited, Knocked, Admitted, Closed, Heard, Ended, Told, Failed, Kept, Lost, Loaded, Adds}
+use Rattle.nfs_streams.specs.Acts.{Act, Waited, Knocked, Admitted, Closed, Heard, Ended, Unread, Looked, Loaded, Begun, Given, Kept, Lost, Told, Unwritten, Adds, of_streams}
 use Rattle.nfs_streams.specs.Runs.{Runs, Ends, Does}
 use Rattle.nfs_streams.specs.Seats.{Stands, IsFresh, IsSeated, Seat, place_at, taken}
 use Rattle.nfs_streams.specs.Standing.{Origin, Listening, Stopped, Ending, Standing, Moves, LeavesSo, RunGives}
@@ -51,12 +51,12 @@ fresh_leads first (event ∷ events) s leads = fresh_step event leads.0 s (fresh
 
 -- ---- the beginning
 
-seat_nobody : (start id : ℕ) (at : Option Peer) (o : Option Connected) → at ≡ None → (start ≤ id → o ≡ None) → Seat start id at o
+seat_nobody : {A : Type 0} (start id : ℕ) (at : Option (Peer A)) (o : Option Connected) → at ≡ None → (start ≤ id → o ≡ None) → Seat start id at o
 seat_nobody start id at o none closed = inr (record { not_here = λ p e. absurd (none_some p (sym none ∙ e)); closed = closed })
 
-begins : {A : Type 0} (first : ServedState) (events : List Event) (hub : Hub A) (places : List (Option Peer)) (most connections : ℕ) (before : Option (List Act)) (h : LeadsTo first events hub) → taken places ≡ 0
-    → Standing (Listening 0) (record { start = h.state; first = before; most = most; connections = connections }) hub places connections before
-begins first events hub places most connections before h none =
+begins : {A : Type 0} (first : ServedState) (events : List Event) (hub : Hub A) (places : List (Option (Peer A))) (limits : Limits) (before : Option (List Act)) (h : LeadsTo first events hub) → taken places ≡ 0
+    → Standing (Listening 0) (record { start = h.state; first = before; limits = limits }) hub places limits.connections before
+begins {A = A} first events hub places limits before h none =
     let free = none_at places none in
     let is_fresh = fresh_leads first events h.state h.leads in
     record {
@@ -75,24 +75,25 @@ begins first events hub places most connections before h none =
       fewer = omega arith;
     }
   where
-    nobody : (j : ℕ) (at : Option Peer) → at ≡ None → IsSeated (λ id. 0) [] j at
+    nobody : (j : ℕ) (at : Option (Peer A)) → at ≡ None → IsSeated (λ id. 0) [] j at
     nobody j None e = refl
     nobody j (Some p) e = absurd (cc)
 
 -- ---- the end
 
-all_closed : {A : Type 0} {start : ℕ} {hub : Hub A} {places : List (Option Peer)} {acts : List Act} {s : State} (st : Stands start hub places acts s) → ((j : ℕ) → place_at places j ≡ None) → AreClosed start s
+all_closed : {A : Type 0} {start : ℕ} {hub : Hub A} {places : List (Option (Peer A))} {acts : List Act} {s : State} (st : Stands start hub places acts s) → ((j : ℕ) → place_at places j ≡ None) → AreClosed start s
 all_closed st free id le =
     elim (st.each id) [
       | inl here ↦ absurd (none_some here.peer (sym (free (st.owner id)) ∙ here.here))
       | inr other ↦ other.closed le
     ]
 
-ends_so : {A : Type 0} (end : AllEnd) (limits : Limits) {o : Origin} {hub : Hub A} {places : List (Option Peer)} {left n : ℕ} {now : Option (List Act)} (st : Standing (Stopped end n) o hub places left now) → o.connections ≡ limits.connections → LeavesSo end limits.turns n left places → EndsSo end limits o.start st.acts st.machine
-ends_so Served limits {places = places} st same leaves = (omega (arith, same, st.fewer, leaves.0), all_closed st.stands (none_at places leaves.1))
+ends_so : {A : Type 0} (end : AllEnd) (limits : Limits) {o : Origin} {hub : Hub A} {places : List (Option (Peer A))} {left n : ℕ} {now : Option (List Act)} (st : Standing (Stopped end n) o hub places left now) → o.limits ≡ limits → LeavesSo end limits.turns n left places → EndsSo end limits o.start st.acts st.machine
+ends_so Served limits {places = places} st same leaves = (omega (arith, ap (λ (l : Limits). l.connections) same, st.fewer, leaves.0), all_closed st.stands (none_at places leaves.1))
 ends_so Turns limits st same leaves = st.way.1 ∙ leaves
 ends_so Wait limits st same leaves = st.way.2
 ends_so Keep limits st same leaves = st.way.2
+ends_so Memory limits st same leaves = absurd leaves
 
 -- ---- acts as events
 
@@ -100,16 +101,20 @@ does_lead : (first : ServedState) (events : List Event) (acts : List Act) (act :
 does_lead first events acts (Waited well) old new does leads = ([], subst (λ (s : State). Leads first events s) (sym does) leads)
 does_lead first events acts Knocked old new does leads = ([], subst (λ (s : State). Leads first events s) (sym does) leads)
 does_lead first events acts (Admitted place id) old new does leads = (Connect ∷ [], (old, leads, does.1))
-does_lead first events acts (Closed place) old new does leads = (Close does.0 ∷ [], (old, leads, does.2))
-does_lead first events acts (Heard place piece) old new does leads = (Piece does.1.0 piece does.0 ∷ [], (old, leads, does.1.2))
+does_lead first events acts (Closed place why) old new does leads = (Close does.0 ∷ [], (old, leads, does.2))
+does_lead first events acts (Heard place bytes) old new does leads = ([], subst (λ (s : State). Leads first events s) (sym does) leads)
+does_lead first events acts (Unread place) old new does leads = ([], subst (λ (s : State). Leads first events s) (sym does) leads)
+does_lead first events acts Looked old new does leads = ([], subst (λ (s : State). Leads first events s) (sym does) leads)
+does_lead first events acts (Begun place) old new does leads = ([], subst (λ (s : State). Leads first events s) (sym does) leads)
+does_lead first events acts (Given place bytes fault) old new does leads = (Piece does.1.0 bytes does.0 ∷ [], (old, leads, does.1.2))
 does_lead first events acts (Ended place) old new does leads = ([], subst (λ (s : State). Leads first events s) (sym does) leads)
 does_lead first events acts (Told place bytes) old new does leads = (Take does.1.0 (length bytes) ∷ [], (old, leads, does.1.2))
-does_lead first events acts (Failed place) old new does leads = ([], subst (λ (s : State). Leads first events s) (sym does) leads)
+does_lead first events acts (Unwritten place) old new does leads = ([], subst (λ (s : State). Leads first events s) (sym does) leads)
 does_lead first events acts (Kept state) old new does leads = ([], subst (λ (s : State). Leads first events s) (sym does) leads)
 does_lead first events acts Lost old new does leads = ([], subst (λ (s : State). Leads first events s) (sym does) leads)
 does_lead first events acts (Loaded book) old new does leads = (Reload book ∷ [], (old, leads, does))
 
-runs_lead : (first : ServedState) (events : List Event) (most : ℕ) (acts : List Act) (old new : State) → Runs most acts old new → Leads first events old → (later : List Event) × Leads first (later ++ events) new
+runs_lead : (first : ServedState) (events : List Event) (most : Limits) (acts : List Act) (old new : State) → Runs most acts old new → Leads first events old → (later : List Event) × Leads first (later ++ events) new
 runs_lead first events most [] old new run leads = ([], subst (λ (s : State). Leads first events s) (sym run) leads)
 runs_lead first events most (act ∷ acts) old new run leads =
     let a = runs_lead first events most acts old run.0 run.1 leads in
@@ -124,18 +129,18 @@ ends_lead first events acts (act ∷ endings) old new ends leads =
 
 -- ---- the whole
 
-pub serves : {A : Type 0} (most : ℕ) (first : ServedState) (events : List Event) (end : AllEnd) (limits : Limits) (hub ran new : Hub A) (places places' places'' : List (Option Peer)) (left : ℕ) (before mid after : Option (List Act)) → most ≡ min limits.places 16 → LeadsTo first events hub → taken places ≡ 0
-    → RunGives end limits.turns most hub places limits.connections ran places' left before mid
-    → ((acts : List Act) (s : State) (most left : ℕ) → Moves (Ending acts s) (Ending acts s) most ran places' left new places'' left mid after) → ((j : ℕ) → place_at places'' j ≡ None)
+pub serves : {A : Type 0} (first : ServedState) (events : List Event) (end : AllEnd) (limits : Limits) (hub ran new : Hub A) (places places' places'' : List (Option (Peer A))) (left : ℕ) (before mid after : Option (List Act)) → LeadsTo first events hub → taken places ≡ 0
+    → RunGives end limits hub places limits.connections ran places' left before mid
+    → ((acts : List Act) (s : State) (left : ℕ) (limits : Limits) → Moves (Ending acts s) (Ending acts s) limits ran places' left new places'' left mid after) → ((j : ℕ) → place_at places'' j ≡ None)
     → ServesAll first events end limits new before after
-serves most first events end limits hub ran new places places' places'' left before mid after few h none run shuts free =
-    let o : Origin = record { start = h.state; first = before; most = min limits.places 16; connections = limits.connections } in
-    let st = run.3 o (sym few) (begins first events hub places (min limits.places 16) limits.connections before h none) in
+serves first events end limits hub ran new places places' places'' left before mid after h none run shuts free =
+    let o : Origin = record { start = h.state; first = before; limits = limits } in
+    let st = run.3 o refl (begins first events hub places limits before h none) in
     let ending : Standing (Ending st.acts st.machine) o ran places' left mid = record { acts = st.acts; machine = st.machine; way = ([], refl, refl); stands = st.stands; adds = st.adds; fewer = st.fewer } in
-    let last = shuts st.acts st.machine o.most left o refl ending in
+    let last = shuts st.acts st.machine left limits o refl ending in
     let endings = last.way.0 in
     let same : last.acts ≡ endings ++ st.acts = last.way.1 in
-    let a = runs_lead first events o.most st.acts h.state st.machine st.way.0 h.leads in
+    let a = runs_lead first events limits st.acts h.state st.machine st.way.0 h.leads in
     let b = ends_lead first (a.0 ++ events) st.acts endings st.machine last.machine last.way.2 a.1 in
     record {
       start = h.state;
@@ -150,8 +155,29 @@ serves most first events end limits hub ran new places places' places'' left bef
       last = last.machine;
       closing = last.way.2;
       closed = all_closed last.stands free;
-      adds = subst (λ (acts : List Act). Adds before after acts) same last.adds;
+      adds = subst (λ (acts : List Act). Adds before after (of_streams acts)) same last.adds;
       is = last.stands.is;
       later = b.0 ++ a.0;
       on = subst (λ (es : List Event). Leads first es last.machine) (sym (append_assoc b.0 a.0 events)) b.1;
     }
+
+-- there was no memory for the places
+pub serves_nothing : {A : Type 0} (first : ServedState) (events : List Event) (limits : Limits) (hub : Hub A) (before : Option (List Act)) → LeadsTo first events hub → ServesAll first events Memory limits hub before before
+serves_nothing first events limits hub before h = record {
+  start = h.state;
+  leads = h.leads;
+  acts = [];
+  served = h.state;
+  run = refl;
+  few_turns = omega arith;
+  few_connections = omega arith;
+  ends = refl;
+  endings = [];
+  last = h.state;
+  closing = refl;
+  closed = fresh_leads first events h.state h.leads;
+  adds = adds_none before;
+  is = h.is;
+  later = [];
+  on = h.leads;
+}

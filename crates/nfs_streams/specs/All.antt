@@ -1,36 +1,37 @@
 -- Serving all streams.
-use Rattle.std.specs.Prelude.{◌≡◌, ◌≤◌, ℕ, List, ◌++◌, Option, None, min}
+use Rattle.std.specs.Prelude.{◌≡◌, ◌≤◌, ℕ, false, List, [], ◌++◌, Option, None}
 use Rattle.nfs_hub.specs.declared.hub.Hub.{Hub}
 use Rattle.nfs_hub.specs.Answer.{Served as ServedState}
 use Rattle.nfs_hub.specs.Machine.{State, Event, Leads}
 use Rattle.nfs_hub.specs.Hub.{IsHub}
 use Rattle.nfs_streams.specs.declared.serving.AllEnd.{AllEnd}
-use Rattle.nfs_streams.specs.declared.serving.AllEnd.TheVariants.{Served, Turns, Wait, Keep}
+use Rattle.nfs_streams.specs.declared.serving.AllEnd.TheVariants.{Served, Turns, Wait, Keep, Memory}
 use Rattle.nfs_streams.specs.declared.serving.Limits.{Limits}
-use Rattle.nfs_streams.specs.Acts.{Act, Adds, IsUnwaited, IsLost, waits, admitted}
-use Rattle.nfs_streams.specs.Runs.{Runs, Ends, MOST_PLACES}
+use Rattle.nfs_streams.specs.Acts.{Act, Waited, Lost, Adds, Just, of_streams, waits, admitted}
+use Rattle.nfs_streams.specs.Runs.{Runs, Ends}
 
 -- no connection of this number or a later one is open
 abbrev pub AreClosed : ℕ → State → Type 0
 AreClosed start s = (id : ℕ) → start ≤ id → s.connection id ≡ None
 
 -- Why serving ends: the limit of connections has been admitted, and all of them are closed; all turns are used up; the last wait failed;
--- or the trail couldn't be kept.
+-- the trail couldn't be kept; or there was no memory for the places, and nothing was done.
 abbrev pub EndsSo : AllEnd → Limits → State → List Act → State → Type 0
 EndsSo Served limits start acts s = (admitted acts ≡ limits.connections) × AreClosed start.next s
 EndsSo Turns limits start acts s = waits acts ≡ limits.turns
-EndsSo Wait limits start acts s = IsUnwaited acts
-EndsSo Keep limits start acts s = IsLost acts
+EndsSo Wait limits start acts s = Just (Waited false) acts
+EndsSo Keep limits start acts s = Just Lost acts
+EndsSo Memory limits start acts s = acts ≡ []
 
--- Behind events that lead to the hub, acts of the streams lead the machine on, each of them allowed at its turn, with at most so many
--- waits and connections; then the streams still at places are let go, and none of the connections that came is open. All these acts, and
--- no others, are the acts of the streams; and they lead to the state of the hub.
+-- Behind events that lead to the hub, acts lead the machine on, each of them allowed at its turn, with at most so many
+-- waits and connections; then the streams still at places are let go, and none of the connections that came is open. Those of these acts
+-- that are asked of the streams, and no others, are the acts of the streams; and they lead to the state of the hub.
 pub record ServesAll {A : Type 0} (first : ServedState) (events : List Event) (end : AllEnd) (limits : Limits) (new : Hub A) (before after : Option (List Act)) : Type 0 where
   pub start : State
   pub leads : Leads first events start
   pub acts : List Act
   pub served : State
-  pub run : Runs (min limits.places MOST_PLACES) acts start served
+  pub run : Runs limits acts start served
   pub few_turns : waits acts ≤ limits.turns
   pub few_connections : admitted acts ≤ limits.connections
   pub ends : EndsSo end limits start acts served
@@ -38,7 +39,7 @@ pub record ServesAll {A : Type 0} (first : ServedState) (events : List Event) (e
   pub last : State
   pub closing : Ends acts endings served last
   pub closed : AreClosed start.next last
-  pub adds : Adds before after (endings ++ acts)
+  pub adds : Adds before after (of_streams (endings ++ acts))
   pub is : IsHub new last
   pub later : List Event
   pub on : Leads first (later ++ events) last

@@ -1,12 +1,18 @@
--- Acts of streams as steps of the written machine, each allowed at its turn.
-use Rattle.std.specs.Prelude.{◌≡◌, ◌≢◌, ◌⊎◌, ◌≤◌, ◌<◌, ℕ, true, false, List, [], ◌∷◌, ◌++◌, length, take, Some, None}
+-- Acts of serving as steps of the written machine, each allowed at its turn.
+use Rattle.std.specs.Prelude.{◌≡◌, ◌≢◌, ◌⊎◌, ◌≤◌, ◌<◌, ℕ, true, false, List, [], ◌∷◌, ◌++◌, length, take, Option, Some, None, min}
 use Rattle.nfs_types.specs.declared.moment.Moment.{Moment}
-use Rattle.nfs_hub.specs.Machine.{Connected, State, Event, Connect, Piece, Take, Close, Reload, Step, fresh}
-use Rattle.nfs_streams.specs.Acts.{Act, Waited, Knocked, Admitted, Closed, Heard, Ended, Told, Failed, Kept, Lost, Loaded, Has, JustKnocked, JustOver, IsSettled, conn_at, open_in}
+use Rattle.rpc_record.specs.Records.{IsRecord}
+use Rattle.nfs_hub.specs.declared.fault.HubFault.{HubFault}
+use Rattle.nfs_hub.specs.declared.fault.HubFault.TheVariants as fault
+use Rattle.nfs_hub.specs.Machine.{Connected, State, Event, Connect, Piece, Take, Close, Reload, Step, CameToBreak, fresh}
+use Rattle.nfs_streams.specs.declared.streams.StreamEnd.{StreamEnd}
+use Rattle.nfs_streams.specs.declared.streams.StreamEnd.TheVariants as end
+use Rattle.nfs_streams.specs.declared.serving.Limits.{Limits}
+use Rattle.nfs_streams.specs.Acts.{Act, Knocked, Admitted, Closed, Heard, Ended, Unread, Loaded, Begun, Given, Kept, Told, Unwritten, Has, Just, IsLooked, IsSettled, conn_at, open_in, ahead, left_of_piece, turns_at, fault_at}
 
 -- the most bytes of one read
-abbrev pub MAX_PIECE : ℕ
-MAX_PIECE = 4096
+abbrev pub MAX_READ : ℕ
+MAX_READ = 65536
 
 -- the most bytes of one write
 abbrev pub MAX_WRITTEN : ℕ
@@ -16,6 +22,10 @@ MAX_WRITTEN = 131072
 abbrev pub MOST_PLACES : ℕ
 MOST_PLACES = 16
 
+-- the most connections that may be open at once
+abbrev pub most_open : Limits → ℕ
+most_open limits = min limits.places MOST_PLACES
+
 -- the connection at a place is open, and has this property
 abbrev pub On : List Act → ℕ → State → (Connected → Type 0) → Type 0
 On acts place s is = (id : ℕ) × (c : Connected) × (conn_at acts place ≡ Some id) × (s.connection id ≡ Some c) × is c
@@ -24,23 +34,40 @@ On acts place s is = (id : ℕ) × (c : Connected) × (conn_at acts place ≡ So
 abbrev pub StepAt : List Act → ℕ → (ℕ → Event) → State → State → Type 0
 StepAt acts place event old new = (id : ℕ) × (conn_at acts place ≡ Some id) × Step (event id) old new
 
+-- Bytes that go on a rest answer nothing, or they are the end of one record.
+abbrev pub AnswersOne : List ℕ → List ℕ → State → State → Type 0
+AnswersOne rest bytes old new = (new.served ≡ old.served) ⊎ ((content : List ℕ) × IsRecord content (rest ++ bytes))
+
+-- The fault of the hub at bytes of the connection at a place: none, and the connection is whole; the stream or a record of it breaks in them;
+-- or memory is refused, and the connection is broken.
+abbrev pub FaultIs : Option HubFault → List Act → ℕ → List ℕ → Moment → State → State → Type 0
+FaultIs None earlier place bytes now old new = On earlier place new (λ c. c.broken ≡ false)
+FaultIs (Some fault.Broken) earlier place bytes now old new =
+    On earlier place new (λ d. (d.broken ≡ true) × On earlier place old (λ c. CameToBreak now old.served c.pending (c.rest ++ bytes) new.served d.pending))
+FaultIs (Some other) earlier place bytes now old new = On earlier place new (λ c. c.broken ≡ true)
+
+-- Bytes are given: they are a piece of the connection at the place, at some moment, in which at most one record is answered, with their last
+-- byte.
+abbrev pub Gives : List Act → ℕ → List ℕ → Option HubFault → State → State → Type 0
+Gives earlier place bytes fault old new =
+    (now : Moment) × StepAt earlier place (λ id. Piece id bytes now) old new × On earlier place old (λ c. AnswersOne c.rest bytes old new) × FaultIs fault earlier place bytes now old new
+
 -- The step of the machine by an act behind earlier acts: a stream that is admitted is the connection of the next number, which is open
--- then; the bytes that are read are a piece of the connection at its place, at some moment; the bytes that are written are taken from the
+-- then; the bytes that are given are a piece of the connection at their place; the bytes that are written are taken from the
 -- front of its pending bytes; the connection of a stream that is let go is closed; and a book that has come is loaded, which changes
--- nothing where no epoch is left for the book.
+-- nothing where no epoch is left for the book. All other acts change nothing.
 abbrev pub Does : List Act → Act → State → State → Type 0
-Does earlier (Waited well) old new = new ≡ old
-Does earlier Knocked old new = new ≡ old
 Does earlier (Admitted place id) old new = (id ≡ old.next) × Step Connect old new × (new.connection id ≡ Some fresh)
-Does earlier (Closed place) old new = StepAt earlier place Close old new
-Does earlier (Heard place piece) old new = (now : Moment) × StepAt earlier place (λ id. Piece id piece now) old new
-Does earlier (Ended place) old new = new ≡ old
+Does earlier (Closed place end) old new = StepAt earlier place Close old new
+Does earlier (Given place bytes fault) old new = Gives earlier place bytes fault old new
 Does earlier (Told place bytes) old new =
     On earlier place old (λ c. bytes ≡ take (length bytes) c.pending) × StepAt earlier place (λ id. Take id (length bytes)) old new
-Does earlier (Failed place) old new = new ≡ old
-Does earlier (Kept state) old new = new ≡ old
-Does earlier Lost old new = new ≡ old
 Does earlier (Loaded book) old new = Step (Reload book) old new
+Does earlier act old new = new ≡ old
+
+-- a connection is whole
+abbrev pub IsWhole : Connected → Type 0
+IsWhole c = c.broken ≡ false
 
 -- a connection is whole, and no bytes are pending on it
 abbrev pub CanHear : Connected → Type 0
@@ -54,36 +81,66 @@ IsSpent c = (c.broken ≡ true) × (c.pending ≡ [])
 abbrev pub IsWaiting : Connected → Type 0
 IsWaiting c = c.pending ≢ []
 
--- The connection at a place may be closed: its stream has just ended or failed; or it is broken, and no bytes are pending on it; or the
--- limit of open connections is reached, and another stream has just come.
-abbrev pub MayClose : ℕ → List Act → ℕ → State → Type 0
-MayClose most earlier place s = JustOver earlier place ⊎ (IsSettled earlier × On earlier place s IsSpent) ⊎ (JustKnocked earlier × (most ≤ open_in earlier))
+-- a connection is behind a whole record, or inside one
+abbrev pub IsBetween : Connected → Type 0
+IsBetween c = c.rest ≡ []
 
--- The acts that may come behind earlier acts, where so many connections may be open at once. Behind an end or a failure of a stream only
+abbrev pub IsInside : Connected → Type 0
+IsInside c = c.rest ≢ []
+
+-- The connection at a place may be closed with this end: its stream has just ended, after a whole record or inside one; the bytes given last
+-- broke it, or memory was refused for them, and no bytes are pending on it; reading or writing has just failed; its turns are used up, and
+-- all that was read of it is given and answered; or the limit of open connections is reached, another stream has just come, and room is to be
+-- made for it.
+abbrev pub MayClose : Limits → List Act → ℕ → StreamEnd → State → Type 0
+MayClose limits earlier place end.Ended s = Just (Ended place) earlier × On earlier place s IsBetween
+MayClose limits earlier place end.Inside s = Just (Ended place) earlier × On earlier place s IsInside
+MayClose limits earlier place end.Broken s = IsSettled earlier × (fault_at earlier place ≡ Some fault.Broken) × On earlier place s IsSpent
+MayClose limits earlier place end.Memory s = IsSettled earlier × ((why : HubFault) × (fault_at earlier place ≡ Some why) × (why ≢ fault.Broken)) × On earlier place s IsSpent
+MayClose limits earlier place end.Read s = Just (Unread place) earlier
+MayClose limits earlier place end.Write s = Just (Unwritten place) earlier
+MayClose limits earlier place end.Turns s = IsSettled earlier × (limits.reads ≤ turns_at earlier place) × (ahead earlier place ≡ []) × On earlier place s CanHear
+MayClose limits earlier place end.Quiet s = Just Knocked earlier × (limits.makes_room ≡ true) × (most_open limits ≤ open_in earlier)
+MayClose limits earlier place end.Stopped s = ⊥
+
+-- a stream may be read: its connection is whole, no bytes are pending on it, and all that was read before is given
+abbrev pub MayHear : List Act → ℕ → State → Type 0
+MayHear earlier place s = IsSettled earlier × (ahead earlier place ≡ []) × On earlier place s CanHear
+
+-- the trail of the server in its present state has been kept: no line of an earlier record waits to be kept
+abbrev pub IsKept : List Act → State → Type 0
+IsKept earlier s = Has (Kept s.served.state) earlier
+
+-- The acts that may come behind earlier acts. Behind an end or a failure of a stream only
 -- its closing comes, and nothing behind a wait that failed or a trail that couldn't be kept. A stream is admitted only just after a stream
--- has knocked, at a free place below 16, while fewer connections are open than may be. A piece has at most 4,096 bytes, and is read only
--- of a connection that is whole and on which no bytes are pending. At most 131,072 bytes are written at once; writing is tried only where
+-- has knocked, at a free place below 16, while fewer connections are open than may be. At most 65,536 bytes are read at once, where all that
+-- was read before of that stream is given, no bytes are pending on its connection, and its turns aren't used up. A piece begins only where
+-- no bytes are pending on its connection. Bytes are given only to a connection that is whole, of what was read of it, in that order, and no
+-- more than the piece has left; where it was asked for another book since the last read; and where the trail of the server, as it is then,
+-- has been kept. At most 131,072 bytes are written at once; writing is tried only where
 -- bytes are pending on the connection, and the trail of the server in its present state has been kept: behind a book too.
-abbrev pub Allowed : ℕ → List Act → Act → State → Type 0
-Allowed most earlier (Waited well) s = IsSettled earlier
-Allowed most earlier Knocked s = IsSettled earlier
-Allowed most earlier (Admitted place id) s = JustKnocked earlier × (conn_at earlier place ≡ None) × (open_in earlier < most) × (place < MOST_PLACES)
-Allowed most earlier (Closed place) s = MayClose most earlier place s
-Allowed most earlier (Heard place piece) s = IsSettled earlier × (length piece ≤ MAX_PIECE) × On earlier place s CanHear
-Allowed most earlier (Ended place) s = IsSettled earlier × On earlier place s CanHear
-Allowed most earlier (Told place bytes) s = IsSettled earlier × (length bytes ≤ MAX_WRITTEN) × Has (Kept s.served.state) earlier × On earlier place s IsWaiting
-Allowed most earlier (Failed place) s = IsSettled earlier × Has (Kept s.served.state) earlier × On earlier place s IsWaiting
-Allowed most earlier (Kept state) s = IsSettled earlier × (state ≡ s.served.state)
-Allowed most earlier Lost s = IsSettled earlier
-Allowed most earlier (Loaded book) s = IsSettled earlier
+abbrev pub Allowed : Limits → List Act → Act → State → Type 0
+Allowed limits earlier (Admitted place id) s = Just Knocked earlier × (conn_at earlier place ≡ None) × (open_in earlier < most_open limits) × (place < MOST_PLACES)
+Allowed limits earlier (Closed place end) s = MayClose limits earlier place end s
+Allowed limits earlier (Heard place bytes) s = MayHear earlier place s × (length bytes ≤ MAX_READ) × (turns_at earlier place < limits.reads)
+Allowed limits earlier (Ended place) s = MayHear earlier place s
+Allowed limits earlier (Unread place) s = MayHear earlier place s
+Allowed limits earlier (Begun place) s = IsSettled earlier × On earlier place s CanHear
+Allowed limits earlier (Given place bytes fault) s =
+    IsSettled earlier × IsLooked earlier × IsKept earlier s × On earlier place s IsWhole
+    × (length bytes ≤ left_of_piece earlier place) × (bytes ≡ take (length bytes) (ahead earlier place))
+Allowed limits earlier (Told place bytes) s = IsSettled earlier × (length bytes ≤ MAX_WRITTEN) × IsKept earlier s × On earlier place s IsWaiting
+Allowed limits earlier (Unwritten place) s = IsSettled earlier × IsKept earlier s × On earlier place s IsWaiting
+Allowed limits earlier (Kept state) s = IsSettled earlier × (state ≡ s.served.state)
+Allowed limits earlier act s = IsSettled earlier
 
 -- Acts, the newest first, each of them allowed at its turn, lead from one state to another.
-abbrev pub Runs : ℕ → List Act → State → State → Type 0
-Runs most [] old new = new ≡ old
-Runs most (act ∷ earlier) old new = (mid : State) × Runs most earlier old mid × Allowed most earlier act mid × Does earlier act mid new
+abbrev pub Runs : Limits → List Act → State → State → Type 0
+Runs limits [] old new = new ≡ old
+Runs limits (act ∷ earlier) old new = (mid : State) × Runs limits earlier old mid × Allowed limits earlier act mid × Does earlier act mid new
 
--- behind earlier acts streams are let go, and no other acts come
+-- behind earlier acts streams are let go since serving has ended, and no other acts come
 abbrev pub Ends : List Act → List Act → State → State → Type 0
 Ends earlier [] old new = new ≡ old
 Ends earlier (act ∷ acts) old new =
-    (place : ℕ) × (mid : State) × (act ≡ Closed place) × Ends earlier acts old mid × StepAt (acts ++ earlier) place Close mid new
+    (place : ℕ) × (mid : State) × (act ≡ Closed place end.Stopped) × Ends earlier acts old mid × StepAt (acts ++ earlier) place Close mid new

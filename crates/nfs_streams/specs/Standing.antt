@@ -1,107 +1,160 @@
 -- The stages of serving, and the parts of serving as steps between them.
-use Rattle.std.specs.Prelude.{◌≡◌, ◌≤◌, ◌<◌, ◌+◌, ℕ, List, ◌++◌, length, Option, Some, None, set}
+use Rattle.std.specs.Prelude.{◌≡◌, ◌≢◌, ◌≤◌, ◌<◌, ◌+◌, ℕ, Bool, true, false, List, [], ◌∷◌, ◌++◌, length, Option, Some, None, set}
 use Rattle.nfs_hub.specs.declared.hub.Hub.{Hub}
-use Rattle.nfs_hub.specs.Machine.{State}
+use Rattle.nfs_hub.specs.declared.fault.HubFault.{HubFault}
+use Rattle.nfs_hub.specs.declared.fault.HubFault.TheVariants as fault
+use Rattle.nfs_hub.specs.Machine.{Connected, State}
+use Rattle.nfs_hub.specs.Hub.{IsHub}
+use Rattle.nfs_streams.specs.declared.streams.Moved.{Moved}
+use Rattle.nfs_streams.specs.declared.streams.Moved.TheVariants as moved
 use Rattle.nfs_streams.specs.declared.peer.Peer.{Peer}
 use Rattle.nfs_streams.specs.declared.peer.Turned.{Turned}
 use Rattle.nfs_streams.specs.declared.peer.Turned.TheVariants.{Idle, Busy, Gone}
+use Rattle.nfs_streams.specs.declared.streams.StreamEnd.{StreamEnd}
+use Rattle.nfs_streams.specs.declared.streams.StreamEnd.TheVariants as end
+use Rattle.nfs_streams.specs.declared.serving.Limits.{Limits}
 use Rattle.nfs_streams.specs.declared.serving.AllEnd.{AllEnd}
-use Rattle.nfs_streams.specs.declared.serving.AllEnd.TheVariants.{Served, Turns, Wait, Keep}
+use Rattle.nfs_streams.specs.declared.serving.AllEnd.TheVariants.{Served, Turns, Wait, Keep, Memory}
 use Rattle.nfs_streams.specs.declared.streams.Wait.{Wait as Pause}
-use Rattle.nfs_streams.specs.Acts.{Act, Kept, Adds, Has, JustKnocked, IsUnwaited, IsLost, IsSettled, open_in, waits, admitted}
-use Rattle.nfs_streams.specs.Runs.{Runs, Ends}
+use Rattle.nfs_streams.specs.Acts.{Act, Waited, Knocked, Heard, Ended, Unread, Lost, Adds, Just, IsLooked, IsSettled, of_streams, open_in, waits, admitted, left_of_piece}
+use Rattle.nfs_streams.specs.Runs.{Runs, Ends, IsKept, most_open}
 use Rattle.nfs_streams.specs.Seats.{Stands, taken}
 
--- the beginning of serving: its state, the acts known then, the limit of connections at once and the limit of connections in all
+-- the beginning of serving: its state, the acts known then, and its limits
 pub record Origin : Type 0 where
   pub start : State
   pub first : Option (List Act)
-  pub most : ℕ
-  pub connections : ℕ
+  pub limits : Limits
 
--- The stages of serving behind so many waits: listening; a stream has just come, and the limit of open connections is reached; the trail
--- is kept, and replies are written; serving has stopped for a reason; it had stopped behind these acts in this state, and streams are let
--- go.
+-- The stages of serving behind so many waits.
 pub data Stage : Type 0 where
+  -- streams are read and admitted
   Listening : ℕ → Stage
+  -- a stream has just come
+  Knocking : ℕ → Stage
+  -- a stream has just come, the limit of open connections is reached, and room is to be made
   Full : ℕ → Stage
+  -- it was asked for another book
+  Looking : ℕ → Stage
+  -- and the trail is kept, so that what was read may be given
+  Giving : ℕ → Stage
+  -- and this many bytes of the piece of a place may still be given
+  Piecing : ℕ → ℕ → ℕ → Stage
+  -- so, but bytes were given, and the trail isn't kept
+  Unkept : ℕ → ℕ → ℕ → Stage
+  -- the trail is kept, and replies are written
   Answering : ℕ → Stage
+  -- serving has stopped for a reason
   Stopped : AllEnd → ℕ → Stage
+  -- it had stopped behind these acts in this state, and streams are let go
   Ending : List Act → State → Stage
 
 -- the last act, by the reason why serving stopped
 abbrev pub StopsSo : AllEnd → List Act → Type 0
 StopsSo Served acts = Unit {0}
 StopsSo Turns acts = Unit {0}
-StopsSo Wait acts = IsUnwaited acts
-StopsSo Keep acts = IsLost acts
+StopsSo Wait acts = Just (Waited false) acts
+StopsSo Keep acts = Just Lost acts
+StopsSo Memory acts = ⊥
 
 -- acts lead the machine to this stage
 abbrev pub Way : Stage → Origin → List Act → State → Type 0
-Way (Listening n) o acts s = Runs o.most acts o.start s × (waits acts ≡ n) × IsSettled acts
-Way (Full n) o acts s = Runs o.most acts o.start s × (waits acts ≡ n) × JustKnocked acts × (o.most ≤ open_in acts)
-Way (Answering n) o acts s = Runs o.most acts o.start s × (waits acts ≡ n) × IsSettled acts × Has (Kept s.served.state) acts
-Way (Stopped end n) o acts s = Runs o.most acts o.start s × (waits acts ≡ n) × StopsSo end acts
+Way (Listening n) o acts s = Runs o.limits acts o.start s × (waits acts ≡ n) × IsSettled acts
+Way (Knocking n) o acts s = Runs o.limits acts o.start s × (waits acts ≡ n) × Just Knocked acts
+Way (Looking n) o acts s = Runs o.limits acts o.start s × (waits acts ≡ n) × IsSettled acts × IsLooked acts
+Way (Unkept n place left) o acts s = Runs o.limits acts o.start s × (waits acts ≡ n) × IsSettled acts × IsLooked acts × (left ≤ left_of_piece acts place)
+Way (Giving n) o acts s = Runs o.limits acts o.start s × (waits acts ≡ n) × IsSettled acts × IsKept acts s × IsLooked acts
+Way (Piecing n place left) o acts s = Runs o.limits acts o.start s × (waits acts ≡ n) × IsSettled acts × IsKept acts s × IsLooked acts × (left ≤ left_of_piece acts place)
+Way (Full n) o acts s = Runs o.limits acts o.start s × (waits acts ≡ n) × Just Knocked acts × (o.limits.makes_room ≡ true) × (most_open o.limits ≤ open_in acts)
+Way (Answering n) o acts s = Runs o.limits acts o.start s × (waits acts ≡ n) × IsSettled acts × IsKept acts s
+Way (Stopped end n) o acts s = Runs o.limits acts o.start s × (waits acts ≡ n) × StopsSo end acts
 Way (Ending served at) o acts s = (endings : List Act) × (acts ≡ endings ++ served) × Ends served endings at s
 
 -- Acts have led to this stage, and to the present hub and places; so many connections may still come.
-pub record Standing {A : Type 0} (stage : Stage) (o : Origin) (hub : Hub A) (places : List (Option Peer)) (left : ℕ) (now : Option (List Act)) : Type 0 where
+pub record Standing {A : Type 0} (stage : Stage) (o : Origin) (hub : Hub A) (places : List (Option (Peer A))) (left : ℕ) (now : Option (List Act)) : Type 0 where
   pub acts : List Act
   pub machine : State
   pub way : Way stage o acts machine
   pub stands : Stands o.start.next hub places acts machine
-  pub adds : Adds o.first now acts
-  pub fewer : left + admitted acts ≡ o.connections
+  pub adds : Adds o.first now (of_streams acts)
+  pub fewer : left + admitted acts ≡ o.limits.connections
 
--- from one stage to another, where so many may be open at once
-abbrev pub Moves : {A : Type 0} → Stage → Stage → ℕ → Hub A → List (Option Peer) → ℕ → Hub A → List (Option Peer) → ℕ → Option (List Act) → Option (List Act) → Type 0
-Moves stage stage' most old places left new places' left' before after =
-    (o : Origin) → o.most ≡ most → Standing stage o old places left before → Standing stage' o new places' left' after
+-- from one stage to another, with these limits
+abbrev pub Moves : {A : Type 0} → Stage → Stage → Limits → Hub A → List (Option (Peer A)) → ℕ → Hub A → List (Option (Peer A)) → ℕ → Option (List Act) → Option (List Act) → Type 0
+Moves stage stage' limits old places left new places' left' before after =
+    (o : Origin) → o.limits ≡ limits → Standing stage o old places left before → Standing stage' o new places' left' after
 
 -- a book that has come is loaded, or none has come, for any connections at the places
 abbrev pub Loads : {A : Type 0} → Hub A → Hub A → Option (List Act) → Option (List Act) → Type 0
-Loads old new before after = (n most left : ℕ) (places : List (Option Peer)) → Moves (Listening n) (Listening n) most old places left new places left before after
+Loads {A} old new before after = (n left : ℕ) (limits : Limits) (places : List (Option (Peer A))) → Moves (Listening n) (Looking n) limits old places left new places left before after
+
+-- the stage behind the keeping of the trail: what was read may be given, or serving stops
+abbrev pub kept_stage : Bool → ℕ → Stage
+kept_stage true n = Giving n
+kept_stage false n = Stopped Keep n
 
 -- whatever is at the other places, the connection of this place becomes another one, or goes
-abbrev pub Changes : {A : Type 0} → Stage → ℕ → Hub A → Option Peer → Hub A → Option Peer → Option (List Act) → Option (List Act) → Type 0
-Changes stage place old peer new peer' before after =
-    (o : Origin) (left : ℕ) (places : List (Option Peer)) → place < length places
-    → Standing stage o old (set places place peer) left before → Standing stage o new (set places place peer') left after
+abbrev pub Changes : {A : Type 0} → Stage → Stage → Limits → ℕ → Hub A → Option (Peer A) → Hub A → Option (Peer A) → Option (List Act) → Option (List Act) → Type 0
+Changes {A} stage stage' limits place old peer new peer' before after =
+    (o : Origin) (left : ℕ) (places : List (Option (Peer A))) → o.limits ≡ limits → place < length places
+    → Standing stage o old (set places place peer) left before → Standing stage' o new (set places place peer') left after
+
+-- a read of the stream of a place, and what was read
+abbrev pub ReadGives : ℕ → Moved → List ℕ → Option (List Act) → Option (List Act) → Type 0
+ReadGives place (moved.Bytes n) bytes before after = Adds before after (Heard place bytes ∷ []) × (length bytes ≤ 65536)
+ReadGives place moved.NotYet bytes before after = Adds before after [] × (bytes ≡ [])
+ReadGives place moved.Over bytes before after = Adds before after (Ended place ∷ []) × (bytes ≡ [])
+ReadGives place moved.Failed bytes before after = Adds before after (Unread place ∷ []) × (bytes ≡ [])
+
+-- the end of a connection whose stream has ended, by where in it the connection is
+abbrev pub ends_at : StreamEnd → Connected → Type 0
+ends_at end.Ended c = c.rest ≡ []
+ends_at end.Inside c = c.rest ≢ []
+ends_at why c = ⊥
+
+abbrev pub StreamEnds : {A : Type 0} → StreamEnd → Hub A → ℕ → Type 0
+StreamEnds why hub id = (s : State) → IsHub hub s → (c : Connected) → s.connection id ≡ Some c → c.broken ≡ false → ends_at why c
+
+-- the end of a connection that the hub broke
+abbrev pub broken_end : HubFault → StreamEnd
+broken_end fault.Broken = end.Broken
+broken_end other = end.Memory
 
 -- the connection of a place behind its part of a turn
-abbrev pub stays : Turned → Peer → Option Peer
+abbrev pub stays : {A : Type 0} → Turned → Peer A → Option (Peer A)
 stays Idle peer = Some peer
 stays Busy peer = Some peer
 stays Gone peer = None
 
--- the stages at which a connection that may still go on may be closed, and the stage behind that
-abbrev pub IsClosing : Stage → Type 0
-IsClosing (Listening n) = ⊥
-IsClosing (Full n) = Unit {0}
-IsClosing (Answering n) = ⊥
-IsClosing (Stopped end n) = ⊥
-IsClosing (Ending served at) = Unit {0}
+-- the stages at which a connection that may still go on may be closed, with which end, and the stage behind that
+abbrev pub IsClosing : Stage → StreamEnd → Type 0
+IsClosing (Full n) why = why ≡ end.Quiet
+IsClosing (Ending served at) why = why ≡ end.Stopped
+IsClosing stage why = ⊥
 
 abbrev pub closed_stage : Stage → Stage
-closed_stage (Listening n) = Listening n
 closed_stage (Full n) = Listening n
-closed_stage (Answering n) = Answering n
-closed_stage (Stopped end n) = Stopped end n
-closed_stage (Ending served at) = Ending served at
+closed_stage stage = stage
 
 -- the stage behind a turn, by the length of the next wait, or by a trail that couldn't be kept
 abbrev pub turned_stage : Option Pause → ℕ → Stage
 turned_stage (Some pause) n = Listening n
 turned_stage None n = Stopped Keep n
 
+-- the stage behind bytes of a place that were given, by what is left of the piece, or by a trail that couldn't be kept
+abbrev pub given_stage : Option ℕ → ℕ → ℕ → Stage
+given_stage (Some left) n place = Piecing n place left
+given_stage None n place = Stopped Keep n
+
 -- The end of serving behind so many waits: no connection is open or to come; or all turns are used up.
-abbrev pub LeavesSo : AllEnd → ℕ → ℕ → ℕ → List (Option Peer) → Type 0
+abbrev pub LeavesSo : {A : Type 0} → AllEnd → ℕ → ℕ → ℕ → List (Option (Peer A)) → Type 0
 LeavesSo Served turns n left places = (left ≡ 0) × (taken places ≡ 0)
 LeavesSo Turns turns n left places = n ≡ turns
 LeavesSo Wait turns n left places = Unit {0}
 LeavesSo Keep turns n left places = Unit {0}
+LeavesSo Memory turns n left places = ⊥
 
 -- from the beginning behind so many turns at most
-abbrev pub RunGives : {A : Type 0} → AllEnd → ℕ → ℕ → Hub A → List (Option Peer) → ℕ → Hub A → List (Option Peer) → ℕ → Option (List Act) → Option (List Act) → Type 0
-RunGives end turns most old places left new places' left' before after =
-    (n : ℕ) × (n ≤ turns) × LeavesSo end turns n left' places' × Moves (Listening 0) (Stopped end n) most old places left new places' left' before after
+abbrev pub RunGives : {A : Type 0} → AllEnd → Limits → Hub A → List (Option (Peer A)) → ℕ → Hub A → List (Option (Peer A)) → ℕ → Option (List Act) → Option (List Act) → Type 0
+RunGives end limits old places left new places' left' before after =
+    (n : ℕ) × (n ≤ limits.turns) × LeavesSo end limits.turns n left' places' × Moves (Listening 0) (Stopped end n) limits old places left new places' left' before after

@@ -1,10 +1,11 @@
 //! Many connections to the file server at once, over streams of which some are ready.
 #![tactic(auto)]
 
+mod ahead;
 mod peer;
 mod places;
 mod serving;
 mod streams;
 
 pub use serving::{AllEnd, Limits, serve_all};
-pub use streams::{Moved, Streams, Wait};
+pub use streams::{Knock, Moved, StreamEnd, Streams, Wait};

@@ -1,17 +1,19 @@
 //! One connection and its stream.
-ghost use Rattle.std.specs.Prelude.{◌≡◌, ℕ, [], ◌∷◌, Some};
+ghost use Rattle.std.specs.Prelude.{◌≡◌, ◌≢◌, ◌≤◌, ◌<◌, ◌-◌, ◌⊎◌, ℕ, List, [], ◌∷◌, Option, Some, None, length};
 ghost use Rattle.std.specs.Bool.{OnFalse};
 ghost use Rattle.nfs_hub.specs.Machine.{Close};
 ghost use Rattle.nfs_hub.specs.Hub.{Goes};
-ghost use Rattle.nfs_streams.specs.Acts.{Adds, Closed};
-ghost use Rattle.nfs_streams.specs.Seats.{AreWaiting, is_broken_at};
-ghost use Rattle.nfs_streams.specs.Standing.{Listening, Answering, Changes, stays};
+ghost use Rattle.nfs_streams.specs.declared.serving.Limits.{Limits};
+ghost use Rattle.nfs_streams.specs.Acts.{Act, Adds, Closed};
+ghost use Rattle.nfs_streams.specs.Seats.{AreWaiting};
+ghost use Rattle.nfs_streams.specs.Standing.{Listening, Giving, Piecing, Unkept, Answering, Changes, StreamEnds, broken_end, given_stage, kept_stage, stays};
 
-use crate::streams::{Moved, Streams};
-use nfs_hub::{Clock, ConnId, Hub};
+use crate::ahead::Ahead;
+use crate::streams::{Moved, StreamEnd, Streams};
+use nfs_hub::{Clock, ConnId, Hub, HubFault};
 use std::alloc::Allocator;
 
-/// The most bytes of one read.
+/// The most bytes that are given of a connection from when no reply of it waits.
 const PIECE: usize = 4096;
 
 /// The most bytes of one write.
@@ -19,10 +21,16 @@ const MAX_WRITTEN: usize = 131_072;
 
 /// A connection at a place.
 #[derive(Drop)]
-pub(crate) struct Peer {
+pub(crate) struct Peer<A: Allocator + Copy> {
     pub(crate) conn: ConnId,
     /// The second in which the connection was admitted, or bytes were read or written last.
     pub(crate) since: i64,
+    /// The turns of the connection so far: reads of its stream that gave bytes.
+    pub(crate) turns: u64,
+    /// Why the hub takes no more bytes of the connection.
+    pub(crate) fault: Option<HubFault>,
+    /// What was read of its stream and isn't given yet.
+    pub(crate) ahead: Ahead<A>,
 }
 
 /// The outcome of a connection's part of a turn.
@@ -30,7 +38,7 @@ pub(crate) struct Peer {
 pub(crate) enum Turned {
     /// No bytes were read or written.
     Idle,
-    /// Bytes were read or written.
+    /// Bytes were read or written, or are to be given.
     Busy,
     /// The connection is closed.
     Gone,
@@ -51,11 +59,26 @@ fn is_waiting<A: Allocator + Copy>(hub: &Hub<A>, conn: ConnId) -> bool
     !waiting(hub, conn).is_empty()
 }
 
-/// Whether a connection is broken.
-fn is_broken<A: Allocator + Copy>(hub: &Hub<A>, conn: ConnId) -> bool
-    ensures { result ≡ is_broken_at hub.now conn }
+/// The end of a connection whose stream has ended.
+fn stream_end<A: Allocator + Copy>(hub: &Hub<A>, conn: ConnId) -> StreamEnd
+    ensures { StreamEnds result hub.now conn }
 {
-    hub.is_broken(conn).unwrap_or(false)
+    if hub.is_inside(conn) {
+        return StreamEnd::Inside;
+    }
+    StreamEnd::Ended
+}
+
+/// The end of a connection that the hub broke.
+fn fault_end(fault: HubFault) -> StreamEnd
+    ensures { result ≡ broken_end fault }
+{
+    match fault {
+        HubFault::Broken => StreamEnd::Broken,
+        HubFault::Memory | HubFault::NoSuch | HubFault::TooMany | HubFault::Exhausted => {
+            StreamEnd::Memory
+        }
+    }
 }
 
 /// Closes the connection of a place and its stream.
@@ -64,46 +87,146 @@ pub(crate) fn shut<A: Allocator + Copy, S: Streams<A>>(
     streams: &mut S,
     place: usize,
     conn: ConnId,
+    end: StreamEnd,
 )
     ensures goes { Goes (Close conn) hub.old hub.new }
-    ensures said { Adds (S.acts streams.old) (S.acts streams.new) (Closed place ∷ []) }
+    ensures said { Adds (S.acts streams.old) (S.acts streams.new) (Closed place end ∷ []) }
 {
-    streams.close(place);
+    streams.close(place, end);
     let _ = hub.close(conn);
 }
 
-/// Where no bytes wait to be written, reads a piece of the stream of a place and feeds it. The connection is closed where the stream has
-/// ended, or the connection is broken.
+/// Where no bytes wait to be written and all that was read is given, reads of the stream of a place. The connection is closed where the
+/// stream has ended or failed, where the connection is broken, or where it has had so many turns.
 pub(crate) fn listen<A: Allocator + Copy, S: Streams<A>, C: Clock>(
     hub: &mut Hub<A>,
     streams: &mut S,
     clock: &C,
     place: usize,
-    peer: &mut Peer,
+    peer: &mut Peer<A>,
+    most: u64,
 ) -> Turned
-    ensures { (n : ℕ) → Changes (Listening n) place hub.old (Some peer.old) hub.new (stays result peer.new) (S.acts streams.old) (S.acts streams.new) }
+    ensures { (n : ℕ) (limits : Limits) → limits.reads ≡ most → Changes (Listening n) (Listening n) limits place hub.old (Some peer.old) hub.new (stays result peer.new) (S.acts streams.old) (S.acts streams.new) }
 {
     if is_waiting(hub, peer.conn) {
         return Turned::Idle;
     }
-    if is_broken(hub, peer.conn) {
-        shut(hub, streams, place, peer.conn);
+    if let Some(fault) = peer.fault {
+        shut(hub, streams, place, peer.conn, fault_end(fault));
         return Turned::Gone;
     }
-    let mut buf = [0u8; PIECE];
-    match streams.read(place, &mut buf) {
-        Moved::Bytes(n) => {
-            let now = clock.now();
-            let _ = hub.feed(peer.conn, &buf[..n], now);
-            peer.since = now.seconds;
+    if !peer.ahead.is_empty() {
+        // It is given in this turn, so the next one doesn't wait.
+        return Turned::Busy;
+    }
+    if peer.turns >= most {
+        shut(hub, streams, place, peer.conn, StreamEnd::Turns);
+        return Turned::Gone;
+    }
+    match peer.ahead.read(streams, place) {
+        Moved::Bytes(_) => {
+            peer.turns += 1;
+            peer.since = clock.now().seconds;
             Turned::Busy
         }
         Moved::NotYet => Turned::Idle,
         Moved::Over => {
-            shut(hub, streams, place, peer.conn);
+            let end = stream_end(hub, peer.conn);
+            shut(hub, streams, place, peer.conn, end);
+            Turned::Gone
+        }
+        Moved::Failed => {
+            shut(hub, streams, place, peer.conn, StreamEnd::Read);
             Turned::Gone
         }
     }
+}
+
+/// How many bytes may be given: a piece where no reply waits, else what is left of the piece that was begun.
+fn room<A: Allocator + Copy>(hub: &Hub<A>, conn: ConnId, left: usize) -> usize
+    ensures { (result ≡ left) ⊎ ((result ≡ 4096) × AreWaiting hub.now conn []) }
+{
+    if is_waiting(hub, conn) {
+        return left;
+    }
+    PIECE
+}
+
+/// Gives at most so many bytes of what was read to the hub, as far as the end of the first record in them. How many.
+fn feed_front<A: Allocator + Copy, C: Clock>(
+    hub: &mut Hub<A>,
+    clock: &C,
+    peer: &mut Peer<A>,
+    most: usize,
+) -> usize
+    requires whole { peer.old.fault ≡ None }
+    ensures gives { (n place : ℕ) (limits : Limits) (now : Option (List Act)) → Changes (Piecing n place most) (Unkept n place (most - result)) limits place hub.old (Some peer.old) hub.new (Some peer.new) now now }
+    ensures within { result ≤ most }
+    ensures further { peer.old.ahead ≢ [] → 0 < most → length peer.new.ahead < length peer.old.ahead }
+{
+    let front = peer.ahead.front(most);
+    let len = front.len();
+    match hub.feed_record(peer.conn, front, clock.now()) {
+        Ok(n) => {
+            peer.ahead.skip(n);
+            n
+        }
+        Err(fault) => {
+            peer.fault = Some(fault);
+            peer.ahead.skip(len);
+            len
+        }
+    }
+}
+
+/// Gives at most so many bytes, as far as the end of the first record in them, and keeps the trail. How many are left of so many; `None`: the
+/// trail couldn't be kept.
+fn give_front<A: Allocator + Copy, S: Streams<A>, C: Clock>(
+    hub: &mut Hub<A>,
+    streams: &mut S,
+    clock: &C,
+    place: usize,
+    peer: &mut Peer<A>,
+    most: usize,
+) -> Option<usize>
+    requires whole { peer.old.fault ≡ None }
+    ensures moves { (n : ℕ) (limits : Limits) → Changes (Piecing n place most) (given_stage result n place) limits place hub.old (Some peer.old) hub.new (Some peer.new) (S.acts streams.old) (S.acts streams.new) }
+    ensures further { peer.old.ahead ≢ [] → 0 < most → length peer.new.ahead < length peer.old.ahead }
+{
+    let n = feed_front(hub, clock, peer, most);
+    let kept = streams.keep(hub.server());
+    if !kept {
+        return None;
+    }
+    Some(most - n)
+}
+
+/// Gives what was read of the stream of a place to the hub, one record after the other: while no reply waits, and then up to 4,096 bytes from
+/// the first whose record has a reply on. The trail is kept after each record. `false`: it couldn't be kept.
+pub(crate) fn give<A: Allocator + Copy, S: Streams<A>, C: Clock>(
+    hub: &mut Hub<A>,
+    streams: &mut S,
+    clock: &C,
+    place: usize,
+    peer: &mut Peer<A>,
+) -> bool
+    ensures { (n : ℕ) (limits : Limits) → Changes (Giving n) (kept_stage result n) limits place hub.old (Some peer.old) hub.new (Some peer.new) (S.acts streams.old) (S.acts streams.new) }
+{
+    let mut left = 0;
+    while !peer.ahead.is_empty() {
+        if peer.fault.is_some() {
+            return true;
+        }
+        let most = room(hub, peer.conn, left);
+        if most == 0 {
+            return true;
+        }
+        let Some(rest) = give_front(hub, streams, clock, place, peer, most) else {
+            return false;
+        };
+        left = rest;
+    }
+    true
 }
 
 /// Writes the waiting bytes, at most 131,072 of them, as far as the stream takes them at once. The connection is closed where writing fails.
@@ -112,9 +235,9 @@ pub(crate) fn answer<A: Allocator + Copy, S: Streams<A>, C: Clock>(
     streams: &mut S,
     clock: &C,
     place: usize,
-    peer: &mut Peer,
+    peer: &mut Peer<A>,
 ) -> Turned
-    ensures { (n : ℕ) → Changes (Answering n) place hub.old (Some peer.old) hub.new (stays result peer.new) (S.acts streams.old) (S.acts streams.new) }
+    ensures { (n : ℕ) (limits : Limits) → Changes (Answering n) (Answering n) limits place hub.old (Some peer.old) hub.new (stays result peer.new) (S.acts streams.old) (S.acts streams.new) }
 {
     let bytes = waiting(hub, peer.conn);
     if bytes.is_empty() {
@@ -127,9 +250,9 @@ pub(crate) fn answer<A: Allocator + Copy, S: Streams<A>, C: Clock>(
             Turned::Busy
         }
         Moved::NotYet => Turned::Idle,
-        Moved::Over => {
+        Moved::Over | Moved::Failed => {
             // Nothing more can be told.
-            shut(hub, streams, place, peer.conn);
+            shut(hub, streams, place, peer.conn, StreamEnd::Write);
             Turned::Gone
         }
     }

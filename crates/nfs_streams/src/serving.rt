@@ -1,16 +1,17 @@
 //! Serving all streams, one turn after another.
-ghost use Rattle.std.specs.Prelude.{◌≡◌, ◌≤◌, ℕ, List, length};
+ghost use Rattle.std.specs.Prelude.{◌≡◌, ◌≤◌, ℕ, List, length, IfOk};
 ghost use Rattle.nfs_hub.specs.Answer.{Served as ServedState};
 ghost use Rattle.nfs_hub.specs.Machine.{Event};
 ghost use Rattle.nfs_hub.specs.Hub.{LeadsTo};
+ghost use Rattle.nfs_streams.specs.Seats.{taken};
 ghost use Rattle.nfs_streams.specs.Standing.{Listening, Loads, Moves, RunGives, turned_stage};
 ghost use Rattle.nfs_streams.specs.All.{ServesAll};
 
 use crate::peer::Peer;
-use crate::places::{Door, answer_all, are_served, listen_all, make_room, shut_all};
+use crate::places::{Door, answer_all, are_served, give_all, listen_all, make_room, shut_all};
 use crate::streams::{Streams, Wait};
 use nfs_hub::{Clock, Hub, MAX_CONNECTIONS};
-use std::alloc::Allocator;
+use std::alloc::{AllocError, Allocator};
 
 /// How far streams are served.
 #[derive(Clone, Copy, Debug)]
@@ -19,8 +20,12 @@ pub struct Limits {
     pub places: usize,
     /// The number of connections that are opened in all.
     pub connections: u64,
-    /// The number of turns.
+    /// The turns of each connection: reads of its stream that give bytes.
+    pub reads: u64,
+    /// The number of waits in all.
     pub turns: u64,
+    /// Whether a connection that is quiet is let go for another stream that knocks where as many are open as may be.
+    pub makes_room: bool,
 }
 
 /// How serving all streams ended.
@@ -28,12 +33,14 @@ pub struct Limits {
 pub enum AllEnd {
     /// The limit of connections was opened, and all of them are closed.
     Served = 1,
-    /// The turns are used up.
+    /// The waits are used up.
     Turns = 2,
     /// Waiting failed.
     Wait = 3,
     /// The trail couldn't be kept. No bytes were written after that.
     Keep = 4,
+    /// There was no memory for the places. Serving didn't begin, and the streams were asked nothing.
+    Memory = 5,
 }
 
 /// How long the next wait may take: none where something was done.
@@ -51,22 +58,26 @@ fn load_book<A: Allocator + Copy, S: Streams<A>>(hub: &mut Hub<A>, streams: &mut
     let _ = hub.reload(book);
 }
 
-/// One turn: a book that has come is loaded, all places are read, the trail is kept, and then the waiting bytes of all places are written.
-/// How long the next wait may take; `None`: the trail couldn't be kept, and no bytes were written.
+/// One turn: all places are read; a book that has come is loaded, and the trail is kept; what was read is given to the hub, and the trail is
+/// kept after each record; and then the waiting bytes of all places are written. How long the next wait may take; `None`: the trail couldn't be
+/// kept, and no bytes were given or written after that.
 fn turn<A: Allocator + Copy, S: Streams<A>, C: Clock>(
     hub: &mut Hub<A>,
     streams: &mut S,
     clock: &C,
-    places: &mut [Option<Peer>],
-    door: &mut Door,
+    places: &mut [Option<Peer<A>>],
+    door: &mut Door<A>,
 ) -> Option<Wait>
     requires { length places.old ≤ 16 }
-    ensures moves { (n : ℕ) → Moves (Listening n) (turned_stage result n) door.old.places hub.old places.old door.old.left hub.new places.new door.new.left (S.acts streams.old) (S.acts streams.new) }
-    ensures most { door.new.places ≡ door.old.places }
+    ensures moves { (n : ℕ) → Moves (Listening n) (turned_stage result n) door.old.limits hub.old places.old door.old.left hub.new places.new door.new.left (S.acts streams.old) (S.acts streams.new) }
+    ensures most { door.new.limits ≡ door.old.limits }
 {
-    load_book(hub, streams);
     let heard = listen_all(hub, streams, clock, places, door);
+    load_book(hub, streams);
     if !streams.keep(hub.server()) {
+        return None;
+    }
+    if !give_all(hub, streams, clock, places) {
         return None;
     }
     let told = answer_all(hub, streams, clock, places);
@@ -79,15 +90,14 @@ fn run<A: Allocator + Copy, S: Streams<A>, C: Clock>(
     hub: &mut Hub<A>,
     streams: &mut S,
     clock: &C,
-    places: &mut [Option<Peer>],
-    door: &mut Door,
-    turns: u64,
+    places: &mut [Option<Peer<A>>],
+    door: &mut Door<A>,
 ) -> AllEnd
     requires { length places.old ≤ 16 }
-    ensures { RunGives result turns door.old.places hub.old places.old door.old.left hub.new places.new door.new.left (S.acts streams.old) (S.acts streams.new) }
+    ensures { RunGives result door.old.limits hub.old places.old door.old.left hub.new places.new door.new.left (S.acts streams.old) (S.acts streams.new) }
 {
     let mut how = Wait::No;
-    for _turn in 0..turns {
+    for _turn in 0..door.limits.turns {
         if are_served(places, door) {
             return AllEnd::Served;
         }
@@ -102,18 +112,59 @@ fn run<A: Allocator + Copy, S: Streams<A>, C: Clock>(
     AllEnd::Turns
 }
 
-/// Serves streams, as many at once as there are places, until so many connections were opened and are closed, or for so many turns; then
-/// lets go all streams still open. A turn waits once; a book of names that has come is loaded; then at each place a piece of at most 4,096
-/// bytes is read and fed, if no bytes of that connection wait to be written, or a stream that has come is admitted, if the place is free;
-/// the trail is kept; and the waiting bytes are written, at most 128 KiB of each connection, as far as the streams take them. So a peer
-/// that sends and doesn't read costs the replies to one piece; and each call whose last byte is read behind a wait is judged by the book
-/// that had come by then.
+/// Serves streams at these places, none of which is taken, and then lets go all streams still open.
+fn serve_at<A: Allocator + Copy, S: Streams<A>, C: Clock>(
+    alloc: A,
+    hub: &mut Hub<A>,
+    streams: &mut S,
+    clock: &C,
+    places: &mut [Option<Peer<A>>],
+    limits: Limits,
+) -> AllEnd
+    requires sixteen { length places.old ≤ 16 }
+    requires free { taken places.old ≡ 0 }
+    ensures { (first : ServedState) (events : List Event) → LeadsTo first events hub.old → ServesAll first events result limits hub.new (S.acts streams.old) (S.acts streams.new) }
+{
+    let mut door = Door {
+        alloc,
+        limits,
+        left: limits.connections,
+        refused: false,
+    };
+    let end = run(hub, streams, clock, places, &mut door);
+    shut_all(hub, streams, places);
+    end
+}
+
+/// As many free places as connections may be open at once.
+fn free_places<A: Allocator + Copy>(alloc: A) -> Result<Vec<Option<Peer<A>>, A>, AllocError>
+    ensures { IfOk result (λ places. (length places.items ≤ 16) × (taken places.items ≡ 0)) }
+{
+    let mut places = Vec::new(alloc);
+    for _place in 0..MAX_CONNECTIONS {
+        places.push(None)?;
+    }
+    Ok(places)
+}
+
+/// Serves streams, as many at once as there are places, until so many connections were opened and are closed, or for so many waits; then
+/// lets go all streams still open. One place serves them one after the other.
 ///
-/// A stream that ends or fails is let go at once and its connection closed, a stream whose connection is broken behind its replies, and
-/// the others go on. Where the limit of open connections is reached and another stream has come, the stream of which no bytes were read or
-/// written for longest is let go, if for two seconds of the clock none were; until then the other stream waits outside. So does a stream
-/// for which the hub has no memory, and it is tried again in the next turn, which comes within a second.
+/// A turn waits once. Then at each place at most 65,536 bytes are read, if all that was read before is given and no reply of that connection
+/// waits to be written; or a stream that has come is admitted, if the place is free. It is asked for another book of names, and one that has
+/// come is loaded: so each call whose last byte is read after a book had come is judged by that book. What was read is given to the hub, in
+/// order, one record after the other, and **the lines of the trail are kept after each, before the next one runs**: so none is lost. It is
+/// given while no reply waits, and then as far as 4,096 bytes from where none did; the rest waits until the replies are written. So a peer that
+/// sends and doesn't read costs the replies to 4,096 bytes. Last the waiting bytes are written, at most 128 KiB of each connection, as far as
+/// the streams take them.
+///
+/// A stream that ends or fails is let go at once and its connection closed, a stream whose connection is broken or has had its turns behind
+/// its replies, and the others go on; `close` says how each ended. Where the limit of open connections is reached, another stream has come, and
+/// room is to be made, the stream of which no bytes were read or written for longest is let go, if for two seconds of the clock none were;
+/// until then the other stream waits outside. So does a stream that can't be taken, or for which there is no memory: a connection takes 65,536
+/// bytes of `alloc` besides what the hub takes. It is tried again in the next turn, which comes within a second.
 pub fn serve_all<A: Allocator + Copy, S: Streams<A>, C: Clock>(
+    alloc: A,
     hub: &mut Hub<A>,
     streams: &mut S,
     clock: &C,
@@ -121,16 +172,8 @@ pub fn serve_all<A: Allocator + Copy, S: Streams<A>, C: Clock>(
 ) -> AllEnd
     ensures { (first : ServedState) (events : List Event) → LeadsTo first events hub.old → ServesAll first events result limits hub.new (S.acts streams.old) (S.acts streams.new) }
 {
-    let mut places: [Option<Peer>; MAX_CONNECTIONS] = [
-        None, None, None, None, None, None, None, None, None, None, None, None, None, None, None,
-        None,
-    ];
-    let mut door = Door {
-        left: limits.connections,
-        places: limits.places.min(MAX_CONNECTIONS),
-        refused: false,
+    let Ok(mut places) = free_places(alloc) else {
+        return AllEnd::Memory;
     };
-    let end = run(hub, streams, clock, &mut places, &mut door, limits.turns);
-    shut_all(hub, streams, &mut places);
-    end
+    serve_at(alloc, hub, streams, clock, &mut places[..], limits)
 }

@@ -1,6 +1,6 @@
 //! The streams of connections, as serving sees them.
 ghost use Rattle.std.specs.Prelude.{◌≡◌, List, [], ◌∷◌, Option, None, length};
-ghost use Rattle.nfs_streams.specs.Acts.{Act, Adds, Waited, Admitted, Closed, knocked, kept, loaded, came, went, IsWithin};
+ghost use Rattle.nfs_streams.specs.Acts.{Act, Adds, Waited, Admitted, Closed, knocked, kept, looked, came, went, IsWithin};
 
 use compound_run::Server;
 use nfs_hub::ConnId;
@@ -14,8 +14,21 @@ pub enum Moved {
     Bytes(usize),
     /// No bytes can be moved yet.
     NotYet,
-    /// No more bytes will come, or the stream failed.
+    /// No more bytes will come: the peer has ended its side of the stream.
     Over,
+    /// The stream failed.
+    Failed,
+}
+
+/// Whether another stream has come, which isn't admitted yet.
+#[derive(Clone, Copy, Debug, PartialEq, Eq)]
+pub enum Knock {
+    /// None has come.
+    Nobody,
+    /// One has come, and can be admitted now.
+    Here,
+    /// One waits that can't be taken now, for want of what it takes. It is asked for again within a second.
+    Waiting,
 }
 
 /// How long waiting may take.
@@ -29,6 +42,29 @@ pub enum Wait {
     Event,
 }
 
+/// How a connection ended. The numbers up to 8 are those of `ServeEnd` of `nfs_hub`.
+#[derive(Clone, Copy, Debug, PartialEq, Eq)]
+pub enum StreamEnd {
+    /// The stream ended, after a whole record.
+    Ended = 1,
+    /// The stream ended inside a record.
+    Inside = 2,
+    /// The stream or a record of it broke the connection.
+    Broken = 3,
+    /// Memory was refused in a piece, which broke the connection.
+    Memory = 4,
+    /// Reading of the stream failed.
+    Read = 6,
+    /// Writing to the stream failed, or the stream took nothing. It isn't known how much it took before.
+    Write = 7,
+    /// The turns of the connection are used up.
+    Turns = 8,
+    /// The connection was quiet, and is let go for another one.
+    Quiet = 9,
+    /// Serving has ended while the connection was open.
+    Stopped = 10,
+}
+
 /// The streams of a server over the allocator `A`, each at a place, whose number is below 16; the file or the like in which its trail is
 /// kept; and the source of other books of names. A place has one stream at a time, from `admit` to `close`, and a place without a stream
 /// is asked nothing else. No call but `wait` waits.
@@ -40,36 +76,38 @@ pub trait Streams<A: Allocator + Copy> {
     fn wait(&mut self, how: Wait) -> bool
         ensures { Adds (acts self.old) (acts self.new) (Waited result ∷ []) };
 
-    /// Another book of names, if one has come since the last call. `book` is called behind each wait that went well, and the book is
-    /// loaded before any bytes are read; where no epoch is left for the book, it is let go, and the book before stays.
+    /// Another book of names, if one has come since the last call. `book` is called after streams were read and before any bytes of theirs
+    /// are given to the hub, and the book is loaded at once; where no epoch is left for the book, it is let go, and the book before stays.
+    /// So a call whose last byte was read after a book had come is judged by that book.
     fn book(&mut self) -> Option<Book>
-        ensures { Adds (acts self.old) (acts self.new) (loaded result) };
+        ensures { Adds (acts self.old) (acts self.new) (looked result) };
 
-    /// Whether another stream has come, which isn't admitted yet.
-    fn knocks(&mut self) -> bool
+    /// Whether another stream has come, which isn't admitted yet. After `Waiting` the next wait takes at most a second.
+    fn knocks(&mut self) -> Knock
         ensures { Adds (acts self.old) (acts self.new) (knocked result) };
 
-    /// Gives a place to the stream that has come, just after `knocks` has told of it. The place is this connection's from then on.
+    /// Gives a place to the stream that has come, just after `knocks` has answered `Here`. The place is this connection's from then on.
     fn admit(&mut self, place: usize, conn: ConnId)
         ensures { Adds (acts self.old) (acts self.new) (Admitted place conn ∷ []) };
 
-    /// Lets the stream of a place go.
-    fn close(&mut self, place: usize)
-        ensures { Adds (acts self.old) (acts self.new) (Closed place ∷ []) };
+    /// Lets the stream of a place go, whose connection has ended so.
+    fn close(&mut self, place: usize, end: StreamEnd)
+        ensures { Adds (acts self.old) (acts self.new) (Closed place end ∷ []) };
 
-    /// Reads of the stream of a place as many bytes as fit, at least one. `Over`: no more bytes will come, or the stream failed; `close`
-    /// follows.
+    /// Reads of the stream of a place as many bytes as fit, at least one. `Over` where no more bytes will come, `Failed` where the stream
+    /// failed; `close` follows.
     fn read(&mut self, place: usize, buf: &mut [u8]) -> Moved
         ensures bound { IsWithin result (length buf.new) }
         ensures said { Adds (acts self.old) (acts self.new) (came place result buf.new) };
 
-    /// Writes a front of the bytes, at least one, to the stream of a place. `Over`: the stream failed; `close` follows.
+    /// Writes a front of the bytes, at least one, to the stream of a place. `Over` where the stream took nothing, `Failed` where it failed;
+    /// `close` follows.
     fn write(&mut self, place: usize, bytes: &[u8]) -> Moved
         ensures bound { IsWithin result (length bytes.now) }
         ensures said { Adds (acts self.old) (acts self.new) (went place result bytes.now) };
 
-    /// Keeps the lines of the server's trail that aren't kept yet. Bytes are written only behind that. `false`: the lines couldn't be
-    /// kept, and only `close` is called from then on.
+    /// Keeps the lines of the server's trail that aren't kept yet. It is called after each record that is run, before the next one runs, and
+    /// bytes are written only after that. `false`: the lines couldn't be kept, and only `close` is called from then on.
     fn keep(&mut self, server: &Server<A>) -> bool
         ensures { Adds (acts self.old) (acts self.new) (kept result server.now) };
 }

@@ -30,16 +30,19 @@ struct Scene {
     sizes: (usize, usize),
     /// How many waits come before the book. Streams are admitted behind the first, and read from the second on.
     brings: u64,
+    /// How many reads come before the book.
+    reads: u64,
     /// The calls of each peer that are answered that it may read the file, a digit a call.
     told: [&'static str; 2],
 }
 
-static SCENES: [Scene; 10] = [
+static SCENES: [Scene; 12] = [
     Scene {
         name: "before anything is read",
         peers: ["u", "u"],
         sizes: (108, 4096),
         brings: 1,
+        reads: 0,
         told: ["00", "00"],
     },
     Scene {
@@ -47,6 +50,7 @@ static SCENES: [Scene; 10] = [
         peers: ["u", "u"],
         sizes: (108, 4096),
         brings: 3,
+        reads: 0,
         told: ["10", "10"],
     },
     Scene {
@@ -54,6 +58,7 @@ static SCENES: [Scene; 10] = [
         peers: ["u", "u"],
         sizes: (54, 4096),
         brings: 3,
+        reads: 0,
         told: ["00", "00"],
     },
     Scene {
@@ -61,6 +66,7 @@ static SCENES: [Scene; 10] = [
         peers: ["u", "u"],
         sizes: (54, 4096),
         brings: 4,
+        reads: 0,
         told: ["10", "10"],
     },
     Scene {
@@ -68,6 +74,7 @@ static SCENES: [Scene; 10] = [
         peers: ["u", "u"],
         sizes: (54, 4096),
         brings: 5,
+        reads: 0,
         told: ["10", "10"],
     },
     Scene {
@@ -75,6 +82,7 @@ static SCENES: [Scene; 10] = [
         peers: ["u", "u"],
         sizes: (54, 4096),
         brings: 6,
+        reads: 0,
         told: ["11", "11"],
     },
     Scene {
@@ -82,6 +90,7 @@ static SCENES: [Scene; 10] = [
         peers: ["u", "u1"],
         sizes: (108, 4096),
         brings: 3,
+        reads: 0,
         told: ["10", "00"],
     },
     Scene {
@@ -89,6 +98,7 @@ static SCENES: [Scene; 10] = [
         peers: ["u", "u"],
         sizes: (1, 4096),
         brings: 109,
+        reads: 0,
         told: ["00", "00"],
     },
     Scene {
@@ -96,13 +106,31 @@ static SCENES: [Scene; 10] = [
         peers: ["u", "u"],
         sizes: (1, 4096),
         brings: 110,
+        reads: 0,
         told: ["10", "10"],
+    },
+    Scene {
+        name: "with the first read, before what it gave is run",
+        peers: ["u", "u9"],
+        sizes: (108, 4096),
+        brings: 0,
+        reads: 1,
+        told: ["00", "00"],
+    },
+    Scene {
+        name: "with the second read of two calls that were read at once",
+        peers: ["u", "u9"],
+        sizes: (216, 4096),
+        brings: 0,
+        reads: 2,
+        told: ["11", "00"],
     },
     Scene {
         name: "while replies wait to be written",
         peers: ["u", "u"],
         sizes: (108, 1),
         brings: 3,
+        reads: 0,
         told: ["10", "10"],
     },
 ];
@@ -124,6 +152,7 @@ fn set(streams: &mut Memory<'_>, scene: &Scene) {
     }
     streams.book = Some(IN_NO_GROUP);
     streams.brings = scene.brings;
+    streams.brings_reads = scene.reads;
 }
 
 /// The end of serving both peers, whether each got its replies, and whether each wait is followed by a request for a book.

@@ -19,6 +19,11 @@ impl Bytes {
         self.bytes.get(..self.len).unwrap_or(&[])
     }
 
+    /// Drops the last bytes, so many.
+    pub fn drop_last(&mut self, count: usize) {
+        self.len = self.len.saturating_sub(count);
+    }
+
     fn put_byte(&mut self, byte: u8) {
         if let Some(place) = self.bytes.get_mut(self.len) {
             *place = byte;
@@ -44,6 +49,10 @@ impl Bytes {
 const CALL: &str =
     "80000068 x 0 2 186a3 4 1 1 18 0 0 3ea 64 1 64 0 0 0 1 3 18 f 5 6e6f7465 73000000 3 2d";
 
+/// PUTROOTFH and REMOVE of `notes`, by the same user, who has no right to that.
+const REMOVE: &str =
+    "80000060 x 0 2 186a3 4 1 1 18 0 0 3ea 64 1 64 0 0 0 1 2 18 1c 5 6e6f7465 73000000";
+
 /// The reply where the caller has the right to read, and where it has none.
 const REPLY: &str = "80000044 x 1 0 0 0 0 0 0 3 18 0 f 0 3 0 2d 1";
 
@@ -61,6 +70,16 @@ pub fn calls_of(peer: u32, calls: u32, breaks: bool) -> Bytes {
     }
     if breaks {
         bytes.put("80020001", 0);
+    }
+    bytes
+}
+
+/// So many calls of a peer that are refused.
+pub fn removes_of(peer: u32, calls: u32) -> Bytes {
+    let mut bytes = Bytes::none();
+    let first = peer.saturating_mul(1_000);
+    for number in first..first.saturating_add(calls) {
+        bytes.put(REMOVE, number);
     }
     bytes
 }

@@ -6,7 +6,11 @@ mod books;
 #[cfg(test)]
 mod bytes;
 #[cfg(test)]
+mod ends;
+#[cfg(test)]
 mod house;
+#[cfg(test)]
+mod keeping;
 #[cfg(test)]
 mod memory;
 #[cfg(test)]

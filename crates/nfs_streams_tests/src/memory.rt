@@ -4,7 +4,7 @@ use crate::peers::{Script, Seat, Stream, USUAL, script_of};
 use crate::plain::{read_book, total};
 use compound_run::Server;
 use nfs_hub::{Clock, ConnId};
-use nfs_streams::{Moved, Streams, Wait};
+use nfs_streams::{Knock, Moved, StreamEnd, Streams, Wait};
 use nfs_types::Moment;
 use std::alloc::{Allocator, Global};
 use std::cell::Cell;
@@ -48,17 +48,27 @@ pub struct Memory<'a> {
     pub rests: u64,
     /// The wait of this number fails; 0: none.
     pub fails_wait: u64,
-    keeps: u64,
+    /// How many waits took at most a second.
+    pub seconds: u64,
+    /// How often the trail was kept.
+    pub keeps: u64,
     /// Keeping fails at this number; 0: never.
     pub fails_keep: u64,
     /// How many lines the trail had where it was kept last.
-    lines: u64,
+    pub lines: u64,
+    /// The most lines that were new where the trail was kept.
+    pub most_new: u64,
+    /// A stream that comes can't be taken before so many waits.
+    pub stuck: u64,
     /// The most streams that were at places at once.
     pub most: usize,
     /// The text of the book, while it hasn't come.
     pub book: Option<&'static str>,
     /// How many waits come before the book.
     pub brings: u64,
+    /// How many reads come before the book.
+    pub brings_reads: u64,
+    reads: u64,
     /// How often `book` was called.
     pub asked: u64,
 }
@@ -75,12 +85,17 @@ impl<'a> Memory<'a> {
             waits: 0,
             rests: 0,
             fails_wait: 0,
+            seconds: 0,
             keeps: 0,
             fails_keep: 0,
             lines: 0,
+            most_new: 0,
+            stuck: 0,
             most: 0,
             book: None,
             brings: 0,
+            brings_reads: 0,
+            reads: 0,
             asked: 0,
         }
     }
@@ -138,6 +153,9 @@ impl<A: Allocator + Copy> Streams<A> for Memory<'_> {
         if how != Wait::No {
             self.rests = self.rests.saturating_add(1);
         }
+        if how == Wait::Second {
+            self.seconds = self.seconds.saturating_add(1);
+        }
         let now = self.time.seconds.get();
         self.time.seconds.set(now.saturating_add(1));
         self.waits != self.fails_wait
@@ -145,16 +163,22 @@ impl<A: Allocator + Copy> Streams<A> for Memory<'_> {
 
     fn book(&mut self) -> Option<Book> {
         self.asked = self.asked.saturating_add(1);
-        if self.waits < self.brings {
+        if self.waits < self.brings || self.reads < self.brings_reads {
             return None;
         }
         read_book(self.alloc, self.book.take()?)
     }
 
-    fn knocks(&mut self) -> bool {
+    fn knocks(&mut self) -> Knock {
         match self.next_comes() {
-            Some(comes) => comes < self.waits,
-            None => false,
+            Some(comes) if comes < self.waits => {
+                if self.waits < self.stuck {
+                    Knock::Waiting
+                } else {
+                    Knock::Here
+                }
+            }
+            _ => Knock::Nobody,
         }
     }
 
@@ -166,18 +190,20 @@ impl<A: Allocator + Copy> Streams<A> for Memory<'_> {
         self.most = self.most.max(self.seated());
     }
 
-    fn close(&mut self, place: usize) {
+    fn close(&mut self, place: usize, end: StreamEnd) {
         let waits = self.waits;
         if let Some(stream) = self.at(place) {
             stream.seat = Seat::Gone(waits);
+            stream.end = Some(end);
         }
     }
 
     fn read(&mut self, place: usize, buf: &mut [u8]) -> Moved {
         let waits = self.waits;
+        self.reads = self.reads.saturating_add(1);
         match self.at(place) {
             Some(stream) => stream.give(waits, buf),
-            None => Moved::Over,
+            None => Moved::Failed,
         }
     }
 
@@ -185,7 +211,7 @@ impl<A: Allocator + Copy> Streams<A> for Memory<'_> {
         let waits = self.waits;
         match self.at(place) {
             Some(stream) => stream.take(waits, bytes),
-            None => Moved::Over,
+            None => Moved::Failed,
         }
     }
 
@@ -194,7 +220,9 @@ impl<A: Allocator + Copy> Streams<A> for Memory<'_> {
         if self.keeps == self.fails_keep {
             return false;
         }
-        self.lines = total(server);
+        let lines = total(server);
+        self.most_new = self.most_new.max(lines.saturating_sub(self.lines));
+        self.lines = lines;
         true
     }
 }

@@ -2,8 +2,8 @@
 ghost use Rattle.std.specs.Prelude.{◌≤◌, length};
 ghost use Rattle.nfs_streams.specs.Acts.{IsWithin};
 
-use crate::bytes::{Bytes, calls_of, replies_to};
-use nfs_streams::Moved;
+use crate::bytes::{Bytes, calls_of, removes_of, replies_to};
+use nfs_streams::{Moved, StreamEnd};
 
 /// The acts of the peer of a stream.
 #[derive(Clone, Copy)]
@@ -14,6 +14,10 @@ pub struct Script {
     pub calls: u32,
     /// It sends them again and again.
     pub repeats: bool,
+    /// Its calls are refused: each would remove the file.
+    pub removes: bool,
+    /// The stream ends inside the last call.
+    pub stops_short: bool,
     /// Behind its calls the peer sends bytes that break the connection.
     pub breaks: bool,
     /// Behind all its bytes the stream ends; else the peer stays silent.
@@ -35,6 +39,8 @@ pub const USUAL: Script = Script {
     comes: 0,
     calls: 2,
     repeats: false,
+    removes: false,
+    stops_short: false,
     breaks: false,
     leaves: true,
     piece: 4096,
@@ -67,6 +73,8 @@ fn peer(comes: u64, calls: u32, leaves: bool) -> Script {
 /// | o | sends a call, and then is silent; it is ready in one wait of eight |
 /// | d | sends calls again and again and never reads |
 /// | s | is silent |
+/// | h | sends one call and half of another, and leaves |
+/// | r | sends two calls that are refused, in one piece, and leaves |
 pub fn script_of(word: &str) -> Script {
     let comes = word.get(1..).unwrap_or("").parse::<u64>().unwrap_or(0);
     match word.as_bytes().first() {
@@ -99,8 +107,29 @@ pub fn script_of(word: &str) -> Script {
             ..peer(comes, 2, true)
         },
         Some(b's') => peer(comes, 0, false),
+        Some(b'h') => Script {
+            stops_short: true,
+            ..peer(comes, 2, true)
+        },
+        Some(b'r') => Script {
+            removes: true,
+            ..peer(comes, 2, true)
+        },
         _ => peer(comes, 2, true),
     }
+}
+
+/// What a peer sends.
+fn input_of(number: u32, script: Script) -> Bytes {
+    let mut input = if script.removes {
+        removes_of(number, script.calls)
+    } else {
+        calls_of(number, script.calls, script.breaks)
+    };
+    if script.stops_short {
+        input.drop_last(54);
+    }
+    input
 }
 
 /// Where a stream is.
@@ -128,6 +157,8 @@ pub struct Stream {
     pub told: usize,
     pub right: bool,
     pub seat: Seat,
+    /// How the connection ended.
+    pub end: Option<StreamEnd>,
 }
 
 impl Stream {
@@ -135,7 +166,7 @@ impl Stream {
     pub fn new(number: u32, script: Script, digits: &str) -> Self {
         Stream {
             script,
-            input: calls_of(number, script.calls, script.breaks),
+            input: input_of(number, script),
             replies: replies_to(number, digits),
             at: 0,
             read: 0,
@@ -144,6 +175,7 @@ impl Stream {
             told: 0,
             right: true,
             seat: Seat::Outside,
+            end: None,
         }
     }
 
@@ -197,7 +229,7 @@ impl Stream {
         }
         self.reads = self.reads.saturating_add(1);
         if self.reads == self.script.fails_read {
-            return Moved::Over;
+            return Moved::Failed;
         }
         let n = self.give_more(buf);
         self.read = self.read.saturating_add(n);
@@ -228,7 +260,7 @@ impl Stream {
         }
         self.writes = self.writes.saturating_add(1);
         if self.writes == self.script.fails_write {
-            return Moved::Over;
+            return Moved::Failed;
         }
         let n = bytes.len().min(self.script.takes);
         if n == 0 {

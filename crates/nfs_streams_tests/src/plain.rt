@@ -13,8 +13,14 @@ fn bare(alloc: Global, hasher: RandomState) -> Result<Hub, AllocError> {
     Hub::bare(alloc, alloc, hasher)
 }
 
-fn serve(hub: &mut Hub, streams: &mut Memory<'_>, time: &Time, limits: Limits) -> AllEnd {
-    serve_all(hub, streams, time, limits)
+fn serve(
+    alloc: Global,
+    hub: &mut Hub,
+    streams: &mut Memory<'_>,
+    time: &Time,
+    limits: Limits,
+) -> AllEnd {
+    serve_all(alloc, hub, streams, time, limits)
 }
 
 /// The end of serving streams by a new hub.
@@ -26,7 +32,7 @@ pub fn serve_new(
     limits: Limits,
 ) -> Result<AllEnd, AllocError> {
     let mut hub = bare(alloc, hasher)?;
-    Ok(serve(&mut hub, streams, time, limits))
+    Ok(serve(alloc, &mut hub, streams, time, limits))
 }
 
 /// The book of a text.
@@ -43,5 +49,7 @@ pub fn total<A: Allocator + Copy>(server: &Server<A>) -> u64 {
 pub const AMPLE: Limits = Limits {
     places: 16,
     connections: u64::MAX,
+    reads: u64::MAX,
     turns: 400,
+    makes_room: true,
 };

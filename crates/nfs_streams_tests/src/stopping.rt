@@ -2,7 +2,7 @@
 
 use crate::bytes::REPLY_LEN;
 use crate::memory::{Memory, Time};
-use crate::plain::serve_new;
+use crate::plain::{AMPLE, serve_new};
 use nfs_streams::{AllEnd, Limits};
 use std::alloc::{AllocError, Global};
 use std::hash::RandomState;
@@ -26,7 +26,7 @@ struct Stop {
     told: usize,
 }
 
-static STOPS: [Stop; 8] = [
+static STOPS: [Stop; 9] = [
     Stop {
         name: "all are served",
         connections: 2,
@@ -105,6 +105,17 @@ static STOPS: [Stop; 8] = [
         told: 0,
     },
     Stop {
+        name: "the trail can't be kept after the second call of the first peer",
+        connections: 9,
+        turns: 400,
+        fails_wait: 0,
+        fails_keep: 4,
+        end: AllEnd::Keep,
+        waits: 2,
+        admitted: 2,
+        told: 0,
+    },
+    Stop {
         name: "the trail can't be kept at first",
         connections: 9,
         turns: 400,
@@ -146,9 +157,9 @@ fn serve_stop(alloc: Global, hasher: RandomState, stop: &Stop) -> Result<Told, A
     streams.fails_wait = stop.fails_wait;
     streams.fails_keep = stop.fails_keep;
     let limits = Limits {
-        places: 16,
         connections: stop.connections,
         turns: stop.turns,
+        ..AMPLE
     };
     let end = serve_new(alloc, hasher, &mut streams, &time, limits)?;
     Ok(Told {

@@ -5,6 +5,6 @@ use Rattle.nfs_streams.proofs.places.listen_all.Given as goal
 abbrev pub invariant-loop-index : goal.invariant-loop-index
 invariant-loop-index g l = record {
   len : length l.places ≡ length l.fn.places;
-  most : l.door.places ≡ l.fn.door.places;
-  moves : (n : ℕ) → Moves (Listening n) (Listening n) l.fn.door.places l.fn.hub l.fn.places l.fn.door.left l.hub l.places l.door.left (g.S.Streams.acts l.fn.streams) (g.S.Streams.acts l.streams);
+  most : l.door.limits ≡ l.fn.door.limits;
+  moves : (n : ℕ) → Moves (Listening n) (Listening n) l.fn.door.limits l.fn.hub l.fn.places l.fn.door.left l.hub l.places l.door.left (g.S.Streams.acts l.fn.streams) (g.S.Streams.acts l.streams);
 }

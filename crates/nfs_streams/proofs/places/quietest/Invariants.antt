@@ -3,4 +3,4 @@ use Rattle.std.specs.Prelude.{IfSome}
 use Rattle.nfs_streams.proofs.places.quietest.Given as goal
 
 abbrev pub invariant-loop-index : goal.invariant-loop-index
-invariant-loop-index l = IfSome l.found (λ index. index < length l.places)
+invariant-loop-index g l = IfSome l.found (λ index. index < length l.places)

@@ -1,4 +1,4 @@
-use Rattle.std.proofs.Common.{◌∙◌, arith}
+use Rattle.std.proofs.Common.{◌∙◌, refl, arith}
 use Rattle.nfs_streams.specs.Standing.{Ending}
 use Rattle.nfs_streams.proofs.Lists.{all_freed, none_past, set_len}
 use Rattle.nfs_streams.proofs.places.shut_all.Goals as goal
@@ -7,7 +7,7 @@ pub loop-index-preserved : goal.loop-index-preserved
 loop-index-preserved g c = record {
   len = set_len _ _ _ _ c.shut_at.ensures.free ∙ c.loop-index.invariant.len;
   free = all_freed c.loop-index.places c.shut_at.new.places c.loop-index.index (omega arith) c.shut_at.ensures.free c.loop-index.invariant.free;
-  moves = λ acts s most left o same st. c.shut_at.ensures.moves (Ending acts s) tt most left o same (c.loop-index.invariant.moves acts s most left o same st);
+  moves = λ acts s left limits o same st. c.shut_at.ensures.moves (Ending acts s) refl left limits o same (c.loop-index.invariant.moves acts s left limits o same st);
 }
 
 pub returns-clause-free : goal.returns-clause-free

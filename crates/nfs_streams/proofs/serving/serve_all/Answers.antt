@@ -1,7 +1,5 @@
-use Rattle.std.proofs.Common.{refl}
-use Rattle.nfs_streams.proofs.Whole.{serves}
+use Rattle.nfs_streams.proofs.Whole.{serves_nothing}
 use Rattle.nfs_streams.proofs.serving.serve_all.Goals as goal
 
-pub returns : goal.returns
-returns g c = λ first events h.
-    serves c.min.result first events c.run-end.result c.args.limits c.args.hub.now c.run-end.new.hub c.shut_all.new.hub _ c.run-end.new.places c.shut_all.new.places _ _ _ _ c.min.ensures h refl c.run-end.ensures c.shut_all.ensures.moves c.shut_all.ensures.free
+pub returns-in_default : goal.returns-in_default
+returns-in_default g c = λ first events h. serves_nothing first events c.args.limits c.args.hub.now _ h

@@ -1,0 +1,6 @@
+use Rattle.nfs_streams.proofs.Whole.{serves}
+use Rattle.nfs_streams.proofs.serving.serve_at.Goals as goal
+
+pub returns : goal.returns
+returns g c = λ first events h.
+    serves first events c.run-end.result c.args.limits c.args.hub.now c.run-end.new.hub c.shut_all.new.hub _ c.run-end.new.places c.shut_all.new.places _ _ _ _ h c.requires.free c.run-end.ensures c.shut_all.ensures.moves c.shut_all.ensures.free
