@@ -1,21 +1,15 @@
 //! The file of the book, which is read again where it has changed.
-use crate::Fault;
+use crate::book_rule::{Change, FileId, Plan, Stamp, has_members, may_follow, plan_for};
+use crate::clock::second;
+use crate::words::say_no_book;
+use crate::{Fault, slips};
 use nfs_hub::Hub;
 use std::alloc::Global;
 use std::fs;
+use std::fs::Metadata;
 use std::os::unix::fs::MetadataExt;
-use std::rt::Files;
-use who_book::{Book, BookFault};
-
-/// The stamp of a file, as the system tells it: the file's number, the time of its last write, and its length. A file whose content has
-/// changed has another stamp, unless it was written twice in one tick of the system's clock.
-#[derive(Clone, Copy, PartialEq, Eq)]
-struct Stamp {
-    node: u64,
-    seconds: i64,
-    nanoseconds: i64,
-    len: u64,
-}
+use std::rt::{Clock, Files};
+use who_book::Book;
 
 /// The file of the book, if there is one.
 #[derive(Drop)]
@@ -23,29 +17,55 @@ pub(crate) struct BookFile<'a, R> {
     rt: &'a R,
     alloc: Global,
     path: Option<&'a str>,
-    /// The stamp of the file just before its last read; none, where the system told none.
-    stamp: Option<Stamp>,
+    /// The stamp of the file just before its last read, whether it was a book or not.
+    last: Option<Stamp>,
+    /// It was said that there is no regular file.
+    is_missed: bool,
+    /// The book that is in use has `members`.
+    has_members: bool,
 }
 
-/// The stamp of a file now.
+/// Which file it is.
+pub(crate) fn id_of(told: &Metadata) -> FileId {
+    FileId {
+        device: told.dev(),
+        node: told.ino(),
+    }
+}
+
+/// The stamp of a regular file now. `None`: there is none; reading another one, such as a pipe, might never end.
 fn stamp_of(files: &impl Files, path: &str) -> Option<Stamp> {
     let told = fs::metadata(files, path).ok()?;
+    if !told.is_file() {
+        return None;
+    }
     Some(Stamp {
-        node: told.ino(),
+        id: id_of(&told),
         seconds: told.mtime(),
         nanoseconds: told.mtime_nsec(),
         len: told.len(),
     })
 }
 
-impl<'a, R: Files + Alloc + Eprint> BookFile<'a, R> {
+/// The book of a text that may follow the one before.
+fn follower(book: Result<Book, Fault>, change: Change, had_members: bool) -> Result<Book, Fault> {
+    match book {
+        Ok(book) if may_follow(change, had_members, has_members(&book)) => Ok(book),
+        Ok(_) => Err(Fault::Members),
+        Err(fault) => Err(fault),
+    }
+}
+
+impl<'a, R: Files + Alloc + Eprint + Clock> BookFile<'a, R> {
     /// The file of this name, which isn't read yet; or no file.
     pub(crate) fn new(rt: &'a R, alloc: Global, path: Option<&'a str>) -> Self {
         BookFile {
             rt,
             alloc,
             path,
-            stamp: None,
+            last: None,
+            is_missed: false,
+            has_members: false,
         }
     }
 
@@ -54,30 +74,77 @@ impl<'a, R: Files + Alloc + Eprint> BookFile<'a, R> {
         let Some(path) = self.path else {
             return Ok(Book::default(self.alloc));
         };
-        self.stamp = stamp_of(self.rt, path);
+        self.last = stamp_of(self.rt, path);
+        if self.last.is_none() {
+            return Err(Fault::File);
+        }
+        let book = self.read_at(path)?;
+        self.has_members = has_members(&book);
+        Ok(book)
+    }
+
+    /// The book of a regular file. A mode that is most likely a slip is said on standard error.
+    fn read_at(&self, path: &str) -> Result<Book, Fault> {
         let Ok(text) = fs::read_to_string(self.rt, path) else {
             return Err(Fault::File);
         };
-        Book::read(self.alloc, text.as_str()).map_err(|fault: BookFault| Fault::Book(fault as u8))
+        let book = Book::read(self.alloc, text.as_str()).map_err(Fault::Book)?;
+        slips::say(self.rt, path, text.as_str(), book.root_mode());
+        Ok(book)
     }
 
-    /// The book of the file, where the file has changed since its last read. Where the file can't be read or isn't a book, that is told on
-    /// standard error, once for each change.
+    /// The book of the file, where the file has changed since its last read and its book may follow the one before. Where the file can't be
+    /// read, isn't a book or may not follow, that is said on standard error, once for each change.
     pub(crate) fn changed(&mut self) -> Option<Book> {
-        if stamp_of(self.rt, self.path?) == self.stamp {
+        let path = self.path?;
+        let Some(seen) = stamp_of(self.rt, path) else {
+            self.miss(path);
+            return None;
+        };
+        self.is_missed = false;
+        match plan_for(&self.last, &seen, second(self.rt)) {
+            Plan::Stay | Plan::Wait => None,
+            Plan::Load(change) => self.load(path, seen, change),
+        }
+    }
+
+    /// The book of a file that is to be read. Where the file is written meanwhile, it is no book yet, and it is as written in place from then
+    /// on.
+    fn load(&mut self, path: &str, seen: Stamp, change: Change) -> Option<Book> {
+        self.last = Some(seen);
+        let book = self.read_at(path);
+        let after = stamp_of(self.rt, path)?;
+        if !after.is(&seen) {
             return None;
         }
-        match self.read() {
-            Ok(book) => Some(book),
+        match follower(book, change, self.has_members) {
+            Ok(book) => {
+                self.has_members = has_members(&book);
+                Some(book)
+            }
             Err(fault) => {
-                let rt = self.rt;
-                let _ = eprintln!(rt; "nfsd: {fault}; the book before stays");
+                self.refuse(path, &fault);
                 None
             }
         }
     }
 
-    /// Loads the book of the file, where the file has changed since its last read and is a book.
+    /// Says that there is no regular file, once until there is one.
+    fn miss(&mut self, path: &str) {
+        if !self.is_missed {
+            self.is_missed = true;
+            self.refuse(path, &Fault::File);
+        }
+    }
+
+    /// Says why the book before stays.
+    fn refuse(&self, path: &str, fault: &Fault) {
+        let rt = self.rt;
+        let _ = eprintln!(rt; "nfsd: {fault}; the book before stays");
+        say_no_book(rt, self.alloc, path, fault);
+    }
+
+    /// Loads the book of the file, where the file has changed since its last read and its book may follow the one before.
     pub(crate) fn load_into(&mut self, hub: &mut Hub) {
         if let Some(book) = self.changed() {
             let _ = hub.reload(book);

@@ -6,48 +6,70 @@
 #![tactic(auto)]
 
 mod book_file;
+mod book_rule;
+mod bounded;
 mod clock;
 mod listening;
+mod slips;
 mod sockets;
+mod streams;
 mod together;
+mod trail_file;
+mod words;
 
 use anyhow::Result;
 use book_file::BookFile;
 use clock::SystemClock;
+use listening::serve_options;
 use nfs_hub::{Hub, HubFault, ServeEnd, serve};
 use nfsd_options::Options;
 use std::alloc::Global;
+use std::fmt::{Display, Formatter};
+use std::fs::{File, OpenOptions};
 use std::hash::RandomState;
+use std::io::ErrorKind;
+use std::os::fd::AsRawFd;
 use std::process::ExitCode;
-use std::rt::Files;
-use std::{env, io};
+use std::rt::{Clock, Files};
+use std::{env, fmt, io};
+use who_book::BookFault;
 
 /// The most turns of a connection that is served alone: each turn reads at most 4,096 bytes.
 const TURNS: u64 = 1_000_000;
 
 /// The faults that keep `nfsd` from serving, in the order in which they are found. While it serves, the first two keep a book from
 /// loading.
-#[derive(Debug, Drop, thiserror::Error)]
+#[derive(Drop)]
 enum Fault {
-    /// The book's file can't be read, or isn't UTF-8.
-    #[error("file")]
+    /// The book's file can't be read, is no regular file, or isn't UTF-8.
     File,
-    /// The book has a fault, of this number.
-    #[error("book {0}")]
-    Book(u8),
+    /// The book has this fault.
+    Book(BookFault),
+    /// The book was written in place of one with `members`, and has none.
+    Members,
     /// The hub can't be made, by a fault of this number.
-    #[error("hub {0}")]
     Hub(u8),
-    /// The trail's file can't be opened, or can't be written.
-    #[error("trail")]
+    /// The trail's file is that of the book, can't be opened, or can't be written.
     Trail,
-    /// The socket can't be listened on, or gives no connection; or waiting for the streams failed.
-    #[error("socket")]
-    Socket,
+    /// The socket can't be listened on, for this reason; or it gives no connection, or waiting for the streams failed.
+    Socket(Option<ErrorKind>),
+}
+
+impl Display for Fault {
+    fn fmt<W: fmt::Write>(&self, f: &mut Formatter<W>) -> fmt::Result {
+        match self {
+            Fault::File => f.write_str("file"),
+            Fault::Book(fault) => write!(f, "book {}", *fault as u8),
+            Fault::Members => write!(f, "book {}", BookFault::Shape as u8),
+            Fault::Hub(number) => write!(f, "hub {number}"),
+            Fault::Trail => f.write_str("trail"),
+            Fault::Socket(_) => f.write_str("socket"),
+        }
+    }
 }
 
 /// The hub by the options: of the sample tree without sessions, or of a root alone, with the owner and the group of the book.
-fn hub<R: Files + Alloc + Eprint>(
+fn hub<R: Files + Alloc + Eprint + Clock>(
     alloc: Global,
     options: &Options<'_>,
     book: &mut BookFile<'_, R>,
@@ -61,50 +83,93 @@ fn hub<R: Files + Alloc + Eprint>(
     made.map_err(|_| Fault::Hub(HubFault::Memory as u8))
 }
 
-/// Tells the end of a connection that didn't end behind a whole record. Whether it ended behind one.
-fn ended<R: Eprint>(rt: &R, end: ServeEnd) -> io::Result<bool> {
+/// Says on standard error how a connection ended that didn't end after a whole record. Whether it ended after one. What can't be
+/// said isn't said.
+fn ended<R: Eprint>(rt: &R, end: ServeEnd) -> bool {
     if end == ServeEnd::Ended {
-        return Ok(true);
+        return true;
     }
-    eprintln!(rt; "nfsd: end {}", end as u8)?;
-    Ok(false)
+    let _ = eprintln!(rt; "nfsd: end {}", end as u8);
+    false
+}
+
+/// Serves one connection, from standard input to standard output.
+fn serve_bare(rt: &HostRuntime, hub: &mut Hub) -> bool {
+    let clock = SystemClock::new(rt);
+    let end = serve(hub, &mut rt.reader(), &mut io::writer(rt), &clock, TURNS);
+    ended(rt, end)
+}
+
+/// Serves by the options, over a hub of its own. The value is whether all went well. `Err` of the outer result: there is no
+/// randomness, or standard output can't be written.
+fn serve_hub(
+    rt: &HostRuntime,
+    alloc: Global,
+    options: &Options<'_>,
+) -> Result<Result<bool, Fault>> {
+    let mut book = BookFile::new(rt, alloc, options.book);
+    let mut hub = match hub(alloc, options, &mut book, RandomState::new(rt)?) {
+        Ok(hub) => hub,
+        Err(fault) => return Ok(Err(fault)),
+    };
+    if options.bare {
+        return Ok(Ok(serve_bare(rt, &mut hub)));
+    }
+    let clock = SystemClock::new(rt);
+    Ok(serve_options(rt, alloc, &mut hub, &clock, options, book)?)
+}
+
+/// The status of the program, by what came of serving. A fault is said on standard error.
+fn status<R: Files + Alloc + Eprint>(
+    rt: &R,
+    alloc: Global,
+    options: &Options<'_>,
+    served: Result<bool, Fault>,
+) -> ExitCode {
+    match served {
+        Ok(true) => ExitCode::SUCCESS,
+        Ok(false) => ExitCode::FAILURE,
+        Err(fault) => {
+            words::say(rt, alloc, options, &fault);
+            ExitCode::FAILURE
+        }
+    }
+}
+
+/// Serves by the words of the command line.
+fn run_words(rt: &HostRuntime, alloc: Global, words: &[String]) -> Result<ExitCode> {
+    match Options::read(alloc, words) {
+        Ok(options) => {
+            let served = serve_hub(rt, alloc, &options)?;
+            Ok(status(rt, alloc, &options, served))
+        }
+        Err(error) => {
+            let _ = rt.eprint(&error);
+            Ok(ExitCode::from(2))
+        }
+    }
+}
+
+/// The file that takes what is written to it and keeps nothing.
+const NOWHERE: &str = "/dev/null";
+
+/// The descriptors of standard input, output and error are below this one.
+const FIRST_DESCRIPTOR: i32 = 3;
+
+/// What stands in for standard input, output or error, where one of them is closed: else the next file or socket would have its descriptor,
+/// and get what is said there.
+fn stand_in(rt: &HostRuntime) -> Option<File> {
+    let file = OpenOptions::new().write(true).open(rt, NOWHERE).ok()?;
+    if file.as_raw_fd() < FIRST_DESCRIPTOR {
+        Some(file)
+    } else {
+        None
+    }
 }
 
 fn main(rt: HostRuntime) -> Result<ExitCode> {
+    let _stand_ins = [stand_in(&rt), stand_in(&rt), stand_in(&rt)];
     let alloc = rt.alloc();
     let words: Vec<String> = env::args(&rt)?.collect(alloc)?;
-    let options = match Options::read(alloc, words.as_slice()) {
-        Ok(options) => options,
-        Err(error) => {
-            rt.eprint(&error)?;
-            return Ok(ExitCode::from(2));
-        }
-    };
-    let clock = SystemClock::new(&rt);
-    let mut book = BookFile::new(&rt, alloc, options.book);
-    let served = match hub(alloc, &options, &mut book, RandomState::new(&rt)?) {
-        Ok(mut hub) => {
-            if options.bare {
-                let end = serve(
-                    &mut hub,
-                    &mut rt.reader(),
-                    &mut io::writer(&rt),
-                    &clock,
-                    TURNS,
-                );
-                Ok(ended(&rt, end)?)
-            } else {
-                listening::serve_options(&rt, alloc, &mut hub, &clock, &options, book)?
-            }
-        }
-        Err(fault) => Err(fault),
-    };
-    match served {
-        Ok(true) => Ok(ExitCode::SUCCESS),
-        Ok(false) => Ok(ExitCode::FAILURE),
-        Err(fault) => {
-            eprintln!(rt; "nfsd: {fault}")?;
-            Ok(ExitCode::FAILURE)
-        }
-    }
+    run_words(&rt, alloc, words.as_slice())
 }

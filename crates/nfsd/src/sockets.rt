@@ -1,27 +1,42 @@
-//! Sockets on 127.0.0.1, with the system's word which of them are ready, the file in which the trail is kept, and the file of the book.
+//! Sockets on 127.0.0.1, with the system's word which of them are ready.
+ghost use Rattle.std.specs.Prelude.{length};
 ghost use Rattle.nfs_streams.specs.Acts.{IsWithin};
 
-use crate::book_file::BookFile;
-use compound_run::Server;
 use mio::event::Event;
 use mio::net::{TcpListener, TcpStream};
 use mio::{Events, Interest, Poll, Token};
-use nfs_hub::{ConnId, MAX_CONNECTIONS};
-use nfs_streams::{Moved, Streams, Wait};
+use nfs_hub::MAX_CONNECTIONS;
+use nfs_streams::{Moved, Wait};
 use std::alloc::Global;
 use std::io;
 use std::io::{ErrorKind, Read, Write};
 use std::net::{Ipv4Addr, Net, SocketAddr, SocketAddrV4};
-use std::rt::Files;
 use std::time::Duration;
-use trail_keeper::TrailKeeper;
-use who_book::Book;
 
 /// The listener's token: a number that no place has.
 const LISTENER: usize = MAX_CONNECTIONS;
 
 /// The most events of one wait: one of the listener and of each stream.
 const EVENTS: usize = MAX_CONNECTIONS + 1;
+
+/// The first port that isn't privileged: any user of a system may have it.
+pub(crate) const FIRST_FREE_PORT: u16 = 1024;
+
+/// The most streams that are let go unread before the others are looked at again.
+const MOST_TURNED_AWAY: u32 = 64;
+
+/// Whether streams wait to be accepted.
+#[derive(Clone, Copy, PartialEq, Eq)]
+enum Calls {
+    /// None does.
+    None,
+    /// Some may: it wasn't looked yet.
+    Some,
+    /// Many did that were turned away, and more may.
+    More,
+    /// One does, and can't be accepted now.
+    Stuck,
+}
 
 /// A stream, and whether it may go on: from the event that says so until the stream would block.
 #[derive(Drop)]
@@ -40,19 +55,18 @@ impl Socket {
     }
 }
 
-/// A listener, its accepted streams, each at its place, the keeper of the trail, if the trail is kept, and the file of the book.
+/// A listener, and its accepted streams, each at its place.
 #[derive(Drop)]
-pub(crate) struct Sockets<'a, R, W> {
+pub(crate) struct Sockets {
     poll: Poll,
     events: Events<Global>,
     listener: TcpListener,
-    /// A stream may wait to be accepted.
-    is_called: bool,
+    calls: Calls,
+    /// Streams from ports that aren't privileged are closed as they come.
+    privileged_ports: bool,
     /// A stream that was accepted, and has no place yet.
     accepted: Option<TcpStream>,
     places: Vec<Option<Socket>>,
-    trail: Option<TrailKeeper<W>>,
-    book: BookFile<'a, R>,
 }
 
 /// The outcome of a read or a write with this result. `ready` is unset where the stream would block.
@@ -82,14 +96,22 @@ fn free_places(alloc: Global) -> io::Result<Vec<Option<Socket>>> {
     Ok(places)
 }
 
-impl<'a, R: Files + Alloc + Eprint, W: Write + Drop> Sockets<'a, R, W> {
+/// How long a wait may take.
+fn longest(how: Wait, calls: Calls) -> Option<Duration> {
+    match (how, calls) {
+        (Wait::No, _) | (_, Calls::More) => Some(Duration::ZERO),
+        (Wait::Second, _) | (_, Calls::Stuck) => Some(Duration::from_secs(1)),
+        (Wait::Event, Calls::None | Calls::Some) => None,
+    }
+}
+
+impl Sockets {
     /// Listens on a port of 127.0.0.1; on any free port, where the number is 0.
     pub(crate) fn listen(
         net: &impl Net,
         alloc: Global,
         port: u16,
-        trail: Option<TrailKeeper<W>>,
-        book: BookFile<'a, R>,
+        privileged_ports: bool,
     ) -> io::Result<Self> {
         let address = SocketAddr::V4(SocketAddrV4::new(Ipv4Addr::LOCALHOST, port));
         let poll = Poll::new(net)?;
@@ -100,11 +122,10 @@ impl<'a, R: Files + Alloc + Eprint, W: Write + Drop> Sockets<'a, R, W> {
             poll,
             events: Events::with_capacity(alloc, EVENTS)?,
             listener,
-            is_called: false,
+            calls: Calls::None,
+            privileged_ports,
             accepted: None,
             places: free_places(alloc)?,
-            trail,
-            book,
         })
     }
 
@@ -118,7 +139,7 @@ impl<'a, R: Files + Alloc + Eprint, W: Write + Drop> Sockets<'a, R, W> {
         for event in &self.events {
             let place = event.token().0;
             if place == LISTENER {
-                self.is_called = true;
+                self.calls = Calls::Some;
             } else if let Some(Some(socket)) = self.places.get_mut(place) {
                 socket.note(event);
             }
@@ -133,40 +154,65 @@ impl<'a, R: Files + Alloc + Eprint, W: Write + Drop> Sockets<'a, R, W> {
             .register(stream, Token(place), both)
             .is_ok()
     }
-}
 
-impl<R: Files + Alloc + Eprint, W: Write + Drop> Streams<Global> for Sockets<'_, R, W> {
-    fn wait(&mut self, how: Wait) -> bool {
-        let most = match how {
-            Wait::No => Some(Duration::ZERO),
-            Wait::Second => Some(Duration::from_secs(1)),
-            Wait::Event => None,
+    /// Waits for the system to tell which streams may go on. `false`: the wait failed.
+    pub(crate) fn wait(&mut self, how: Wait) -> bool {
+        let calls = if self.accepted.is_some() {
+            Calls::None
+        } else {
+            self.calls
         };
-        if self.poll.poll(&mut self.events, most).is_err() {
+        if self
+            .poll
+            .poll(&mut self.events, longest(how, calls))
+            .is_err()
+        {
             return false;
         }
         self.note();
         true
     }
 
-    fn book(&mut self) -> Option<Book> {
-        self.book.changed()
+    /// Whether a stream is served, by the address that it comes from.
+    fn is_welcome(&self, from: &SocketAddr) -> bool {
+        !self.privileged_ports || from.port() < FIRST_FREE_PORT
     }
 
-    fn knocks(&mut self) -> bool {
-        if self.accepted.is_none() && self.is_called {
+    /// Accepts the next stream that is served, if one waits. Others are closed as they come, before a byte of them is read.
+    fn accept(&mut self) {
+        for _stream in 0..MOST_TURNED_AWAY {
             match self.listener.accept() {
-                Ok((stream, _)) => {
-                    let _ = stream.set_nodelay(true);
-                    self.accepted = Some(stream);
+                Ok((stream, from)) => {
+                    if self.is_welcome(&from) {
+                        let _ = stream.set_nodelay(true);
+                        self.accepted = Some(stream);
+                        self.calls = Calls::Some;
+                        return;
+                    }
                 }
-                Err(error) => self.is_called = error.kind() != ErrorKind::WouldBlock,
+                Err(error) => {
+                    self.calls = if error.kind() == ErrorKind::WouldBlock {
+                        Calls::None
+                    } else {
+                        Calls::Stuck
+                    };
+                    return;
+                }
             }
+        }
+    }
+
+    /// Whether a stream has come that has no place yet.
+    pub(crate) fn knocks(&mut self) -> bool {
+        if self.accepted.is_none() && self.calls != Calls::None {
+            self.calls = Calls::More;
+            self.accept();
         }
         self.accepted.is_some()
     }
 
-    fn admit(&mut self, place: usize, _conn: ConnId) {
+    /// Gives a place to the stream that has come.
+    pub(crate) fn admit(&mut self, place: usize) {
         let Some(mut stream) = self.accepted.take() else {
             return;
         };
@@ -182,13 +228,17 @@ impl<R: Files + Alloc + Eprint, W: Write + Drop> Streams<Global> for Sockets<'_,
         }
     }
 
-    fn close(&mut self, place: usize) {
+    /// Lets the stream of a place go.
+    pub(crate) fn close(&mut self, place: usize) {
         if let Some(taken) = self.places.get_mut(place) {
             *taken = None;
         }
     }
 
-    fn read(&mut self, place: usize, buf: &mut [u8]) -> Moved {
+    /// Reads of the stream of a place what is there, as far as it fits.
+    pub(crate) fn read(&mut self, place: usize, buf: &mut [u8]) -> Moved
+        ensures { IsWithin result (length buf.new) }
+    {
         let Some(socket) = self.socket(place) else {
             return Moved::Over;
         };
@@ -199,7 +249,10 @@ impl<R: Files + Alloc + Eprint, W: Write + Drop> Streams<Global> for Sockets<'_,
         moved(socket.stream.read(buf), most, &mut socket.readable)
     }
 
-    fn write(&mut self, place: usize, bytes: &[u8]) -> Moved {
+    /// Writes a front of the bytes to the stream of a place, as far as it takes them.
+    pub(crate) fn write(&mut self, place: usize, bytes: &[u8]) -> Moved
+        ensures { IsWithin result (length bytes.now) }
+    {
         let Some(socket) = self.socket(place) else {
             return Moved::Over;
         };
@@ -211,12 +264,5 @@ impl<R: Files + Alloc + Eprint, W: Write + Drop> Streams<Global> for Sockets<'_,
             bytes.len(),
             &mut socket.writable,
         )
-    }
-
-    fn keep(&mut self, server: &Server) -> bool {
-        match &mut self.trail {
-            Some(keeper) => keeper.keep(server.guard()),
-            None => true,
-        }
     }
 }

@@ -1,4 +1,4 @@
--- The six options by their places, and the rules of each that building keeps.
+-- The eight options by their places, and the rules of each that building keeps.
 use Rattle.std.proofs.Common.{◌≡◌, ◌∙◌, ◌<◌, ap, ap₂, ℕ, true, false, List, [], length, zero, suc, Some, refl, sym, inl, inr, arith, codes}
 use Rattle.std.specs.List.{slice_index_or}
 use Rattle.std.specs.Str.{bytes_eq}
@@ -14,7 +14,7 @@ use Rattle.clap.specs.declared.builder.value_parser.ValueParser.TheVariants as v
 use Rattle.clap.specs.declared.parser.matches.ArgMatches.{ArgMatches}
 use Rattle.clap.proofs.CallerLemmas.{same_rules_by_id}
 use Rattle.std.specs.Prelude.{pos}
-use Rattle.nfsd_options.specs.Simple.{bare_rule, concurrent_rule, connections_rule, nfsd, port_rule}
+use Rattle.nfsd_options.specs.Simple.{bare_rule, concurrent_rule, connections_rule, nfsd, port_rule, privileged_rule, stamped_rule}
 
 abbrev pub nfsd_rules : List Rule
 nfsd_rules = nfsd.top.rules
@@ -27,50 +27,80 @@ differ a b other same =
 
 -- the option at place k has the rule r and the parser q, and an id that no other argument of the command has
 pub record StandsAt (k : ℕ) (r : Rule) (q : ValueParser) : Type 0 where
-  pub here : k < 6
+  pub here : k < 8
   pub place : (e : Rule) → slice_index_or nfsd_rules k e ≡ r
   pub parser : r.parser ≡ Some q
   pub exact : r.ignore_case ≡ false
-  pub alone : (j : ℕ) (e : Rule) → j < 6 → bytes_eq (slice_index_or nfsd_rules j e).id r.id ≡ true → j ≡ k
+  pub alone : (j : ℕ) (e : Rule) → j < 8 → bytes_eq (slice_index_or nfsd_rules j e).id r.id ≡ true → j ≡ k
   pub named : bytes_eq r.id [] ≡ false
   pub no_help : bytes_eq r.id (codes "help") ≡ false
   pub no_version : bytes_eq r.id (codes "version") ≡ false
 
-bare_alone : (j : ℕ) (e : Rule) → j < 6 → bytes_eq (slice_index_or nfsd_rules j e).id (codes "bare") ≡ true → j ≡ 1
+bare_alone : (j : ℕ) (e : Rule) → j < 8 → bytes_eq (slice_index_or nfsd_rules j e).id (codes "bare") ≡ true → j ≡ 1
 bare_alone zero e lt same = cc
 bare_alone (suc zero) e lt same = refl
 bare_alone (suc (suc zero)) e lt same = cc
 bare_alone (suc (suc (suc zero))) e lt same = cc
 bare_alone (suc (suc (suc (suc zero)))) e lt same = cc
 bare_alone (suc (suc (suc (suc (suc zero))))) e lt same = cc
-bare_alone (suc (suc (suc (suc (suc (suc j)))))) e lt same = absurd (omega arith)
+bare_alone (suc (suc (suc (suc (suc (suc zero)))))) e lt same = cc
+bare_alone (suc (suc (suc (suc (suc (suc (suc zero))))))) e lt same = cc
+bare_alone (suc (suc (suc (suc (suc (suc (suc (suc j)))))))) e lt same = absurd (omega arith)
 
-port_alone : (j : ℕ) (e : Rule) → j < 6 → bytes_eq (slice_index_or nfsd_rules j e).id (codes "port") ≡ true → j ≡ 2
+port_alone : (j : ℕ) (e : Rule) → j < 8 → bytes_eq (slice_index_or nfsd_rules j e).id (codes "port") ≡ true → j ≡ 2
 port_alone zero e lt same = cc
 port_alone (suc zero) e lt same = cc
 port_alone (suc (suc zero)) e lt same = refl
 port_alone (suc (suc (suc zero))) e lt same = cc
 port_alone (suc (suc (suc (suc zero)))) e lt same = cc
 port_alone (suc (suc (suc (suc (suc zero))))) e lt same = cc
-port_alone (suc (suc (suc (suc (suc (suc j)))))) e lt same = absurd (omega arith)
+port_alone (suc (suc (suc (suc (suc (suc zero)))))) e lt same = cc
+port_alone (suc (suc (suc (suc (suc (suc (suc zero))))))) e lt same = cc
+port_alone (suc (suc (suc (suc (suc (suc (suc (suc j)))))))) e lt same = absurd (omega arith)
 
-connections_alone : (j : ℕ) (e : Rule) → j < 6 → bytes_eq (slice_index_or nfsd_rules j e).id (codes "connections") ≡ true → j ≡ 3
+connections_alone : (j : ℕ) (e : Rule) → j < 8 → bytes_eq (slice_index_or nfsd_rules j e).id (codes "connections") ≡ true → j ≡ 3
 connections_alone zero e lt same = cc
 connections_alone (suc zero) e lt same = cc
 connections_alone (suc (suc zero)) e lt same = cc
 connections_alone (suc (suc (suc zero))) e lt same = refl
 connections_alone (suc (suc (suc (suc zero)))) e lt same = cc
 connections_alone (suc (suc (suc (suc (suc zero))))) e lt same = cc
-connections_alone (suc (suc (suc (suc (suc (suc j)))))) e lt same = absurd (omega arith)
+connections_alone (suc (suc (suc (suc (suc (suc zero)))))) e lt same = cc
+connections_alone (suc (suc (suc (suc (suc (suc (suc zero))))))) e lt same = cc
+connections_alone (suc (suc (suc (suc (suc (suc (suc (suc j)))))))) e lt same = absurd (omega arith)
 
-concurrent_alone : (j : ℕ) (e : Rule) → j < 6 → bytes_eq (slice_index_or nfsd_rules j e).id (codes "concurrent") ≡ true → j ≡ 4
+concurrent_alone : (j : ℕ) (e : Rule) → j < 8 → bytes_eq (slice_index_or nfsd_rules j e).id (codes "concurrent") ≡ true → j ≡ 4
 concurrent_alone zero e lt same = cc
 concurrent_alone (suc zero) e lt same = cc
 concurrent_alone (suc (suc zero)) e lt same = cc
 concurrent_alone (suc (suc (suc zero))) e lt same = cc
 concurrent_alone (suc (suc (suc (suc zero)))) e lt same = refl
 concurrent_alone (suc (suc (suc (suc (suc zero))))) e lt same = cc
-concurrent_alone (suc (suc (suc (suc (suc (suc j)))))) e lt same = absurd (omega arith)
+concurrent_alone (suc (suc (suc (suc (suc (suc zero)))))) e lt same = cc
+concurrent_alone (suc (suc (suc (suc (suc (suc (suc zero))))))) e lt same = cc
+concurrent_alone (suc (suc (suc (suc (suc (suc (suc (suc j)))))))) e lt same = absurd (omega arith)
+
+stamped_alone : (j : ℕ) (e : Rule) → j < 8 → bytes_eq (slice_index_or nfsd_rules j e).id (codes "stamped") ≡ true → j ≡ 6
+stamped_alone zero e lt same = cc
+stamped_alone (suc zero) e lt same = cc
+stamped_alone (suc (suc zero)) e lt same = cc
+stamped_alone (suc (suc (suc zero))) e lt same = cc
+stamped_alone (suc (suc (suc (suc zero)))) e lt same = cc
+stamped_alone (suc (suc (suc (suc (suc zero))))) e lt same = cc
+stamped_alone (suc (suc (suc (suc (suc (suc zero)))))) e lt same = refl
+stamped_alone (suc (suc (suc (suc (suc (suc (suc zero))))))) e lt same = cc
+stamped_alone (suc (suc (suc (suc (suc (suc (suc (suc j)))))))) e lt same = absurd (omega arith)
+
+privileged_alone : (j : ℕ) (e : Rule) → j < 8 → bytes_eq (slice_index_or nfsd_rules j e).id (codes "privileged-ports") ≡ true → j ≡ 7
+privileged_alone zero e lt same = cc
+privileged_alone (suc zero) e lt same = cc
+privileged_alone (suc (suc zero)) e lt same = cc
+privileged_alone (suc (suc (suc zero))) e lt same = cc
+privileged_alone (suc (suc (suc (suc zero)))) e lt same = cc
+privileged_alone (suc (suc (suc (suc (suc zero))))) e lt same = cc
+privileged_alone (suc (suc (suc (suc (suc (suc zero)))))) e lt same = cc
+privileged_alone (suc (suc (suc (suc (suc (suc (suc zero))))))) e lt same = refl
+privileged_alone (suc (suc (suc (suc (suc (suc (suc (suc j)))))))) e lt same = absurd (omega arith)
 
 pub bare_stands : StandsAt 1 bare_rule vp.Bool
 bare_stands = record {
@@ -120,8 +150,32 @@ concurrent_stands = record {
   no_version = refl;
 }
 
-six : (c : Command) → app_of c ≡ nfsd → length (args_of c) ≡ 6
-six c is = sym (length-map (args_of c) rule_of) ∙ ap (λ (a : App). length a.top.rules) is
+pub stamped_stands : StandsAt 6 stamped_rule vp.Bool
+stamped_stands = record {
+  here = omega arith;
+  place = λ e. refl;
+  parser = refl;
+  exact = refl;
+  alone = stamped_alone;
+  named = refl;
+  no_help = refl;
+  no_version = refl;
+}
+
+pub privileged_stands : StandsAt 7 privileged_rule vp.Bool
+privileged_stands = record {
+  here = omega arith;
+  place = λ e. refl;
+  parser = refl;
+  exact = refl;
+  alone = privileged_alone;
+  named = refl;
+  no_help = refl;
+  no_version = refl;
+}
+
+eight : (c : Command) → app_of c ≡ nfsd → length (args_of c) ≡ 8
+eight c is = sym (length-map (args_of c) rule_of) ∙ ap (λ (a : App). length a.top.rules) is
 
 rule_at : (c : Command) → app_of c ≡ nfsd → (k : ℕ) (d : Arg) (e : Rule) → k < length (args_of c)
     → rule_of (slice_index_or (args_of c) k d) ≡ slice_index_or nfsd_rules k e
@@ -132,7 +186,7 @@ pub own_parser : (old : Command) (m : ArgMatches) (p : IsParsedFrom old m) → a
     → (j : ℕ) (x : Arg) → j < length (args_of p.built) → slice_index_or (args_of p.built) j x ≡ x → bytes_eq x.id.now r.id ≡ true
     → (parser_of x ≡ q) × (x.ignore_case ≡ false)
 own_parser old m p is k r q s j x lt at same =
-    let count = six old is in
+    let count = eight old is in
     let few = s.here in
     let here : k < length (args_of old) = omega arith in
     let mine : rule_of (slice_index_or (args_of old) k x) ≡ r = rule_at old is k x r here ∙ s.place r in

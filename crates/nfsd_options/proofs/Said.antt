@@ -1,6 +1,6 @@
 -- The options by the words that a command was matched with, and the errors of the words.
-use Rattle.std.proofs.Common.{◌≡◌, ◌∙◌, ◌<◌, ◌^◌, ◌&&◌, ap, ap₂, ℕ, Bool, true, false, List, [], ◌∷◌, Option, Some, None, is_some, refl, sym, subst, inl, inr, codes, unwrap_or}
-use Rattle.std.specs.Prelude.{Err, Result, option_map, pos, if◌then◌else◌}
+use Rattle.std.proofs.Common.{◌≡◌, ◌∙◌, ◌<◌, ◌^◌, ap, ℕ, Bool, true, false, List, [], ◌∷◌, Option, Some, None, is_some, refl, sym, subst, inl, inr, codes, unwrap_or}
+use Rattle.std.specs.Prelude.{Err, Result, option_map, option_to_list, pos}
 use Rattle.std.specs.Str.Parse.{ParsesUnsigned}
 use Rattle.clap.specs.Lexer.{without_minus}
 use Rattle.clap.specs.Built.{IsParsedFrom}
@@ -11,14 +11,14 @@ use Rattle.clap.specs.Words.{Rule, Text, app_of, fault_of, first_of, matches_of,
 use Rattle.clap.specs.declared.builder.command.Command.{Command}
 use Rattle.clap.specs.declared.builder.value_parser.ValueParser.TheVariants as vp
 use Rattle.clap.specs.declared.error.Error.{Error}
-use Rattle.clap.specs.declared.error.kind.ErrorKind.TheVariants.{ArgumentConflict}
+use Rattle.clap.specs.declared.error.kind.ErrorKind.{ErrorKind}
 use Rattle.clap.specs.declared.parser.matches.ArgMatches.{ArgMatches}
 use Rattle.clap.proofs.WalkLemmas.{first_value-rows}
-use Rattle.nfsd_options.specs.Given.{IsNumber, asks_for_both, given, is_set, kinds_of}
-use Rattle.nfsd_options.specs.Simple.{bare_rule, nfsd}
+use Rattle.nfsd_options.specs.Given.{IsNumber, given, is_set, kinds_of, mistake, mistake_in}
+use Rattle.nfsd_options.specs.Simple.{nfsd}
 use Rattle.nfsd_options.proofs.Answers.{flag_held, number_held, or_else-empty, or_else-first}
 use Rattle.nfsd_options.proofs.Numbers.{number_read}
-use Rattle.nfsd_options.proofs.Rules.{StandsAt, bare_stands}
+use Rattle.nfsd_options.proofs.Rules.{StandsAt}
 use Rattle.nfsd_options.proofs.Taken.{nothing_read, value_taken}
 
 module _ (old : Command) (m : ArgMatches) (parsed : IsParsedFrom old m) (is : app_of old ≡ nfsd) (words : List Text)
@@ -46,33 +46,31 @@ module _ (old : Command) (m : ArgMatches) (parsed : IsParsedFrom old m) (is : ap
       let taken = value_taken old m parsed is k r (vp.Signed (pos low) (pos high)) stands t (text_said r.id ∙ e) in
       (taken.0, number_read _ G bits low high t o (reads (without_minus t) taken.1) only fits taken.0))
 
-  -- whether the words have both options, by the values of the getters
-  pub both_said : {X : Type 0} (b : Bool) (f : X → Text) (o : Option X)
-      → (one_text (found_of m) (codes "bare") ≡ None → b ≡ false) → (one_text (found_of m) (codes "bare") ≡ Some (codes "true") → b ≡ true)
-      → (one_text (found_of m) (codes "bare") ≡ Some (codes "false") → b ≡ false) → option_map f o ≡ first_value (found_of m) (codes "trail")
-      → asks_for_both words ≡ (b && is_some o)
-  both_said {X = X} b f o none set unset file =
-      ap₂ (λ (x y : Bool). x && y) (sym (flag_said 1 bare_rule bare_stands b none set unset)) (sym (ap is_some (file ∙ text_said (codes "trail"))) ∙ some o)
+  -- the mistake of the words, by the values of the getters
+  pub mistake_said : {X : Type 0} (bare stamped ports : Bool) (f : X → Text) (o : Option X) → bare ≡ is_set (given (codes "bare") words)
+      → option_map f o ≡ first_value (found_of m) (codes "trail") → stamped ≡ is_set (given (codes "stamped") words)
+      → ports ≡ is_set (given (codes "privileged-ports") words) → mistake_in words ≡ mistake bare (is_some o) stamped ports
+  mistake_said {X = X} bare stamped ports f o is_bare file is_stamped is_privileged =
+      let trail : is_some o ≡ is_some (given (codes "trail") words) = sym (some o) ∙ ap is_some (file ∙ text_said (codes "trail")) in
+      rw is_bare (rw trail (rw is_stamped (rw is_privileged refl)))
     where
       some : (o : Option X) → is_some (option_map f o) ≡ is_some o
       some None = refl
       some (Some x) = refl
 
--- where the words have a reading, the kinds are the kind of the conflict or none
-pub kinds_said : (words : List Text) (both : Bool) → fault_of nfsd words ≡ [] → asks_for_both words ≡ both
-    → kinds_of words ≡ (if both then ArgumentConflict ∷ [] else [])
-kinds_said words both none is =
-    or_else-empty (fault_of nfsd words) (if asks_for_both words then ArgumentConflict ∷ [] else []) none
-    ∙ ap (λ (b : Bool). if b then ArgumentConflict ∷ [] else []) is
+-- where the words have a reading, the kinds are the kind of the mistake or none
+pub kinds_said : (words : List Text) (kind : Option ErrorKind) → fault_of nfsd words ≡ [] → mistake_in words ≡ kind
+    → kinds_of words ≡ option_to_list kind
+kinds_said words kind none is = or_else-empty (fault_of nfsd words) (option_to_list (mistake_in words)) none ∙ ap option_to_list is
 
 -- an error of `clap`'s reading is an error of the words
 pub fails_so : {T : Type 0} (words : List Text) (r : Result T Error) (e : Error) → r ≡ Err e → HasKind (fault_of nfsd words) e
     → FailsBy (kinds_of words) r
 fails_so {T = T} words r e is has =
     subst (λ (x : Result T Error). FailsBy (kinds_of words) x) (sym is)
-    (or_else-first (fault_of nfsd words) (if asks_for_both words then ArgumentConflict ∷ [] else []) e has)
+    (or_else-first (fault_of nfsd words) (option_to_list (mistake_in words)) e has)
 
--- the error of the conflict is an error of the words
-pub conflicts_so : (words : List Text) (e : Error) → kinds_of words ≡ ArgumentConflict ∷ [] → kind_of e ≡ ArgumentConflict
+-- the error of a mistake is an error of the words
+pub mistaken_so : (words : List Text) (e : Error) (kind : ErrorKind) → kinds_of words ≡ kind ∷ [] → kind_of e ≡ kind
     → HasKind (kinds_of words) e
-conflicts_so words e are is = subst (λ kinds. HasKind kinds e) (sym are) (inr (inl is))
+mistaken_so words e kind are is = subst (λ kinds. HasKind kinds e) (sym are) (inr (inl is))

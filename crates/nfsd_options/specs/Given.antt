@@ -1,10 +1,11 @@
 -- The words of `nfsd`: the files, the flags and the numbers that `clap`'s reading gives for them.
-use Rattle.std.specs.Prelude.{◌≡◌, ◌&&◌, ℕ, Bool, false, List, [], ◌∷◌, Option, Some, None, codes, if◌then◌else◌, is_some, option_map, pos}
+use Rattle.std.specs.Prelude.{◌≡◌, ◌&&◌, ◌||◌, ℕ, Bool, false, not, List, Option, Some, None, codes, if◌then◌else◌, is_some, option_map, option_to_list, pos}
 use Rattle.std.specs.Str.{bytes_eq}
 use Rattle.std.specs.Str.Parse.{signed_digits_value}
 use Rattle.clap.specs.Kinds.{Kinds, or_else}
 use Rattle.clap.specs.Words.{IsSignedIn, Text, fault_of, first_of, matches_of}
-use Rattle.clap.specs.declared.error.kind.ErrorKind.TheVariants.{ArgumentConflict}
+use Rattle.clap.specs.declared.error.kind.ErrorKind.{ErrorKind}
+use Rattle.clap.specs.declared.error.kind.ErrorKind.TheVariants.{ArgumentConflict, MissingRequiredArgument}
 use Rattle.nfsd_options.specs.Simple.{nfsd}
 use Rattle.nfsd_options.specs.declared.options.Options.{Options}
 
@@ -34,11 +35,23 @@ pub record OptionsOf (words : List Text) (o : Options) : Type 0 where
   pub connections : IsNumber (connections_unsaid o.concurrent) 0 4294967295 (given (codes "connections") words) o.connections
   pub concurrent : o.concurrent ≡ is_set (given (codes "concurrent") words)
   pub trail : option_map (λ file. file.now) o.trail ≡ given (codes "trail") words
+  pub stamped : o.stamped ≡ is_set (given (codes "stamped") words)
+  pub privileged_ports : o.privileged_ports ≡ is_set (given (codes "privileged-ports") words)
 
--- both options: the sample tree, whose trail goes to no file, and a file of the trail
-abbrev pub asks_for_both : List Text → Bool
-asks_for_both words = is_set (given (codes "bare") words) && is_some (given (codes "trail") words)
+-- Options that can't be given together, by whether each of them is given: the sample tree has no file of the trail and no ports; and
+-- the lines of a trail that goes to no file have no moments.
+abbrev pub mistake : Bool → Bool → Bool → Bool → Option ErrorKind
+mistake bare trail stamped privileged_ports =
+    if bare && (trail || privileged_ports) then Some ArgumentConflict
+    else if stamped && not trail then Some MissingRequiredArgument
+    else None
 
--- the kinds of the errors that the words may have: those of `clap`'s reading, and else the kind of a conflict of two options
+-- the mistake of the words, if they have one
+abbrev pub mistake_in : List Text → Option ErrorKind
+mistake_in words =
+    mistake (is_set (given (codes "bare") words)) (is_some (given (codes "trail") words)) (is_set (given (codes "stamped") words))
+    (is_set (given (codes "privileged-ports") words))
+
+-- the kinds of the errors that the words may have: those of `clap`'s reading, and else the kind of their mistake
 abbrev pub kinds_of : List Text → Kinds
-kinds_of words = or_else (fault_of nfsd words) (if asks_for_both words then ArgumentConflict ∷ [] else [])
+kinds_of words = or_else (fault_of nfsd words) (option_to_list (mistake_in words))

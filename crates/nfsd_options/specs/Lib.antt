@@ -1,2 +1,3 @@
 pub mod Simple
 pub mod Given
+pub mod Mistakes

@@ -1,4 +1,5 @@
--- The command of `nfsd`, `nfsd [--book FILE] [--bare] [--port N] [--connections N] [--concurrent] [--trail FILE]`, as `clap` sees a simple command.
+-- The command of `nfsd` as `clap` sees a simple command:
+-- `nfsd [--book FILE] [--bare] [--port N] [--connections N] [--concurrent] [--trail FILE] [--stamped] [--privileged-ports]`.
 use Rattle.std.specs.Prelude.{codes, Some, pos}
 use Rattle.clap.specs.Words.{App, Rule, Text, new_app, new_rule, with_rule}
 use Rattle.clap.specs.declared.builder.action.ArgAction.TheVariants.{SetTrue}
@@ -39,8 +40,17 @@ concurrent_rule = flag_rule (codes "concurrent")
 abbrev pub trail_rule : Rule
 trail_rule = file_rule (codes "trail")
 
+-- `--stamped`
+abbrev pub stamped_rule : Rule
+stamped_rule = flag_rule (codes "stamped")
+
+-- `--privileged-ports`
+abbrev pub privileged_rule : Rule
+privileged_rule = flag_rule (codes "privileged-ports")
+
 abbrev pub nfsd : App
 nfsd =
     let front = with_rule (with_rule (new_app (codes "nfsd")) book_rule) bare_rule in
     let numbers = with_rule (with_rule front port_rule) connections_rule in
-    with_rule (with_rule numbers concurrent_rule) trail_rule
+    let serving = with_rule (with_rule numbers concurrent_rule) trail_rule in
+    with_rule (with_rule serving stamped_rule) privileged_rule

@@ -1,7 +1,7 @@
 //! The command of `nfsd`, with its help.
 ghost use Rattle.std.specs.Prelude.{◌≡◌, IfOk, false};
 ghost use Rattle.clap.specs.Words.{app_of, rule_of};
-ghost use Rattle.nfsd_options.specs.Simple.{bare_rule, book_rule, concurrent_rule, connections_rule, file_rule, flag_rule, nfsd, port_rule, trail_rule};
+ghost use Rattle.nfsd_options.specs.Simple.{bare_rule, book_rule, concurrent_rule, connections_rule, file_rule, flag_rule, nfsd, port_rule, privileged_rule, stamped_rule, trail_rule};
 
 use clap::{Arg, ArgAction, Command, value_parser};
 use std::alloc::{AllocError, Global};
@@ -30,8 +30,13 @@ Without a book there are no names, the domain is 'localdomain', and the root bel
 
 With 'members' a user is in the groups whose array names it, at most 17, and in no others; without it, in those that its calls say.
 
-Where the file of the book changes, it is loaded anew: before the next call with --concurrent or --trail, else before the next connection.
-Where it can't be read or isn't a book then, a line on standard error says so, and the book before stays.
+Where the file of the book changes, it is loaded anew: with the next call where another file was moved into its place, else once the file
+hasn't changed for two seconds. Where it can't be read or isn't a book, or has no 'members' while the book before has them, a line on
+standard error says so, and the book before stays.
+
+Nobody overrides a list, root neither: an object whose list grants nobody to change it (WRITE_ACL) is locked, for its owner too, as long
+as the server runs. Sticky, setuid and setgid bits are kept and shown, and have no effect. A change of the mode cuts the entries of named
+users and groups: those that allow keep no right to read, write or execute that the group's bits lack.
 
 For example, two connections on port 12049:
 
@@ -53,7 +58,9 @@ pub(crate) fn command<'a>(alloc: Global) -> Result<Command<'a>, AllocError>
         .arg(port(alloc))?
         .arg(connections(alloc))?
         .arg(concurrent(alloc))?
-        .arg(trail(alloc))?;
+        .arg(trail(alloc))?
+        .arg(stamped(alloc))?
+        .arg(privileged_ports(alloc))?;
     Ok(command)
 }
 
@@ -132,5 +139,25 @@ fn trail<'a>(alloc: Global) -> Arg<'a>
         alloc,
         "trail",
         "Appends the lines of the audit trail to this file, before the replies go out; not with --bare",
+    )
+}
+
+fn stamped<'a>(alloc: Global) -> Arg<'a>
+    ensures { (rule_of result ≡ stamped_rule) × (result.global ≡ false) }
+{
+    flag(
+        alloc,
+        "stamped",
+        "Begins each line of the trail's file with its moment, in UTC, and writes a line START at each start; only with --trail",
+    )
+}
+
+fn privileged_ports<'a>(alloc: Global) -> Arg<'a>
+    ensures { (rule_of result ≡ privileged_rule) × (result.global ≡ false) }
+{
+    flag(
+        alloc,
+        "privileged-ports",
+        "Closes each connection from a port of 1024 or above, before anything is read of it; not with --bare",
     )
 }

@@ -1,7 +1,8 @@
-//! The words of `nfsd`: `nfsd [--book FILE] [--bare] [--port N] [--connections N] [--concurrent] [--trail FILE]`.
+//! The words of `nfsd`: `nfsd [--book FILE] [--bare] [--port N] [--connections N] [--concurrent] [--trail FILE] [--stamped] [--privileged-ports]`.
 #![tactic(auto)]
 
 mod command;
+mod mistake;
 mod options;
 
 pub use options::Options;

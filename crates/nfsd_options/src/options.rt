@@ -1,13 +1,12 @@
 //! The options of the words of `nfsd`.
-ghost use Rattle.std.specs.Prelude.{◌≡◌, ◌&&◌, IfOk, is_some, map};
-ghost use Rattle.clap.specs.Words.{FailsBy, kind_of};
-ghost use Rattle.clap.specs.declared.error.kind.ErrorKind.TheVariants.{ArgumentConflict};
+ghost use Rattle.std.specs.Prelude.{◌≡◌, IfOk, map};
+ghost use Rattle.clap.specs.Words.{FailsBy};
 ghost use Rattle.nfsd_options.specs.Given.{OptionsOf, connections_unsaid, kinds_of};
 
 use crate::command::command;
+use crate::mistake::Mistake;
 use clap::Error;
-use clap::error::ErrorKind;
-use std::alloc::{AllocError, Global};
+use std::alloc::Global;
 use std::convert::AsStr;
 
 /// The port, where the words name none.
@@ -18,10 +17,6 @@ const CONNECTIONS: u32 = 1;
 
 /// How many connections are served where the words have no number, several at a time.
 const CONCURRENT_CONNECTIONS: u32 = 4_294_967_295;
-
-/// The text for the conflict of `--bare` and `--trail`.
-const CONFLICT: &str =
-    "the argument '--trail <FILE>' cannot be used with '--bare', whose trail goes to no file";
 
 /// The options of the words of `nfsd`.
 #[derive(Clone, Copy, Debug, PartialEq, Eq)]
@@ -38,6 +33,10 @@ pub struct Options<'a> {
     pub concurrent: bool,
     /// The file to which the lines of the trail are appended.
     pub trail: Option<&'a str>,
+    /// Whether each line in the trail's file begins with its moment.
+    pub stamped: bool,
+    /// Whether connections are served only from ports below 1024.
+    pub privileged_ports: bool,
 }
 
 /// How many connections are served where the words have no number.
@@ -51,24 +50,11 @@ fn connections_of(concurrent: bool) -> u32
     }
 }
 
-/// Whether `--bare` and `--trail` are given together.
-fn are_both(bare: bool, trail: Option<&str>) -> bool
-    ensures { result ≡ (bare && is_some trail.entry) }
-{
-    bare && trail.is_some()
-}
-
-/// The error of `--bare` and `--trail` together.
-fn conflict(alloc: Global) -> Result<Error, AllocError>
-    ensures { IfOk result (λ e. kind_of e ≡ ArgumentConflict) }
-{
-    command(alloc)?.error(ErrorKind::ArgumentConflict, CONFLICT)
-}
-
 impl<'a> Options<'a> {
     /// Reads the words, of which the first is the program's name, as in `env::args`.
     ///
-    /// An error is `clap`'s own: a mistake in the words, a call for help, `--bare` and `--trail` together, or want of memory. Its `Display` is the text for the user.
+    /// An error is `clap`'s own: a mistake in the words, a call for help, options that can't be given together (`--bare` with `--trail`
+    /// or `--privileged-ports`, `--stamped` without `--trail`), or want of memory. Its `Display` is the text for the user.
     pub fn read<S: AsStr>(alloc: Global, words: &'a [S]) -> Result<Options<'a>, Error>
         ensures said { IfOk result (OptionsOf (map S.text words.entry.now)) }
         ensures refused { FailsBy (kinds_of (map S.text words.entry.now)) result }
@@ -78,8 +64,10 @@ impl<'a> Options<'a> {
         let concurrent = matches.get_flag("concurrent");
         let unsaid = connections_of(concurrent);
         let trail = matches.get_str("trail");
-        if are_both(bare, trail) {
-            return Err(conflict(alloc)?);
+        let stamped = matches.get_flag("stamped");
+        let privileged_ports = matches.get_flag("privileged-ports");
+        if let Some(mistake) = Mistake::of(bare, trail, stamped, privileged_ports) {
+            return Err(mistake.error(alloc)?);
         }
         Ok(Options {
             book: matches.get_str("book"),
@@ -88,6 +76,8 @@ impl<'a> Options<'a> {
             connections: matches.get_one::<u32>("connections").unwrap_or(unsaid),
             concurrent,
             trail,
+            stamped,
+            privileged_ports,
         })
     }
 }

@@ -8,7 +8,7 @@ use Rattle.trail_keeper.specs.Appended.{lost_lines, lost_text, new_lines, text_o
 use Rattle.trail_keeper.specs.Told.{SettlingAdds, TellsEach}
 
 pub tells_each : TellsEach
-tells_each earlier later log is =
+tells_each front earlier later log is =
     let all = earlier ++ later in
     let both : length all ≡ length earlier + length later = length-append earlier later in
     let counted : log.total ≡ length all = is.counted in
@@ -21,9 +21,9 @@ tells_each earlier later log is =
     ∙ drop-drop (length log.trail - (log.total - length earlier)) (length all - 4096) all
     ∙ ap (λ (n : ℕ). drop n all) (omega (arith, at))
     ∙ drop-append-add earlier later missing in
-    ap₂ (λ (n : ℕ) (l : List Line). lost_text n ++ text_of l) lost lines
+    ap₂ (λ (n : ℕ) (l : List Line). lost_text front n ++ text_of front l) lost lines
 
--- the last of the last of some items and of others behind them
+-- the last of the last of some items and of others after them
 last_again : {X : Type 0} (n : ℕ) (xs ys : List X) → keep_last n (keep_last n xs ++ ys) ≡ keep_last n (xs ++ ys)
 last_again n xs ys =
     let a = length xs - n in

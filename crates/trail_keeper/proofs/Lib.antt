@@ -1,3 +1,4 @@
 pub mod Lines
 pub mod Kept
 mod Once
+pub mod Dates

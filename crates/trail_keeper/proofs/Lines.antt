@@ -1,7 +1,7 @@
 -- Writing in pieces, one behind the other.
-use Rattle.std.proofs.Common.{◌≡◌, ◌+◌, drop, take, Bor, ℕ, List, [], ◌∷◌, ◌++◌, ◌<◌, length, ◌-◌, replicate, suc, arith, Option, Some, None, Result, Ok, Err, sym, ap, ◌∙◌, append_assoc}
-use Rattle.std.proofs.lemmas.List.{append-nil, drop-drop, drop-replicate, take-append-drop}
-use Rattle.std.proofs.Math.Seq.{take-add, take-append-add}
+use Rattle.std.proofs.Common.{◌≡◌, ◌+◌, drop, take, Bor, ℕ, List, [], ◌∷◌, ◌++◌, Option, Some, None, Result, Ok, Err, sym, ap, ◌∙◌, append_assoc}
+use Rattle.std.proofs.lemmas.List.{append-nil, drop-drop, take-append-drop}
+use Rattle.std.proofs.Math.Seq.{take-add}
 use Rattle.std.specs.Map.Iter.{TakesFirst, deref}
 use Rattle.std.specs.Io.KnownBytes.{Appends, Keeps}
 use Rattle.access_guard.specs.declared.line.Line.{Line}
@@ -61,19 +61,11 @@ then_more (Err e) a b c bs cs p q = front_behind a b c bs cs p q
 
 -- ---- lines
 
--- a text at the front of enough newlines, and one of them
-pub newline_behind : (text : List ℕ) (most : ℕ) → length text < most → take (length text + 1) (text ++ drop (length text) (replicate most 10)) ≡ text ++ 10 ∷ []
-newline_behind text most short =
-    let more : most - length text ≡ suc (most - length text - 1) = omega arith in
-    take-append-add text (drop (length text) (replicate most 10)) 1
-    ∙ ap (λ (l : List ℕ). text ++ take 1 l) (drop-replicate (length text) most 10)
-    ∙ ap (λ (n : ℕ). text ++ take 1 (replicate n 10)) more
-
 -- the lines so far, and those that are left
-pub lines_step : (all left left' : List Line) (line : Line) (written : List ℕ) → text_of all ≡ written ++ text_of left → left ≡ line ∷ left'
-    → text_of all ≡ (written ++ line_bytes line) ++ text_of left'
-lines_step all left left' line written so_far first =
-    so_far ∙ ap (λ (l : List Line). written ++ text_of l) first ∙ sym (append_assoc written (line_bytes line) (text_of left'))
+pub lines_step : (front : List ℕ) (all left left' : List Line) (line : Line) (written : List ℕ) → text_of front all ≡ written ++ text_of front left
+    → left ≡ line ∷ left' → text_of front all ≡ (written ++ line_bytes front line) ++ text_of front left'
+lines_step front all left left' line written so_far first =
+    so_far ∙ ap (λ (l : List Line). written ++ text_of front l) first ∙ sym (append_assoc written (line_bytes front line) (text_of front left'))
 
 next_is : (s t : List Line) (r : Option (Bor Line)) → TakesFirst (deref {X = Line}) s r t → t ≡ drop 1 s
 next_is s t None q = q.1 ∙ sym (ap (drop 1) q.0)

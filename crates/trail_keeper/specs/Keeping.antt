@@ -1,4 +1,4 @@
--- The lines of a trail, as a keeper appends them.
+-- The lines of a trail, as a keeper appends them, each with the same bytes in front.
 use Rattle.std.specs.Prelude.{◌≡◌, ℕ, ◌-◌, Bool, true, false, List, ◌++◌, length, drop, Option, max}
 use Rattle.std.specs.Io.KnownBytes.{Appends}
 use Rattle.access_guard.specs.Log.{Log}
@@ -8,29 +8,42 @@ use Rattle.trail_keeper.specs.Told.{IsLogOf}
 use Rattle.trail_keeper.specs.Written.{WritesFront}
 use Rattle.trail_keeper.specs.declared.keeper.TrailKeeper.{TrailKeeper}
 
--- The lines behind the seen ones are appended to the bytes of the writer, and are seen.
-pub record Kept {W : Type 0} (contents : W → Option (List ℕ)) (log : Log) (old new : TrailKeeper W) : Type 0 where
-  pub written : Appends (contents old.out) (contents new.out) (new_text old.seen log)
+-- The lines after the seen ones are appended to the bytes of the writer, and are seen.
+pub record Kept {W : Type 0} (contents : W → Option (List ℕ)) (front : List ℕ) (log : Log) (old new : TrailKeeper W) : Type 0 where
+  pub written : Appends (contents old.out) (contents new.out) (new_text front old.seen log)
   pub seen : new.seen ≡ max old.seen log.total
   pub going : new.has_failed ≡ false
 
--- The writer failed behind a front of these lines, and none of them is seen.
-pub record Stops {W : Type 0} (contents : W → Option (List ℕ)) (log : Log) (old new : TrailKeeper W) : Type 0 where
-  pub front : WritesFront (contents old.out) (contents new.out) (new_text old.seen log)
+-- The writer failed after a front of these bytes, and no line more is seen.
+pub record Stops {W : Type 0} (contents : W → Option (List ℕ)) (bytes : List ℕ) (old new : TrailKeeper W) : Type 0 where
+  pub front : WritesFront (contents old.out) (contents new.out) bytes
   pub unseen : new.seen ≡ old.seen
   pub failed : new.has_failed ≡ true
 
 -- By whether the keeper had failed before, and its answer now. A keeper that has failed answers so again, and stays unchanged.
-abbrev pub KeepsSo : {W : Type 0} → (W → Option (List ℕ)) → Log → Bool → Bool → TrailKeeper W → TrailKeeper W → Type 0
-KeepsSo contents log true true old new = ⊥
-KeepsSo contents log true false old new = new ≡ old
-KeepsSo contents log false true old new = Kept contents log old new
-KeepsSo contents log false false old new = Stops contents log old new
+abbrev pub KeepsSo : {W : Type 0} → (W → Option (List ℕ)) → List ℕ → Log → Bool → Bool → TrailKeeper W → TrailKeeper W → Type 0
+KeepsSo contents front log true true old new = ⊥
+KeepsSo contents front log true false old new = new ≡ old
+KeepsSo contents front log false true old new = Kept contents front log old new
+KeepsSo contents front log false false old new = Stops contents (new_text front old.seen log) old new
+
+-- Bytes that are no lines of the trail are appended, and no line more is seen.
+pub record Added {W : Type 0} (contents : W → Option (List ℕ)) (bytes : List ℕ) (old new : TrailKeeper W) : Type 0 where
+  pub written : Appends (contents old.out) (contents new.out) bytes
+  pub unseen : new.seen ≡ old.seen
+  pub going : new.has_failed ≡ false
+
+-- The same for such bytes.
+abbrev pub AddsSo : {W : Type 0} → (W → Option (List ℕ)) → List ℕ → Bool → Bool → TrailKeeper W → TrailKeeper W → Type 0
+AddsSo contents bytes true true old new = ⊥
+AddsSo contents bytes true false old new = new ≡ old
+AddsSo contents bytes false true old new = Added contents bytes old new
+AddsSo contents bytes false false old new = Stops contents bytes old new
 
 -- Where all earlier lines were seen, and no others, the later lines are told, and all lines are seen.
 abbrev pub KeptOnce : {W : Type 0} → (W → Option (List ℕ)) → Type 0
 KeptOnce {W = W} contents =
-    (earlier later : List Line) (log : Log) (old new : TrailKeeper W)
-    → IsLogOf (earlier ++ later) log → old.seen ≡ length earlier → Kept contents log old new
+    (front : List ℕ) (earlier later : List Line) (log : Log) (old new : TrailKeeper W)
+    → IsLogOf (earlier ++ later) log → old.seen ≡ length earlier → Kept contents front log old new
     → let missing = length later - 4096 in
-    Appends (contents old.out) (contents new.out) (lost_text missing ++ text_of (drop missing later)) × (new.seen ≡ length (earlier ++ later))
+    Appends (contents old.out) (contents new.out) (lost_text front missing ++ text_of front (drop missing later)) × (new.seen ≡ length (earlier ++ later))

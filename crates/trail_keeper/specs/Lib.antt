@@ -2,3 +2,4 @@ pub mod Appended
 pub mod Written
 pub mod Told
 pub mod Keeping
+pub mod Dates

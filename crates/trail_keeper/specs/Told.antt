@@ -1,5 +1,5 @@
 -- The lines that are appended, of all that were ever put into a trail.
-use Rattle.std.specs.Prelude.{◌≡◌, ◌<◌, ◌+◌, ◌-◌, ◌^◌, true, List, ◌++◌, length, drop}
+use Rattle.std.specs.Prelude.{◌≡◌, ◌<◌, ◌+◌, ℕ, ◌-◌, ◌^◌, true, List, ◌++◌, length, drop}
 use Rattle.circular_buffer.specs.Buffer.{keep_last}
 use Rattle.access_guard.specs.Log.{Log, settled}
 use Rattle.access_guard.specs.declared.line.Line.{Line}
@@ -10,14 +10,15 @@ pub record IsLogOf (lines : List Line) (log : Log) : Type 0 where
   pub kept : log.trail ≡ keep_last 4096 lines
   pub counted : log.total ≡ length lines
 
--- Each line behind the earlier ones is appended: by its text, in order, or, of more than 4,096, as one of so many that are
+-- Each line after the earlier ones is appended: by its text, in order, or, of more than 4,096, as one of those that are
 -- missing, whose number comes first.
 abbrev pub TellsEach : Type 0
 TellsEach =
-    (earlier later : List Line) (log : Log) → IsLogOf (earlier ++ later) log
-    → let missing = length later - 4096 in new_text (length earlier) log ≡ lost_text missing ++ text_of (drop missing later)
+    (front : List ℕ) (earlier later : List Line) (log : Log) → IsLogOf (earlier ++ later) log
+    → let missing = length later - 4096 in
+    new_text front (length earlier) log ≡ lost_text front missing ++ text_of front (drop missing later)
 
--- an operation that ends puts its lines behind the others, as long as 64 bits count them
+-- an operation that ends puts its lines after the others, as long as 64 bits count them
 abbrev pub SettlingAdds : Type 0
 SettlingAdds =
     (lines : List Line) (log : Log) → IsLogOf lines log → length lines + length log.held < 2 ^ 64 → IsLogOf (lines ++ log.held) (settled true log)

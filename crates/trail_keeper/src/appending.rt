@@ -1,9 +1,10 @@
 //! Appending the new lines of a trail.
-ghost use Rattle.std.specs.Prelude.{◌≡◌, drop, IfOk};
-ghost use Rattle.trail_keeper.specs.Appended.{line_bytes, lost_text, new_text, text_of};
+ghost use Rattle.std.specs.Prelude.{◌≡◌, ◌≤◌, [], length, drop, IfOk};
+ghost use Rattle.trail_keeper.specs.Appended.{line_bytes, line_end, lost_text, new_text, start_text, text_of};
 ghost use Rattle.trail_keeper.specs.Written.{WriteGives};
 
-use access_guard::{Guard, Line, MOST_TEXT, write_line};
+use crate::piece::{MOST_FRONT, Piece};
+use access_guard::{Guard, Line, write_line};
 use circular_buffer::Iter;
 use itoa::Buffer;
 use std::alloc::Allocator;
@@ -25,40 +26,68 @@ fn write_out<W: Write>(out: &mut W, bytes: &[u8]) -> io::Result<()>
     Ok(())
 }
 
-/// Appends a line with its newline, as one piece.
-fn append_line<W: Write>(line: &Line, out: &mut W) -> io::Result<()>
-    ensures { WriteGives (W.contents out.old) (W.contents out.new) (line_bytes line.now) result }
+/// Appends a line with some bytes in front and its newline, as one piece.
+fn append_line<W: Write>(front: &[u8], line: &Line, out: &mut W) -> io::Result<()>
+    requires { length front.now ≤ MOST_FRONT }
+    ensures { WriteGives (W.contents out.old) (W.contents out.new) (line_bytes front.now line.now) result }
 {
-    let text = write_line(line);
-    let len = text.as_bytes().len();
-    let mut bytes = [b'\n'; MOST_TEXT + 1];
-    bytes[..len].copy_from_slice(text.as_bytes());
-    write_out(out, &bytes[..len + 1])
+    let mut piece = Piece::new();
+    piece.push(front);
+    piece.push(write_line(line).as_bytes());
+    piece.end();
+    write_out(out, piece.as_bytes())
 }
 
 /// Appends lines in their order.
-fn append_lines<W: Write>(lines: Iter<'_, Line>, out: &mut W) -> io::Result<()>
-    ensures { WriteGives (W.contents out.old) (W.contents out.new) (text_of lines.entry) result }
+fn append_lines<W: Write>(front: &[u8], lines: Iter<'_, Line>, out: &mut W) -> io::Result<()>
+    requires { length front.now ≤ MOST_FRONT }
+    ensures { WriteGives (W.contents out.old) (W.contents out.new) (text_of front.now lines.entry) result }
 {
     for line in lines {
-        append_line(line, out)?;
+        append_line(front, line, out)?;
     }
     Ok(())
 }
 
 /// Appends the number of missing lines, if any are.
-fn append_lost<W: Write>(count: u64, out: &mut W) -> io::Result<()>
-    ensures { WriteGives (W.contents out.old) (W.contents out.new) (lost_text count) result }
+fn append_lost<W: Write>(front: &[u8], count: u64, out: &mut W) -> io::Result<()>
+    requires { length front.now ≤ MOST_FRONT }
+    ensures { WriteGives (W.contents out.old) (W.contents out.new) (lost_text front.now count) result }
 {
     if count == 0 {
         return Ok(());
     }
-    write_out(out, b"LOST lines=")?;
-    write_out(out, Buffer::new().format(count).as_bytes())?;
-    write_out(out, b"\n")
+    let mut piece = Piece::new();
+    piece.push(front);
+    piece.push(b"LOST lines=");
+    piece.push(Buffer::new().format(count).as_bytes());
+    piece.end();
+    write_out(out, piece.as_bytes())
 }
 
-/// The lines of a trail behind the first so many that it keeps.
+/// Appends the line of a start.
+pub(crate) fn append_start<W: Write>(front: &[u8], out: &mut W) -> io::Result<()>
+    requires { length front.now ≤ MOST_FRONT }
+    ensures { WriteGives (W.contents out.old) (W.contents out.new) (start_text front.now) result }
+{
+    let mut piece = Piece::new();
+    piece.push(front);
+    piece.push(b"START");
+    piece.end();
+    write_out(out, piece.as_bytes())
+}
+
+/// Appends the end of the line that the last byte leaves open, if it does.
+pub(crate) fn append_line_end<W: Write>(last: Option<u8>, out: &mut W) -> io::Result<()>
+    ensures { WriteGives (W.contents out.old) (W.contents out.new) (line_end last) result }
+{
+    match last {
+        None | Some(b'\n') => Ok(()),
+        Some(_) => write_out(out, b"\n"),
+    }
+}
+
+/// The lines of a trail after the first ones that it keeps, `count` of them.
 fn behind<A: Allocator + Copy>(guard: &Guard<A>, count: u64) -> Iter<'_, Line>
     ensures { result ≡ drop count guard.now.log.trail }
 {
@@ -69,7 +98,7 @@ fn behind<A: Allocator + Copy>(guard: &Guard<A>, count: u64) -> Iter<'_, Line>
     lines
 }
 
-/// Appends the lines of the trail behind the first `seen` that there ever were, in their order, each with a newline (its text is
+/// Appends the lines of the trail after the first `seen` that there ever were, in their order, each with a newline (its text is
 /// that of [`write_line`]). Where the trail, which keeps its last 4,096 lines, no longer keeps some of them, `LOST lines=N` comes
 /// first, with their number in decimal digits.
 ///
@@ -81,12 +110,26 @@ pub fn append_new<A: Allocator + Copy, W: Write>(
     out: &mut W,
 ) -> io::Result<u64>
     ensures total { IfOk result (λ n. n ≡ guard.now.log.total) }
-    ensures written { WriteGives (W.contents out.old) (W.contents out.new) (new_text seen guard.now.log) result }
+    ensures written { WriteGives (W.contents out.old) (W.contents out.new) (new_text [] seen guard.now.log) result }
+{
+    append_new_after(guard, seen, &[], out)
+}
+
+/// As [`append_new`], with the same bytes in front of each line, at most 32.
+pub fn append_new_after<A: Allocator + Copy, W: Write>(
+    guard: &Guard<A>,
+    seen: u64,
+    front: &[u8],
+    out: &mut W,
+) -> io::Result<u64>
+    requires { length front.now ≤ MOST_FRONT }
+    ensures total { IfOk result (λ n. n ≡ guard.now.log.total) }
+    ensures written { WriteGives (W.contents out.old) (W.contents out.new) (new_text front.now seen guard.now.log) result }
 {
     let total = guard.total();
     let new = total.saturating_sub(seen);
     let kept = guard.trail().len() as u64;
-    append_lost(new.saturating_sub(kept), out)?;
-    append_lines(behind(guard, kept.saturating_sub(new)), out)?;
+    append_lost(front, new.saturating_sub(kept), out)?;
+    append_lines(front, behind(guard, kept.saturating_sub(new)), out)?;
     Ok(total)
 }

@@ -2,9 +2,15 @@
 #![tactic(auto)]
 
 mod appending;
+mod date;
 mod keeper;
 mod laws;
+mod moment;
+mod piece;
 
-pub use appending::append_new;
+pub use appending::{append_new, append_new_after};
+pub use date::Date;
 pub use keeper::TrailKeeper;
 pub use laws::{each_line_is_kept_once, each_line_is_told, settling_adds_lines};
+pub use moment::moment_text;
+pub use piece::MOST_FRONT;

@@ -12,4 +12,6 @@ returns c =
     let third = c.in_ok-arg-3.ensures.shape c.port.ensures.1 ∙ ap₂ with_rule second c.port.ensures.0 in
     let fourth = c.in_ok-arg-4.ensures.shape c.connections.ensures.1 ∙ ap₂ with_rule third c.connections.ensures.0 in
     let fifth = c.in_ok-arg-5.ensures.shape c.concurrent.ensures.1 ∙ ap₂ with_rule fourth c.concurrent.ensures.0 in
-    c.in_ok-command.ensures.shape c.trail.ensures.1 ∙ ap₂ with_rule fifth c.trail.ensures.0
+    let sixth = c.in_ok-arg-6.ensures.shape c.trail.ensures.1 ∙ ap₂ with_rule fifth c.trail.ensures.0 in
+    let seventh = c.in_ok-arg-7.ensures.shape c.stamped.ensures.1 ∙ ap₂ with_rule sixth c.stamped.ensures.0 in
+    c.in_ok-command.ensures.shape c.privileged_ports.ensures.1 ∙ ap₂ with_rule seventh c.privileged_ports.ensures.0

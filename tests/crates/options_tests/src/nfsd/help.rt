@@ -25,7 +25,7 @@ fn between<'a>(text: &'a str, front: &str, back: &str) -> Option<&'a str> {
 }
 
 /// Texts of help: the files that are served, the address, the options with their ranges and defaults, and an example.
-static TEXTS: [&str; 21] = [
+static TEXTS: [&str; 26] = [
     "NFS version 4.1",
     "access control lists",
     "127.0.0.1",
@@ -45,6 +45,11 @@ static TEXTS: [&str; 21] = [
     "in the groups whose array names it, at most 17, and in no others",
     "Where the file of the book changes, it is loaded anew",
     "and the book before stays",
+    "hasn't changed for two seconds",
+    "--stamped ",
+    "--privileged-ports ",
+    "Nobody overrides a list, root neither",
+    "Sticky, setuid and setgid bits are kept and shown, and have no effect.",
     "nfsd --book names.toml --port 12049 --connections 2\n",
     "nfsd --concurrent --trail trail.txt\n",
 ];
@@ -84,5 +89,15 @@ For more information, try '--help'.
 fn conflict_is_told(rt: HostRuntime) -> Result<(), Fail> {
     let text = told(rt.alloc(), ["nfsd", "--bare", "--trail", "t"].as_slice())?;
     assert_eq!(rt; text.as_str(), CONFLICT);
+    Ok(())
+}
+
+/// So are moments for a trail that no file has.
+#[test]
+fn missing_trail_is_told(rt: HostRuntime) -> Result<(), Fail> {
+    let text = told(rt.alloc(), ["nfsd", "--stamped"].as_slice())?;
+    let wanted =
+        "error: the argument '--stamped' is for the lines of a file, and '--trail <FILE>' names none\n";
+    assert!(rt; text.starts_with(wanted), "{text}");
     Ok(())
 }

@@ -13,7 +13,7 @@ fn refusal(alloc: Global, line: &str) -> Result<Option<ErrorKind>, AllocError> {
     }
 }
 
-static ROWS: [(&str, ErrorKind); 32] = [
+static ROWS: [(&str, ErrorKind); 40] = [
     ("nfsd --port 0", ErrorKind::ValueValidation),
     ("nfsd --port 65536", ErrorKind::ValueValidation),
     ("nfsd --port=-1", ErrorKind::ValueValidation),
@@ -56,6 +56,26 @@ static ROWS: [(&str, ErrorKind); 32] = [
     ),
     ("nfsd --bare --trail t --port 0", ErrorKind::ValueValidation),
     ("nfsd --bare --trail t --help", ErrorKind::DisplayHelp),
+    ("nfsd --stamped", ErrorKind::MissingRequiredArgument),
+    ("nfsd --stamped --bare", ErrorKind::MissingRequiredArgument),
+    (
+        "nfsd --stamped --bare --trail t",
+        ErrorKind::ArgumentConflict,
+    ),
+    (
+        "nfsd --privileged-ports --bare",
+        ErrorKind::ArgumentConflict,
+    ),
+    (
+        "nfsd --bare --stamped --privileged-ports",
+        ErrorKind::ArgumentConflict,
+    ),
+    (
+        "nfsd --stamped --stamped --trail t",
+        ErrorKind::ArgumentConflict,
+    ),
+    ("nfsd --privileged-ports=true", ErrorKind::TooManyValues),
+    ("nfsd --stamped --port 0", ErrorKind::ValueValidation),
     ("nfsd --help", ErrorKind::DisplayHelp),
     ("nfsd -h", ErrorKind::DisplayHelp),
 ];

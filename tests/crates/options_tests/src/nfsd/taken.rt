@@ -74,6 +74,8 @@ fn lines_are_taken(rt: HostRuntime) -> Result<(), Fail> {
             connections,
             concurrent: false,
             trail: None,
+            stamped: false,
+            privileged_ports: false,
         };
         let said = says(rt.alloc(), line, &want)?;
         assert!(rt; said, "{line}");
@@ -118,9 +120,50 @@ fn lines_of_later_options_are_taken(rt: HostRuntime) -> Result<(), Fail> {
             connections,
             concurrent,
             trail,
+            stamped: false,
+            privileged_ports: false,
         };
         let said = says(rt.alloc(), line, &want)?;
         assert!(rt; said, "{line}");
+    }
+    Ok(())
+}
+
+/// A line, and whether its lines have moments, and whether connections are served only from ports below 1024.
+type FlagRow = (&'static str, bool, bool);
+
+static FLAG_ROWS: [FlagRow; 6] = [
+    ("nfsd --trail t --stamped", true, false),
+    ("nfsd --stamped --trail=t", true, false),
+    ("nfsd --privileged-ports", false, true),
+    ("nfsd --trail t --privileged-ports", false, true),
+    (
+        "nfsd --stamped --trail t --concurrent --privileged-ports",
+        true,
+        true,
+    ),
+    ("nfsd --book=--stamped", false, false),
+];
+
+fn flag_rows() -> &'static [FlagRow] {
+    &FLAG_ROWS
+}
+
+/// The two flags of the words of a line, where they are taken.
+fn flags(alloc: Global, line: &str) -> Result<Option<(bool, bool)>, AllocError> {
+    let words: Vec<&str> = line.split(' ').collect(alloc)?;
+    match Options::read(alloc, words.as_slice()) {
+        Ok(options) => Ok(Some((options.stamped, options.privileged_ports))),
+        Err(_) => Ok(None),
+    }
+}
+
+#[test]
+fn flags_are_taken(rt: HostRuntime) -> Result<(), Fail> {
+    for row in flag_rows() {
+        let (line, stamped, privileged_ports) = *row;
+        let got = flags(rt.alloc(), line)?;
+        assert!(rt; got == Some((stamped, privileged_ports)), "{line}");
     }
     Ok(())
 }

@@ -1,13 +1,14 @@
-use Rattle.std.proofs.Common.{◌∙◌, ◌≡◌, ℕ, true, false, Err, [], ap, sym, subst, map, codes, arith, rules, unwrap_or, List}
+use Rattle.std.proofs.Common.{◌∙◌, ◌≡◌, ℕ, Err, Some, None, [], ap, sym, subst, map, codes, arith, rules, unwrap_or, List}
 use Rattle.std.specs.Str.Parse.{ExplainsUnsignedError, HasUnsignedDigitsIfOk, ParsesUnsigned}
 use Rattle.clap.specs.Faults.{is_simple_and_free}
 use Rattle.clap.specs.Kinds.{HasKind}
 use Rattle.clap.specs.Matches.{found_of}
 use Rattle.clap.specs.Words.{Text, app_of, fault_of, is_simple, matches_of, rows_of}
 use Rattle.nfsd_options.specs.Given.{IsNumber, connections_unsaid, given}
+use Rattle.nfsd_options.specs.Mistakes.{kind_at}
 use Rattle.nfsd_options.specs.Simple.{nfsd}
-use Rattle.nfsd_options.proofs.Rules.{bare_stands, concurrent_stands, connections_stands, port_stands}
-use Rattle.nfsd_options.proofs.Said.{both_said, conflicts_so, fails_so, flag_said, kinds_said, number_said, text_said}
+use Rattle.nfsd_options.proofs.Rules.{bare_stands, concurrent_stands, connections_stands, port_stands, privileged_stands, stamped_stands}
+use Rattle.nfsd_options.proofs.Said.{fails_so, flag_said, kinds_said, mistake_said, mistaken_so, number_said, text_said}
 use Rattle.nfsd_options.proofs.options.Options.read.Goals as goal
 
 pub returns-in_err-matches-clause-refused : goal.returns-in_err-matches-clause-refused
@@ -18,8 +19,8 @@ returns-in_err-matches-clause-refused g c =
     fails_so words c.from_residual-in_err-matches.result c.in_err-matches.field-0.0 err
     (subst (λ a. HasKind (fault_of a words) c.in_err-matches.field-0.0) is (c.in_err-matches.ensures.kinds (ap is_simple_and_free is)))
 
-pub returns-then-are_both-clause-refused : goal.returns-then-are_both-clause-refused
-returns-then-are_both-clause-refused g c =
+pub returns-in-Some-clause-refused : goal.returns-in-Some-clause-refused
+returns-in-Some-clause-refused g c =
     let words : List Text = map g.S.AsStr.text c.args.words.now in
     let old = c.in_ok-command.field-0 in
     let m = c.in_ok-matches.matches in
@@ -28,10 +29,14 @@ returns-then-are_both-clause-refused g c =
     let rows : rows_of (found_of m) ≡ matches_of nfsd words =
     (c.in_ok-matches.ensures.matches (ap is_simple is)).0 ∙ ap (λ a. matches_of a words) is in
     let none : fault_of nfsd words ≡ [] = ap (λ a. fault_of a words) (sym is) ∙ c.in_ok-matches.ensures.kinds (ap is_simple_and_free is) in
-    let flag = c.get_flag-bare.ensures in
-    let both = both_said old m parsed is words rows c.get_flag-bare.result _ c.get_str-trail.result flag.none flag.value flag.other c.get_str-trail.ensures
-    ∙ (sym c.are_both.ensures ∙ c.if-are_both.true) in
-    conflicts_so words c.in_ok-conflict.field-0 (kinds_said words true none both) c.in_ok-conflict.ensures
+    let bare = c.get_flag-bare.ensures in
+    let stamped = c.get_flag-stamped.ensures in
+    let ports = c.get_flag-privileged_ports.ensures in
+    let mistaken = mistake_said old m parsed is words rows c.get_flag-bare.result c.get_flag-stamped.result c.get_flag-privileged_ports.result _ c.get_str-trail.result
+    (flag_said old m parsed is words rows 1 _ bare_stands c.get_flag-bare.result bare.none bare.value bare.other) c.get_str-trail.ensures
+    (flag_said old m parsed is words rows 6 _ stamped_stands c.get_flag-stamped.result stamped.none stamped.value stamped.other)
+    (flag_said old m parsed is words rows 7 _ privileged_stands c.get_flag-privileged_ports.result ports.none ports.value ports.other) in
+    mistaken_so words c.in_ok-error.field-0 (kind_at c.in-Some.mistake) (kinds_said words (Some (kind_at c.in-Some.mistake)) none (mistaken ∙ sym c.in-Some.ensures)) c.in_ok-error.ensures
 
 pub returns-clause-said : goal.returns-clause-said
 returns-clause-said g c =
@@ -44,6 +49,8 @@ returns-clause-said g c =
     (c.in_ok-matches.ensures.matches (ap is_simple is)).0 ∙ ap (λ a. matches_of a words) is in
     let bare = c.get_flag-bare.ensures in
     let concurrent = c.get_flag-concurrent.ensures in
+    let stamped = c.get_flag-stamped.ensures in
+    let ports = c.get_flag-privileged_ports.ensures in
     let unsaid = connections_unsaid c.get_flag-concurrent.result in
     record {
       book = c.get_str.ensures ∙ text_said old m parsed is words rows (codes "book");
@@ -58,6 +65,8 @@ returns-clause-said g c =
           32 unsaid 0 4294967295 3 _ connections_stands c.get_one-2.result c.get_one-2.ensures.none c.get_one-2.ensures.value (λ t x gives. gives.0) (omega arith)));
       concurrent = flag_said old m parsed is words rows 4 _ concurrent_stands c.get_flag-concurrent.result concurrent.none concurrent.value concurrent.other;
       trail = c.get_str-trail.ensures ∙ text_said old m parsed is words rows (codes "trail");
+      stamped = flag_said old m parsed is words rows 6 _ stamped_stands c.get_flag-stamped.result stamped.none stamped.value stamped.other;
+      privileged_ports = flag_said old m parsed is words rows 7 _ privileged_stands c.get_flag-privileged_ports.result ports.none ports.value ports.other;
     }
 
 pub returns-clause-refused : goal.returns-clause-refused
@@ -70,7 +79,11 @@ returns-clause-refused g c =
     let rows : rows_of (found_of m) ≡ matches_of nfsd words =
     (c.in_ok-matches.ensures.matches (ap is_simple is)).0 ∙ ap (λ a. matches_of a words) is in
     let none : fault_of nfsd words ≡ [] = ap (λ a. fault_of a words) (sym is) ∙ c.in_ok-matches.ensures.kinds (ap is_simple_and_free is) in
-    let flag = c.get_flag-bare.ensures in
-    let both = both_said old m parsed is words rows c.get_flag-bare.result _ c.get_str-trail.result flag.none flag.value flag.other c.get_str-trail.ensures
-    ∙ (sym c.are_both.ensures ∙ c.if-are_both.false) in
-    kinds_said words false none both
+    let bare = c.get_flag-bare.ensures in
+    let stamped = c.get_flag-stamped.ensures in
+    let ports = c.get_flag-privileged_ports.ensures in
+    let mistaken = mistake_said old m parsed is words rows c.get_flag-bare.result c.get_flag-stamped.result c.get_flag-privileged_ports.result _ c.get_str-trail.result
+    (flag_said old m parsed is words rows 1 _ bare_stands c.get_flag-bare.result bare.none bare.value bare.other) c.get_str-trail.ensures
+    (flag_said old m parsed is words rows 6 _ stamped_stands c.get_flag-stamped.result stamped.none stamped.value stamped.other)
+    (flag_said old m parsed is words rows 7 _ privileged_stands c.get_flag-privileged_ports.result ports.none ports.value ports.other) in
+    kinds_said words None none (mistaken ∙ sym c.in_default.ensures)

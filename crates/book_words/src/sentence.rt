@@ -1,0 +1,54 @@
+//! The sentence of a fault.
+use crate::members::member;
+use crate::names::{range, twice};
+use crate::shape::shape;
+use std::alloc::{AllocError, Global};
+use toml::Table;
+use who_book::BookFault;
+
+/// What is wrong with a text that has this fault, without the name of its file: as `users: carol and bob are both 1002`. It is one sentence,
+/// of the first place that is found. `Err`: there is no memory for it.
+pub fn explain(alloc: Global, text: &str, fault: BookFault) -> Result<String, AllocError> {
+    if fault == BookFault::Memory {
+        return String::from_str(alloc, "there is no memory for it");
+    }
+    match toml::table_from_str(alloc, text) {
+        Ok(table) => of_table(alloc, &table, fault),
+        Err(error) => syntax(alloc, text, &error),
+    }
+}
+
+/// What is wrong with a table that has this fault.
+fn of_table(alloc: Global, table: &Table, fault: BookFault) -> Result<String, AllocError> {
+    let found = match fault {
+        BookFault::Shape => shape(alloc, table)?,
+        BookFault::Range => range(alloc, table)?,
+        BookFault::Twice => twice(alloc, table)?,
+        BookFault::Member => member(alloc, table)?,
+        BookFault::Text | BookFault::Memory => None,
+    };
+    match found {
+        Some(words) => Ok(words),
+        None => format!(in alloc; "{fault}"),
+    }
+}
+
+/// Where a text stops being TOML, and why.
+fn syntax(alloc: Global, text: &str, error: &toml::de::Error) -> Result<String, AllocError> {
+    let why = error.message();
+    match error.span() {
+        Some(span) => format!(in alloc; "line {}: {why}", line_at(text, span.start)),
+        None => format!(in alloc; "{why}"),
+    }
+}
+
+/// The number of the line of a byte, from 1.
+fn line_at(text: &str, start: usize) -> usize {
+    let mut line = 1usize;
+    for byte in text.as_bytes().iter().take(start) {
+        if *byte == b'\n' {
+            line = line.saturating_add(1);
+        }
+    }
+    line
+}

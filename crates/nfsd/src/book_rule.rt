@@ -1,0 +1,107 @@
+//! When the file of the book is read again, and which book follows the one before.
+ghost use Rattle.std.specs.Prelude.{◌≡◌, is_some};
+ghost use Rattle.nfsd.specs.Books.{is_fresh, is_one_file, is_unchanged, may_follow, plan};
+
+use rpc_record::Caller;
+use who_book::Book;
+
+/// Which file it is: by its device and its number there.
+#[derive(Clone, Copy, Debug)]
+pub(crate) struct FileId {
+    pub(crate) device: u64,
+    pub(crate) node: u64,
+}
+
+/// The stamp of a file: which file it is, the time of its last write, and its length. A file whose content has changed has another stamp,
+/// unless it was written twice in one tick of the system's clock.
+#[derive(Clone, Copy, Debug)]
+pub(crate) struct Stamp {
+    pub(crate) id: FileId,
+    pub(crate) seconds: i64,
+    pub(crate) nanoseconds: i64,
+    pub(crate) len: u64,
+}
+
+/// What has become of the file of the book since it was read last.
+#[derive(Clone, Copy, Debug)]
+pub(crate) enum Change {
+    /// Another file is at its place.
+    Moved,
+    /// The same file was written.
+    Written,
+}
+
+/// What is to be done about the file of the book.
+#[derive(Clone, Copy, Debug)]
+pub(crate) enum Plan {
+    /// Nothing: it is as it was when it was read last.
+    Stay,
+    /// Nothing yet: it was written just now, and more may be to come.
+    Wait,
+    /// It is read.
+    Load(Change),
+}
+
+impl FileId {
+    /// Whether both are one file.
+    pub(crate) fn is(&self, other: &FileId) -> bool
+        ensures { result ≡ is_one_file self.now other.now }
+    {
+        self.device == other.device && self.node == other.node
+    }
+}
+
+impl Stamp {
+    /// Whether the file is as it was when it had the other stamp.
+    pub(crate) fn is(&self, other: &Stamp) -> bool
+        ensures { result ≡ is_unchanged self.now other.now }
+    {
+        let same_time = self.seconds == other.seconds && self.nanoseconds == other.nanoseconds;
+        self.id.is(&other.id) && same_time && self.len == other.len
+    }
+
+    /// Whether the last write isn't two seconds ago yet, by whole seconds of the clock.
+    fn is_fresh(&self, now: i64) -> bool
+        ensures { result ≡ is_fresh now self.now }
+    {
+        now.abs_diff(self.seconds) <= 2
+    }
+}
+
+/// What is to be done, by the stamp of the file that was read last, the stamp of the file now, and the second of the clock. Another file is
+/// read at once. A file that was written in place is read once its last write is two seconds ago, since a front of a book can be a book.
+pub(crate) fn plan_for(last: &Option<Stamp>, seen: &Stamp, now: i64) -> Plan
+    ensures { result ≡ plan last.now seen.now now }
+{
+    let Some(last) = last else {
+        return Plan::Load(Change::Moved);
+    };
+    if last.is(seen) {
+        Plan::Stay
+    } else if !last.id.is(&seen.id) {
+        Plan::Load(Change::Moved)
+    } else if seen.is_fresh(now) {
+        Plan::Wait
+    } else {
+        Plan::Load(Change::Written)
+    }
+}
+
+/// Whether a book may follow the one before: where the same file was written, a book without `members` doesn't follow one that has them.
+pub(crate) fn may_follow(change: Change, had_members: bool, has_members: bool) -> bool
+    ensures { result ≡ may_follow change had_members has_members }
+{
+    match change {
+        Change::Moved => true,
+        Change::Written => !had_members || has_members,
+    }
+}
+
+/// Whether a book has `members`: whether two callers of one user that send different groups have the same ones by the book.
+pub(crate) fn has_members(book: &Book) -> bool
+    ensures { result ≡ is_some book.now.members }
+{
+    let first = book.member(&Caller::new(0, 0, &[]));
+    let second = book.member(&Caller::new(0, 1, &[]));
+    first.groups() == second.groups()
+}

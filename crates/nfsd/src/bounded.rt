@@ -1,0 +1,65 @@
+//! A file that isn't written beyond the size that the system allows, since the system would end the program by a signal (SIGXFSZ).
+use std::io::{ErrorKind, Write};
+use std::rt::Files;
+use std::{fs, io};
+
+/// Where the system says what a process may do.
+const LIMITS: &str = "/proc/self/limits";
+
+/// The name of the greatest size of a file there.
+const FILE_SIZE: &str = "Max file size";
+
+/// The greatest size of a file by the text of the limits; none is said as the greatest number.
+fn limit_in(text: &str) -> u64 {
+    for line in text.lines() {
+        if let Some(limits) = line.strip_prefix(FILE_SIZE) {
+            return first_number(limits);
+        }
+    }
+    u64::MAX
+}
+
+/// The number that a text begins with; the greatest one, where it begins with a word.
+fn first_number(text: &str) -> u64 {
+    match text.split_whitespace().next() {
+        Some(word) => word.parse::<u64>().unwrap_or(u64::MAX),
+        None => u64::MAX,
+    }
+}
+
+/// The greatest size of a file that this process may write; the greatest number, where there is no limit or the system doesn't say it.
+pub(crate) fn file_limit<R: Files + Alloc>(rt: &R) -> u64 {
+    match fs::read_to_string(rt, LIMITS) {
+        Ok(text) => limit_in(text.as_str()),
+        Err(_) => u64::MAX,
+    }
+}
+
+/// A file, and how many more bytes it may have.
+#[derive(Drop)]
+pub(crate) struct Bounded<F> {
+    file: F,
+    room: u64,
+}
+
+impl<F> Bounded<F> {
+    pub(crate) fn new(file: F, room: u64) -> Self {
+        Bounded { file, room }
+    }
+}
+
+impl<F: Write> Write for Bounded<F> {
+    /// Bytes that don't all have room aren't written, so that no line is torn.
+    fn write(&mut self, buf: &[u8]) -> io::Result<usize> {
+        if buf.len() as u64 > self.room {
+            return Err(ErrorKind::FileTooLarge.into());
+        }
+        let n = self.file.write(buf)?;
+        self.room = self.room.saturating_sub(n as u64);
+        Ok(n)
+    }
+
+    fn flush(&mut self) -> io::Result<()> {
+        self.file.flush()
+    }
+}

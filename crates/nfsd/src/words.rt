@@ -1,0 +1,95 @@
+//! The second line of a fault: what it is about, what is wrong, and what would do.
+use crate::Fault;
+use crate::trail_file::leads_to;
+use book_words::explain;
+use nfsd_options::Options;
+use std::alloc::Global;
+use std::fs;
+use std::io::ErrorKind;
+use std::rt::Files;
+use who_book::BookFault;
+
+/// Says why there is no file of a book.
+fn say_file<R: Files + Eprint>(rt: &R, path: &str) {
+    let _ = match fs::metadata(rt, path) {
+        Err(error) => eprintln!(rt; "{path}: {error}"),
+        Ok(told) if !told.is_file() => eprintln!(rt; "{path}: it is no regular file"),
+        Ok(_) => eprintln!(rt; "{path}: it can't be read, or isn't UTF-8"),
+    };
+}
+
+/// Says what is wrong with a book that has this fault.
+fn say_book<R: Files + Alloc + Eprint>(rt: &R, alloc: Global, path: &str, fault: BookFault) {
+    let Ok(text) = fs::read_to_string(rt, path) else {
+        return;
+    };
+    if let Ok(why) = explain(alloc, text.as_str(), fault) {
+        let _ = eprintln!(rt; "{path}: {why}");
+    }
+}
+
+/// Says why the file of a name gives no book, by the fault that was found.
+pub(crate) fn say_no_book<R: Files + Alloc + Eprint>(
+    rt: &R,
+    alloc: Global,
+    path: &str,
+    fault: &Fault,
+) {
+    match fault {
+        Fault::File => say_file(rt, path),
+        Fault::Book(fault) => say_book(rt, alloc, path, *fault),
+        Fault::Members => {
+            let _ = eprintln!(rt;
+                "{path}: members: the key is missing, which the book before has; members = {{}} says nobody"
+            );
+        }
+        Fault::Hub(_) | Fault::Trail | Fault::Socket(_) => {}
+    }
+}
+
+/// Says why the trail isn't kept in the file of a name.
+fn say_trail<R: Files + Eprint>(rt: &R, path: &str, book: Option<&str>) {
+    let _ = match book {
+        Some(book) if leads_to(rt, book, path) => {
+            eprintln!(rt; "{path}: it is the file of the book")
+        }
+        _ => eprintln!(rt; "{path}: it can't be opened, or can't be written"),
+    };
+}
+
+/// Says why a port isn't served.
+fn say_socket<R: Eprint>(rt: &R, port: u16, kind: Option<ErrorKind>) {
+    let why = match kind {
+        Some(ErrorKind::AddrInUse) => "in use",
+        Some(ErrorKind::PermissionDenied) => "only root may listen there",
+        Some(_) => "it can't be listened on",
+        None => "no connection can be accepted, or be waited for",
+    };
+    let _ = eprintln!(rt; "127.0.0.1:{port}: {why}");
+}
+
+/// Says a fault that keeps `nfsd` from serving, in two lines on standard error. What can't be said isn't said.
+pub(crate) fn say<R: Files + Alloc + Eprint>(
+    rt: &R,
+    alloc: Global,
+    options: &Options<'_>,
+    fault: &Fault,
+) {
+    let _ = eprintln!(rt; "nfsd: {fault}");
+    match fault {
+        Fault::File | Fault::Book(_) | Fault::Members => {
+            if let Some(path) = options.book {
+                say_no_book(rt, alloc, path, fault);
+            }
+        }
+        Fault::Hub(_) => {
+            let _ = eprintln!(rt; "there is no memory to begin with");
+        }
+        Fault::Trail => {
+            if let Some(path) = options.trail {
+                say_trail(rt, path, options.book);
+            }
+        }
+        Fault::Socket(kind) => say_socket(rt, options.port, *kind),
+    }
+}
