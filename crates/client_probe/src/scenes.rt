@@ -87,7 +87,7 @@ fn open<'a, 'b>(
     lent: Lent<'a, 'b>,
     verifier: [u8; 8],
 ) -> Result<Player<'a, 'b>, ToolFault> {
-    Client::open(alloc, lent, 1001, 100, verifier)
+    Client::open(alloc, lent, 1001, 100, b"nfsc", verifier)
 }
 
 /// `open VERIFIER`: puts what comes of opening a session by this verifier, and where it is open runs commands.

@@ -1,5 +1,5 @@
 -- The outcome of an exchange whose reply was judged.
-use Rattle.std.proofs.Common.{◌≡◌, inl, inr, ℕ, Bool, true, List, Ok, Some, None, refl, sym, ap, ◌∙◌, subst, Err}
+use Rattle.std.proofs.Common.{◌≡◌, inl, inr, ℕ, Bool, true, List, Ok, Some, None, refl, sym, ap, subst, Err}
 use Rattle.std.specs.Prelude.{◌⊎◌, if◌then◌else◌, Option, Result}
 use Rattle.nfs_ops.specs.Operations.{Operation}
 use Rattle.nfs_ops.specs.Results.{Outcome}
@@ -7,7 +7,7 @@ use Rattle.nfs_client.specs.Compound.{AllDone, LastRefused, NoReply, Said, said}
 use Rattle.nfs_client.specs.Requests.{asked_of}
 use Rattle.nfs_client.specs.Taking.{SaidGives}
 use Rattle.nfs_client.specs.Client.{ExchangeGives, next}
-use Rattle.nfs_client.specs.Commands.{Answered, Told, Settled, NoAnswer, Concludes, number_behind, takes_number, AskGives}
+use Rattle.nfs_client.specs.Commands.{Answered, Told, Settled, NoAnswer, Unjudged, Concludes, number_behind, takes_number, AskGives}
 use Rattle.nfs_types.specs.Status.{number_of}
 use Rattle.nfs_client.specs.declared.fault.ToolFault.{ToolFault}
 use Rattle.nfs_client.specs.declared.fault.ToolFault.TheVariants as fault
@@ -51,10 +51,10 @@ module _ {S A V : Type 0} (contents remaining : S → Option (List ℕ)) (taken 
 
   unanswered : ((said reply.xid reply.asked.items reply.content.items).answer ≡ NoReply) ⊎ (((said reply.xid reply.asked.items reply.content.items).answer ≡ AllDone) × (taken (said reply.xid reply.asked.items reply.content.items).results ≡ None))
       → NoAnswer contents remaining taken ops old mid
-  unanswered (inl h) = (gives.0.unusable, inl (reply.content.items, gives.3, says_so (λ (s : Said). s.answer ≡ NoReply) h))
+  unanswered (inl h) = (gives.0, inl (reply.content.items, gives.3, says_so (λ (s : Said). s.answer ≡ NoReply) h))
   unanswered (inr h) =
       let told = says_so (λ (s : Said). (s.answer ≡ AllDone) × (taken s.results ≡ None)) h in
-      (gives.0.unusable, inr (reply.content.items, gives.3, told.0, told.1))
+      (gives.0, inr (reply.content.items, gives.3, told.0, told.1))
 
   -- the outcome of an exchange by its reply
   pub concluded : {X : Type 0} (value : X → V) (in_session : Bool) (told : Result X ToolFault) (new : Client S A) → SaidGives value taken (said reply.xid reply.asked.items reply.content.items) told
@@ -62,7 +62,8 @@ module _ {S A V : Type 0} (contents remaining : S → Option (List ℕ)) (taken 
   concluded value in_session (Ok x) new h is = settled new (Some (value x)) in_session h is
   concluded value in_session (Err (fault.Refused op s)) new h is = settled_refused new op (number_of s) (takes_number in_session op) h is
   concluded value in_session (Err fault.Reply) new h is = inr (subst (λ (c : Client S A). NoAnswer contents remaining taken ops old c) (sym is) (unanswered h))
-  concluded value in_session (Err fault.Memory) new h is = inr (ap (λ (c : Client S A). c.usable) is ∙ gives.0.unusable)
+  concluded value in_session (Err fault.Memory) new h is =
+      inr (inr (subst (λ (c : Client S A). Unjudged contents remaining ops old c) (sym is) (gives.0, reply.content.items, gives.3)))
   concluded value in_session (Err fault.Path) new h is = absurd h
   concluded value in_session (Err fault.Read) new h is = absurd h
   concluded value in_session (Err fault.Write) new h is = absurd h
@@ -73,39 +74,39 @@ module _ {S A V : Type 0} (contents remaining : S → Option (List ℕ)) (taken 
 pub unasked : {S A V X : Type 0} (contents remaining : S → Option (List ℕ)) (taken : List Outcome → Option V) (value : X → V) (in_session : Bool) (ops : List Operation) (old new : Client S A) (f : ToolFault)
     → ExchangeGives contents remaining ops old new (Err f) → AskGives contents remaining taken value in_session ops old new (Err f)
 unasked contents remaining taken value in_session ops old new fault.Memory (inl h) = inl h.1
-unasked contents remaining taken value in_session ops old new fault.Memory (inr h) = inr h.0.unusable
+unasked contents remaining taken value in_session ops old new fault.Memory (inr h) = inr (inl h)
 unasked contents remaining taken value in_session ops old new fault.Reply (inl h) = absurd (different h.0)
   where
     different : fault.Reply ≡ fault.Memory → ⊥
     different e = cc
-unasked contents remaining taken value in_session ops old new fault.Reply (inr h) = inl (h.0.unusable, h.1)
+unasked contents remaining taken value in_session ops old new fault.Reply (inr h) = inl h
 unasked contents remaining taken value in_session ops old new fault.Read (inl h) = absurd (different h.0)
   where
     different : fault.Read ≡ fault.Memory → ⊥
     different e = cc
-unasked contents remaining taken value in_session ops old new fault.Read (inr h) = (h.0.unusable, h.1)
+unasked contents remaining taken value in_session ops old new fault.Read (inr h) = h
 unasked contents remaining taken value in_session ops old new fault.Write (inl h) = absurd (different h.0)
   where
     different : fault.Write ≡ fault.Memory → ⊥
     different e = cc
-unasked contents remaining taken value in_session ops old new fault.Write (inr h) = (h.0.unusable, h.1)
+unasked contents remaining taken value in_session ops old new fault.Write (inr h) = h
 unasked contents remaining taken value in_session ops old new (fault.Refused op status) (inl h) = absurd (different h.0)
   where
     different : fault.Refused op status ≡ fault.Memory → ⊥
     different e = cc
-unasked contents remaining taken value in_session ops old new (fault.Refused op status) (inr h) = absurd h.1.failed.0
+unasked contents remaining taken value in_session ops old new (fault.Refused op status) (inr h) = absurd h.1.failed.no_record
 unasked contents remaining taken value in_session ops old new fault.Path (inl h) = absurd (different h.0)
   where
     different : fault.Path ≡ fault.Memory → ⊥
     different e = cc
-unasked contents remaining taken value in_session ops old new fault.Path (inr h) = absurd h.1.failed.0
+unasked contents remaining taken value in_session ops old new fault.Path (inr h) = absurd h.1.failed.no_record
 unasked contents remaining taken value in_session ops old new fault.Entry (inl h) = absurd (different h.0)
   where
     different : fault.Entry ≡ fault.Memory → ⊥
     different e = cc
-unasked contents remaining taken value in_session ops old new fault.Entry (inr h) = absurd h.1.failed.0
+unasked contents remaining taken value in_session ops old new fault.Entry (inr h) = absurd h.1.failed.no_record
 unasked contents remaining taken value in_session ops old new fault.Failed (inl h) = absurd (different h.0)
   where
     different : fault.Failed ≡ fault.Memory → ⊥
     different e = cc
-unasked contents remaining taken value in_session ops old new fault.Failed (inr h) = absurd h.1.failed.0
+unasked contents remaining taken value in_session ops old new fault.Failed (inr h) = absurd h.1.failed.no_record

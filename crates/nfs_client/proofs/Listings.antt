@@ -1,10 +1,10 @@
 -- Page after page of a directory.
-use Rattle.std.proofs.Common.{◌≡◌, ℕ, ◌+◌, Bool, true, false, List, [], ◌∷◌, ◌++◌, length, Ok, Err, refl, sym, ap, ◌∙◌, subst, add-one}
+use Rattle.std.proofs.Common.{◌≡◌, ◌<◌, ℕ, ◌+◌, Bool, true, false, List, [], ◌∷◌, ◌++◌, length, Ok, Err, refl, sym, ap, ◌∙◌, subst, add-one}
 use Rattle.std.specs.Prelude.{Option, Result}
 use Rattle.nfs_client.specs.Client.{ExchangeGives}
 use Rattle.nfs_client.specs.Compound.{said}
 use Rattle.nfs_client.specs.Commands.{AskGives, Concludes, Spoils}
-use Rattle.nfs_client.specs.Paging.{Goes, PageGives, PagesGive, itself}
+use Rattle.nfs_client.specs.Paging.{Goes, PageGives, PagesGive, itself, most_calls}
 use Rattle.nfs_client.specs.Ls.{Page, page_in, page_with, text_of, last_or, cookie_of, list_from, by_listings, PageTaken, ListGives}
 use Rattle.nfs_client.specs.Routes.{Route}
 use Rattle.nfs_client.specs.declared.fault.ToolFault.{ToolFault}
@@ -34,7 +34,7 @@ pub record Stands {A : Type 0} (listing : Listing A) (before : List Page) : Type
   pub lines : listing.text.items ≡ text_of before
   pub behind : listing.cookie ≡ cookie_of before
 
-module _ {S A : Type 0} (contents remaining : S → Option (List ℕ)) (route : Route) (set : List ℕ) (old mid last new : Client S A) (before : List Page) (listing listing' : Listing A) (goes : Goes (by_listings contents remaining route set) old before mid) (at : Stands listing before) (told : Result Bool ToolFault) (gives : ListGives contents remaining route set listing listing' mid last told) (spoils : Spoils told last new) where
+module _ {S A : Type 0} (contents remaining : S → Option (List ℕ)) (route : Route) (set : List ℕ) (old mid last new : Client S A) (before : List Page) (listing listing' : Listing A) (goes : Goes (by_listings contents remaining route set) old before mid) (few : length before < most_calls) (at : Stands listing before) (told : Result Bool ToolFault) (gives : ListGives contents remaining route set listing listing' mid last told) (spoils : Spoils told last new) where
   paged : (r : Result Page ToolFault) → AskGives contents remaining page_in itself true (list_from route set mid listing.cookie) mid last r → PageGives (by_listings contents remaining route set) before mid last r
   paged r h = subst (λ (cookie : ℕ). AskGives contents remaining page_in itself true (list_from route set mid cookie) mid last r) at.behind h
 
@@ -53,10 +53,10 @@ module _ {S A : Type 0} (contents remaining : S → Option (List ℕ)) (route : 
   goes_on is = let r = listed_so false is in (page_with r.0 r.1 false ∷ before, (mid, goes, refl, r.2), r.3, sym (add-one (length before)))
 
   pub all_listed : {X : Type 0} (value : X → List ℕ) (x : X) → value x ≡ listing'.text.items → told ≡ Ok true → PagesGive (by_listings contents remaining route set) value text_of old new (Ok x)
-  all_listed value x same is = let r = listed_so true is in (mid, before, page_with r.0 r.1 true, goes, r.2, refl, same ∙ r.3.lines)
+  all_listed value x same is = let r = listed_so true is in (mid, before, page_with r.0 r.1 true, goes, few, r.2, refl, same ∙ r.3.lines)
 
   pub not_listed : {X : Type 0} (value : X → List ℕ) (f : ToolFault) → told ≡ Err f → PagesGive (by_listings contents remaining route set) value text_of old new (Err f)
   not_listed value f is =
       let h = subst (λ (t : Result Bool ToolFault). ListGives contents remaining route set listing listing' mid last t) is gives in
       let s = subst (λ (t : Result Bool ToolFault). Spoils t last new) is spoils in
-      stops (by_listings contents remaining route set) old value text_of mid last new before f goes (paged (Err f) h) s
+      stops (by_listings contents remaining route set) old value text_of mid last new before f goes few (paged (Err f) h) s

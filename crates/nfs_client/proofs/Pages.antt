@@ -1,10 +1,10 @@
 -- Page by page.
-use Rattle.std.proofs.Common.{inl, inr, ℕ, Bool, List, sym, ap, subst, Err}
+use Rattle.std.proofs.Common.{◌<◌, inl, ℕ, Bool, List, length, Err}
 use Rattle.std.specs.Prelude.{Option}
 use Rattle.nfs_ops.specs.Operations.{Operation}
 use Rattle.nfs_ops.specs.Results.{Outcome}
 use Rattle.nfs_client.specs.Commands.{AskGives, Spoils}
-use Rattle.nfs_client.specs.Paging.{Paging, PageGives, Goes, Stops, PagesGive}
+use Rattle.nfs_client.specs.Paging.{Paging, PageGives, Goes, PagesGive, most_calls}
 use Rattle.nfs_client.specs.declared.fault.ToolFault.{ToolFault}
 use Rattle.nfs_client.specs.declared.fault.ToolFault.TheVariants as fault
 use Rattle.nfs_client.specs.declared.client.Client.{Client}
@@ -26,13 +26,13 @@ module _ {S A V : Type 0} (paging : Paging S A V) (old : Client S A) where
   pub record Paged (at : Client S A) (before : List V) : Type 0 where
     pub goes : Goes paging old before at
 
-  pub stops : {X W : Type 0} (value : X → W) (whole : List V → W) (mid last new : Client S A) (before : List V) (f : ToolFault) → Goes paging old before mid
+  pub stops : {X W : Type 0} (value : X → W) (whole : List V → W) (mid last new : Client S A) (before : List V) (f : ToolFault) → Goes paging old before mid → length before < most_calls
       → PageGives paging before mid last (Err f) → Spoils {X = X} (Err f) last new → PagesGive paging value whole old new (Err f)
-  stops value whole mid last new before fault.Memory g h is = inr (ap (λ (c : Client S A). c.usable) is)
-  stops value whole mid last new before fault.Reply g h is = inl (subst (λ (c : Client S A). Stops paging old c fault.Reply) (sym is) (mid, before, g, h))
-  stops value whole mid last new before fault.Read g h is = subst (λ (c : Client S A). Stops paging old c fault.Read) (sym is) (mid, before, g, h)
-  stops value whole mid last new before fault.Write g h is = subst (λ (c : Client S A). Stops paging old c fault.Write) (sym is) (mid, before, g, h)
-  stops value whole mid last new before (fault.Refused op s) g h is = subst (λ (c : Client S A). Stops paging old c (fault.Refused op s)) (sym is) (mid, before, g, h)
-  stops value whole mid last new before fault.Path g h is = absurd h
-  stops value whole mid last new before fault.Entry g h is = absurd h
-  stops value whole mid last new before fault.Failed g h is = absurd h
+  stops value whole mid last new before fault.Memory g few h is = (mid, last, before, g, few, h, is)
+  stops value whole mid last new before fault.Reply g few h is = inl (mid, last, before, g, few, h, is)
+  stops value whole mid last new before fault.Read g few h is = (mid, last, before, g, few, h, is)
+  stops value whole mid last new before fault.Write g few h is = (mid, last, before, g, few, h, is)
+  stops value whole mid last new before (fault.Refused op s) g few h is = (mid, last, before, g, few, h, is)
+  stops value whole mid last new before fault.Path g few h is = absurd h
+  stops value whole mid last new before fault.Entry g few h is = absurd h
+  stops value whole mid last new before fault.Failed g few h is = absurd h

@@ -1,10 +1,10 @@
 -- Piece after piece of a file.
-use Rattle.std.proofs.Common.{◌≡◌, ℕ, ◌+◌, Bool, true, false, List, [], ◌∷◌, ◌++◌, length, Ok, refl, sym, ap, ◌∙◌, subst, Err, add-one}
+use Rattle.std.proofs.Common.{◌≡◌, ◌<◌, ℕ, ◌+◌, Bool, true, false, List, [], ◌∷◌, ◌++◌, length, Ok, refl, sym, ap, ◌∙◌, subst, Err, add-one}
 use Rattle.std.specs.Prelude.{Option, Result}
 use Rattle.nfs_client.specs.Client.{ExchangeGives}
 use Rattle.nfs_client.specs.Compound.{said}
 use Rattle.nfs_client.specs.Commands.{AskGives, Concludes, Spoils}
-use Rattle.nfs_client.specs.Paging.{Goes, PageGives, PagesGive, itself}
+use Rattle.nfs_client.specs.Paging.{Goes, PageGives, PagesGive, itself, most_calls}
 use Rattle.nfs_client.specs.Cat.{Piece, piece_in, piece_with, bytes_of, read_behind, by_pieces, PieceTaken, ReadGives}
 use Rattle.nfs_client.specs.Routes.{Route}
 use Rattle.nfs_client.specs.declared.fault.ToolFault.{ToolFault}
@@ -24,7 +24,7 @@ piece_read contents remaining route items items' old mid new reply (Err f) gives
     same_failure contents remaining piece_in (piece_with []) itself true (read_behind route old items) old new f
     (concluded contents remaining piece_in (read_behind route old items) old mid reply gives (piece_with []) true (Err f) new taken is)
 
-module _ {S A : Type 0} (contents remaining : S → Option (List ℕ)) (route : Route) (old mid last new : Client S A) (before : List Piece) (items items' : List ℕ) (goes : Goes (by_pieces contents remaining route) old before mid) (so : items ≡ bytes_of before) (told : Result Bool ToolFault) (gives : ReadGives contents remaining route items items' mid last told) (spoils : Spoils told last new) where
+module _ {S A : Type 0} (contents remaining : S → Option (List ℕ)) (route : Route) (old mid last new : Client S A) (before : List Piece) (items items' : List ℕ) (goes : Goes (by_pieces contents remaining route) old before mid) (few : length before < most_calls) (so : items ≡ bytes_of before) (told : Result Bool ToolFault) (gives : ReadGives contents remaining route items items' mid last told) (spoils : Spoils told last new) where
   paged : (r : Result Piece ToolFault) → AskGives contents remaining piece_in itself true (read_behind route mid items) mid last r → PageGives (by_pieces contents remaining route) before mid last r
   paged r h = subst (λ (bs : List ℕ). AskGives contents remaining piece_in itself true (read_behind route mid bs) mid last r) so h
 
@@ -42,10 +42,10 @@ module _ {S A : Type 0} (contents remaining : S → Option (List ℕ)) (route : 
   goes_on is = let r = read_so false is in (piece_with r.0 false ∷ before, (mid, goes, refl, r.1), r.2, sym (add-one (length before)))
 
   pub all_read : {X : Type 0} (value : X → List ℕ) (x : X) → value x ≡ items' → told ≡ Ok true → PagesGive (by_pieces contents remaining route) value bytes_of old new (Ok x)
-  all_read value x same is = let r = read_so true is in (mid, before, piece_with r.0 true, goes, r.1, refl, same ∙ r.2)
+  all_read value x same is = let r = read_so true is in (mid, before, piece_with r.0 true, goes, few, r.1, refl, same ∙ r.2)
 
   pub not_read : {X : Type 0} (value : X → List ℕ) (f : ToolFault) → told ≡ Err f → PagesGive (by_pieces contents remaining route) value bytes_of old new (Err f)
   not_read value f is =
       let h = subst (λ (t : Result Bool ToolFault). ReadGives contents remaining route items items' mid last t) is gives in
       let s = subst (λ (t : Result Bool ToolFault). Spoils t last new) is spoils in
-      stops (by_pieces contents remaining route) old value bytes_of mid last new before f goes (paged (Err f) h) s
+      stops (by_pieces contents remaining route) old value bytes_of mid last new before f goes few (paged (Err f) h) s

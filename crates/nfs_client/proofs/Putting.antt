@@ -17,12 +17,12 @@ use Rattle.nfs_client.specs.Put.{Open, count_within, written_of, open_in, OpenAs
 use Rattle.nfs_client.specs.Approach.{WalkGives}
 use Rattle.nfs_client.specs.Rm.{WrongPath}
 use Rattle.nfs_client.specs.Routes.{Route, most_before_two}
-use Rattle.nfs_client.specs.Taking.{last_of}
+use Rattle.nfs_client.specs.Taking.{before_last}
 use Rattle.nfs_client.specs.declared.fault.ToolFault.{ToolFault}
 use Rattle.nfs_client.specs.declared.fault.ToolFault.TheVariants as fault
 use Rattle.nfs_client.specs.declared.client.Client.{Client}
 use Rattle.nfs_client.proofs.Pages.{same_failure}
-use Rattle.nfs_client.proofs.Walks.{Kept, kept_on, walk_kept, commanded, walked_memory, no_path, no_entry, no_failed, behind as done_behind}
+use Rattle.nfs_client.proofs.Walks.{commanded, no_path, no_entry, no_failed, behind as done_behind}
 
 -- ---- how many bytes were written
 
@@ -61,7 +61,7 @@ module _ {S A : Type 0} (contents remaining : S → Option (List ℕ)) (o : Open
 
   pub wrote_within : (n : ℕ) → done < length text → WriteGives contents remaining o done bytes mid new (Ok n) → (1 ≤ n) × (done + n ≤ length text)
   wrote_within n below h =
-      let bounds = outcome_bounds (length bytes) n (last_of (said mid.xid (asked_of (write_to mid o done bytes)) h.0.0).results) h.0.3 in
+      let bounds = outcome_bounds (length bytes) n (before_last (said mid.xid (asked_of (write_to mid o done bytes)) h.0.0).results) h.0.3 in
       let short : length bytes ≤ length text - done = omega (arith, ap length is, length-take 32768 (drop done text), length-drop done text) in
       (bounds.0, omega (arith, bounds.1, short, below))
 
@@ -70,17 +70,9 @@ module _ {S A : Type 0} (contents remaining : S → Option (List ℕ)) (o : Open
 
 -- ---- the outcome for the open file
 
-module _ {S A : Type 0} (contents remaining : S → Option (List ℕ)) (o : Open) (text : List ℕ) (old mid last new : Client S A) (written : Result (Unit {0}) ToolFault) (wrote : TextGives contents remaining o text old mid written) where
-  pub filled : (told : Result (Unit {0}) ToolFault) → ClosesBehind contents remaining o written mid last told → Spoils told last new → FileGives contents remaining o text old new told
-  filled (Ok done) closes is = (written, mid, wrote, subst (λ (c : Client S A). ClosesBehind contents remaining o written mid c (Ok done)) (sym is) closes)
-  filled (Err fault.Memory) closes is = ap (λ (c : Client S A). c.usable) is
-  filled (Err fault.Path) closes is = (written, mid, wrote, subst (λ (c : Client S A). ClosesBehind contents remaining o written mid c (Err fault.Path)) (sym is) closes)
-  filled (Err (fault.Refused op s)) closes is = (written, mid, wrote, subst (λ (c : Client S A). ClosesBehind contents remaining o written mid c (Err (fault.Refused op s))) (sym is) closes)
-  filled (Err fault.Reply) closes is = (written, mid, wrote, subst (λ (c : Client S A). ClosesBehind contents remaining o written mid c (Err fault.Reply)) (sym is) closes)
-  filled (Err fault.Read) closes is = (written, mid, wrote, subst (λ (c : Client S A). ClosesBehind contents remaining o written mid c (Err fault.Read)) (sym is) closes)
-  filled (Err fault.Write) closes is = (written, mid, wrote, subst (λ (c : Client S A). ClosesBehind contents remaining o written mid c (Err fault.Write)) (sym is) closes)
-  filled (Err fault.Entry) closes is = (written, mid, wrote, subst (λ (c : Client S A). ClosesBehind contents remaining o written mid c (Err fault.Entry)) (sym is) closes)
-  filled (Err fault.Failed) closes is = (written, mid, wrote, subst (λ (c : Client S A). ClosesBehind contents remaining o written mid c (Err fault.Failed)) (sym is) closes)
+pub filled : {S A : Type 0} (contents remaining : S → Option (List ℕ)) (o : Open) (text : List ℕ) (old mid last new : Client S A) (written : Result (Unit {0}) ToolFault) → TextGives contents remaining o text old mid written
+    → (told : Result (Unit {0}) ToolFault) → ClosesBehind contents remaining o written mid last told → Spoils told last new → FileGives contents remaining o text old new told
+filled contents remaining o text old mid last new written wrote told closes is = (written, mid, last, wrote, closes, is)
 
 -- A fault that no exchange has isn't answered.
 module _ {S A : Type 0} (contents remaining : S → Option (List ℕ)) (o : Open) (text : List ℕ) (f : ToolFault) (closes : (a b : Client S A) → CloseGives contents remaining o a b (Err f) → ⊥) (writes : (offset : ℕ) (bytes : List ℕ) (a b : Client S A) → WriteGives contents remaining o offset bytes a b (Err f) → ⊥) (other : (op : ℕ) (s : Status) → f ≡ fault.Refused op s → ⊥) where
@@ -100,29 +92,25 @@ module _ {S A : Type 0} (contents remaining : S → Option (List ℕ)) (o : Open
 -- ---- the outcome of the command
 
 no_path_told : {S A : Type 0} (contents remaining : S → Option (List ℕ)) (text : List ℕ) (a b : Client S A) (o : Open) → FileGives contents remaining o text a b (Err fault.Path) → ⊥
-no_path_told contents remaining text a b o h = file_none contents remaining o text fault.Path (λ a b i. i) (λ offset bytes a b i. i) different a h.1 b h.0 h.2 h.3
+no_path_told contents remaining text a b o h = file_none contents remaining o text fault.Path (λ a b i. i) (λ offset bytes a b i. i) different a h.1 h.2 h.0 h.3 h.4
   where
     different : (op : ℕ) (s : Status) → fault.Path ≡ fault.Refused op s → ⊥
     different op s e = cc
 
 no_entry_told : {S A : Type 0} (contents remaining : S → Option (List ℕ)) (text : List ℕ) (a b : Client S A) (o : Open) → FileGives contents remaining o text a b (Err fault.Entry) → ⊥
-no_entry_told contents remaining text a b o h = file_none contents remaining o text fault.Entry (λ a b i. i) (λ offset bytes a b i. i) different a h.1 b h.0 h.2 h.3
+no_entry_told contents remaining text a b o h = file_none contents remaining o text fault.Entry (λ a b i. i) (λ offset bytes a b i. i) different a h.1 h.2 h.0 h.3 h.4
   where
     different : (op : ℕ) (s : Status) → fault.Entry ≡ fault.Refused op s → ⊥
     different op s e = cc
 
 no_failed_told : {S A : Type 0} (contents remaining : S → Option (List ℕ)) (text : List ℕ) (a b : Client S A) (o : Open) → FileGives contents remaining o text a b (Err fault.Failed) → ⊥
-no_failed_told contents remaining text a b o h = file_none contents remaining o text fault.Failed (λ a b i. i) (λ offset bytes a b i. i) different a h.1 b h.0 h.2 h.3
+no_failed_told contents remaining text a b o h = file_none contents remaining o text fault.Failed (λ a b i. i) (λ offset bytes a b i. i) different a h.1 h.2 h.0 h.3 h.4
   where
     different : (op : ℕ) (s : Status) → fault.Failed ≡ fault.Refused op s → ⊥
     different op s e = cc
 
 -- a file that is put by these operations
 module _ {S A : Type 0} (contents remaining : S → Option (List ℕ)) (text : List ℕ) (ops : List Operation) (old new : Client S A) where
-  put_memory : PutFileGives contents remaining text ops old new (Err fault.Memory) → Kept old new
-  put_memory (inl h) = h
-  put_memory (inr h) = inr h.3
-
   put_path : PutFileGives contents remaining text ops old new (Err fault.Path) → ⊥
   put_path (inl h) = h
   put_path (inr h) = no_path_told contents remaining text h.0 new h.1 h.3
@@ -149,7 +137,7 @@ module _ {S A : Type 0} (contents remaining : S → Option (List ℕ)) (text : L
   pub not_asked : (f : ToolFault) → new ≡ mid → f ≡ fault.Memory → PutAlong contents remaining names op text old new (Err f)
   not_asked f same is =
       subst (λ (g : ToolFault). PutAlong contents remaining names op text old new (Err g)) (sym is)
-      (inl (kept_on old mid new (walk_kept contents remaining most_before_two names old mid route walk) (inl same)))
+      (inr (mid, route, walk, inl (inl same)))
 
   -- the OPEN fails
   pub not_opened : {X : Type 0} (value : X → Open) (f : ToolFault) → AskGives contents remaining open_in value true (open_along mid route op) mid new (Err f) → PutAlong contents remaining names op text old new (Err f)
@@ -161,13 +149,12 @@ module _ {S A : Type 0} (contents remaining : S → Option (List ℕ)) (text : L
 
 module _ {S A : Type 0} (contents remaining : S → Option (List ℕ)) (path text : List ℕ) (old new : Client S A) where
   abbrev PutAsked : Result (Unit {0}) ToolFault → Type 0
-  PutAsked told = (directory : List (List ℕ)) × (op : Operation) × OpenAsks old.client path directory op × PutAlong contents remaining directory op text old new told
+  PutAsked told = (directory : List (List ℕ)) × (op : Operation) × OpenAsks old.client path text directory op × PutAlong contents remaining directory op text old new told
 
-  pub put_tells : (directory : List (List ℕ)) (op : Operation) (told : Result (Unit {0}) ToolFault) → OpenAsks old.client path directory op → PutAlong contents remaining directory op text old new told
+  pub put_tells : (directory : List (List ℕ)) (op : Operation) (told : Result (Unit {0}) ToolFault) → OpenAsks old.client path text directory op → PutAlong contents remaining directory op text old new told
       → PutCommandGives contents remaining path text old new told
   put_tells directory op told asked h =
       commanded (WrongPath path) PutAsked old new told
-      (λ a. walked_memory contents remaining most_before_two a.0 (At contents remaining text a.1 new) old new a.3 (λ route mid i. put_memory contents remaining text (open_along mid route a.1) mid new i))
       (λ a. no_path contents remaining most_before_two a.0 (At contents remaining text a.1 new) old new (λ route mid i. put_path contents remaining text (open_along mid route a.1) mid new i) a.3)
       (λ a. no_entry contents remaining most_before_two a.0 (At contents remaining text a.1 new) old new (λ route mid i. put_entry contents remaining text (open_along mid route a.1) mid new i) a.3)
       (λ a. no_failed contents remaining most_before_two a.0 (At contents remaining text a.1 new) old new (λ route mid i. put_failed contents remaining text (open_along mid route a.1) mid new i) a.3)

@@ -11,7 +11,7 @@ use Rattle.nfs_client.specs.Routes.{Route, most_names}
 use Rattle.nfs_client.specs.Walking.{Walked}
 use Rattle.nfs_client.specs.declared.client.Client.{Client}
 use Rattle.nfs_client.specs.declared.fault.ToolFault.{ToolFault}
-use Rattle.nfs_client.proofs.Walks.{commanded, walked_memory, no_path, no_entry, no_failed, behind}
+use Rattle.nfs_client.proofs.Walks.{commanded, no_path, no_entry, no_failed, behind}
 
 module _ {S A X : Type 0} (contents remaining : S → Option (List ℕ)) (value : X → List ℕ) (path : List ℕ) (old new : Client S A) where
   -- pieces are read at the end of a route
@@ -23,8 +23,8 @@ module _ {S A X : Type 0} (contents remaining : S → Option (List ℕ)) (value 
 
   cat_tells : (result : Result X ToolFault) → CatAsked result → CatGives contents remaining value path old new result
   cat_tells result h =
-      commanded (NoPath path) CatAsked old new result (λ a. walked_memory contents remaining most_names a.0 PiecesAt old new a.2 (λ route mid i. i)) (λ a. no_path contents remaining most_names a.0 PiecesAt old new (λ route mid i. i.3) a.2)
-      (λ a. no_entry contents remaining most_names a.0 PiecesAt old new (λ route mid i. i.3) a.2) (λ a. no_failed contents remaining most_names a.0 PiecesAt old new (λ route mid i. i.3) a.2) h
+      commanded (NoPath path) CatAsked old new result (λ a. no_path contents remaining most_names a.0 PiecesAt old new (λ route mid i. i.5) a.2)
+      (λ a. no_entry contents remaining most_names a.0 PiecesAt old new (λ route mid i. i.5) a.2) (λ a. no_failed contents remaining most_names a.0 PiecesAt old new (λ route mid i. i.5) a.2) h
 
   pub cat_reads : (names : List (List ℕ)) (mid : Client S A) (route : Route) (result : Result X ToolFault) → names_in path ≡ Some names → WalkGives contents remaining itself most_names names old mid (Ok route)
       → PagesGive (by_pieces contents remaining route) value bytes_of mid new result → CatGives contents remaining value path old new result
@@ -42,8 +42,8 @@ module _ {S A X : Type 0} (contents remaining : S → Option (List ℕ)) (value 
 
   ls_tells : (result : Result X ToolFault) → LsAsked result → LsGives contents remaining value path old new result
   ls_tells result h =
-      commanded (NoPath path) LsAsked old new result (λ a. walked_memory contents remaining most_names a.0 (LinesAt a.1) old new a.4 (λ route mid i. i)) (λ a. no_path contents remaining most_names a.0 (LinesAt a.1) old new (λ route mid i. i.3) a.4)
-      (λ a. no_entry contents remaining most_names a.0 (LinesAt a.1) old new (λ route mid i. i.3) a.4) (λ a. no_failed contents remaining most_names a.0 (LinesAt a.1) old new (λ route mid i. i.3) a.4) h
+      commanded (NoPath path) LsAsked old new result (λ a. no_path contents remaining most_names a.0 (LinesAt a.1) old new (λ route mid i. i.5) a.4)
+      (λ a. no_entry contents remaining most_names a.0 (LinesAt a.1) old new (λ route mid i. i.5) a.4) (λ a. no_failed contents remaining most_names a.0 (LinesAt a.1) old new (λ route mid i. i.5) a.4) h
 
   pub ls_lists : (names : List (List ℕ)) (set : List ℕ) (mid : Client S A) (route : Route) (result : Result X ToolFault) → names_in path ≡ Some names → AreListed set
       → WalkGives contents remaining itself most_names names old mid (Ok route) → PagesGive (by_listings contents remaining route set) value text_of mid new result → LsGives contents remaining value path old new result

@@ -1,13 +1,13 @@
 -- Bytes over a stream in pieces.
-use Rattle.std.proofs.Common.{◌≡◌, ℕ, ◌+◌, ◌-◌, ◌≤◌, List, [], ◌++◌, length, take, drop, Option, Some, None, refl, sym, ap, ◌∙◌, append_assoc, arith}
+use Rattle.std.proofs.Common.{◌≡◌, ℕ, ◌+◌, ◌-◌, ◌≤◌, ◌<◌, List, [], ◌++◌, length, take, drop, Option, Some, None, Result, Ok, Err, refl, sym, ap, ◌∙◌, subst, append_assoc, arith}
 use Rattle.std.specs.Prelude.{slice_range}
 use Rattle.std.specs.Io.KnownBytes.{Appends, Consumes, Keeps}
-use Rattle.std.proofs.lemmas.List.{append-nil, take-append-drop, take_all}
+use Rattle.std.proofs.lemmas.List.{append-nil, take-append-drop, take_all, length-drop}
 use Rattle.std.proofs.Math.Seq.{take-add}
-use Rattle.rpc_record.specs.Records.{IsRecord}
+use Rattle.rpc_record.specs.Records.{IsRecord, IsUnfinished}
 use Rattle.rpc_record.specs.Frame.{Frame}
 use Rattle.rpc_record.specs.Framer.{Stands}
-use Rattle.nfs_client.specs.Streams.{WritesFront, ReadsRecord, IsFrameFault, IsReadFault}
+use Rattle.nfs_client.specs.Streams.{WritesFront, ReadsRecord, IsFollowed, IsFrameFault, IsReadFault, RecordGives, TalkFails, TalkGives}
 use Rattle.nfs_client.specs.declared.fault.ToolFault.{ToolFault}
 use Rattle.nfs_client.specs.declared.fault.ToolFault.TheVariants as faults
 
@@ -90,12 +90,75 @@ pub at_start : (r piece : List ℕ) → r ++ take 0 piece ≡ r
 at_start r piece = append-nil r
 
 -- a fault of framing is a fault of reading
-pub frame_fault : (fault : ToolFault) → IsFrameFault fault → IsReadFault fault
-frame_fault faults.Path h = absurd h
-frame_fault (faults.Refused op status) h = absurd h
-frame_fault faults.Reply h = tt
-frame_fault faults.Read h = tt
-frame_fault faults.Write h = absurd h
-frame_fault faults.Memory h = tt
-frame_fault faults.Entry h = absurd h
-frame_fault faults.Failed h = absurd h
+frame_fault : (bytes : List ℕ) (fault : ToolFault) → IsFrameFault bytes fault → IsReadFault bytes fault
+frame_fault bytes faults.Path h = absurd h
+frame_fault bytes (faults.Refused op status) h = absurd h
+frame_fault bytes faults.Reply h = h
+frame_fault bytes faults.Read h = absurd h
+frame_fault bytes faults.Write h = absurd h
+frame_fault bytes faults.Memory h = tt
+frame_fault bytes faults.Entry h = absurd h
+frame_fault bytes faults.Failed h = absurd h
+
+-- ---- no record is read
+
+-- the bytes that were read, and the fault of them
+abbrev pub NoneRead : Option (List ℕ) → Option (List ℕ) → ToolFault → Type 0
+NoneRead left left' fault = (read : List ℕ) × Consumes left left' read × IsReadFault read fault
+
+consumes_keeps : (a b c : Option (List ℕ)) (bs : List ℕ) → Consumes a b bs → Keeps b c → Consumes a c bs
+consumes_keeps None b c bs p q = tt
+consumes_keeps (Some x) None c bs p q = absurd p
+consumes_keeps (Some x) (Some y) None bs p q = absurd q
+consumes_keeps (Some x) (Some y) (Some z) bs p q = p ∙ ap (λ (l : List ℕ). bs ++ l) (sym q)
+
+module _ (unfinished : (f : Frame) (content bytes : List ℕ) → Stands f content bytes → IsUnfinished bytes) {frame : Frame} {content : List ℕ} {left left' : Option (List ℕ)} (r : Reading frame content left left') where
+  -- the stream fails
+  pub reading_fails : (left'' : Option (List ℕ)) → Keeps left' left'' → NoneRead left left'' faults.Read
+  reading_fails left'' k = (r.bytes, consumes_keeps left left' left'' r.bytes r.read k, unfinished frame content r.bytes r.stands)
+
+  -- the stream ends
+  pub reading_ends : (left'' : Option (List ℕ)) → Consumes left' left'' [] → NoneRead left left'' faults.Read
+  reading_ends left'' k =
+      let read = subst (λ (bs : List ℕ). Consumes left left'' bs) (append-nil r.bytes) (consumes_trans left left' left'' r.bytes [] r.read k) in
+      (r.bytes, read, unfinished frame content r.bytes r.stands)
+
+  -- there were enough reads
+  pub reading_stops : NoneRead left left' faults.Read
+  reading_stops = (r.bytes, r.read, unfinished frame content r.bytes r.stands)
+
+-- the piece can't be framed
+pub reading_breaks : {frame : Frame} {content : List ℕ} {left left' : Option (List ℕ)} (r : Reading frame content left left') (piece : List ℕ) (left'' : Option (List ℕ)) (fault : ToolFault)
+    → IsFrameFault (r.bytes ++ piece) fault → Consumes left' left'' piece → NoneRead left left'' fault
+reading_breaks {left = left} {left' = left'} r piece left'' fault is c =
+    (r.bytes ++ piece, consumes_trans left left' left'' r.bytes piece r.read c, frame_fault (r.bytes ++ piece) fault is)
+
+-- a record ends in the piece, and bytes are behind it
+pub followed : (r piece content : List ℕ) (at to : ℕ) → at ≤ to → to < length piece → IsRecord content ((r ++ take at piece) ++ slice_range piece at to) → IsFollowed (r ++ piece)
+followed r piece content at to le more is =
+    record {
+      content = content;
+      first = r ++ take to piece;
+      rest = drop to piece;
+      parts = sym (append_assoc r (take to piece) (drop to piece) ∙ ap (λ (t : List ℕ). r ++ t) (take-append-drop to piece));
+      one_record = subst (λ (bs : List ℕ). IsRecord content bs) (up_to r piece at to le) is;
+      more = omega (arith, length-drop to piece, more);
+    }
+
+-- The call was written, and no record was read behind it.
+pub unheard : {S : Type 0} (contents remaining : S → Option (List ℕ)) (old mid new : S) (call : List ℕ) (fault : ToolFault) → Appends (contents old) (contents mid) call
+    → NoneRead (remaining mid) (remaining new) fault → TalkFails contents remaining old new call fault
+unheard contents remaining old mid new call faults.Read wrote (bytes, read, is) = record { mid = mid; wrote = wrote; bytes = bytes; read = read; no_record = is }
+unheard contents remaining old mid new call faults.Reply wrote (bytes, read, is) = record { mid = mid; wrote = wrote; bytes = bytes; read = read; no_record = is }
+unheard contents remaining old mid new call faults.Memory wrote (bytes, read, is) = record { mid = mid; wrote = wrote; bytes = bytes; read = read; no_record = is }
+unheard contents remaining old mid new call faults.Write wrote (bytes, read, is) = absurd is
+unheard contents remaining old mid new call faults.Path wrote (bytes, read, is) = absurd is
+unheard contents remaining old mid new call (faults.Refused op status) wrote (bytes, read, is) = absurd is
+unheard contents remaining old mid new call faults.Entry wrote (bytes, read, is) = absurd is
+unheard contents remaining old mid new call faults.Failed wrote (bytes, read, is) = absurd is
+
+-- the call was written, and what was read behind it is a record, or is none
+pub talked : {S X : Type 0} (bytes : X → List ℕ) (contents remaining : S → Option (List ℕ)) (old mid new : S) (call : List ℕ) (result : Result X ToolFault) → Appends (contents old) (contents mid) call
+    → RecordGives bytes (remaining mid) (remaining new) result → TalkGives bytes contents remaining old new call result
+talked bytes contents remaining old mid new call (Ok x) wrote read = record { mid = mid; wrote = wrote; read = read }
+talked bytes contents remaining old mid new call (Err fault) wrote read = unheard contents remaining old mid new call fault wrote read

@@ -1,6 +1,6 @@
 -- Walks of several COMPOUNDs.
-use Rattle.std.proofs.Common.{◌≡◌, ◌<◌, ◌≤◌, ◌+◌, ◌-◌, inl, inr, ℕ, true, false, List, [], ◌∷◌, length, take, drop, map, min, Ok, Err, sym, ap, ◌∙◌, subst, arith}
-use Rattle.std.specs.Prelude.{◌⊎◌, IfOk, Option, Result}
+use Rattle.std.proofs.Common.{◌≡◌, ◌<◌, ◌≤◌, ◌+◌, ◌-◌, inl, inr, ℕ, true, false, List, ◌∷◌, length, take, drop, map, min, Ok, Err, refl, sym, ap, ◌∙◌, subst, arith}
+use Rattle.std.specs.Prelude.{IfOk, Option, Result}
 use Rattle.std.specs.Borrow.{Bor}
 use Rattle.std.proofs.lemmas.List.{take-map, drop-map, drop-drop, drop_min, length-map, length-take, length-drop}
 use Rattle.nfs_ops.specs.Operations.{Operation}
@@ -18,24 +18,7 @@ use Rattle.nfs_client.specs.declared.fault.ToolFault.{ToolFault}
 use Rattle.nfs_client.specs.declared.fault.ToolFault.TheVariants as fault
 use Rattle.nfs_client.proofs.Pages.{same_failure}
 
-module _ {S A : Type 0} where
-  -- no operation was asked, or no other command runs
-  abbrev pub Kept : Client S A → Client S A → Type 0
-  Kept old new = (new ≡ old) ⊎ (new.usable ≡ false)
-
-  pub kept_on : (old mid new : Client S A) → Kept old mid → Kept mid new → Kept old new
-  kept_on old mid new (inl a) (inl b) = inl (b ∙ a)
-  kept_on old mid new (inr a) (inl b) = inr (ap (λ (c : Client S A). c.usable) b ∙ a)
-  kept_on old mid new a (inr b) = inr b
-
 module _ {S A : Type 0} (contents remaining : S → Option (List ℕ)) where
-  pub approached : (most : ℕ) (names : List (List ℕ)) (old new : Client S A) (handles : List (List ℕ)) → Approaches contents remaining most names old handles new → Kept old new
-  approached most names old new [] h = inl h
-  approached most names old new (handle ∷ before) h = inr (ap (λ (c : Client S A). c.usable) h.5)
-
-  pub walk_kept : (most : ℕ) (names : List (List ℕ)) (old new : Client S A) (route : Route) → WalkGives contents remaining itself most names old new (Ok route) → Kept old new
-  walk_kept most names old new route h = approached most names old new h.0 h.1
-
   -- one approach more
   pub further : (most : ℕ) (names : List (List ℕ)) (old mid last new : Client S A) (handles : List (List ℕ)) (route first : Route) (handle : List ℕ) → Approaches contents remaining most names old handles mid
       → route ≡ route_behind names handles → first ≡ near route → most < length route.names → AskGives contents remaining handle_in itself true (approach mid first) mid last (Ok handle)
@@ -61,17 +44,7 @@ module _ {S A : Type 0} (contents remaining : S → Option (List ℕ)) where
       let told = same_failure contents remaining handle_in value itself true (approach mid first) mid new f gives in
       let here =
       subst (λ (r : Route). ApproachGives contents remaining r mid new (Err f)) so (subst (λ (r : Route). AskGives {X = List ℕ} contents remaining handle_in itself true (approach mid r) mid new (Err f)) is told) in
-      fails f under here
-    where
-      fails : (f : ToolFault) → most < length (route_behind names handles).names → ApproachGives contents remaining (route_behind names handles) mid new (Err f) → WalkFails contents remaining most names old new f
-      fails fault.Memory under h = kept_on old mid new (approached most names old mid handles goes) h
-      fails fault.Reply under h = (mid, handles, goes, under, h)
-      fails fault.Read under h = (mid, handles, goes, under, h)
-      fails fault.Write under h = (mid, handles, goes, under, h)
-      fails (fault.Refused op s) under h = (mid, handles, goes, under, h)
-      fails fault.Path under h = (mid, handles, goes, under, h)
-      fails fault.Entry under h = (mid, handles, goes, under, h)
-      fails fault.Failed under h = (mid, handles, goes, under, h)
+      record { mid = mid; before = handles; goes = goes; needed = under; gives = here }
 
 -- ---- the names that are left
 
@@ -124,36 +97,32 @@ first_left names others n is =
 
 -- ---- the outcome of a command
 
-pub commanded : {S A X : Type 0} (wrong : ToolFault → Type 0) (gives : Result X ToolFault → Type 0) (old new : Client S A) (result : Result X ToolFault) → (gives (Err fault.Memory) → Kept old new)
+pub commanded : {S A X : Type 0} (wrong : ToolFault → Type 0) (gives : Result X ToolFault → Type 0) (old new : Client S A) (result : Result X ToolFault)
     → (gives (Err fault.Path) → ⊥) → (gives (Err fault.Entry) → ⊥) → (gives (Err fault.Failed) → ⊥) → gives result → Commanded wrong gives old new result
-commanded wrong gives old new (Ok x) kept path entry failed h = h
-commanded wrong gives old new (Err fault.Memory) kept path entry failed h = kept h
-commanded wrong gives old new (Err fault.Path) kept path entry failed h = absurd (path h)
-commanded wrong gives old new (Err fault.Entry) kept path entry failed h = absurd (entry h)
-commanded wrong gives old new (Err fault.Failed) kept path entry failed h = absurd (failed h)
-commanded wrong gives old new (Err (fault.Refused op s)) kept path entry failed h = h
-commanded wrong gives old new (Err fault.Reply) kept path entry failed h = h
-commanded wrong gives old new (Err fault.Read) kept path entry failed h = h
-commanded wrong gives old new (Err fault.Write) kept path entry failed h = h
+commanded wrong gives old new (Ok x) path entry failed h = h
+commanded wrong gives old new (Err fault.Memory) path entry failed h = inr h
+commanded wrong gives old new (Err fault.Path) path entry failed h = absurd (path h)
+commanded wrong gives old new (Err fault.Entry) path entry failed h = absurd (entry h)
+commanded wrong gives old new (Err fault.Failed) path entry failed h = absurd (failed h)
+commanded wrong gives old new (Err (fault.Refused op s)) path entry failed h = h
+commanded wrong gives old new (Err fault.Reply) path entry failed h = h
+commanded wrong gives old new (Err fault.Read) path entry failed h = h
+commanded wrong gives old new (Err fault.Write) path entry failed h = h
 
 module _ {S A X : Type 0} (contents remaining : S → Option (List ℕ)) (most : ℕ) (names : List (List ℕ)) (does : Route → Client S A → Result X ToolFault → Type 0) (old new : Client S A) where
-  pub walked_memory : Walked contents remaining most names does old new (Err fault.Memory) → ((route : Route) (mid : Client S A) → does route mid (Err fault.Memory) → Kept mid new) → Kept old new
-  walked_memory (inl h) kept = h
-  walked_memory (inr h) kept = kept_on old h.0 new (walk_kept contents remaining most names old h.0 h.1 h.2) (kept h.1 h.0 h.3)
-
   pub walked_none : (f : ToolFault) → (WalkFails contents remaining most names old new f → ⊥) → ((route : Route) (mid : Client S A) → does route mid (Err f) → ⊥)
       → Walked contents remaining most names does old new (Err f) → ⊥
   walked_none f fails none (inl h) = fails h
   walked_none f fails none (inr h) = none h.1 h.0 h.3
 
   pub no_path : ((route : Route) (mid : Client S A) → does route mid (Err fault.Path) → ⊥) → Walked contents remaining most names does old new (Err fault.Path) → ⊥
-  no_path none h = walked_none fault.Path (λ w. w.4) none h
+  no_path none h = walked_none fault.Path (λ w. w.gives) none h
 
   pub no_entry : ((route : Route) (mid : Client S A) → does route mid (Err fault.Entry) → ⊥) → Walked contents remaining most names does old new (Err fault.Entry) → ⊥
-  no_entry none h = walked_none fault.Entry (λ w. w.4) none h
+  no_entry none h = walked_none fault.Entry (λ w. w.gives) none h
 
   pub no_failed : ((route : Route) (mid : Client S A) → does route mid (Err fault.Failed) → ⊥) → Walked contents remaining most names does old new (Err fault.Failed) → ⊥
-  no_failed none h = walked_none fault.Failed (λ w. w.4) none h
+  no_failed none h = walked_none fault.Failed (λ w. w.gives) none h
 
   -- the outcome behind a walk
   pub behind : (mid : Client S A) (route : Route) (result : Result X ToolFault) → WalkGives contents remaining itself most names old mid (Ok route) → does route mid result
@@ -174,8 +143,7 @@ module _ {S A X V : Type 0} (contents remaining : S → Option (List ℕ)) (take
 
   tells : (result : Result X ToolFault) → Asked result → CommandTells contents remaining taken value asks wrong old new result
   tells result h =
-      commanded wrong Asked old new result (λ a. walked_memory contents remaining most_names a.0 (There a.1) old new a.3 (λ route mid i. i))
-      (λ a. no_path contents remaining most_names a.0 (There a.1) old new (λ route mid i. i) a.3) (λ a. no_entry contents remaining most_names a.0 (There a.1) old new (λ route mid i. i) a.3)
+      commanded wrong Asked old new result (λ a. no_path contents remaining most_names a.0 (There a.1) old new (λ route mid i. i) a.3) (λ a. no_entry contents remaining most_names a.0 (There a.1) old new (λ route mid i. i) a.3)
       (λ a. no_failed contents remaining most_names a.0 (There a.1) old new (λ route mid i. i) a.3) h
 
   -- the outcome of the request of a command is the outcome of the command
@@ -184,9 +152,12 @@ module _ {S A X V : Type 0} (contents remaining : S → Option (List ℕ)) (take
   command_runs mid request names op result asked ready ran =
       tells result (names, op, asked, behind contents remaining most_names names (There op) old new mid ready.0 result ready.1 (ran (along mid ready.0 op) ready.2))
 
-  -- an approach fails
+  -- an approach fails, or memory is refused for the request
   pub command_stops : (names : List (List ℕ)) (op : Operation) (f : ToolFault) → asks names op → ReadyGives contents remaining names op old new (Err f) → CommandTells contents remaining taken value asks wrong old new (Err f)
-  command_stops names op f asked fails = tells (Err f) (names, op, asked, inl fails)
+  command_stops names op f asked (inl fails) = tells (Err f) (names, op, asked, inl fails)
+  command_stops names op f asked (inr h) =
+      let there = subst (λ (g : ToolFault). AskGives {X = X} contents remaining taken value true (along new h.route op) new new (Err g)) (sym h.is_memory) (inl refl) in
+      tells (Err f) (names, op, asked, inr (new, h.route, h.walk, there))
 
 -- ---- a command of two paths
 
@@ -207,7 +178,6 @@ module _ {S A : Type 0} (contents remaining : S → Option (List ℕ)) (asks : L
   gives_both : (result : Result (Unit {0}) ToolFault) → AskedBoth result → BothGive contents remaining asks wrong old new result
   gives_both result h =
       commanded wrong AskedBoth old new result
-      (λ a. walked_memory contents remaining (first_most a.0 a.1) a.0 (Second a.1 a.2) old new a.4 (λ first mid i. walked_memory contents remaining most_of_both a.1 (ThereBoth a.2 first) mid new i (λ second last j. j)))
       (λ a. no_path contents remaining (first_most a.0 a.1) a.0 (Second a.1 a.2) old new (λ first mid i. no_path contents remaining most_of_both a.1 (ThereBoth a.2 first) mid new (λ second last j. j) i) a.4)
       (λ a. no_entry contents remaining (first_most a.0 a.1) a.0 (Second a.1 a.2) old new (λ first mid i. no_entry contents remaining most_of_both a.1 (ThereBoth a.2 first) mid new (λ second last j. j) i) a.4)
       (λ a. no_failed contents remaining (first_most a.0 a.1) a.0 (Second a.1 a.2) old new (λ first mid i. no_failed contents remaining most_of_both a.1 (ThereBoth a.2 first) mid new (λ second last j. j) i) a.4) h
@@ -220,23 +190,22 @@ module _ {S A : Type 0} (contents remaining : S → Option (List ℕ)) (asks : L
 
   pub both_stop : (names others : List (List ℕ)) (op : Operation) (f : ToolFault) → asks names others op → BothReady contents remaining names others op old new (Err f) → BothGive contents remaining asks wrong old new (Err f)
   both_stop names others op f asked (inl h) = gives_both (Err f) (names, others, op, asked, inl h)
-  both_stop names others op f asked (inr h) = gives_both (Err f) (names, others, op, asked, inr (h.0, h.1, h.2, inl h.3))
+  both_stop names others op f asked (inr (mid, first, walk, inl h)) = gives_both (Err f) (names, others, op, asked, inr (mid, first, walk, inl h))
+  both_stop names others op f asked (inr (mid, first, walk, inr h)) =
+      let there = subst (λ (g : ToolFault). AskGives {X = Unit {0}} contents remaining takes_nothing nothing true (along_both new first h.route op) new new (Err g)) (sym h.is_memory) (inl refl) in
+      gives_both (Err f) (names, others, op, asked, inr (mid, first, walk, inr (new, h.route, h.walk, there)))
 
 -- ---- the request of a command
 
 -- Behind a walk the request is made, or memory is refused for the request.
 module _ {S A : Type 0} (contents remaining : S → Option (List ℕ)) where
-  unmade : (most : ℕ) (names : List (List ℕ)) (old new : Client S A) (route : Route) (f : ToolFault) → WalkGives contents remaining itself most names old new (Ok route) → f ≡ fault.Memory
-      → WalkFails contents remaining most names old new f
-  unmade most names old new route f walk is = subst (λ (g : ToolFault). WalkFails contents remaining most names old new g) (sym is) (walk_kept contents remaining most names old new route walk)
-
   pub made_ready : (names : List (List ℕ)) (op : Operation) (old new : Client S A) (route : Route) (result : Result (Request A) ToolFault) → WalkGives contents remaining itself most_names names old new (Ok route)
       → IfOk result (λ r. Asks r (along new route op)) → PutGives result → ReadyGives contents remaining names op old new result
   made_ready names op old new route (Ok request) walk asks memory = (route, walk, asks)
-  made_ready names op old new route (Err f) walk asks memory = unmade most_names names old new route f walk memory
+  made_ready names op old new route (Err f) walk asks memory = inr (record { is_memory = memory; route = route; walk = walk })
 
   pub made_both : (names others : List (List ℕ)) (op : Operation) (old mid new : Client S A) (first second : Route) (result : Result (Request A) ToolFault)
       → WalkGives contents remaining itself (first_most names others) names old mid (Ok first) → WalkGives contents remaining itself most_of_both others mid new (Ok second)
       → IfOk result (λ r. Asks r (along_both new first second op)) → PutGives result → BothReady contents remaining names others op old new result
   made_both names others op old mid new first second (Ok request) walk other asks memory = (mid, first, second, walk, other, asks)
-  made_both names others op old mid new first second (Err f) walk other asks memory = inr (mid, first, walk, unmade most_of_both others mid new second f other memory)
+  made_both names others op old mid new first second (Err f) walk other asks memory = inr (mid, first, walk, inr (record { is_memory = memory; route = second; walk = other }))

@@ -1,5 +1,5 @@
 -- getacl, getdacl and getsacl, and setacl, setdacl and setsacl: an access control list, or a part of it, as text.
-use Rattle.std.specs.Prelude.{◌≡◌, ℕ, nat_lt, ◌==◌, if◌then◌else◌, List, ◌++◌, map, Contains, Option, Some, None, option_and_then, option_map, Result, Ok, Err}
+use Rattle.std.specs.Prelude.{◌≡◌, ◌⊎◌, ◌<◌, ℕ, length, nat_lt, ◌==◌, if◌then◌else◌, List, ◌++◌, map, Contains, Option, Some, None, option_and_then, option_map, Result, Ok, Err}
 use Rattle.acl_list.specs.declared.entry.EntryKind.{EntryKind}
 use Rattle.acl_list.specs.declared.entry.EntryKind.TheVariants.{Allow, Deny, Audit, Alarm}
 use Rattle.xdr_wire.specs.Xdr.{Value}
@@ -66,12 +66,12 @@ EntriesGive values texts (Err fault) = ⊥
 -- the path's names, and the operation at their end
 abbrev pub SetAclAsks : ListPart → List ℕ → List (List ℕ) → List (List ℕ) → Operation → Type 0
 SetAclAsks part path texts names op =
-    (values : List (Value ace)) × (names_in path ≡ Some names) × AreRead texts values × (op ≡ set_attributes (of_entries part values))
+    (values : List (Value ace)) × (names_in path ≡ Some names) × (0 < length texts) × AreRead texts values × (op ≡ set_attributes (of_entries part values))
 
--- The path is read before the entries.
+-- The path is read before the entries, of which there is at least one.
 abbrev pub WrongList : List ℕ → List (List ℕ) → ToolFault → Type 0
 WrongList path texts Path = names_in path ≡ None
-WrongList path texts Entry = (names : List (List ℕ)) × (names_in path ≡ Some names) × SomeUnread texts
+WrongList path texts Entry = (names : List (List ℕ)) × (names_in path ≡ Some names) × ((length texts ≡ 0) ⊎ SomeUnread texts)
 WrongList path texts fault = ⊥
 
 -- ---- reading a list

@@ -1,5 +1,5 @@
 -- An approach: a COMPOUND that walks the first names of a route and gets the filehandle at their end (RFC 8881, section 18.8).
-use Rattle.std.specs.Prelude.{◌≡◌, ◌⊎◌, ◌≤◌, ◌<◌, ℕ, true, false, List, [], ◌∷◌, length, Option, Some, None, option_and_then, Result, Ok, Err}
+use Rattle.std.specs.Prelude.{◌≡◌, ◌≤◌, ◌<◌, ℕ, true, false, List, [], ◌∷◌, length, Option, Some, None, option_and_then, Result, Ok, Err}
 use Rattle.nfs_ops.specs.Operations.{Operation, Known}
 use Rattle.nfs_ops.specs.Results.{Outcome, Done}
 use Rattle.nfs_ops.specs.declared.op_kind.OpKind.TheVariants as kinds
@@ -9,7 +9,6 @@ use Rattle.nfs_client.specs.Routes.{Route, near, along, route_behind}
 use Rattle.nfs_client.specs.Taking.{last_of}
 use Rattle.nfs_client.specs.declared.client.Client.{Client}
 use Rattle.nfs_client.specs.declared.fault.ToolFault.{ToolFault}
-use Rattle.nfs_client.specs.declared.fault.ToolFault.TheVariants.{Memory}
 
 abbrev pub get_handle : Operation
 get_handle = Known kinds.GetFh tt
@@ -38,12 +37,13 @@ module _ {S A : Type 0} (contents remaining : S → Option (List ℕ)) where
       (mid : Client S A) × (last : Client S A) × Approaches most names old before mid × (most < length (route_behind names before).names)
       × ApproachGives (route_behind names before) mid last (Ok handle) × (new ≡ record last { usable = false })
 
-  -- The next approach fails, where one is still needed. Where memory is refused no operation was asked, or no other command runs.
-  abbrev pub WalkFails : ℕ → List (List ℕ) → Client S A → Client S A → ToolFault → Type 0
-  WalkFails most names old new Memory = (new ≡ old) ⊎ (new.usable ≡ false)
-  WalkFails most names old new fault =
-      (mid : Client S A) × (before : List (List ℕ)) × Approaches most names old before mid × (most < length (route_behind names before).names)
-      × ApproachGives (route_behind names before) mid new (Err fault)
+  -- The next approach fails, where one is still needed.
+  pub record WalkFails (most : ℕ) (names : List (List ℕ)) (old new : Client S A) (fault : ToolFault) : Type 0 where
+    pub mid : Client S A
+    pub before : List (List ℕ)
+    pub goes : Approaches most names old before mid
+    pub needed : most < length (route_behind names before).names
+    pub gives : ApproachGives (route_behind names before) mid new (Err fault)
 
   -- Approaches lead to a route with at most so many names left; or an approach fails.
   abbrev pub WalkGives : {X : Type 0} → (X → Route) → ℕ → List (List ℕ) → Client S A → Client S A → Result X ToolFault → Type 0

@@ -21,10 +21,10 @@ pub record Exchange {S : Type 0} (contents remaining : S → Option (List ℕ)) 
   pub talked : Talked contents remaining old new call content
 
 -- An exchange that failed: a front of the call was written, or all of the call and no record was read behind it.
-pub record Failing {S : Type 0} (contents : S → Option (List ℕ)) (old new : S) (xid : ℕ) (caller : Identity) (ops : List Operation) (fault : ToolFault) : Type 0 where
+pub record Failing {S : Type 0} (contents remaining : S → Option (List ℕ)) (old new : S) (xid : ℕ) (caller : Identity) (ops : List Operation) (fault : ToolFault) : Type 0 where
   pub call : List ℕ
   pub is_call : IsCall xid caller ops call
-  pub failed : TalkFails contents old new call fault
+  pub failed : TalkFails contents remaining old new call fault
 
 -- the next number
 abbrev pub next : ℕ → ℕ
@@ -44,4 +44,4 @@ pub record Begun {S A : Type 0} (old new : Client S A) : Type 0 where
 abbrev pub ExchangeGives : {S A : Type 0} → (S → Option (List ℕ)) → (S → Option (List ℕ)) → List Operation → Client S A → Client S A → Result (ReplyOf A) ToolFault → Type 0
 ExchangeGives contents remaining ops old new (Ok reply) =
     Begun old new × (reply.xid ≡ old.xid) × (reply.asked.items ≡ asked_of ops) × Exchange contents remaining old.stream new.stream old.xid (caller_of old) ops reply.content.items
-ExchangeGives contents remaining ops old new (Err fault) = ((fault ≡ Memory) × (new ≡ old)) ⊎ (Begun old new × Failing contents old.stream new.stream old.xid (caller_of old) ops fault)
+ExchangeGives contents remaining ops old new (Err fault) = ((fault ≡ Memory) × (new ≡ old)) ⊎ (Begun old new × Failing contents remaining old.stream new.stream old.xid (caller_of old) ops fault)

@@ -7,7 +7,7 @@ use Rattle.nfs_ops.specs.declared.op_kind.OpKind.TheVariants as kinds
 use Rattle.nfs_client.specs.Paths.{names_in}
 use Rattle.nfs_client.specs.Compound.{Answer, AllDone, LastRefused, NoReply, said}
 use Rattle.nfs_client.specs.Requests.{asked_of}
-use Rattle.nfs_client.specs.Client.{Exchange, Failing, caller_of, next}
+use Rattle.nfs_client.specs.Client.{Begun, Exchange, Failing, caller_of, next}
 use Rattle.nfs_client.specs.declared.client.Client.{Client}
 use Rattle.nfs_client.specs.declared.fault.ToolFault.{ToolFault}
 use Rattle.nfs_client.specs.declared.fault.ToolFault.TheVariants.{Path, Refused, Reply, Read, Write, Memory, Entry, Failed}
@@ -76,14 +76,23 @@ pub record Settled {S A : Type 0} (old new : Client S A) (number : ℕ) : Type 0
   pub session : new.session ≡ old.session
   pub numbered : new.number ≡ number
 
--- No other command runs: no record was read behind the call, or a record that isn't a reply to the call.
-abbrev pub GivesUp : {S A : Type 0} → (S → Option (List ℕ)) → List Operation → Client S A → Client S A → ToolFault → Type 0
-GivesUp contents ops old new fault = (new.usable ≡ false) × Failing contents old.stream new.stream old.xid (caller_of old) ops fault
+-- No record was read behind the call, and no other command runs.
+abbrev pub GivesUp : {S A : Type 0} → (S → Option (List ℕ)) → (S → Option (List ℕ)) → List Operation → Client S A → Client S A → ToolFault → Type 0
+GivesUp contents remaining ops old new fault = Begun old new × Failing contents remaining old.stream new.stream old.xid (caller_of old) ops fault
 
--- A record was read that is no reply to the call, or a reply whose results have no such value.
+-- A record was read that is no reply to the call, or a reply whose results have no such value; no other command runs.
 abbrev pub NoAnswer : {S A V : Type 0} → (S → Option (List ℕ)) → (S → Option (List ℕ)) → (List Outcome → Option V) → List Operation → Client S A → Client S A → Type 0
 NoAnswer contents remaining taken ops old new =
-    (new.usable ≡ false) × (Answered contents remaining ops old new NoReply ⊎ Told contents remaining taken ops old new None)
+    Begun old new × (Answered contents remaining ops old new NoReply ⊎ Told contents remaining taken ops old new None)
+
+-- A record was read, and memory was refused for what it says; no other command runs.
+abbrev pub Unjudged : {S A : Type 0} → (S → Option (List ℕ)) → (S → Option (List ℕ)) → List Operation → Client S A → Client S A → Type 0
+Unjudged contents remaining ops old new =
+    Begun old new × (content : List ℕ) × Exchange contents remaining old.stream new.stream old.xid (caller_of old) ops content
+
+-- Memory was refused: before the first byte of the call, as the record behind it was read, or for what the record says.
+abbrev pub NoMemory : {S A : Type 0} → (S → Option (List ℕ)) → (S → Option (List ℕ)) → List Operation → Client S A → Client S A → Type 0
+NoMemory contents remaining ops old new = (new ≡ old) ⊎ (GivesUp contents remaining ops old new Memory ⊎ Unjudged contents remaining ops old new)
 
 -- The outcome of operations with a value of their results: the value was taken; or the last operation run was refused; or no other command
 -- runs.
@@ -92,19 +101,19 @@ AskGives contents remaining taken value in_session ops old new (Ok x) =
     Told contents remaining taken ops old new (Some (value x)) × Settled old new (number_behind in_session old.number)
 AskGives contents remaining taken value in_session ops old new (Err (Refused op status)) =
     Answered contents remaining ops old new (LastRefused op (statuses.number_of status)) × Settled old new (number_behind (takes_number in_session op) old.number)
-AskGives contents remaining taken value in_session ops old new (Err Memory) = (new ≡ old) ⊎ (new.usable ≡ false)
-AskGives contents remaining taken value in_session ops old new (Err Reply) = GivesUp contents ops old new Reply ⊎ NoAnswer contents remaining taken ops old new
-AskGives contents remaining taken value in_session ops old new (Err Read) = GivesUp contents ops old new Read
-AskGives contents remaining taken value in_session ops old new (Err Write) = GivesUp contents ops old new Write
+AskGives contents remaining taken value in_session ops old new (Err Memory) = NoMemory contents remaining ops old new
+AskGives contents remaining taken value in_session ops old new (Err Reply) = GivesUp contents remaining ops old new Reply ⊎ NoAnswer contents remaining taken ops old new
+AskGives contents remaining taken value in_session ops old new (Err Read) = GivesUp contents remaining ops old new Read
+AskGives contents remaining taken value in_session ops old new (Err Write) = GivesUp contents remaining ops old new Write
 AskGives contents remaining taken value in_session ops old new (Err Path) = ⊥
 AskGives contents remaining taken value in_session ops old new (Err Entry) = ⊥
 AskGives contents remaining taken value in_session ops old new (Err Failed) = ⊥
 
--- The outcome of a command, unless its words are wrong: then no operation is asked. On a client that isn't usable no command runs. Where
--- memory is refused no operation was asked, or no other command runs.
+-- The outcome of a command, unless its words are wrong: then no operation is asked. On a client that isn't usable no command runs. Memory may
+-- be refused before an operation is asked.
 abbrev pub Commanded : {S A X : Type 0} → (ToolFault → Type 0) → (Result X ToolFault → Type 0) → Client S A → Client S A → Result X ToolFault → Type 0
 Commanded wrong gives old new (Err Failed) = (old.usable ≡ false) × (new ≡ old)
 Commanded wrong gives old new (Err Path) = wrong Path × (new ≡ old)
 Commanded wrong gives old new (Err Entry) = wrong Entry × (new ≡ old)
-Commanded wrong gives old new (Err Memory) = (new ≡ old) ⊎ (new.usable ≡ false)
+Commanded wrong gives old new (Err Memory) = (new ≡ old) ⊎ gives (Err Memory)
 Commanded wrong gives old new result = gives result

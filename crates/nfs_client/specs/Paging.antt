@@ -1,11 +1,11 @@
 -- Commands that ask page by page up to an end. The operations of each page depend on the pages before it, the last of them first.
-use Rattle.std.specs.Prelude.{◌≡◌, ◌⊎◌, ℕ, Bool, true, false, List, [], ◌∷◌, length, Option, Result, Ok, Err}
+use Rattle.std.specs.Prelude.{◌≡◌, ◌⊎◌, ◌<◌, ℕ, Bool, true, false, List, [], ◌∷◌, length, Option, Result, Ok, Err}
 use Rattle.nfs_ops.specs.Operations.{Operation}
 use Rattle.nfs_ops.specs.Results.{Outcome}
-use Rattle.nfs_client.specs.Commands.{AskGives}
+use Rattle.nfs_client.specs.Commands.{AskGives, Spoils}
 use Rattle.nfs_client.specs.declared.client.Client.{Client}
 use Rattle.nfs_client.specs.declared.fault.ToolFault.{ToolFault}
-use Rattle.nfs_client.specs.declared.fault.ToolFault.TheVariants.{Reply, Memory}
+use Rattle.nfs_client.specs.declared.fault.ToolFault.TheVariants.{Reply}
 
 -- the most calls of one command
 abbrev pub most_calls : ℕ
@@ -32,18 +32,18 @@ module _ {S A V : Type 0} (paging : Paging S A V) where
   Goes old [] new = new ≡ old
   Goes old (v ∷ before) new = (mid : Client S A) × Goes old before mid × (paging.ends v ≡ false) × PageGives before mid new (Ok v)
 
-  -- the exchange behind some pages fails
+  -- The exchange behind some pages fails. Where memory was refused no other command runs.
   abbrev pub Stops : Client S A → Client S A → ToolFault → Type 0
-  Stops old new fault = (mid : Client S A) × (before : List V) × Goes old before mid × PageGives before mid new (Err fault)
+  Stops old new fault =
+      (mid : Client S A) × (last : Client S A) × (before : List V) × Goes old before mid × (length before < most_calls) × PageGives before mid last (Err fault) × Spoils {X = V} (Err fault) last new
 
   -- the most pages came, and none of them was the last
   abbrev pub IsTooLong : Client S A → Client S A → Type 0
-  IsTooLong old new = (mid : Client S A) × (before : List V) × Goes old before mid × (length before ≡ most_calls) × (new.usable ≡ false)
+  IsTooLong old new = (mid : Client S A) × (before : List V) × Goes old before mid × (length before ≡ most_calls) × (new ≡ record mid { usable = false })
 
-  -- All pages up to the last; or an exchange fails; or there are too many.
+  -- All pages up to the last, which are no more than the most calls; or an exchange fails; or there are too many.
   abbrev pub PagesGive : {X W : Type 0} → (X → W) → (List V → W) → Client S A → Client S A → Result X ToolFault → Type 0
   PagesGive value whole old new (Ok x) =
-      (mid : Client S A) × (before : List V) × (last : V) × Goes old before mid × PageGives before mid new (Ok last) × (paging.ends last ≡ true) × (value x ≡ whole (last ∷ before))
-  PagesGive value whole old new (Err Memory) = (new ≡ old) ⊎ (new.usable ≡ false)
+      (mid : Client S A) × (before : List V) × (last : V) × Goes old before mid × (length before < most_calls) × PageGives before mid new (Ok last) × (paging.ends last ≡ true) × (value x ≡ whole (last ∷ before))
   PagesGive value whole old new (Err Reply) = Stops old new Reply ⊎ IsTooLong old new
   PagesGive value whole old new (Err fault) = Stops old new fault

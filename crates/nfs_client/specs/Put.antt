@@ -1,5 +1,5 @@
--- put: a file is opened for writing and emptied, a text is written to the file piece by piece, and the file is closed.
-use Rattle.std.specs.Prelude.{◌≡◌, ◌⊎◌, ℕ, nat_le, ◌&&◌, true, false, if◌then◌else◌, sum, List, [], ◌∷◌, ◌++◌, length, take, drop, Option, Some, None, option_and_then, option_map, Result, Ok, Err}
+-- put: a file is opened for writing, a text is written to the file piece by piece, each with the size behind it, and the file is closed.
+use Rattle.std.specs.Prelude.{◌≡◌, ◌⊎◌, ℕ, ◌+◌, nat_le, ◌==◌, ◌&&◌, true, if◌then◌else◌, sum, codes, List, [], ◌∷◌, ◌++◌, length, take, drop, Option, Some, None, option_and_then, option_map, Result, Ok, Err}
 use Rattle.std.proofs.Common.{inl, inr}
 use Rattle.xdr_wire.specs.Xdr.{Value}
 use Rattle.nfs_types.specs.Forms.{stateid}
@@ -8,29 +8,35 @@ use Rattle.nfs_types.specs.declared.status.Status.{Status}
 use Rattle.nfs_ops.specs.Operations.{Operation, Known}
 use Rattle.nfs_ops.specs.Results.{Outcome, Done}
 use Rattle.nfs_ops.specs.declared.op_kind.OpKind.TheVariants as kinds
-use Rattle.nfs_client.specs.Sessions.{owner}
-use Rattle.nfs_client.specs.Setting.{of_size}
-use Rattle.nfs_client.specs.Taking.{last_of, last_two, nothing, takes_nothing}
+use Rattle.nfs_client.specs.Setting.{with_size, set_size}
+use Rattle.nfs_client.specs.Taking.{last_two, before_last, nothing, takes_nothing}
 use Rattle.nfs_client.specs.Approach.{get_handle, handle_of}
-use Rattle.nfs_client.specs.Commands.{sequence, IsIn, AskGives, Commanded}
+use Rattle.nfs_client.specs.Commands.{sequence, IsIn, AskGives, Spoils, Commanded}
 use Rattle.nfs_client.specs.Rm.{WrongPath}
 use Rattle.nfs_client.specs.Routes.{Route, walk, most_before_two}
 use Rattle.nfs_client.specs.Walking.{Walked}
 use Rattle.nfs_client.specs.Paging.{itself}
 use Rattle.nfs_client.specs.declared.client.Client.{Client}
 use Rattle.nfs_client.specs.declared.fault.ToolFault.{ToolFault}
-use Rattle.nfs_client.specs.declared.fault.ToolFault.TheVariants.{Refused, Memory}
+use Rattle.nfs_client.specs.declared.fault.ToolFault.TheVariants.{Refused}
 
 -- ---- operations
+
+-- the open's owner, within its client
+abbrev pub owner : List ℕ
+owner = codes "nfsc"
 
 -- OPEN for writing (2), which denies others no access, of the file of this name, which is created where there is none (UNCHECKED4), with
 -- the set of these attributes and these values
 abbrev pub open_by : Seen → List ℕ → ℕ → List ℕ → Operation
 open_by s values client name = Known kinds.Open (0, (2, (0, (client, (owner, (inr (inl (inl (shown_set s, values))), inl name))))))
 
--- The size is 0, also where the file exists.
-abbrev pub open_emptied : ℕ → List ℕ → Operation
-open_emptied client name = open_by (of_size 0) (shown_values (of_size 0)) client name
+-- A file that exists keeps its bytes as it is opened, unless the text is empty: then its size becomes 0.
+abbrev pub size_at_open : List ℕ → Option ℕ
+size_at_open text = if length text == 0 then Some 0 else None
+
+abbrev pub open_sized : List ℕ → ℕ → List ℕ → Operation
+open_sized text client name = open_by (with_size (size_at_open text)) (shown_values (with_size (size_at_open text))) client name
 
 abbrev pub put_handle : List ℕ → Operation
 put_handle handle = Known kinds.PutFh handle
@@ -68,21 +74,23 @@ abbrev pub written_of : ℕ → Outcome → Option ℕ
 written_of sent (Done kinds.Write v) = count_within sent v.0
 written_of sent _ = None
 
+-- the count of the WRITE before the last operation
 abbrev pub written_in : ℕ → List Outcome → Option ℕ
-written_in sent results = option_and_then (written_of sent) (last_of results)
+written_in sent results = option_and_then (written_of sent) (before_last results)
 
 -- ---- calls
 
 -- the names of the path's directory, and the operation at their end
-abbrev pub OpenAsks : ℕ → List ℕ → List (List ℕ) → Operation → Type 0
-OpenAsks client path directory op = (name : List ℕ) × IsIn path directory name × (op ≡ open_emptied client name)
+abbrev pub OpenAsks : ℕ → List ℕ → List ℕ → List (List ℕ) → Operation → Type 0
+OpenAsks client path text directory op = (name : List ℕ) × IsIn path directory name × (op ≡ open_sized text client name)
 
 -- an OPEN at the end of a route, and GETFH behind it
 abbrev pub open_along : {S A : Type 0} → Client S A → Route → Operation → List Operation
 open_along client route op = sequence client ∷ walk route ++ op ∷ get_handle ∷ []
 
+-- WRITE, and the size that makes these bytes the file's last: so the file is never shorter than what was written to it.
 abbrev pub write_to : {S A : Type 0} → Client S A → Open → ℕ → List ℕ → List Operation
-write_to client o offset bytes = sequence client ∷ put_handle o.handle ∷ write o.stateid offset bytes ∷ []
+write_to client o offset bytes = sequence client ∷ put_handle o.handle ∷ write o.stateid offset bytes ∷ set_size o.stateid (offset + length bytes) ∷ []
 
 abbrev pub close_it : {S A : Type 0} → Client S A → Open → List Operation
 close_it client o = sequence client ∷ put_handle o.handle ∷ close o.stateid ∷ []
@@ -123,10 +131,10 @@ module _ {S A : Type 0} (contents remaining : S → Option (List ℕ)) (o : Open
   ClosesBehind (Err (Refused op status)) old new result = (closed : Result (Unit {0}) ToolFault) × CloseGives old new closed × (result ≡ told_behind op status closed)
   ClosesBehind (Err fault) old new result = (new ≡ old) × (result ≡ Err fault)
 
-  -- the text is written to the open file, which is closed
+  -- The text is written to the open file, which is closed. Where memory was refused no other command runs.
   abbrev pub FileGives : List ℕ → Client S A → Client S A → Result (Unit {0}) ToolFault → Type 0
-  FileGives text old new (Err Memory) = new.usable ≡ false
-  FileGives text old new result = (told : Result (Unit {0}) ToolFault) × (mid : Client S A) × TextGives text old mid told × ClosesBehind told mid new result
+  FileGives text old new result =
+      (told : Result (Unit {0}) ToolFault) × (mid : Client S A) × (last : Client S A) × TextGives text old mid told × ClosesBehind told mid last result × Spoils result last new
 
 -- The file is opened, written and closed; or the OPEN fails, or a later exchange.
 abbrev pub PutFileGives : {S A : Type 0} → (S → Option (List ℕ)) → (S → Option (List ℕ)) → List ℕ → List Operation → Client S A → Client S A → Result (Unit {0}) ToolFault → Type 0
@@ -144,5 +152,5 @@ PutAlong contents remaining names op text old new result =
 -- The file is put in its directory; or the path is wrong, and no operation is asked.
 abbrev pub PutCommandGives : {S A : Type 0} → (S → Option (List ℕ)) → (S → Option (List ℕ)) → List ℕ → List ℕ → Client S A → Client S A → Result (Unit {0}) ToolFault → Type 0
 PutCommandGives contents remaining path text old new result =
-    Commanded (WrongPath path) (λ told. (directory : List (List ℕ)) × (op : Operation) × OpenAsks old.client path directory op
+    Commanded (WrongPath path) (λ told. (directory : List (List ℕ)) × (op : Operation) × OpenAsks old.client path text directory op
     × PutAlong contents remaining directory op text old new told) old new result

@@ -1,5 +1,5 @@
 -- The outcome of each command, and the text of its answer.
-use Rattle.std.specs.Prelude.{ℕ, List, Option, Result, Vec}
+use Rattle.std.specs.Prelude.{◌≡◌, ◌⊎◌, ℕ, false, List, Option, Result, Ok, Err, Vec}
 use Rattle.nfs_client.specs.Access.{AccessAsks, NoPath, rights_in}
 use Rattle.nfs_client.specs.AccessViews.{rights_value}
 use Rattle.nfs_client.specs.Acls.{GetAclAsks, SetAclAsks, WrongList, acl_in}
@@ -17,14 +17,17 @@ use Rattle.nfs_client.specs.Words.{CommandLine, Ls, Cat, Put, MkDir, Ln, Mv, Rm,
 use Rattle.nfs_client.specs.declared.client.Client.{Client}
 use Rattle.nfs_client.specs.declared.running.Answer.{Answer}
 use Rattle.nfs_client.specs.declared.fault.ToolFault.{ToolFault}
+use Rattle.nfs_client.specs.declared.fault.ToolFault.TheVariants.{Memory}
 
 -- a command has a result by its statement, and the answer is this text of the result
 abbrev pub Tells : {A V : Type 0} → (Result V ToolFault → Type 0) → (V → List ℕ) → Result (Answer A) ToolFault → Type 0
 Tells {V = V} gives text result = (told : Result V ToolFault) × gives told × SaysAs text told result
 
--- the bytes of the file at a path, with a newline behind them
+-- The bytes of the file at a path, with a newline behind them; or memory is refused for the newline, and no other command runs.
 abbrev pub CatTells : {S A : Type 0} → (S → Option (List ℕ)) → (S → Option (List ℕ)) → List ℕ → Client S A → Client S A → Result (Answer A) ToolFault → Type 0
-CatTells {A = A} contents remaining path old new result = Tells {V = Vec ℕ A} (CatGives contents remaining says_text path old new) says_line result
+CatTells {S = S} {A = A} contents remaining path old new result =
+    Tells {V = Vec ℕ A} (CatGives contents remaining says_text path old new) says_line result
+    ⊎ ((bytes : Vec ℕ A) × (last : Client S A) × CatGives contents remaining says_text path old last (Ok bytes) × (new ≡ record last { usable = false }) × (result ≡ Err Memory))
 
 -- the outcome of a command, as text
 abbrev pub Runs : {S A : Type 0} → (S → Option (List ℕ)) → (S → Option (List ℕ)) → CommandLine → Client S A → Client S A → Result (Answer A) ToolFault → Type 0

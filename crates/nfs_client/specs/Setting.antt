@@ -1,7 +1,8 @@
 -- SETATTR with the values that a client sends, without an open (RFC 8881, section 18.30).
-use Rattle.std.specs.Prelude.{ℕ, List, Some, None}
+use Rattle.std.specs.Prelude.{ℕ, List, Option, Some, None}
 use Rattle.xdr_wire.specs.Xdr.{Value}
 use Rattle.nfs_types.specs.Attributes.{ace}
+use Rattle.nfs_types.specs.Forms.{stateid}
 use Rattle.nfs_types.specs.Seen.{Seen, shown_set, shown_values}
 use Rattle.nfs_types.specs.StateIds.{anonymous}
 use Rattle.nfs_ops.specs.Operations.{Operation, Known}
@@ -9,9 +10,13 @@ use Rattle.nfs_ops.specs.declared.op_kind.OpKind.TheVariants as kinds
 use Rattle.nfs_client.specs.declared.list_part.ListPart.{ListPart}
 use Rattle.nfs_client.specs.declared.list_part.ListPart.TheVariants.{Acl, Dacl, Sacl}
 
--- SETATTR of the set of these attributes, with these values
+-- SETATTR of the set of these attributes by a stateid, with these values
+abbrev pub set_under : Value stateid → Seen → List ℕ → Operation
+set_under id s values = Known kinds.SetAttr (id, (shown_set s, values))
+
+-- the same without an open
 abbrev pub set_by : Seen → List ℕ → Operation
-set_by s values = Known kinds.SetAttr (anonymous, (shown_set s, values))
+set_by s values = set_under anonymous s values
 
 abbrev pub set_attributes : Seen → Operation
 set_attributes s = set_by s (shown_values s)
@@ -30,6 +35,10 @@ of_entries Acl entries = record of_nothing { entries = Some entries }
 of_entries Dacl entries = record of_nothing { dacl = Some (0, entries) }
 of_entries Sacl entries = record of_nothing { sacl = Some (0, entries) }
 
--- the size alone
-abbrev pub of_size : ℕ → Seen
-of_size size = record of_nothing { size = Some size }
+-- the size alone, where there is one
+abbrev pub with_size : Option ℕ → Seen
+with_size size = record of_nothing { size = size }
+
+-- SETATTR of the size alone, by the stateid of an open
+abbrev pub set_size : Value stateid → ℕ → Operation
+set_size s size = set_under s (with_size (Some size)) (shown_values (with_size (Some size)))

@@ -1,7 +1,7 @@
 -- Bytes over a stream.
-use Rattle.std.specs.Prelude.{◌≡◌, ℕ, List, ◌++◌, Bool, true, false, Option, Result, Ok, Err}
+use Rattle.std.specs.Prelude.{◌≡◌, ◌⊎◌, ◌<◌, ℕ, List, ◌++◌, length, Bool, true, false, Option, Result, Ok, Err}
 use Rattle.std.specs.Io.KnownBytes.{Appends, Consumes}
-use Rattle.rpc_record.specs.Records.{IsRecord}
+use Rattle.rpc_record.specs.Records.{IsRecord, IsUnfinished, Breaks}
 use Rattle.rpc_record.specs.Frame.{Frame}
 use Rattle.rpc_record.specs.Framer.{Stands}
 use Rattle.nfs_client.specs.declared.fault.ToolFault.{ToolFault}
@@ -16,22 +16,33 @@ abbrev pub WriteGives : Option (List ℕ) → Option (List ℕ) → List ℕ →
 WriteGives held held' bytes (Ok done) = Appends held held' bytes
 WriteGives held held' bytes (Err fault) = (fault ≡ Write) × WritesFront held held' bytes
 
--- a fault of a reply that can't be framed
-abbrev pub IsFrameFault : ToolFault → Type 0
-IsFrameFault Reply = Unit {0}
-IsFrameFault Memory = Unit {0}
-IsFrameFault fault = ⊥
+-- the bytes are a record, and more bytes behind it
+pub record IsFollowed (bytes : List ℕ) : Type 0 where
+  pub content : List ℕ
+  pub first : List ℕ
+  pub rest : List ℕ
+  pub parts : bytes ≡ first ++ rest
+  pub one_record : IsRecord content first
+  pub more : 0 < length rest
+
+-- A fault of these bytes, which can't be framed as one record: they break the limit of a record, or bytes are behind their record; or memory
+-- is refused.
+abbrev pub IsFrameFault : List ℕ → ToolFault → Type 0
+IsFrameFault bytes Reply = Breaks bytes ⊎ IsFollowed bytes
+IsFrameFault bytes Memory = Unit {0}
+IsFrameFault bytes fault = ⊥
 
 -- the bytes are a record, or a part of a record, with the framer behind it
 abbrev pub PieceGives : Frame → List ℕ → List ℕ → Result Bool ToolFault → Type 0
 PieceGives framer content bytes (Ok true) = IsRecord content bytes
 PieceGives framer content bytes (Ok false) = Stands framer content bytes
-PieceGives framer content bytes (Err fault) = IsFrameFault fault
+PieceGives framer content bytes (Err fault) = IsFrameFault bytes fault
 
--- a fault of reading a reply
-abbrev pub IsReadFault : ToolFault → Type 0
-IsReadFault Read = Unit {0}
-IsReadFault fault = IsFrameFault fault
+-- a fault of reading a reply, of which these bytes were read: a record that isn't whole, behind which no more can be read, or bytes that can't
+-- be framed
+abbrev pub IsReadFault : List ℕ → ToolFault → Type 0
+IsReadFault bytes Read = IsUnfinished bytes
+IsReadFault bytes fault = IsFrameFault bytes fault
 
 -- the bytes that were read are a record
 abbrev pub ReadsRecord : Option (List ℕ) → Option (List ℕ) → List ℕ → Type 0
@@ -39,7 +50,7 @@ ReadsRecord left left' content = (bytes : List ℕ) × IsRecord content bytes ×
 
 abbrev pub RecordGives : {X : Type 0} → (X → List ℕ) → Option (List ℕ) → Option (List ℕ) → Result X ToolFault → Type 0
 RecordGives bytes left left' (Ok content) = ReadsRecord left left' (bytes content)
-RecordGives bytes left left' (Err fault) = IsReadFault fault
+RecordGives bytes left left' (Err fault) = (read : List ℕ) × Consumes left left' read × IsReadFault read fault
 
 -- bytes were written, and behind them a record was read
 pub record Talked {S : Type 0} (contents remaining : S → Option (List ℕ)) (old new : S) (call content : List ℕ) : Type 0 where
@@ -47,16 +58,19 @@ pub record Talked {S : Type 0} (contents remaining : S → Option (List ℕ)) (o
   pub wrote : Appends (contents old) (contents mid) call
   pub read : ReadsRecord (remaining mid) (remaining new) content
 
--- bytes were written
-pub record Wrote {S : Type 0} (contents : S → Option (List ℕ)) (old : S) (call : List ℕ) : Type 0 where
+-- bytes were written, and nothing behind them; what was read then is no record, for this fault
+pub record Unheard {S : Type 0} (contents remaining : S → Option (List ℕ)) (old new : S) (call : List ℕ) (fault : ToolFault) : Type 0 where
   pub mid : S
   pub wrote : Appends (contents old) (contents mid) call
+  pub bytes : List ℕ
+  pub read : Consumes (remaining mid) (remaining new) bytes
+  pub no_record : IsReadFault bytes fault
 
 -- a front of the bytes was written and the stream failed; or all bytes were, and no record was read behind them
-abbrev pub TalkFails : {S : Type 0} → (S → Option (List ℕ)) → S → S → List ℕ → ToolFault → Type 0
-TalkFails contents old new call Write = WritesFront (contents old) (contents new) call
-TalkFails contents old new call fault = IsReadFault fault × Wrote contents old call
+abbrev pub TalkFails : {S : Type 0} → (S → Option (List ℕ)) → (S → Option (List ℕ)) → S → S → List ℕ → ToolFault → Type 0
+TalkFails contents remaining old new call Write = WritesFront (contents old) (contents new) call
+TalkFails contents remaining old new call fault = Unheard contents remaining old new call fault
 
 abbrev pub TalkGives : {S X : Type 0} → (X → List ℕ) → (S → Option (List ℕ)) → (S → Option (List ℕ)) → S → S → List ℕ → Result X ToolFault → Type 0
 TalkGives bytes contents remaining old new call (Ok content) = Talked contents remaining old new call (bytes content)
-TalkGives bytes contents remaining old new call (Err fault) = TalkFails contents old new call fault
+TalkGives bytes contents remaining old new call (Err fault) = TalkFails contents remaining old new call fault

@@ -1,5 +1,5 @@
 -- The value that a command takes of the results of operations that are all OK.
-use Rattle.std.specs.Prelude.{◌≡◌, ◌⊎◌, List, [], ◌∷◌, Option, Some, None, Result, Ok, Err}
+use Rattle.std.specs.Prelude.{◌≡◌, ◌⊎◌, List, [], ◌∷◌, Option, Some, None, option_map, Result, Ok, Err}
 use Rattle.nfs_ops.specs.Results.{Outcome}
 use Rattle.nfs_client.specs.Compound.{AllDone, NoReply, Said}
 use Rattle.nfs_client.specs.CompoundViews.{FaultIs}
@@ -16,6 +16,9 @@ last_two [] = None
 last_two (o ∷ []) = None
 last_two (o ∷ p ∷ []) = Some (o, p)
 last_two (o ∷ p ∷ q ∷ os) = last_two (p ∷ q ∷ os)
+
+abbrev pub before_last : List Outcome → Option Outcome
+before_last results = option_map (λ p. p.0) (last_two results)
 
 -- The value is taken; or there is none, since the results are others; or memory is refused.
 abbrev pub TakeGives : {X V : Type 0} → (X → V) → Option V → Result X ToolFault → Type 0

@@ -1,5 +1,5 @@
 -- Commands along paths: approaches, and then the COMPOUND of the command, which walks the names left.
-use Rattle.std.specs.Prelude.{◌⊎◌, ℕ, true, List, [], ◌∷◌, ◌++◌, length, Option, Result, Ok, Err}
+use Rattle.std.specs.Prelude.{◌≡◌, ◌⊎◌, ℕ, true, List, [], ◌∷◌, ◌++◌, length, Option, Result, Ok, Err}
 use Rattle.nfs_ops.specs.Operations.{Operation, Known}
 use Rattle.nfs_ops.specs.Results.{Outcome}
 use Rattle.nfs_ops.specs.declared.op_kind.OpKind.TheVariants as kinds
@@ -12,6 +12,7 @@ use Rattle.nfs_client.specs.Taking.{nothing, takes_nothing}
 use Rattle.nfs_client.specs.declared.client.Client.{Client}
 use Rattle.nfs_client.specs.declared.request.Request.{Request}
 use Rattle.nfs_client.specs.declared.fault.ToolFault.{ToolFault}
+use Rattle.nfs_client.specs.declared.fault.ToolFault.TheVariants.{Memory}
 
 abbrev pub save : Operation
 save = Known kinds.SaveFh tt
@@ -46,16 +47,23 @@ module _ {S A : Type 0} (contents remaining : S → Option (List ℕ)) where
       Commanded wrong (λ told. (names : List (List ℕ)) × (others : List (List ℕ)) × (op : Operation) × asks names others op
       × Walked (left_of_first (length names) (length others)) names (λ first mid r. Walked most_of_both others (λ second last s. AskGives contents remaining takes_nothing nothing true (along_both last first second op) last new s) mid new r) old new told) old new result
 
-  -- the request of an operation at the end of a path, which walks the names left; or an approach fails
+  -- behind a walk memory is refused for the request
+  pub record Unready (most : ℕ) (names : List (List ℕ)) (old new : Client S A) (fault : ToolFault) : Type 0 where
+    pub is_memory : fault ≡ Memory
+    pub route : Route
+    pub walk : WalkGives contents remaining itself most names old new (Ok route)
+
+  -- the request of an operation at the end of a path, which walks the names left; or an approach fails, or memory is refused for the request
   abbrev pub ReadyGives : List (List ℕ) → Operation → Client S A → Client S A → Result (Request A) ToolFault → Type 0
   ReadyGives names op old new (Ok request) = (route : Route) × WalkGives contents remaining itself most_names names old new (Ok route) × Asks request (along new route op)
-  ReadyGives names op old new (Err fault) = WalkFails contents remaining most_names names old new fault
+  ReadyGives names op old new (Err fault) = WalkFails contents remaining most_names names old new fault ⊎ Unready most_names names old new fault
 
-  -- the request of an operation at the ends of two paths
+  -- the request of an operation at the ends of two paths; or an approach of the first or of the second fails, or memory is refused
   abbrev pub BothReady : List (List ℕ) → List (List ℕ) → Operation → Client S A → Client S A → Result (Request A) ToolFault → Type 0
   BothReady names others op old new (Ok request) =
       (mid : Client S A) × (first : Route) × (second : Route) × WalkGives contents remaining itself (left_of_first (length names) (length others)) names old mid (Ok first)
       × WalkGives contents remaining itself most_of_both others mid new (Ok second) × Asks request (along_both new first second op)
   BothReady names others op old new (Err fault) =
       WalkFails contents remaining (left_of_first (length names) (length others)) names old new fault
-      ⊎ ((mid : Client S A) × (first : Route) × WalkGives contents remaining itself (left_of_first (length names) (length others)) names old mid (Ok first) × WalkFails contents remaining most_of_both others mid new fault)
+      ⊎ ((mid : Client S A) × (first : Route) × WalkGives contents remaining itself (left_of_first (length names) (length others)) names old mid (Ok first) ×
+      (WalkFails contents remaining most_of_both others mid new fault ⊎ Unready most_of_both others mid new fault))

@@ -116,7 +116,8 @@ impl<S: Read + Write, A: Allocator + Copy> Client<S, A> {
         let asked = request.into_asked();
         self.usable = false;
         self.xid = xid.wrapping_add(1);
-        match talk(self.alloc, &mut self.stream, &call) {
+        let heard = talk(self.alloc, &mut self.stream, &call);
+        match heard {
             Ok(content) => Ok(Reply {
                 xid,
                 asked,

@@ -1,8 +1,7 @@
 //! The text of a fault.
 ghost use Rattle.std.specs.Prelude.{◌≡◌, ◌+◌, ◌≤◌, [], ◌++◌, length, decimal};
-ghost use Rattle.access_guard.specs.Text.{operation_text};
 ghost use Rattle.nfs_types.specs.Status.{name_of};
-ghost use Rattle.nfs_client.specs.FaultTexts.{fault_text, refused_text, failed_text};
+ghost use Rattle.nfs_client.specs.FaultTexts.{operation_text, fault_text, refused_text, failed_text};
 
 use crate::fault::ToolFault;
 use itoa::Buffer;

@@ -1,5 +1,5 @@
 //! Making a text the bytes of a file.
-ghost use Rattle.std.specs.Prelude.{◌≡◌, ◌≤◌, ℕ, false, true, Err, List, IfOk, length, map, option_map, option_and_then};
+ghost use Rattle.std.specs.Prelude.{◌≡◌, ◌≤◌, ◌<◌, ◌+◌, ◌^◌, ℕ, false, true, Err, List, IfOk, length, map, option_map, option_and_then};
 ghost use Rattle.nfs_types.specs.ShownViews.{shown_value};
 ghost use Rattle.nfs_types.specs.Views.{stateid_value, handle_value};
 ghost use Rattle.nfs_ops.specs.Operations.{Operation};
@@ -9,11 +9,10 @@ ghost use Rattle.nfs_client.specs.Commands.{AskGives};
 ghost use Rattle.nfs_client.specs.Compound.{said};
 ghost use Rattle.nfs_client.specs.CompoundViews.{outcomes};
 ghost use Rattle.nfs_client.specs.Paging.{itself};
-ghost use Rattle.nfs_client.specs.Put.{stateid_of, open_by, open_in, written_of, written_in, write_to, close_it, piece, WriteGives, CloseGives, TextGives, ClosesBehind, FileGives, open_along, PutAlong, PutCommandGives};
+ghost use Rattle.nfs_client.specs.Put.{size_at_open, stateid_of, open_by, open_in, written_of, written_in, write_to, close_it, piece, WriteGives, CloseGives, TextGives, ClosesBehind, FileGives, open_along, PutAlong, PutCommandGives};
 ghost use Rattle.nfs_client.specs.PutViews.{open_value};
 ghost use Rattle.nfs_client.specs.RouteViews.{route_value};
 ghost use Rattle.nfs_client.specs.Requests.{Asks, PutGives};
-ghost use Rattle.nfs_client.specs.Setting.{of_size};
 ghost use Rattle.nfs_client.specs.Taking.{SaidGives, TakeGives};
 ghost use Rattle.nfs_client.specs.declared.fault.ToolFault.TheVariants.{Failed};
 
@@ -23,9 +22,8 @@ use crate::fault::ToolFault;
 use crate::path::Place;
 use crate::request::{Request, sendable};
 use crate::route::{MOST_BEFORE_TWO, Route, handle_sent};
-use crate::sessions::OWNER;
-use crate::setting::values_of;
-use crate::taking::{last, last_two};
+use crate::setting::{values_of, with_size};
+use crate::taking::{before_last, last_two};
 use nfs_ops::{
     CloseArgs, Op, OpResult, OpenArgs, OpenClaim, OpenHow, PutFhArgs, StableHow, WriteArgs,
 };
@@ -48,21 +46,14 @@ pub(crate) struct Opened<A: Allocator> {
     handle: Vec<u8, A>,
 }
 
-/// The size alone.
-fn of_size(size: u64) -> ShownAttributes<'static>
-    ensures { shown_value result ≡ of_size size }
+/// The owner of an open, within its client.
+const OWNER: &[u8] = b"nfsc";
+
+/// The size that a file gets as it is opened: none, so that its bytes stay until others are written, or 0 where the text is empty.
+fn size_at_open(text: &[u8]) -> Option<u64>
+    ensures { result ≡ size_at_open text.now }
 {
-    ShownAttributes {
-        kind: None,
-        size: Some(size),
-        error: None,
-        entries: None,
-        mode: None,
-        owner: None,
-        group: None,
-        dacl: None,
-        sacl: None,
-    }
+    if text.is_empty() { Some(0) } else { None }
 }
 
 /// The stateid in the result of an OPEN.
@@ -147,7 +138,7 @@ impl<A: Allocator + Copy> Reply<A> {
         ensures { SaidGives itself (written_in sent) (said self.now.xid self.now.asked.items self.now.content.items) result }
     {
         match self.results(alloc) {
-            Ok(results) => match written(last(results), sent) {
+            Ok(results) => match written(before_last(results), sent) {
                 Some(count) => Ok(count),
                 None => Err(ToolFault::Reply),
             },
@@ -196,13 +187,15 @@ impl<S: Read + Write, A: Allocator + Copy> Client<S, A> {
         told
     }
 
-    /// The request that writes bytes of an open file from an offset on.
+    /// The request that writes bytes of an open file from an offset on, and makes them its last. Without the size the end of a longer text
+    /// would stay; a size before the bytes would leave a file empty whose WRITE is refused.
     fn prepare_write(
         &self,
         opened: &Opened<A>,
         offset: usize,
         bytes: &[u8],
     ) -> Result<Request<A>, ToolFault>
+        requires { offset + length bytes.now < 2 ^ 64 }
         ensures asks { IfOk result (λ r. Asks r (write_to self.now (open_value opened.now) offset bytes.now)) }
         ensures memory { PutGives result }
     {
@@ -216,6 +209,7 @@ impl<S: Read + Write, A: Allocator + Copy> Client<S, A> {
             stable: StableHow::File,
             data,
         }))?;
+        request.put_size(self.alloc, opened.stateid, (offset + bytes.len()) as u64)?;
         Ok(request)
     }
 
@@ -226,6 +220,7 @@ impl<S: Read + Write, A: Allocator + Copy> Client<S, A> {
         offset: usize,
         bytes: &[u8],
     ) -> Result<usize, ToolFault>
+        requires { offset + length bytes.now < 2 ^ 64 }
         ensures { WriteGives S.contents S.remaining (open_value opened.now) offset bytes.now self.old self.new result }
     {
         let request = self.prepare_write(opened, offset, bytes)?;
@@ -332,8 +327,11 @@ impl<S: Read + Write, A: Allocator + Copy> Client<S, A> {
         }
     }
 
-    /// Makes a text the bytes of a file, which is created where there is none: OPEN, a WRITE for each 32,768 bytes, CLOSE. The file is
-    /// closed behind a refused WRITE too, whose fault is the answer then.
+    /// Makes a text the bytes of a file, which is created where there is none: OPEN, for each 32,768 bytes a WRITE with the size behind it,
+    /// CLOSE. The file is closed behind a refused WRITE too, whose fault is the answer then.
+    ///
+    /// A file that is there keeps its bytes up to the first WRITE, and has a front of the text behind each. So where the first WRITE is refused
+    /// a file has the bytes that it had, or none where this call created it; where a later one is, a front of the text.
     pub fn put(&mut self, path: &[u8], text: &[u8]) -> Result<(), ToolFault>
         ensures failed { self.old.usable ≡ false → result ≡ Err Failed }
         ensures gives { PutCommandGives S.contents S.remaining path.now text.now self.old self.new result }
@@ -343,7 +341,7 @@ impl<S: Read + Write, A: Allocator + Copy> Client<S, A> {
             Ok(place) => place,
             Err(fault) => return Err(fault),
         };
-        let shown = of_size(0);
+        let shown = with_size(size_at_open(text));
         let values = values_of(self.alloc, &shown)?;
         let op = opening(self.client, place.name, &shown, values.bytes())?;
         self.put_in(&place.directory, op, text)

@@ -1,6 +1,7 @@
 //! Running a command, and the text of its answer.
-ghost use Rattle.std.specs.Prelude.{◌≡◌};
+ghost use Rattle.std.specs.Prelude.{◌≡◌, false, Err};
 ghost use Rattle.nfs_client.specs.AnswerTexts.{answer_text, rights_line, says_ok, says_rights, says_text, SaysAs, NewlineGives};
+ghost use Rattle.nfs_client.specs.declared.fault.ToolFault.TheVariants.{Failed};
 
 use crate::client::Client;
 use crate::entry_text::hex_word;
@@ -106,9 +107,8 @@ impl<S: Read + Write, A: Allocator + Copy> Client<S, A> {
         }
     }
 
-    /// Runs a command, and gives its answer as text: the lines of `ls`, `getacl`, `getdacl` and `getsacl`, the bytes of a file with a
-    /// newline behind them, the rights of `access`, and `ok` of any other command. The text of a fault is `ToolFault::text`.
-    pub fn answer(&mut self, command: Command<'_>) -> Result<Answer<A>, ToolFault>
+    /// Runs a command, and gives its answer as text.
+    fn answered(&mut self, command: Command<'_>) -> Result<Answer<A>, ToolFault>
         ensures { Runs S.contents S.remaining (command_line command.entry) self.old self.new result }
     {
         match command {
@@ -123,6 +123,18 @@ impl<S: Read + Write, A: Allocator + Copy> Client<S, A> {
             Command::GetAcl(part, path) => lines(self.get_list(part, path)),
             Command::SetAcl(part, path, entries) => done(self.set_list(part, path, entries)),
             Command::Access(path) => rights(self.access(path)),
+        }
+    }
+
+    /// Runs a command, and gives its answer as text: the lines of `ls`, `getacl`, `getdacl` and `getsacl`, the bytes of a file with a
+    /// newline behind them, the rights of `access`, and `ok` of any other command. The text of a fault is `ToolFault::text`.
+    pub fn answer(&mut self, command: Command<'_>) -> Result<Answer<A>, ToolFault>
+        ensures failed { self.old.usable ≡ false → result ≡ Err Failed }
+        ensures gives { Runs S.contents S.remaining (command_line command.entry) self.old self.new result }
+    {
+        match self.start() {
+            Ok(()) => self.answered(command),
+            Err(fault) => Err(fault),
         }
     }
 }

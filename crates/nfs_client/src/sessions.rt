@@ -21,9 +21,6 @@ use std::alloc::Allocator;
 use std::io::{Read, Write};
 use xdr_wire::{Array, Opaque, Reader, Wire, XdrFault};
 
-/// The client's own owner id.
-pub(crate) const OWNER: &[u8] = b"nfsc";
-
 /// The limits of calls and replies: 65,536 bytes, 16 operations, one slot.
 const FORE: Channel = Channel {
     padding: 0,
@@ -116,12 +113,16 @@ fn no_credentials() -> Result<Array<'static, CallbackSecurity<'static>, 8>, XdrF
     Wire::read(&mut Reader::new(NO_CREDENTIALS))
 }
 
-/// The request that registers the client.
-fn registering<A: Allocator + Copy>(alloc: A, verifier: [u8; 8]) -> Result<Request<A>, ToolFault>
-    ensures asks { IfOk result (λ r. Asks r (exchange_id verifier ∷ [])) }
+/// The request that registers the client. `Memory`: also where the owner has more than 1,024 bytes.
+fn registering<A: Allocator + Copy>(
+    alloc: A,
+    owner: &[u8],
+    verifier: [u8; 8],
+) -> Result<Request<A>, ToolFault>
+    ensures asks { IfOk result (λ r. Asks r (exchange_id owner.now verifier ∷ [])) }
     ensures memory { PutGives result }
 {
-    let Some(owner) = Opaque::new(OWNER) else {
+    let Some(owner) = Opaque::new(owner) else {
         return Err(ToolFault::Memory);
     };
     let mut request = Request::new(alloc)?;
@@ -180,10 +181,10 @@ fn forgetting<A: Allocator + Copy>(alloc: A, client: u64) -> Result<Request<A>, 
 
 impl<S: Read + Write, A: Allocator + Copy> Client<S, A> {
     /// Registers the client.
-    fn register(&mut self, verifier: [u8; 8]) -> Result<Registration, ToolFault>
-        ensures { MadeKnown S.contents S.remaining verifier self.old self.new result }
+    fn register(&mut self, owner: &[u8], verifier: [u8; 8]) -> Result<Registration, ToolFault>
+        ensures { MadeKnown S.contents S.remaining owner.now verifier self.old self.new result }
     {
-        let request = registering(self.alloc, verifier)?;
+        let request = registering(self.alloc, owner, verifier)?;
         let reply = match self.exchange(request) {
             Ok(reply) => reply,
             Err(fault) => return Err(fault),
@@ -207,21 +208,25 @@ impl<S: Read + Write, A: Allocator + Copy> Client<S, A> {
         told
     }
 
-    /// A client with a session of its own: EXCHANGE_ID, then CREATE_SESSION. The client calls as this user and in this group alone. The
-    /// verifier is another at each start of a client, so that the state of an earlier start goes.
+    /// A client with a session of its own: EXCHANGE_ID, then CREATE_SESSION. The client calls as this user and in this group alone.
+    ///
+    /// The owner says which client this is to the server, and the verifier which start of the client (RFC 8881, section 2.4). Clients that
+    /// run beside each other have an owner each: a start of an owner ends what an earlier start has open, and no other user may start it.
+    /// `Memory`: also where the owner has more than 1,024 bytes.
     pub fn open(
         alloc: A,
         stream: S,
         uid: u32,
         gid: u32,
+        owner: &[u8],
         verifier: [u8; 8],
     ) -> Result<Self, ToolFault>
     where
         S: Drop,
-        ensures { OpenGives S.contents S.remaining stream uid gid verifier result }
+        ensures { OpenGives S.contents S.remaining stream uid gid owner.now verifier result }
     {
         let mut client = Client::resume(alloc, stream, uid, gid, 0, [0; 16], 0);
-        let registration = match client.register(verifier) {
+        let registration = match client.register(owner, verifier) {
             Ok(registration) => registration,
             Err(fault) => return Err(fault),
         };

@@ -1,5 +1,5 @@
 //! Setting an access control list, or a part of it.
-ghost use Rattle.std.specs.Prelude.{◌≡◌, false, Err, IfOk, map};
+ghost use Rattle.std.specs.Prelude.{◌≡◌, ◌<◌, false, Err, IfOk, MatchResult, length, map};
 ghost use Rattle.nfs_types.specs.AceView.{ace_value};
 ghost use Rattle.nfs_types.specs.ShownViews.{shown_value};
 ghost use Rattle.nfs_client.specs.Acls.{ace_of, kind_number, EntriesGive, SetAclAsks, WrongList};
@@ -7,7 +7,7 @@ ghost use Rattle.nfs_client.specs.EntryViews.{entry_line};
 ghost use Rattle.nfs_client.specs.Requests.{PutGives};
 ghost use Rattle.nfs_client.specs.Setting.{of_entries};
 ghost use Rattle.nfs_client.specs.Walking.{CommandGives};
-ghost use Rattle.nfs_client.specs.declared.fault.ToolFault.TheVariants.{Failed};
+ghost use Rattle.nfs_client.specs.declared.fault.ToolFault.TheVariants.{Entry, Failed};
 
 use crate::client::Client;
 use crate::entry_text::EntryText;
@@ -44,6 +44,16 @@ fn ace(entry: EntryText<'_>) -> Result<Ace<'_>, ToolFault>
         mask: entry.mask,
         who: sendable(entry.who)?,
     })
+}
+
+/// `Entry` where there is no entry.
+fn some_entry(texts: &[&[u8]]) -> Result<(), ToolFault>
+    ensures { MatchResult result (λ _. 0 < length texts.now) (λ fault. (fault ≡ Entry) × (length texts.now ≡ 0)) }
+{
+    if texts.is_empty() {
+        return Err(ToolFault::Entry);
+    }
+    Ok(())
 }
 
 /// The entries of these texts. `Entry`: a text can't be read.
@@ -98,7 +108,8 @@ fn of_aces<'a>(part: ListPart, aces: &'a [Ace<'a>]) -> Result<ShownAttributes<'a
 }
 
 impl<S: Read + Write, A: Allocator + Copy> Client<S, A> {
-    /// Sets the access control list of an object, or a part of it, to these entries, each as text. `Entry`: an entry can't be read.
+    /// Sets the access control list of an object, or a part of it, to these entries, each as text. `Entry`: an entry can't be read, or there
+    /// is none.
     pub(crate) fn set_list(
         &mut self,
         part: ListPart,
@@ -113,6 +124,7 @@ impl<S: Read + Write, A: Allocator + Copy> Client<S, A> {
             Ok(path) => path,
             Err(fault) => return Err(fault),
         };
+        some_entry(texts)?;
         let aces = match read_entries(self.alloc, texts) {
             Ok(aces) => aces,
             Err(fault) => return Err(fault),
@@ -126,7 +138,7 @@ impl<S: Read + Write, A: Allocator + Copy> Client<S, A> {
         }
     }
 
-    /// Sets the access control list of an object to these entries, each as text. `Entry`: an entry can't be read.
+    /// Sets the access control list of an object to these entries, each as text. `Entry`: an entry can't be read, or there is none.
     pub fn setacl(&mut self, path: &[u8], texts: &[&[u8]]) -> Result<(), ToolFault>
         ensures failed { self.old.usable ≡ false → result ≡ Err Failed }
         ensures gives { CommandGives S.contents S.remaining (SetAclAsks ListPart.Acl path.now (map (λ t. t.now) texts.now)) (WrongList path.now (map (λ t. t.now) texts.now)) self.old self.new result }
@@ -135,7 +147,7 @@ impl<S: Read + Write, A: Allocator + Copy> Client<S, A> {
     }
 
     /// Sets the entries that allow and deny, dacl, of the access control list of an object to these entries, each as text. `Entry`: an
-    /// entry can't be read.
+    /// entry can't be read, or there is none.
     pub fn setdacl(&mut self, path: &[u8], texts: &[&[u8]]) -> Result<(), ToolFault>
         ensures failed { self.old.usable ≡ false → result ≡ Err Failed }
         ensures gives { CommandGives S.contents S.remaining (SetAclAsks ListPart.Dacl path.now (map (λ t. t.now) texts.now)) (WrongList path.now (map (λ t. t.now) texts.now)) self.old self.new result }
@@ -144,7 +156,7 @@ impl<S: Read + Write, A: Allocator + Copy> Client<S, A> {
     }
 
     /// Sets the entries that watch, sacl, of the access control list of an object to these entries, each as text. `Entry`: an entry can't
-    /// be read.
+    /// be read, or there is none.
     pub fn setsacl(&mut self, path: &[u8], texts: &[&[u8]]) -> Result<(), ToolFault>
         ensures failed { self.old.usable ≡ false → result ≡ Err Failed }
         ensures gives { CommandGives S.contents S.remaining (SetAclAsks ListPart.Sacl path.now (map (λ t. t.now) texts.now)) (WrongList path.now (map (λ t. t.now) texts.now)) self.old self.new result }

@@ -1,13 +1,15 @@
-//! Attributes that are set.
-ghost use Rattle.std.specs.Prelude.{◌≡◌, IfOk};
+//! Attributes that are set (RFC 8881, section 18.30).
+ghost use Rattle.std.specs.Prelude.{◌≡◌, ◌∷◌, ◌++◌, [], List, IfOk, OnOk};
 ghost use Rattle.nfs_types.specs.Seen.{shown_values};
 ghost use Rattle.nfs_types.specs.ShownViews.{shown_value};
+ghost use Rattle.nfs_types.specs.Views.{stateid_value};
 ghost use Rattle.nfs_ops.specs.OpViews.{op_view};
-ghost use Rattle.nfs_client.specs.Requests.{PutGives};
-ghost use Rattle.nfs_client.specs.Setting.{set_by};
+ghost use Rattle.nfs_ops.specs.Operations.{Operation};
+ghost use Rattle.nfs_client.specs.Requests.{Asks, PutGives};
+ghost use Rattle.nfs_client.specs.Setting.{set_by, set_under, set_size, with_size};
 
 use crate::fault::ToolFault;
-use crate::request::{has_room, sendable};
+use crate::request::{Request, has_room, sendable};
 use nfs_ops::{Op, SetAttrArgs};
 use nfs_types::{Attributes, ShownAttributes, StateId, write_given};
 use rpc_record::RECORD_LIMIT;
@@ -27,6 +29,24 @@ pub(crate) fn values_of<A: Allocator>(
     Ok(values)
 }
 
+/// SETATTR of these attributes by these values, by a stateid.
+fn setting_under<'a>(
+    stateid: StateId,
+    shown: &ShownAttributes<'_>,
+    values: &'a [u8],
+) -> Result<Op<'a>, ToolFault>
+    ensures asks { IfOk result (λ op. op_view op ≡ set_under (stateid_value stateid) (shown_value shown.now) values.entry.now) }
+    ensures memory { PutGives result }
+{
+    let values = sendable(values)?;
+    let set = shown.set();
+    let attributes = Attributes { set, values };
+    Ok(Op::SetAttr(SetAttrArgs {
+        stateid,
+        attributes,
+    }))
+}
+
 /// SETATTR of these attributes by these values, without an open.
 pub(crate) fn setting<'a>(
     shown: &ShownAttributes<'_>,
@@ -35,12 +55,40 @@ pub(crate) fn setting<'a>(
     ensures asks { IfOk result (λ op. op_view op ≡ set_by (shown_value shown.now) values.entry.now) }
     ensures memory { PutGives result }
 {
-    let values = sendable(values)?;
-    let set = shown.set();
-    let stateid = StateId::anonymous();
-    let attributes = Attributes { set, values };
-    Ok(Op::SetAttr(SetAttrArgs {
-        stateid,
-        attributes,
-    }))
+    setting_under(StateId::anonymous(), shown, values)
+}
+
+/// The size alone, where there is one.
+pub(crate) fn with_size(size: Option<u64>) -> ShownAttributes<'static>
+    ensures { shown_value result ≡ with_size size }
+{
+    ShownAttributes {
+        kind: None,
+        size,
+        error: None,
+        entries: None,
+        mode: None,
+        owner: None,
+        group: None,
+        dacl: None,
+        sacl: None,
+    }
+}
+
+impl<A: Allocator + Copy> Request<A> {
+    /// SETATTR of the size by the stateid of an open.
+    pub(crate) fn put_size(
+        &mut self,
+        alloc: A,
+        stateid: StateId,
+        size: u64,
+    ) -> Result<(), ToolFault>
+        ensures asks { OnOk result ((ops : List Operation) → Asks self.old ops → Asks self.new (ops ++ set_size (stateid_value stateid) size ∷ [])) }
+        ensures memory { PutGives result }
+    {
+        let shown = with_size(Some(size));
+        let values = values_of(alloc, &shown)?;
+        let op = setting_under(stateid, &shown, values.bytes())?;
+        self.put(op)
+    }
 }

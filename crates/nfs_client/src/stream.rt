@@ -5,7 +5,7 @@ ghost use Rattle.rpc_record.specs.Framer.{Stands};
 ghost use Rattle.nfs_client.specs.Streams.{WriteGives, PieceGives, RecordGives, TalkGives};
 
 use crate::fault::ToolFault;
-use rpc_record::{Framer, Step};
+use rpc_record::{Framer, Step, a_framer_stands_for_a_rest};
 use std::alloc::Allocator;
 use std::io::{Read, Write};
 
@@ -66,6 +66,7 @@ fn take_piece<A: Allocator>(
 fn read_record<A: Allocator, R: Read>(alloc: A, stream: &mut R) -> Result<Vec<u8, A>, ToolFault>
     ensures { RecordGives (λ v. v.items) (R.remaining stream.old) (R.remaining stream.new) result }
 {
+    a_framer_stands_for_a_rest();
     let mut framer = Framer::new();
     let mut content = Vec::new(alloc);
     for _i in 0..MOST_READS {

@@ -2,7 +2,7 @@
 ghost use Rattle.std.specs.Prelude.{◌≡◌, option_map};
 ghost use Rattle.nfs_ops.specs.ResultViews.{read_view};
 ghost use Rattle.nfs_client.specs.CompoundViews.{outcomes};
-ghost use Rattle.nfs_client.specs.Taking.{last_of, last_two};
+ghost use Rattle.nfs_client.specs.Taking.{last_of, last_two, before_last};
 
 use nfs_ops::OpResult;
 use std::alloc::Allocator;
@@ -25,4 +25,12 @@ pub(crate) fn last_two<'a, A: Allocator>(
     let last = results.pop()?;
     let before = results.pop()?;
     Some((before, last))
+}
+
+/// The result before the last one.
+pub(crate) fn before_last<'a, A: Allocator>(results: Vec<OpResult<'a>, A>) -> Option<OpResult<'a>>
+    ensures { option_map read_view result ≡ before_last (outcomes results.entry.items) }
+{
+    let (before, _) = last_two(results)?;
+    Some(before)
 }

@@ -27,11 +27,15 @@ use Rattle.nfs_client.specs.declared.fault.ToolFault.TheVariants.{Refused, Read,
 
 -- ---- the answer to a line's command
 
+-- the owner of each client of a script
+abbrev pub owner : List ℕ
+owner = codes "nfsc"
+
 -- the command of a client with a session of its own, over a stream; or no session is opened
 abbrev pub RunsOver : {S A : Type 0} → (S → Option (List ℕ)) → (S → Option (List ℕ)) → S → Said → List ℕ → Result (Answer A) ToolFault → Type 0
 RunsOver {S} {A} contents remaining stream said verifier told =
-    ((fault : ToolFault) × OpenGives {S = S} {A = A} contents remaining stream said.uid said.gid verifier (Err fault) × (told ≡ Err fault))
-    ⊎ ((old : Client S A) × (new : Client S A) × OpenGives contents remaining stream said.uid said.gid verifier (Ok old) × Runs contents remaining said.command old new told)
+    ((fault : ToolFault) × OpenGives {S = S} {A = A} contents remaining stream said.uid said.gid owner verifier (Err fault) × (told ≡ Err fault))
+    ⊎ ((old : Client S A) × (new : Client S A) × OpenGives contents remaining stream said.uid said.gid owner verifier (Ok old) × Runs contents remaining said.command old new told)
 
 -- a client whose connection isn't opened can't write to it
 abbrev pub unconnected : HubFault → ToolFault

@@ -20,6 +20,9 @@ use who_book::BookFault;
 /// The most bytes of one read.
 const PIECE: usize = 4096;
 
+/// The owner of each client of a script. They run one after the other, so they need no owner each.
+const OWNER: &[u8] = b"nfsc";
+
 /// The most reads of a script.
 const MOST_READS: u32 = 1_000_000;
 
@@ -55,7 +58,7 @@ fn run_over<S: Read + Write + Drop, A: Allocator + Copy>(
 ) -> Result<Answer<A>, ToolFault>
     ensures { RunsOver S.contents S.remaining stream (said_line said.entry) verifier result }
 {
-    let mut client = match Client::open(alloc, stream, said.uid, said.gid, verifier) {
+    let mut client = match Client::open(alloc, stream, said.uid, said.gid, OWNER, verifier) {
         Ok(client) => client,
         Err(fault) => return Err(fault),
     };

@@ -1,50 +1,121 @@
-//! Running a command by a client of its own.
-use crate::starting::verifier;
-use nfs_client::{Answer, Client, Command, ToolFault};
+//! Running what is wished by a client of its own.
+use crate::fault::Fault;
+use crate::starting::{owner, verifier};
+use crate::wish::Wish;
+use crate::{bytes, facl};
+use nfs_client::{Answer, Client};
 use nfsc_options::Options;
 use std::alloc::Global;
+use std::io::{Read, Write};
 use std::net::{Ipv4Addr, Net, SocketAddrV4, TcpStream};
-use std::rt::Clock;
+use std::random::RandomSource;
+use std::rt::{Clock, Files};
+use std::time::Duration;
 
-/// A fault in the place of an answer.
-#[derive(Debug, Drop, thiserror::Error)]
-pub(crate) enum Fault {
-    /// The server can't be connected to.
-    #[error("socket")]
-    Socket,
-    /// The command has a fault.
-    #[error("{0}")]
-    Tool(ToolFault),
+/// The most seconds that a reply may take.
+pub(crate) const PATIENCE: u64 = 30;
+
+/// A wish, whose bytes of this system were read.
+#[derive(Drop)]
+enum Task<'a> {
+    Wish(Wish<'a>),
+    /// These bytes become those of a file.
+    Put(&'a [u8], Vec<u8>),
 }
 
-/// Runs a command over a stream, with a session that is ended behind the command, also where that was refused.
+/// What a client does of a task. The answer is to be printed.
+fn done<S: Read + Write>(
+    client: &mut Client<S>,
+    alloc: Global,
+    task: Task<'_>,
+) -> Result<Answer, Fault> {
+    match task {
+        Task::Wish(Wish::Plain(command)) => Ok(client.answer(command)?),
+        Task::Wish(Wish::Get { path, file: _ }) => Ok(Answer::Text(client.cat(path)?)),
+        Task::Wish(Wish::GetFacl(path)) => Ok(Answer::Text(facl::get(client, alloc, path)?)),
+        Task::Wish(Wish::SetFacl(path, entries)) => {
+            facl::replace(client, alloc, path, entries)?;
+            Ok(Answer::Done)
+        }
+        Task::Wish(Wish::AddFacl(path, place, entries)) => {
+            facl::add(client, alloc, path, place, entries)?;
+            Ok(Answer::Done)
+        }
+        Task::Wish(Wish::DelFacl(path, numbers)) => {
+            facl::remove(client, alloc, path, numbers)?;
+            Ok(Answer::Done)
+        }
+        Task::Put(path, bytes) => {
+            client.put(path, bytes.as_slice())?;
+            Ok(Answer::Done)
+        }
+        Task::Wish(Wish::Send { .. }) => Err(Fault::Unread),
+    }
+}
+
+/// Runs a task over a stream, by a client of this owner and this start of it. Its session and the client are ended after the task, also where
+/// that was refused.
 fn run(
     alloc: Global,
     stream: TcpStream,
     options: &Options<'_>,
-    verifier: [u8; 8],
-    command: Command<'_>,
-) -> Result<Answer, ToolFault> {
-    let mut client = match Client::open(alloc, stream, options.uid, options.gid, verifier) {
-        Ok(client) => client,
-        Err(fault) => return Err(fault),
-    };
-    let told = client.answer(command);
+    (owner, verifier): ([u8; 20], [u8; 8]),
+    task: Task<'_>,
+) -> Result<Answer, Fault> {
+    let (uid, gid) = (options.uid, options.gid);
+    let mut client = Client::open(alloc, stream, uid, gid, &owner, verifier)?;
+    let told = done(&mut client, alloc, task);
     let _ = client.end();
     told
 }
 
-/// Connects to the server, and runs a command. A call isn't held back to be sent with the next call.
-pub(crate) fn call<R: Net<Stream = TcpStream> + Clock>(
-    rt: &R,
-    alloc: Global,
-    options: &Options<'_>,
-    command: Command<'_>,
-) -> Result<Answer, Fault> {
-    let server = SocketAddrV4::new(Ipv4Addr::LOCALHOST, options.port);
+/// The file of this system that an answer goes to, if it goes to one.
+fn file_of<'a>(wish: &Wish<'a>) -> Option<&'a str> {
+    match wish {
+        Wish::Get { path: _, file } => *file,
+        _ => None,
+    }
+}
+
+/// The task of a wish: what is sent is read before anything is asked of the server.
+fn task_of<'a, R: Files + Input>(rt: &R, alloc: Global, wish: Wish<'a>) -> Result<Task<'a>, Fault> {
+    match wish {
+        Wish::Send { file, path } => Ok(Task::Put(path, bytes::read(rt, alloc, file)?)),
+        wish => Ok(Task::Wish(wish)),
+    }
+}
+
+/// Connects to the server. A call isn't held back to be sent with the next call.
+fn connect<R: Net<Stream = TcpStream>>(rt: &R, port: u16) -> Result<TcpStream, Fault> {
+    let server = SocketAddrV4::new(Ipv4Addr::LOCALHOST, port);
     let Ok(stream) = TcpStream::connect(rt, server) else {
         return Err(Fault::Socket);
     };
     let _ = stream.set_nodelay(true);
-    run(alloc, stream, options, verifier(rt), command).map_err(Fault::Tool)
+    let _ = stream.set_read_timeout(Some(Duration::from_secs(PATIENCE)));
+    let _ = stream.set_write_timeout(Some(Duration::from_secs(PATIENCE)));
+    Ok(stream)
+}
+
+/// Connects to the server, and does what is wished.
+pub(crate) fn call<R: Net<Stream = TcpStream> + Clock + RandomSource + Files + Input>(
+    rt: &R,
+    alloc: Global,
+    options: &Options<'_>,
+    wish: Wish<'_>,
+) -> Result<Answer, Fault> {
+    let file = file_of(&wish);
+    let task = task_of(rt, alloc, wish)?;
+    let Ok(owner) = owner(rt) else {
+        return Err(Fault::Random);
+    };
+    let stream = connect(rt, options.port)?;
+    let told = run(alloc, stream, options, (owner, verifier(rt)), task)?;
+    match file {
+        Some(file) => {
+            bytes::write(rt, file, told.as_bytes())?;
+            Ok(Answer::Done)
+        }
+        None => Ok(told),
+    }
 }

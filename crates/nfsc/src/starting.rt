@@ -1,6 +1,22 @@
-//! The verifier that tells this start of the client from an earlier one.
+//! What tells this run of the client from others beside it, and from those before it.
+use std::io;
+use std::random::RandomSource;
 use std::rt::Clock;
 use std::time::{SystemTime, UNIX_EPOCH};
+
+/// The first bytes of an owner, which say what it is.
+const NAME: &[u8; 4] = b"nfsc";
+
+/// The owner of this run (RFC 8881, section 2.4): `nfsc`, and 16 random bytes of the system. No two runs have one owner, also where they
+/// start in the same instant, by one process after the other or by several machines.
+///
+/// An error: the system gives no random bytes.
+pub(crate) fn owner<R: RandomSource>(rt: &R) -> io::Result<[u8; 20]> {
+    let mut owner = [0; 20];
+    owner[..4].copy_from_slice(NAME);
+    rt.fill_bytes(&mut owner[4..])?;
+    Ok(owner)
+}
 
 /// The verifier of this start: the system's time in nanoseconds since the epoch, or zero where the time can't be read.
 pub(crate) fn verifier<R: Clock>(rt: &R) -> [u8; 8] {

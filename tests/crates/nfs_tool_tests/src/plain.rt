@@ -43,7 +43,7 @@ pub(crate) fn end<S: Read + Write>(client: &mut Client<S>) -> Result<(), ToolFau
 }
 
 pub(crate) fn open<'h>(alloc: Global, stream: Local<'h>) -> Result<Client<Local<'h>>, ToolFault> {
-    Client::open(alloc, stream, 0, 0, [1; 8])
+    Client::open(alloc, stream, 0, 0, b"nfsc", [1; 8])
 }
 
 /// A hub of the sample tree, without sessions.

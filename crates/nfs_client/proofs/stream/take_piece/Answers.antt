@@ -1,5 +1,5 @@
-use Rattle.std.proofs.Common.{arith}
-use Rattle.nfs_client.proofs.Streams.{up_to, to_whole, at_start}
+use Rattle.std.proofs.Common.{arith, inl, inr}
+use Rattle.nfs_client.proofs.Streams.{up_to, to_whole, to_end, at_start, followed}
 use Rattle.nfs_client.proofs.stream.take_piece.Goals as goal
 
 pub loop-from-init : goal.loop-from-init
@@ -18,3 +18,9 @@ pub returns-in-Record : goal.returns-in-Record
 returns-in-Record g c = λ bytes s.
     rw (c.in_ok-extend_from_slice-in-Record.ensures.items, ← to_whole bytes c.args.piece.now c.loop-from.at c.in-Record.to (omega (arith, c.in-Record.ensures.within)) c.if-to-piece.false)
     ((c.in-Record.ensures.gives _ _ (c.loop-from.invariant.stands bytes s)).0)
+
+pub returns-then-to-piece : goal.returns-then-to-piece
+returns-then-to-piece g c = λ bytes s. inr (followed bytes c.args.piece.now _ c.loop-from.at c.in-Record.to (omega (arith, c.in-Record.ensures.within)) (omega (arith, c.if-to-piece.true)) (c.in-Record.ensures.gives _ _ (c.loop-from.invariant.stands bytes s)).0)
+
+pub returns-in-Broken : goal.returns-in-Broken
+returns-in-Broken g c = λ bytes s. inl (rw (to_end bytes c.args.piece.now c.loop-from.at) at (c.in-Broken.ensures.gives _ _ (c.loop-from.invariant.stands bytes s)))

@@ -5,4 +5,4 @@ pub returns-in-Err : goal.returns-in-Err
 returns-in-Err g c = inl (c.in-Err.fault, c.in-Err.ensures, refl)
 
 pub returns : goal.returns
-returns g c = inr (c.in-Ok.client, c.answer-told.new.self, c.in-Ok.ensures, c.answer-told.ensures)
+returns g c = inr (c.in-Ok.client, c.answer-told.new.self, c.in-Ok.ensures, c.answer-told.ensures.gives)

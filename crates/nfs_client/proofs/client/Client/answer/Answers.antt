@@ -1,19 +1,11 @@
+use Rattle.std.proofs.Common.{Err, sym, subst}
+use Rattle.nfs_client.specs.Running.{Runs}
+use Rattle.nfs_client.specs.WordViews.{command_line}
+use Rattle.nfs_client.specs.declared.fault.ToolFault.{ToolFault}
+use Rattle.nfs_client.proofs.Telling.{none_runs}
 use Rattle.nfs_client.proofs.client.Client.answer.Goals as goal
 
-pub returns-in-Ln : goal.returns-in-Ln
-returns-in-Ln g c = rw c.in-Ln.is (c.ln.result, c.ln.ensures.gives, c.done-in-Ln.ensures)
-
-pub returns-in-Mv : goal.returns-in-Mv
-returns-in-Mv g c = rw c.in-Mv.is (c.mv.result, c.mv.ensures.gives, c.done-in-Mv.ensures)
-
-pub returns-in-ChMod : goal.returns-in-ChMod
-returns-in-ChMod g c = rw c.in-ChMod.is (c.chmod.result, c.chmod.ensures.gives, c.done-in-ChMod.ensures)
-
-pub returns-in-GetAcl : goal.returns-in-GetAcl
-returns-in-GetAcl g c = rw c.in-GetAcl.is (c.get_list.result, c.get_list.ensures.gives, c.lines-in-GetAcl.ensures)
-
-pub returns-in-SetAcl : goal.returns-in-SetAcl
-returns-in-SetAcl g c = rw c.in-SetAcl.is (c.set_list.result, c.set_list.ensures.gives, c.done-in-SetAcl.ensures)
-
-pub returns-in-Put : goal.returns-in-Put
-returns-in-Put g c = rw c.in-Put.is (c.put.result, c.put.ensures.gives, c.done.ensures)
+pub returns-in-Err-clause-gives : goal.returns-in-Err-clause-gives
+returns-in-Err-clause-gives g c =
+    subst (λ (f : ToolFault). Runs g.S.Write.contents g.S.Read.remaining (command_line c.args.command) c.args.self.now c.args.self.now (Err f)) (sym c.in-Err.ensures.0)
+    (none_runs g.S.Write.contents g.S.Read.remaining (command_line c.args.command) c.args.self.now c.in-Err.ensures.1)

@@ -15,7 +15,7 @@ pub returns : goal.returns
 returns g c =
     let left = first_left c.args.names.now c.args.others.now c.left_of_first.result c.left_of_first.ensures in
     let walk = subst (λ (n : ℕ). WalkGives g.S.Write.contents g.S.Read.remaining itself n (map (λ n. n.now) c.args.names.now) c.args.self.now c.reach.new.self (Ok (route_value c.in-Ok.first))) left c.in-Ok.ensures in
-    inr (c.reach.new.self, route_value c.in-Ok.first, walk, c.in-Err-reach.ensures)
+    inr (c.reach.new.self, route_value c.in-Ok.first, walk, inl c.in-Err-reach.ensures)
 
 pub returns-in-Ok-reach : goal.returns-in-Ok-reach
 returns-in-Ok-reach g c =

@@ -1,4 +1,6 @@
-use Rattle.std.proofs.Common.{List, map, ap, ◌∙◌}
+use Rattle.std.proofs.Common.{◌<◌, ℕ, List, length, map, ap, ◌∙◌, arith}
+use Rattle.std.proofs.lemmas.List.{length-map}
+use Rattle.std.specs.Borrow.{Bor}
 use Rattle.nfs_types.specs.AceView.{ace_value}
 use Rattle.nfs_types.specs.ShownViews.{shown_value}
 use Rattle.nfs_types.specs.declared.ace.Ace.{Ace}
@@ -9,16 +11,20 @@ use Rattle.nfs_client.specs.Taking.{takes_nothing, nothing}
 use Rattle.nfs_client.proofs.Walks.{command_runs, command_stops}
 use Rattle.nfs_client.proofs.client.Client.set_list.Goals as goal
 
+-- there is an entry
+some_texts : (texts : List (Bor (List ℕ))) → 0 < length texts → 0 < length (map (λ t. t.now) texts)
+some_texts texts h = omega (arith, length-map texts (λ t. t.now), h)
+
 pub returns-in-Ok-ready-clause-gives : goal.returns-in-Ok-ready-clause-gives
 returns-in-Ok-ready-clause-gives g c =
     let shown = c.in_ok-shown.ensures.shown ∙ ap (λ (aces : List Ace). of_entries c.args.part (map ace_value aces)) c.deref.ensures.value in
     let is = c.in_ok-op.ensures.asks ∙ ap (set_by (shown_value c.in_ok-shown.shown)) (c.bytes.ensures ∙ c.in_ok-values.ensures.values) ∙ ap set_attributes shown in
     command_runs g.S.Write.contents g.S.Read.remaining takes_nothing nothing (SetAclAsks c.args.part c.args.path.now (map (λ t. t.now) c.args.texts.now)) (WrongList c.args.path.now (map (λ t. t.now) c.args.texts.now)) c.args.self.now c.run.new.self c.ready.new.self c.in-Ok-ready.request c.in-Ok.path (op_view c.in_ok-op.op) c.run.result
-    (map ace_value c.in-Ok-read_entries.aces.items, c.in-Ok.ensures, c.in-Ok-read_entries.ensures, is) (rw c.names.ensures at c.in-Ok-ready.ensures) c.run.ensures
+    (map ace_value c.in-Ok-read_entries.aces.items, c.in-Ok.ensures, some_texts c.args.texts.now c.in_ok-some_entry.ensures, c.in-Ok-read_entries.ensures, is) (rw c.names.ensures at c.in-Ok-ready.ensures) c.run.ensures
 
 pub returns-clause-gives : goal.returns-clause-gives
 returns-clause-gives g c =
     let shown = c.in_ok-shown.ensures.shown ∙ ap (λ (aces : List Ace). of_entries c.args.part (map ace_value aces)) c.deref.ensures.value in
     let is = c.in_ok-op.ensures.asks ∙ ap (set_by (shown_value c.in_ok-shown.shown)) (c.bytes.ensures ∙ c.in_ok-values.ensures.values) ∙ ap set_attributes shown in
     command_stops {X = Unit {0}} g.S.Write.contents g.S.Read.remaining takes_nothing nothing (SetAclAsks c.args.part c.args.path.now (map (λ t. t.now) c.args.texts.now)) (WrongList c.args.path.now (map (λ t. t.now) c.args.texts.now)) c.args.self.now c.ready.new.self c.in-Ok.path (op_view c.in_ok-op.op) c.in-Err-ready.fault
-    (map ace_value c.in-Ok-read_entries.aces.items, c.in-Ok.ensures, c.in-Ok-read_entries.ensures, is) (rw c.names.ensures at c.in-Err-ready.ensures)
+    (map ace_value c.in-Ok-read_entries.aces.items, c.in-Ok.ensures, some_texts c.args.texts.now c.in_ok-some_entry.ensures, c.in-Ok-read_entries.ensures, is) (rw c.names.ensures at c.in-Err-ready.ensures)

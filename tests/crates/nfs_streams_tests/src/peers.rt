@@ -1,6 +1,4 @@
 //! Peers, and the streams between them and the server.
-ghost use Rattle.std.specs.Prelude.{◌≤◌, length};
-ghost use Rattle.nfs_streams.specs.Acts.{IsWithin};
 
 use crate::bytes::{Bytes, calls_of, removes_of, replies_to};
 use nfs_streams::{Moved, StreamEnd};
@@ -206,9 +204,7 @@ impl Stream {
     }
 
     /// Reads on in the input, and says how many bytes.
-    fn give_more(&mut self, buf: &mut [u8]) -> usize
-        ensures { result ≤ length buf.new }
-    {
+    fn give_more(&mut self, buf: &mut [u8]) -> usize {
         let mut n = 0usize;
         for index in 0..buf.len().min(self.script.piece) {
             let (Some(byte), Some(place)) = (self.next_byte(), buf.get_mut(index)) else {
@@ -221,9 +217,7 @@ impl Stream {
     }
 
     /// Gives a piece.
-    pub fn give(&mut self, waits: u64, buf: &mut [u8]) -> Moved
-        ensures { IsWithin result (length buf.new) }
-    {
+    pub fn give(&mut self, waits: u64, buf: &mut [u8]) -> Moved {
         if !self.is_ready(waits) {
             return Moved::NotYet;
         }
@@ -252,9 +246,7 @@ impl Stream {
     }
 
     /// Takes a front of the bytes.
-    pub fn take(&mut self, waits: u64, bytes: &[u8]) -> Moved
-        ensures { IsWithin result (length bytes.now) }
-    {
+    pub fn take(&mut self, waits: u64, bytes: &[u8]) -> Moved {
         if !self.is_ready(waits) {
             return Moved::NotYet;
         }

@@ -1,0 +1,5 @@
+use Rattle.nfs_client.proofs.Streams.{talked}
+use Rattle.nfs_client.proofs.stream.talk.Goals as goal
+
+pub returns-in-Ok : goal.returns-in-Ok
+returns-in-Ok g c = talked _ g.S.Write.contents g.S.Read.remaining c.args.stream.now c.write_out.new.stream c.read_record.new.stream c.args.call.now c.read_record.result c.in-Ok.ensures c.read_record.ensures

@@ -1,0 +1,179 @@
+//! Access control lists in words.
+use crate::fault::Fault;
+use crate::wish::place_in;
+use acl_list::Kind;
+use acl_words::Words;
+use nfs_client::{Client, EntryText, ToolFault};
+use std::alloc::Global;
+use std::io::{Read, Write};
+
+/// The right LOOKUP of ACCESS, which has a meaning for directories alone (RFC 8881, section 18.1).
+const LOOKUP: u32 = 2;
+
+/// Entries as the client takes and gives them, each as text.
+type Entries = Vec<Vec<u8>>;
+
+/// The lines of a text.
+fn lines_of(alloc: Global, text: &[u8]) -> Result<Entries, Fault> {
+    let mut lines = Vec::new(alloc);
+    for line in text.split(|byte| *byte == b'\n') {
+        if !line.is_empty() {
+            let mut own = Vec::new(alloc);
+            own.extend_from_slice(line)?;
+            lines.push(own)?;
+        }
+    }
+    Ok(lines)
+}
+
+/// Puts the words of an entry that is text.
+fn put_words(out: &mut Vec<u8>, text: &[u8]) -> Result<(), Fault> {
+    let Some(entry) = EntryText::read(text) else {
+        return Err(Fault::Tool(ToolFault::Reply));
+    };
+    let words = Words {
+        kind: entry.kind,
+        flags: entry.flags,
+        mask: entry.mask,
+        who: entry.who,
+    };
+    words.put(out)?;
+    out.push(b'\n')?;
+    Ok(())
+}
+
+/// The text of an entry in words.
+fn text_of(alloc: Global, object: Kind, number: usize, words: &[u8]) -> Result<Vec<u8>, Fault> {
+    let entry = match Words::read(object, words) {
+        Ok(entry) => entry,
+        Err(field) => return Err(Fault::Entry(number, field)),
+    };
+    let mut text = Vec::new(alloc);
+    let entry = EntryText {
+        kind: entry.kind,
+        flags: entry.flags,
+        mask: entry.mask,
+        who: entry.who,
+    };
+    entry.put(&mut text)?;
+    Ok(text)
+}
+
+/// The texts of entries in words, in their order.
+fn texts_of(alloc: Global, object: Kind, entries: &[&[u8]]) -> Result<Entries, Fault> {
+    let mut texts = Vec::new(alloc);
+    for (index, words) in entries.iter().enumerate() {
+        let text = text_of(alloc, object, index.saturating_add(1), words)?;
+        texts.push(text)?;
+    }
+    Ok(texts)
+}
+
+/// Whether the object is a directory or another. It matters to the letter `W` alone.
+fn kind_at<S: Read + Write>(client: &mut Client<S>, path: &[u8]) -> Result<Kind, Fault> {
+    let rights = client.access(path)?;
+    if rights.supported & LOOKUP == 0 {
+        Ok(Kind::File)
+    } else {
+        Ok(Kind::Directory)
+    }
+}
+
+/// Sets the list to entries as text.
+fn set<S: Read + Write>(
+    client: &mut Client<S>,
+    alloc: Global,
+    path: &[u8],
+    entries: &[Vec<u8>],
+) -> Result<(), Fault> {
+    if entries.is_empty() {
+        return Err(Fault::NoneLeft);
+    }
+    let lent: Vec<&[u8]> = entries.iter().map(|text| text.as_slice()).collect(alloc)?;
+    client.setacl(path, lent.as_slice())?;
+    Ok(())
+}
+
+/// The list of an object in words, an entry a line.
+pub(crate) fn get<S: Read + Write>(
+    client: &mut Client<S>,
+    alloc: Global,
+    path: &[u8],
+) -> Result<Vec<u8>, Fault> {
+    let listed = client.getacl(path)?;
+    let mut text = Vec::new(alloc);
+    for line in &lines_of(alloc, listed.as_slice())? {
+        put_words(&mut text, line.as_slice())?;
+    }
+    Ok(text)
+}
+
+/// Sets the list of an object to entries in words.
+pub(crate) fn replace<S: Read + Write>(
+    client: &mut Client<S>,
+    alloc: Global,
+    path: &[u8],
+    entries: &[&[u8]],
+) -> Result<(), Fault> {
+    let object = kind_at(client, path)?;
+    let texts = texts_of(alloc, object, entries)?;
+    set(client, alloc, path, texts.as_slice())
+}
+
+/// Puts entries in words before the one of this number, or at the end for the number after the last.
+pub(crate) fn add<S: Read + Write>(
+    client: &mut Client<S>,
+    alloc: Global,
+    path: &[u8],
+    place: usize,
+    entries: &[&[u8]],
+) -> Result<(), Fault> {
+    let object = kind_at(client, path)?;
+    let more = texts_of(alloc, object, entries)?;
+    let listed = client.getacl(path)?;
+    let old = lines_of(alloc, listed.as_slice())?;
+    let before = place.saturating_sub(1);
+    if before > old.len() {
+        return Err(Fault::NoSuch);
+    }
+    let mut all = Vec::new(alloc);
+    for text in old[..before]
+        .iter()
+        .chain(more.iter())
+        .chain(old[before..].iter())
+    {
+        all.push(text.clone()?)?;
+    }
+    set(client, alloc, path, all.as_slice())
+}
+
+/// The numbers of words. `NoSuch`: one is no number, or the list has no such entry.
+fn places(alloc: Global, words: &[&str], most: usize) -> Result<Vec<usize>, Fault> {
+    let mut places = Vec::new(alloc);
+    for word in words {
+        match place_in(word) {
+            Some(place) if place <= most => places.push(place)?,
+            _ => return Err(Fault::NoSuch),
+        }
+    }
+    Ok(places)
+}
+
+/// Takes out the entries of these numbers.
+pub(crate) fn remove<S: Read + Write>(
+    client: &mut Client<S>,
+    alloc: Global,
+    path: &[u8],
+    numbers: &[&str],
+) -> Result<(), Fault> {
+    let listed = client.getacl(path)?;
+    let old = lines_of(alloc, listed.as_slice())?;
+    let gone = places(alloc, numbers, old.len())?;
+    let mut left = Vec::new(alloc);
+    for (index, text) in old.iter().enumerate() {
+        if !gone.contains(&index.saturating_add(1)) {
+            left.push(text.clone()?)?;
+        }
+    }
+    set(client, alloc, path, left.as_slice())
+}

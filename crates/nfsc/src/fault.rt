@@ -1,0 +1,116 @@
+//! The faults of a run, and a sentence for each: what was wrong, and what would do.
+use acl_words::Field;
+use nfs_client::ToolFault;
+use nfs_types::Status;
+use std::alloc::{AllocError, AllocFailed};
+
+/// A fault in the place of an answer.
+#[derive(Clone, Copy, Debug, thiserror::Error)]
+pub(crate) enum Fault {
+    /// The server can't be connected to.
+    #[error("socket")]
+    Socket,
+    /// The system gives no random bytes, of which the owner of this run is made.
+    #[error("random")]
+    Random,
+    /// A file of this system can't be read.
+    #[error("file")]
+    Unread,
+    /// A file of this system can't be written.
+    #[error("file")]
+    Unwritten,
+    /// More bytes than a file of the server may have.
+    #[error("size")]
+    TooLarge,
+    /// The entry of this number, counted from 1, can't be read.
+    #[error("entry {0}")]
+    Entry(usize, Field),
+    /// The list has no entry of this number.
+    #[error("number")]
+    NoSuch,
+    /// No entry would be left.
+    #[error("list")]
+    NoneLeft,
+    /// The command has a fault.
+    #[error("{0}")]
+    Tool(ToolFault),
+}
+
+impl From<ToolFault> for Fault {
+    fn from(fault: ToolFault) -> Self {
+        Fault::Tool(fault)
+    }
+}
+
+impl From<AllocError> for Fault {
+    fn from(_: AllocError) -> Self {
+        Fault::Tool(ToolFault::Memory)
+    }
+}
+
+impl<T: Drop> From<AllocFailed<T>> for Fault {
+    fn from(_: AllocFailed<T>) -> Self {
+        Fault::Tool(ToolFault::Memory)
+    }
+}
+
+/// What a refusal means (RFC 8881, section 15.1).
+fn refusal(status: Status) -> &'static str {
+    match status {
+        Status::Access | Status::Perm => "the access control list doesn't allow it to this user",
+        Status::NoEnt => "there is no object of this name",
+        Status::Exist => "there is an object of this name",
+        Status::NotDir => "a name before the last isn't one of a directory",
+        Status::IsDir => "it is a directory",
+        Status::Symlink => "it is a symbolic link",
+        Status::WrongType => "an object of this type has no such operation",
+        Status::Inval =>
+            "the server doesn't take these words: an entry, a mode, or a move into itself",
+        Status::BadOwner => "a name in an entry isn't in the server's book",
+        Status::AttrNotSupp => "the server doesn't take such entries",
+        Status::FBig => "a file has at most 1,048,576 bytes",
+        Status::NoSpc => "the server has no room left",
+        Status::MLink => "the object has as many names as it may have",
+        Status::NameTooLong => "a name has at most 255 bytes",
+        Status::BadChar => "a name is UTF-8",
+        Status::BadName => "'.' and '..' are no names",
+        Status::NotEmpty => "the directory isn't empty",
+        Status::Stale => "the object was removed",
+        Status::Delay => "the server has no memory left for it now; try again",
+        Status::ClidInUse => "another user has a client of this name",
+        _ => "the server refused it",
+    }
+}
+
+/// What a fault of the client means, and what would do.
+fn sentence_of(fault: ToolFault) -> &'static str {
+    match fault {
+        ToolFault::Path => "a path is '/', or names each with '/' in front, as in /docs/notes",
+        ToolFault::Refused(_, status) => refusal(status),
+        ToolFault::Reply => "what the server sent is no reply, or it is longer than is taken",
+        ToolFault::Read => "the server closed the connection, or didn't answer in time",
+        ToolFault::Write => "the server takes no more bytes",
+        ToolFault::Memory => "there is no memory left here, or the words are too long for a call",
+        ToolFault::Entry => {
+            "a mode is one to four octal digits, and an entry is TYPE:FLAGS:MASK:WHO, as in A:00:00000001:1001"
+        }
+        ToolFault::Failed => "an earlier command of this session failed",
+    }
+}
+
+impl Fault {
+    /// What was wrong, and what would do.
+    pub(crate) fn sentence(self) -> &'static str {
+        match self {
+            Fault::Socket => "nothing listens there, or it takes no connection",
+            Fault::Random => "the system gives no random bytes",
+            Fault::Unread => "the file can't be read",
+            Fault::Unwritten => "the file can't be written",
+            Fault::TooLarge => "a file has at most 1,048,576 bytes; nothing was changed",
+            Fault::Entry(_, field) => field.help(),
+            Fault::NoSuch => "the list has no entry of this number; getfacl shows them from 1 on",
+            Fault::NoneLeft => "a list has at least one entry",
+            Fault::Tool(fault) => sentence_of(fault),
+        }
+    }
+}
