@@ -4,7 +4,7 @@ use crate::sockets::Sockets;
 use crate::streams::Served;
 use crate::trail_file::TrailFile;
 use crate::{Fault, TURNS, ended};
-use nfs_hub::{Clock, Hub, MAX_CONNECTIONS, ServeEnd};
+use nfs_hub::{Clock, Hub, HubFault, MAX_CONNECTIONS, ServeEnd};
 use nfs_streams::{AllEnd, Limits, serve_all};
 use nfsd_options::Options;
 use std::alloc::Global;
@@ -70,6 +70,7 @@ fn serve_connections<R: Files + Alloc + Eprint + SystemTimes, C: Clock>(
         AllEnd::Turns => Ok(ended(rt, ServeEnd::Turns)),
         AllEnd::Wait => Err(Fault::Socket(None)),
         AllEnd::Keep => Err(Fault::Trail),
+        AllEnd::Memory => Err(Fault::Hub(HubFault::Memory as u8)),
     }
 }
 
