@@ -3,7 +3,6 @@ use crate::book_rule::{Change, FileId, Plan, Stamp, has_members, may_follow, pla
 use crate::clock::second;
 use crate::words::say_no_book;
 use crate::{Fault, slips};
-use nfs_hub::Hub;
 use std::alloc::Global;
 use std::fs;
 use std::fs::Metadata;
@@ -142,12 +141,5 @@ impl<'a, R: Files + Alloc + Eprint + Clock> BookFile<'a, R> {
         let rt = self.rt;
         let _ = eprintln!(rt; "nfsd: {fault}; the book before stays");
         say_no_book(rt, self.alloc, path, fault);
-    }
-
-    /// Loads the book of the file, where the file has changed since its last read and its book may follow the one before.
-    pub(crate) fn load_into(&mut self, hub: &mut Hub) {
-        if let Some(book) = self.changed() {
-            let _ = hub.reload(book);
-        }
     }
 }

@@ -13,7 +13,6 @@ mod listening;
 mod slips;
 mod sockets;
 mod streams;
-mod together;
 mod trail_file;
 mod words;
 
@@ -34,7 +33,7 @@ use std::rt::{Clock, Files};
 use std::{env, fmt, io};
 use who_book::BookFault;
 
-/// The most turns of a connection that is served alone: each turn reads at most 4,096 bytes.
+/// The most turns of a connection: each reads some bytes of it.
 const TURNS: u64 = 1_000_000;
 
 /// The faults that keep `nfsd` from serving, in the order in which they are found. While it serves, the first two keep a book from

@@ -6,7 +6,7 @@ use mio::event::Event;
 use mio::net::{TcpListener, TcpStream};
 use mio::{Events, Interest, Poll, Token};
 use nfs_hub::MAX_CONNECTIONS;
-use nfs_streams::{Moved, Wait};
+use nfs_streams::{Knock, Moved, Wait};
 use std::alloc::Global;
 use std::io;
 use std::io::{ErrorKind, Read, Write};
@@ -20,7 +20,7 @@ const LISTENER: usize = MAX_CONNECTIONS;
 const EVENTS: usize = MAX_CONNECTIONS + 1;
 
 /// The first port that isn't privileged: any user of a system may have it.
-pub(crate) const FIRST_FREE_PORT: u16 = 1024;
+const FIRST_FREE_PORT: u16 = 1024;
 
 /// The most streams that are let go unread before the others are looked at again.
 const MOST_TURNED_AWAY: u32 = 64;
@@ -82,7 +82,7 @@ fn moved(gave: io::Result<usize>, most: usize, ready: &mut bool) -> Moved
                 Moved::NotYet
             }
             ErrorKind::Interrupted => Moved::NotYet,
-            _ => Moved::Over,
+            _ => Moved::Failed,
         },
     }
 }
@@ -203,12 +203,16 @@ impl Sockets {
     }
 
     /// Whether a stream has come that has no place yet.
-    pub(crate) fn knocks(&mut self) -> bool {
+    pub(crate) fn knocks(&mut self) -> Knock {
         if self.accepted.is_none() && self.calls != Calls::None {
             self.calls = Calls::More;
             self.accept();
         }
-        self.accepted.is_some()
+        match (&self.accepted, self.calls) {
+            (Some(_), _) => Knock::Here,
+            (None, Calls::None) => Knock::Nobody,
+            (None, _) => Knock::Waiting,
+        }
     }
 
     /// Gives a place to the stream that has come.
@@ -240,7 +244,7 @@ impl Sockets {
         ensures { IsWithin result (length buf.new) }
     {
         let Some(socket) = self.socket(place) else {
-            return Moved::Over;
+            return Moved::Failed;
         };
         if !socket.readable {
             return Moved::NotYet;
@@ -254,7 +258,7 @@ impl Sockets {
         ensures { IsWithin result (length bytes.now) }
     {
         let Some(socket) = self.socket(place) else {
-            return Moved::Over;
+            return Moved::Failed;
         };
         if !socket.writable {
             return Moved::NotYet;

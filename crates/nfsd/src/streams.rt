@@ -4,7 +4,7 @@ use crate::sockets::Sockets;
 use crate::trail_file::TrailFile;
 use compound_run::Server;
 use nfs_hub::ConnId;
-use nfs_streams::{Moved, Streams, Wait};
+use nfs_streams::{Knock, Moved, StreamEnd, Streams, Wait};
 use std::alloc::Global;
 use std::rt::{Clock, Files};
 use who_book::Book;
@@ -12,9 +12,46 @@ use who_book::Book;
 /// Sockets, the file in which the trail is kept, if it is kept, and the file of the book.
 #[derive(Drop)]
 pub(crate) struct Served<'a, R: Files> {
-    pub(crate) sockets: Sockets,
-    pub(crate) trail: Option<TrailFile<'a, R>>,
-    pub(crate) book: BookFile<'a, R>,
+    rt: &'a R,
+    sockets: Sockets,
+    trail: Option<TrailFile<'a, R>>,
+    book: BookFile<'a, R>,
+    /// Each connection so far ended after a whole record.
+    are_whole: bool,
+}
+
+impl<'a, R: Files + Eprint> Served<'a, R> {
+    /// These, before any connection.
+    pub(crate) fn new(
+        rt: &'a R,
+        sockets: Sockets,
+        trail: Option<TrailFile<'a, R>>,
+        book: BookFile<'a, R>,
+    ) -> Self {
+        Served {
+            rt,
+            sockets,
+            trail,
+            book,
+            are_whole: true,
+        }
+    }
+
+    /// Whether each connection so far ended after a whole record.
+    pub(crate) fn are_whole(&self) -> bool {
+        self.are_whole
+    }
+
+    /// Says on standard error how a connection ended that didn't end after a whole record. What can't be said isn't said. Of those that were
+    /// open when serving ended the end of serving is said.
+    fn note(&mut self, end: StreamEnd) {
+        if matches!(end, StreamEnd::Ended | StreamEnd::Stopped) {
+            return;
+        }
+        self.are_whole = false;
+        let rt = self.rt;
+        let _ = eprintln!(rt; "nfsd: end {}", end as u8);
+    }
 }
 
 impl<R: Files + Alloc + Eprint + Clock> Streams<Global> for Served<'_, R> {
@@ -26,7 +63,7 @@ impl<R: Files + Alloc + Eprint + Clock> Streams<Global> for Served<'_, R> {
         self.book.changed()
     }
 
-    fn knocks(&mut self) -> bool {
+    fn knocks(&mut self) -> Knock {
         self.sockets.knocks()
     }
 
@@ -34,8 +71,9 @@ impl<R: Files + Alloc + Eprint + Clock> Streams<Global> for Served<'_, R> {
         self.sockets.admit(place);
     }
 
-    fn close(&mut self, place: usize) {
+    fn close(&mut self, place: usize, end: StreamEnd) {
         self.sockets.close(place);
+        self.note(end);
     }
 
     fn read(&mut self, place: usize, buf: &mut [u8]) -> Moved {
