@@ -1,0 +1,781 @@
+//! The storage of a tree: objects in a map by number, names by rising cookie. Its results and changes are right for any
+//! objects and names; [`crate::Tree`] keeps them a tree.
+ghost use Rattle.std.specs.Prelude.{◌≡◌, ◌∷◌, [], ◌+◌, ◌-◌, ◌<◌, ◌≤◌, ◌^◌, ◌&&◌, ◌++◌, ℕ, nat_le, nat_lt, if◌then◌else◌, slice_index, length, drop, filter, not, None, OnOk, OnErr, IfOk, MatchOption, Some, true, false, ◌≢◌};
+ghost use Rattle.std.specs.Option.{option_copied, option_map_or};
+ghost use Rattle.node_tree.specs.World.{object, kind_of, bytes_at, child_named, name_after, is_named, is_directory_at, has_name, has_entries, name_count, link_count, parent_of};
+ghost use Rattle.std.specs.List.{list_all};
+ghost use Rattle.node_tree.specs.Restored.{kept_object, put_object, put_name, child_fits, leads_up, is_placed};
+ghost use Rattle.node_tree.specs.Parts.{number_after, any_after};
+ghost use Rattle.node_tree.specs.Ways.{is_within};
+ghost use Rattle.node_tree.specs.Notes.{no_notes, begun_notes, cleared, note};
+ghost use Rattle.node_tree.specs.Noted.{quietly, CutsTo};
+ghost use Rattle.node_tree.specs.Steps.{Add, Link, Unlink, Rename, Write, Resize, SetList, SetOwner};
+ghost use Rattle.node_tree.specs.Forms.{spelled};
+ghost use Rattle.node_tree.specs.Ranges.{in_range};
+ghost use Rattle.node_tree.specs.Changes.{alone, made, changed, touched, retold, without, released, other_names, written, resized, with_new, with_link, without_name, with_move, with_bytes, with_size, with_list, with_owner};
+ghost use Rattle.node_tree.specs.Sound.{most_bytes, Rises};
+ghost use Rattle.node_tree.specs.Refusals.{add_refusal, link_refusal, has_left, has_room, has_object_room, may_link, may_name, may_add, is_below, may_replace, may_move};
+
+use crate::at::At;
+use crate::edits;
+use crate::edits::{move_child, release, retell, touch};
+use crate::entry::DirEntry;
+use crate::fault::TreeFault;
+use crate::limits::{MAX_LINKS, MAX_NAMES, MAX_OBJECTS, ROOT};
+use crate::name_table::NameTable;
+use crate::node::{Kept, NewObject, Node};
+use crate::node_table::NodeTable;
+use crate::notes::{Mark, Notes};
+use acl_list::{AclList, Entry, Kind};
+use std::alloc::{AllocError, Allocator, Global};
+use std::marker::Model;
+
+/// The bound of all counters.
+pub const END: u64 = 1 << 63;
+
+/// Objects by number, names by cookie, and the counters.
+#[derive(Debug, Drop)]
+pub struct Store<A: Allocator = Global> {
+    alloc: A,
+    objects: NodeTable<A>,
+    names: NameTable<A>,
+    next_number: u64,
+    next_tick: u64,
+    next_stamp: u64,
+    next_cookie: u64,
+    /// The changes since notes were begun.
+    notes: Notes<A>,
+}
+
+impl<A: Allocator> Model for Store<A> {
+    ghost use Rattle.node_tree.specs.World.{World};
+
+    ghost Value = { World };
+
+    ghost view = { λ s. record {
+      objects = s.objects;
+      names = s.names;
+      next_number = s.next_number;
+      next_tick = s.next_tick;
+      next_stamp = s.next_stamp;
+      next_cookie = s.next_cookie;
+      notes = s.notes;
+    } };
+}
+
+// Look-ups.
+impl<A: Allocator + Copy> Store<A> {
+    /// The object of a number.
+    pub fn object(&self, number: u64) -> Option<&Node<A>>
+        ensures { option_copied result ≡ object self.now number }
+    {
+        self.objects.get(number)
+    }
+
+    /// Whether the number is a directory's.
+    pub fn is_directory(&self, number: u64) -> bool
+        ensures { result ≡ is_directory_at self.now number }
+    {
+        match self.object(number) {
+            Some(node) => node.is_directory(),
+            None => false,
+        }
+    }
+
+    /// The child of a name in a directory.
+    #[tactic(auto, using(crate::proofs::Names::child_sought))]
+    pub fn find(&self, directory: u64, name: &[u8]) -> Option<u64>
+        ensures { result ≡ child_named self.now directory name.now }
+    {
+        self.names.find(directory, name)
+    }
+
+    /// The next name of a directory, by rising cookie.
+    pub fn list_after(&self, directory: u64, cookie: u64) -> Option<&DirEntry<A>>
+        ensures { option_copied result ≡ name_after self.now directory cookie }
+    {
+        self.names.list_after(directory, cookie)
+    }
+
+    /// The least number above another one that has an object.
+    pub fn number_after(&self, number: u64) -> Option<u64>
+        ensures { result ≡ number_after self.now number }
+    {
+        self.objects.number_after(number)
+    }
+
+    /// The next name of all, by rising cookie.
+    pub fn any_after(&self, cookie: u64) -> Option<&DirEntry<A>>
+        ensures { option_copied result ≡ any_after self.now cookie }
+    {
+        self.names.after(cookie)
+    }
+
+    /// Whether a directory has names.
+    pub fn has_entries(&self, directory: u64) -> bool
+        ensures { result ≡ has_entries self.now.names directory }
+    {
+        self.names.has_entries(directory)
+    }
+
+    /// How many names a directory has.
+    pub fn name_count(&self, directory: u64) -> usize
+        ensures { result ≡ name_count self.now.names directory }
+    {
+        self.names.name_count(directory)
+    }
+
+    /// How many names an object has.
+    pub fn link_count(&self, number: u64) -> usize
+        ensures { result ≡ link_count self.now.names number }
+    {
+        self.names.link_count(number)
+    }
+
+    /// The parent of a directory.
+    pub fn parent(&self, number: u64) -> Option<u64>
+        ensures { result ≡ parent_of self.now number }
+    {
+        if !self.is_directory(number) {
+            return None;
+        }
+        self.names.directory_of(number)
+    }
+
+    /// Whether an object is a directory or lies below it.
+    pub fn is_within(&self, directory: u64, number: u64) -> bool
+        ensures { result ≡ is_within self.now directory number }
+    {
+        let mut here = number;
+        for _ in 0..self.next_number {
+            if here == directory {
+                return true;
+            }
+            let Some(parent) = self.parent(here) else {
+                return false;
+            };
+            here = parent;
+        }
+        true
+    }
+}
+
+// Whether there is space.
+impl<A: Allocator + Copy> Store<A> {
+    /// Whether a directory has room for one more name.
+    pub fn has_room(&self, directory: u64) -> bool
+        ensures { result ≡ has_room (name_count self.now.names directory) }
+    {
+        self.name_count(directory) < MAX_NAMES
+    }
+
+    /// Whether an object may have one more name.
+    pub fn may_link(&self, number: u64) -> bool
+        ensures { result ≡ may_link (link_count self.now.names number) }
+    {
+        self.link_count(number) < MAX_LINKS
+    }
+
+    /// Whether there is room for one more object.
+    pub fn has_object_room(&self) -> bool
+        ensures { result ≡ has_object_room (length self.now.objects) }
+    {
+        self.objects.len() < MAX_OBJECTS
+    }
+
+    /// Whether the counters have a number, a stamp and a cookie left for one more object.
+    pub fn has_counters(&self) -> bool
+        ensures { result ≡ (has_left self.now.next_number && has_left self.now.next_stamp && has_left self.now.next_cookie) }
+    {
+        self.next_number < END && self.next_stamp < END && self.next_cookie < END
+    }
+
+    /// Whether there is a cookie left.
+    pub fn has_cookie(&self) -> bool
+        ensures { result ≡ has_left self.now.next_cookie }
+    {
+        self.next_cookie < END
+    }
+
+    /// Whether a directory may have one more name.
+    pub fn may_name(&self, directory: u64) -> bool
+        ensures { result ≡ may_name (name_count self.now.names directory) self.now.next_cookie }
+    {
+        self.has_room(directory) && self.has_cookie()
+    }
+
+    /// Whether a directory may have a new object under one more name.
+    pub fn may_add(&self, directory: u64) -> bool
+        ensures { result ≡ may_add (name_count self.now.names directory) (length self.now.objects) self.now.next_number self.now.next_stamp self.now.next_cookie }
+    {
+        self.has_room(directory) && self.has_object_room() && self.has_counters()
+    }
+
+    /// The tick of the next operation that changes anything.
+    pub fn next_tick(&self) -> u64
+        ensures { result ≡ self.now.next_tick }
+    {
+        self.next_tick
+    }
+
+    /// The stamp of the next object, list or owner.
+    pub fn next_stamp(&self) -> u64
+        ensures { result ≡ self.now.next_stamp }
+    {
+        self.next_stamp
+    }
+}
+
+// Why a change is refused.
+impl<A: Allocator + Copy> Store<A> {
+    /// Why a directory may not get a new object under a name.
+    pub fn add_fault(&self, directory: u64, name: &[u8]) -> Option<TreeFault>
+        ensures { result ≡ add_refusal self.now directory name.now }
+    {
+        if self.find(directory, name).is_some() {
+            return Some(TreeFault::Exist);
+        }
+        if self.may_add(directory) {
+            return None;
+        }
+        Some(TreeFault::NoSpc)
+    }
+
+    /// Why an object may not get a further name.
+    pub fn link_fault(&self, directory: u64, name: &[u8], number: u64) -> Option<TreeFault>
+        ensures { result ≡ link_refusal self.now directory name.now number }
+    {
+        if self.find(directory, name).is_some() {
+            return Some(TreeFault::Exist);
+        }
+        if !self.may_link(number) {
+            return Some(TreeFault::MLink);
+        }
+        if self.may_name(directory) {
+            return None;
+        }
+        Some(TreeFault::NoSpc)
+    }
+
+    /// Whether a child is a directory that another directory is, or lies below.
+    pub fn is_below(&self, child: u64, directory: u64) -> bool
+        ensures { result ≡ is_below (kind_of self.now) (parent_of self.now) self.now.next_number child directory }
+    {
+        self.is_directory(child) && self.is_within(child, directory)
+    }
+
+    /// Whether a child may replace a target, which may be absent.
+    pub fn may_replace(&self, child: u64, target: Option<u64>) -> bool
+        ensures { result ≡ may_replace (kind_of self.now) (has_entries self.now.names) child target }
+    {
+        let Some(target) = target else {
+            return true;
+        };
+        if self.is_directory(child) {
+            self.is_directory(target) && !self.has_entries(target)
+        } else {
+            !self.is_directory(target)
+        }
+    }
+
+    /// Whether there is space for a child's new name, of a target that may be absent.
+    pub fn may_move(&self, from: u64, to: u64, target: Option<u64>) -> bool
+        ensures { result ≡ may_move (name_count self.now.names to) self.now.next_cookie from to target }
+    {
+        match target {
+            Some(_) => self.has_cookie(),
+            None => (from == to || self.has_room(to)) && self.has_cookie(),
+        }
+    }
+}
+
+// Changes.
+impl<A: Allocator + Copy> Store<A> {
+    /// A root and no other object.
+    pub fn new(alloc: A, root: Node<A>) -> Result<Self, AllocError>
+        ensures { IfOk result (λ store. store ≡ alone root) }
+    {
+        let mut objects = NodeTable::new(alloc);
+        objects.insert(ROOT, root)?;
+        Ok(Store::from_start(alloc, objects, NameTable::new(alloc), 2, 3))
+    }
+
+    /// The objects that are there from the start. The numbers, ticks and stamps go on from one number.
+    pub fn from_start(
+        alloc: A,
+        objects: NodeTable<A>,
+        names: NameTable<A>,
+        next: u64,
+        next_cookie: u64,
+    ) -> Self
+        ensures { result ≡ record { objects = objects; names = names; next_number = next; next_tick = next; next_stamp = next; next_cookie = next_cookie; notes = no_notes } }
+    {
+        Store {
+            alloc,
+            objects,
+            names,
+            next_number: next,
+            next_tick: next,
+            next_stamp: next,
+            next_cookie,
+            notes: Notes::none(alloc),
+        }
+    }
+
+    /// A new object under a new name.
+    pub fn add(
+        &mut self,
+        directory: u64,
+        name: &[u8],
+        new: NewObject<A>,
+        at: At,
+    ) -> Result<u64, AllocError>
+        requires ticks { at.tick < 2 ^ 63 }
+        requires numbers { self.old.next_number < 2 ^ 63 }
+        requires stamps { self.old.next_stamp < 2 ^ 63 }
+        requires cookies { self.old.next_cookie < 2 ^ 63 }
+        requires bytes { length new.bytes.items ≤ most_bytes new.kind }
+        requires absent { child_named self.old directory name.now ≡ None }
+        requires listed { Rises (λ n. n.cookie) 3 self.old.names self.old.next_cookie }
+        requires numbered { Rises (λ e. e.0) 1 self.old.objects self.old.next_number }
+        ensures number { IfOk result (λ number. number ≡ self.old.next_number) }
+        ensures ok { OnOk result (self.new ≡ quietly self.old (with_new self.old directory name.now (made new self.old.next_stamp at) at)) }
+        ensures err { OnErr result (self.new ≡ self.old) }
+    {
+        let node = Node::made(self.alloc, new, self.next_stamp, at)?;
+        let number = self.next_number;
+        self.names
+            .push(self.alloc, self.next_cookie, directory, name, number)?;
+        if let Err(_) = self.objects.insert(number, node) {
+            self.names.remove(directory, name);
+            return Err(AllocError);
+        }
+        touch(&mut self.objects, directory, at);
+        self.next_number += 1;
+        self.next_tick = at.tick + 1;
+        self.next_stamp += 1;
+        self.next_cookie += 1;
+        Ok(number)
+    }
+
+    /// One more name for an object.
+    pub fn link(
+        &mut self,
+        directory: u64,
+        name: &[u8],
+        number: u64,
+        at: At,
+    ) -> Result<(), AllocError>
+        requires ticks { at.tick < 2 ^ 63 }
+        requires cookies { self.old.next_cookie < 2 ^ 63 }
+        requires absent { child_named self.old directory name.now ≡ None }
+        requires listed { Rises (λ n. n.cookie) 3 self.old.names self.old.next_cookie }
+        ensures ok { OnOk result (self.new ≡ quietly self.old (with_link self.old directory name.now number at)) }
+        ensures err { OnErr result (self.new ≡ self.old) }
+    {
+        self.names
+            .push(self.alloc, self.next_cookie, directory, name, number)?;
+        retell(&mut self.objects, number, at);
+        touch(&mut self.objects, directory, at);
+        self.next_tick = at.tick + 1;
+        self.next_cookie += 1;
+        Ok(())
+    }
+
+    /// Takes a name away. Its child goes with its last name.
+    pub fn unlink(&mut self, directory: u64, name: &[u8], child: u64, at: At)
+        requires { at.tick < 2 ^ 63 }
+        ensures { self.new ≡ quietly self.old (without_name self.old directory name.now child at) }
+    {
+        self.names.remove(directory, name);
+        let stays = self.names.has_name(child);
+        release(&mut self.objects, child, stays, at);
+        touch(&mut self.objects, directory, at);
+        self.next_tick = at.tick + 1;
+    }
+
+    /// Gives a child another name in place of the old one. Another target of the new name loses it.
+    pub fn rename(
+        &mut self,
+        from: u64,
+        old: &[u8],
+        to: u64,
+        new: &[u8],
+        child: u64,
+        target: Option<u64>,
+        at: At,
+    ) -> Result<(), AllocError>
+        requires ticks { at.tick < 2 ^ 63 }
+        requires cookies { self.old.next_cookie < 2 ^ 63 }
+        requires listed { Rises (λ n. n.cookie) 3 self.old.names self.old.next_cookie }
+        requires other { target ≢ Some child }
+        ensures ok { OnOk result (self.new ≡ quietly self.old (with_move self.old from old.now to new.now child target at)) }
+        ensures err { OnErr result (self.new ≡ self.old) }
+    {
+        self.names
+            .replace(self.alloc, from, old, to, new, self.next_cookie, child)?;
+        let stays = self.has_link(target);
+        move_child(&mut self.objects, from, to, child, target, stays, at);
+        self.next_tick = at.tick + 1;
+        self.next_cookie += 1;
+        Ok(())
+    }
+
+    /// Whether an object that may be there has a name.
+    fn has_link(&self, number: Option<u64>) -> bool
+        ensures { result ≡ option_map_or (λ number. has_name self.now.names number) number false }
+    {
+        match number {
+            Some(number) => self.names.has_name(number),
+            None => false,
+        }
+    }
+
+    /// Copies the bytes of an object at an offset into a buffer, as far as both go, and answers how many.
+    pub fn read(&self, number: u64, offset: u64, buffer: &mut [u8]) -> usize
+        ensures count { result ≡ length (bytes_at self.now number offset (length buffer.old)) }
+        ensures copied { buffer.new ≡ bytes_at self.now number offset (length buffer.old) ++ drop result buffer.old }
+    {
+        match self.object(number) {
+            Some(node) => node.read(offset as usize, buffer),
+            None => 0,
+        }
+    }
+
+    /// Writes bytes into a file, and zeros between its end and them.
+    pub fn write(&mut self, file: u64, offset: usize, more: &[u8], at: At) -> Result<(), AllocError>
+        requires ticks { at.tick < 2 ^ 63 }
+        requires few { offset + length more.now < 2 ^ 32 }
+        requires file { kind_of self.old file ≡ Some Kind.File }
+        ensures ok { OnOk result (self.new ≡ quietly self.old (with_bytes self.old file offset more.now at)) }
+        ensures err { OnErr result (self.new ≡ self.old) }
+    {
+        edits::write(&mut self.objects, self.alloc, file, offset, more, at)?;
+        self.next_tick = at.tick + 1;
+        Ok(())
+    }
+
+    /// Sets the size of a file: it is cut, or zeros are added. It takes no memory.
+    pub fn resize(&mut self, file: u64, size: usize, at: At)
+        requires ticks { at.tick < 2 ^ 63 }
+        requires file { kind_of self.old file ≡ Some Kind.File }
+        ensures { self.new ≡ quietly self.old (with_size self.old file size at) }
+    {
+        edits::resize(&mut self.objects, file, size, at);
+        self.next_tick = at.tick + 1;
+    }
+
+    /// Sets a list with the high bits of the mode.
+    pub fn set_list(&mut self, number: u64, list: AclList<A>, high: u32, at: At)
+        requires stamps { self.old.next_stamp < 2 ^ 63 }
+        requires ticks { at.tick < 2 ^ 63 }
+        ensures { self.new ≡ quietly self.old (with_list self.old number list high at) }
+    {
+        edits::set_list(&mut self.objects, number, list, high, self.next_stamp, at);
+        self.next_tick = at.tick + 1;
+        self.next_stamp += 1;
+    }
+
+    /// Sets an owner and a group.
+    pub fn set_owner(&mut self, number: u64, owner: u32, group: u32, at: At)
+        requires stamps { self.old.next_stamp < 2 ^ 63 }
+        requires ticks { at.tick < 2 ^ 63 }
+        ensures { self.new ≡ quietly self.old (with_owner self.old number owner group at) }
+    {
+        edits::set_owner(&mut self.objects, number, owner, group, self.next_stamp, at);
+        self.next_tick = at.tick + 1;
+        self.next_stamp += 1;
+    }
+}
+
+// What a checkpoint says.
+impl<A: Allocator + Copy> Store<A> {
+    /// No objects and no names.
+    pub fn empty(
+        alloc: A,
+        next_number: u64,
+        next_tick: u64,
+        next_stamp: u64,
+        next_cookie: u64,
+    ) -> Self
+        ensures { result ≡ record { objects = []; names = []; next_number = next_number; next_tick = next_tick; next_stamp = next_stamp; next_cookie = next_cookie; notes = no_notes } }
+    {
+        Store {
+            alloc,
+            objects: NodeTable::new(alloc),
+            names: NameTable::new(alloc),
+            next_number,
+            next_tick,
+            next_stamp,
+            next_cookie,
+            notes: Notes::none(alloc),
+        }
+    }
+
+    /// The number of the next object.
+    pub fn next_number(&self) -> u64
+        ensures { result ≡ self.now.next_number }
+    {
+        self.next_number
+    }
+
+    /// The cookie of the next name.
+    pub fn next_cookie(&self) -> u64
+        ensures { result ≡ self.now.next_cookie }
+    {
+        self.next_cookie
+    }
+
+    /// One more object, of a number above all others.
+    pub fn put_object(
+        &mut self,
+        number: u64,
+        new: NewObject<A>,
+        kept: Kept,
+    ) -> Result<(), AllocError>
+        requires bytes { length new.bytes.items ≤ most_bytes new.kind }
+        requires last { Rises (λ e. e.0) 1 self.old.objects number }
+        ensures { OnOk result (self.new ≡ put_object self.old number (kept_object new kept)) }
+    {
+        let node = Node::kept(self.alloc, new, kept)?;
+        self.objects.insert(number, node)?;
+        Ok(())
+    }
+
+    /// One more name, which isn't there, with a cookie above all others.
+    pub fn put_name(
+        &mut self,
+        cookie: u64,
+        directory: u64,
+        name: &[u8],
+        child: u64,
+    ) -> Result<(), AllocError>
+        requires absent { child_named self.old directory name.now ≡ None }
+        requires last { Rises (λ n. n.cookie) 3 self.old.names cookie }
+        ensures { OnOk result (self.new ≡ put_name self.old (record { cookie = cookie; directory = directory; name = name.now; child = child })) }
+    {
+        self.names.push(self.alloc, cookie, directory, name, child)
+    }
+
+    /// Whether an object may have one more name: a directory only one.
+    pub fn child_fits(&self, child: u64) -> bool
+        ensures { result ≡ child_fits self.now child }
+    {
+        if self.is_directory(child) {
+            !self.names.has_name(child)
+        } else {
+            self.object(child).is_some() && self.may_link(child)
+        }
+    }
+
+    /// How many names lead up from an object to the root, where that is known of some of the objects. `None`: no way leads there, or
+    /// only one with more names than there are objects.
+    fn climb(&self, depths: &BTreeMap<u64, u64, A>, number: u64) -> Option<u64>
+        requires { AreDepths (parent_of self.now) depths.now.entries }
+        ensures some { IfSome result (IsDepth (parent_of self.now) (length self.now.objects) number) }
+        ensures none { IfNone result (leads_up (parent_of self.now) (length self.now.objects) number ≡ false) }
+    {
+        let most = self.objects.len() as u64;
+        let mut here = number;
+        for steps in 0..most {
+            if let Some(depth) = depth_of(depths, here) {
+                if depth >= most - steps {
+                    return None;
+                }
+                return Some(steps + depth);
+            }
+            let Some(parent) = self.parent(here) else {
+                return None;
+            };
+            here = parent;
+        }
+        None
+    }
+
+    /// Notes how many names lead up from an object, and from each on its way of which it isn't known.
+    fn note_way(
+        &self,
+        depths: &mut BTreeMap<u64, u64, A>,
+        number: u64,
+        depth: u64,
+    ) -> Result<(), AllocError>
+        requires known { AreDepths (parent_of self.now) depths.old.entries }
+        requires depth { IsDepth (parent_of self.now) (length self.now.objects) number depth }
+        ensures { OnOk result (AreDepths (parent_of self.now) depths.new.entries) }
+    {
+        let mut here = number;
+        let mut left = depth;
+        while depth_of(depths, here).is_none() {
+            put_depth(depths, here, left)?;
+            let Some(parent) = self.parent(here) else {
+                return Ok(());
+            };
+            here = parent;
+            left -= 1;
+        }
+        Ok(())
+    }
+
+    /// Whether an object has a place in the tree.
+    fn is_placed(
+        &self,
+        depths: &mut BTreeMap<u64, u64, A>,
+        number: u64,
+    ) -> Result<bool, AllocError>
+        requires { AreDepths (parent_of self.now) depths.old.entries }
+        ensures value { IfOk result (λ placed. placed ≡ is_placed self.now number) }
+        ensures known { OnOk result (AreDepths (parent_of self.now) depths.new.entries) }
+    {
+        if !self.is_directory(number) {
+            return Ok(self.names.has_name(number));
+        }
+        let Some(depth) = self.climb(depths, number) else {
+            return Ok(false);
+        };
+        self.note_way(depths, number, depth)?;
+        Ok(true)
+    }
+
+    /// Whether each of these objects has a place in the tree. The ways up are walked once, so it takes a step for each directory and
+    /// memory for each.
+    pub fn all_placed(&self, numbers: &[u64]) -> Result<bool, AllocError>
+        ensures { IfOk result (λ placed. placed ≡ list_all (is_placed self.now) numbers.now) }
+    {
+        let mut depths = root_depth(self.alloc)?;
+        for number in numbers {
+            if !self.is_placed(&mut depths, *number)? {
+                return Ok(false);
+            }
+        }
+        Ok(true)
+    }
+}
+
+/// How many names lead up from an object, where it is known.
+fn depth_of<A: Allocator>(depths: &BTreeMap<u64, u64, A>, number: u64) -> Option<u64>
+    ensures { result ≡ lookup (is_at (nat_cmp number)) depths.now.entries }
+{
+    depths.get(&number).copied()
+}
+
+fn put_depth<A: Allocator + Copy>(
+    depths: &mut BTreeMap<u64, u64, A>,
+    number: u64,
+    depth: u64,
+) -> Result<(), AllocError>
+    ensures { OnOk result (depths.new.entries ≡ insert_entry nat_cmp depths.old.entries number depth) }
+{
+    depths.insert(number, depth)?;
+    Ok(())
+}
+
+/// No name leads up from the root.
+fn root_depth<A: Allocator + Copy>(alloc: A) -> Result<BTreeMap<u64, u64, A>, AllocError>
+    ensures { IfOk result (λ depths. depths.entries ≡ (ROOT, 0) ∷ []) }
+{
+    let mut depths = BTreeMap::new(alloc);
+    put_depth(&mut depths, ROOT, 0)?;
+    Ok(depths)
+}
+
+// What is noted.
+impl<A: Allocator + Copy> Store<A> {
+    /// Begins notes, with room for this many bytes. `Err`: there is no memory for it, and nothing has changed.
+    pub fn begin_notes(&mut self, room: usize) -> Result<(), AllocError>
+        ensures ok { OnOk result (self.new ≡ record self.old { notes = begun_notes room }) }
+        ensures err { OnErr result (self.new ≡ self.old) }
+    {
+        self.notes = Notes::new(self.alloc, room)?;
+        Ok(())
+    }
+
+    /// The changes that were noted, one after the other. `None`: one was lost, or none are kept.
+    pub fn notes(&self) -> Option<&[u8]>
+        ensures { MatchOption result (self.now.notes.is_lost ≡ true) (λ bytes. (self.now.notes.is_lost ≡ false) × (bytes.now ≡ self.now.notes.bytes)) }
+    {
+        self.notes.bytes()
+    }
+
+    /// Forgets what was noted.
+    pub fn clear_notes(&mut self)
+        ensures { self.new ≡ record self.old { notes = cleared self.old.notes } }
+    {
+        self.notes.clear();
+    }
+
+    /// Notes that an object was made, and answers where the notes were before.
+    pub fn note_add(&mut self, directory: u64, name: &[u8], new: &NewObject<A>, at: At) -> Mark
+        requires name { length name.now ≤ 255 }
+        requires bytes { length new.now.bytes.items ≤ 1048576 }
+        requires list { length new.now.list ≤ 64 }
+        ensures noted { self.new ≡ record self.old { notes = note self.old.notes (in_range (Add directory name.now new.now.kind new.now.bytes.items new.now.owner new.now.group new.now.list new.now.high at)) (spelled (Add directory name.now new.now.kind new.now.bytes.items new.now.owner new.now.group new.now.list new.now.high at)) } }
+        ensures mark { (result.len ≡ length self.old.notes.bytes) × (result.was_lost ≡ self.old.notes.is_lost) }
+    {
+        let mark = self.notes.mark();
+        self.notes.add(directory, name, new, at);
+        mark
+    }
+
+    /// Takes back what was noted after a mark.
+    pub fn cut_notes(&mut self, mark: Mark)
+        requires { mark.len ≤ length self.old.notes.bytes }
+        ensures { CutsTo self.old self.new mark.len mark.was_lost }
+    {
+        self.notes.cut(mark);
+    }
+
+    /// Notes that an object got a further name.
+    pub fn note_link(&mut self, directory: u64, name: &[u8], number: u64, at: At)
+        requires { length name.now ≤ 255 }
+        ensures { self.new ≡ record self.old { notes = note self.old.notes (in_range (Link directory name.now number at)) (spelled (Link directory name.now number at)) } }
+    {
+        self.notes.link(directory, name, number, at);
+    }
+
+    /// Notes that a name was taken away.
+    pub fn note_unlink(&mut self, directory: u64, name: &[u8], at: At)
+        requires { length name.now ≤ 255 }
+        ensures { self.new ≡ record self.old { notes = note self.old.notes (in_range (Unlink directory name.now at)) (spelled (Unlink directory name.now at)) } }
+    {
+        self.notes.unlink(directory, name, at);
+    }
+
+    /// Notes that a child got another name.
+    pub fn note_rename(&mut self, from: u64, old: &[u8], to: u64, new: &[u8], at: At)
+        requires old { length old.now ≤ 255 }
+        requires new { length new.now ≤ 255 }
+        ensures { self.new ≡ record self.old { notes = note self.old.notes (in_range (Rename from old.now to new.now at)) (spelled (Rename from old.now to new.now at)) } }
+    {
+        self.notes.rename(from, old, to, new, at);
+    }
+
+    /// Notes that data were written.
+    pub fn note_write(&mut self, file: u64, offset: u64, more: &[u8], at: At)
+        requires { length more.now ≤ 1048576 }
+        ensures { self.new ≡ record self.old { notes = note self.old.notes (in_range (Write file offset more.now at)) (spelled (Write file offset more.now at)) } }
+    {
+        self.notes.write(file, offset, more, at);
+    }
+
+    /// Notes that a size was set.
+    pub fn note_resize(&mut self, file: u64, size: u64, at: At)
+        ensures { self.new ≡ record self.old { notes = note self.old.notes (in_range (Resize file size at)) (spelled (Resize file size at)) } }
+    {
+        self.notes.resize(file, size, at);
+    }
+
+    /// Notes that a list was set.
+    pub fn note_set_list(&mut self, number: u64, list: &[Entry], high: u32, at: At)
+        requires { length list.now ≤ 64 }
+        ensures { self.new ≡ record self.old { notes = note self.old.notes (in_range (SetList number list.now high at)) (spelled (SetList number list.now high at)) } }
+    {
+        self.notes.set_list(number, list, high, at);
+    }
+
+    /// Notes that an owner and a group were set.
+    pub fn note_set_owner(&mut self, number: u64, owner: u32, group: u32, at: At)
+        ensures { self.new ≡ record self.old { notes = note self.old.notes (in_range (SetOwner number owner group at)) (spelled (SetOwner number owner group at)) } }
+    {
+        self.notes.set_owner(number, owner, group, at);
+    }
+}
