@@ -1,4 +1,6 @@
 pub mod Histories
+pub mod Lagging
+pub mod Lasting
 pub mod Places
 pub mod Repeating
 pub mod Found
@@ -7,5 +9,6 @@ pub mod Beginning
 pub mod Creations
 pub mod Keeping
 pub mod Orderly
+pub mod Restored
 pub mod Staying
 pub mod Whole

@@ -1,6 +1,6 @@
 -- Records and sessions stay orderly.
-use Rattle.std.proofs.Common.{◌≡◌, ◌≢◌, ◌⊎◌, inl, inr, ℕ, ◌+◌, ◌-◌, ◌<◌, ◌==◌, ◌&&◌, ◌||◌, Bool, true, false, not, if◌then◌else◌, nat_eq, List, [], ◌∷◌, filter, find, Option, Some, None, Result, Ok, Err, refl, sym, ap, ◌∙◌, subst, arith, ◌≤◌, length, nat_le, lit≤, suc, nat_lt, min, max}
-use Rattle.std.specs.Option.{option_map, IsSome, MatchOption}
+use Rattle.std.proofs.Common.{◌≡◌, ◌≢◌, ◌⊎◌, inl, inr, ℕ, ◌+◌, ◌-◌, ◌<◌, ◌==◌, ◌&&◌, ◌||◌, Bool, true, false, not, if◌then◌else◌, nat_eq, List, filter, find, Option, Some, None, Result, Ok, Err, refl, sym, ap, ◌∙◌, subst, arith, ◌≤◌, length, nat_le, lit≤, suc, nat_lt, min, max}
+use Rattle.std.specs.Option.{option_map, MatchOption}
 use Rattle.std.specs.Result.{OnOk, OnErr, IsOk}
 use Rattle.std.specs.Cmp.Lexicographic.{pointwise, same_text}
 use Rattle.std.specs.Map.{lookup, values_of}
@@ -15,20 +15,19 @@ use Rattle.session_slots.specs.declared.session.Channel.{Channel}
 use Rattle.session_slots.specs.declared.client.Created.{Created}
 use Rattle.session_slots.specs.declared.creating.Create.{Create}
 use Rattle.session_slots.specs.declared.creating.Made.{Made}
-use Rattle.session_slots.specs.declared.creating.Judged.{Judged}
 use Rattle.session_slots.specs.declared.creating.Judged.TheVariants as judgements
 use Rattle.session_slots.specs.declared.exchanging.Exchanged.{Exchanged}
 use Rattle.session_slots.specs.declared.exchanging.Standing.{Standing}
 use Rattle.session_slots.specs.declared.exchanging.Standing.TheVariants as standings
 use Rattle.session_slots.specs.Slots.{finished}
-use Rattle.session_slots.specs.Registry.{Client, Session, Registry, nobody, client_at, kept_size, most_kept, session_at, is_confirmed_of, confirmed_entry, changed_client, without_record, without_sessions, new_session, with_session, with_place}
+use Rattle.session_slots.specs.Registry.{Client, Session, Registry, nobody, client_at, most_kept, session_at, is_confirmed_of, confirmed_entry, changed_client, without_record, without_sessions, new_session, with_session, with_place}
 use Rattle.session_slots.specs.Orderly.{IsIn, IsWithin, IsOrderly}
 use Rattle.session_slots.specs.Sequencing.{Asked, grant_fault, begun_unless, session_begun, sequence_begun}
-use Rattle.session_slots.specs.Creating.{number_of, granted, refusing, created_of, accepts, with_refusal, is_other, other_record, with_creation, judged_due, judged_unless, judged_for, judged, MakesSession, CreatesBy, Creates, repeated, creation_fault}
-use Rattle.session_slots.specs.Exchanging.{Exchanging, is_unconfirmed_of, without_unconfirmed, goes, stays, new_client, with_client, flags_fault, is_full, known, standing_new, standing_behind, standing_unless, standing, MakesClient, ExchangesBy, Exchanges}
+use Rattle.session_slots.specs.Creating.{number_of, granted, refusing, created_of, accepts, with_refusal, is_other, other_record, with_creation, judged_due, judged_unless, judged_for, CreatesBy, Creates, repeated, creation_fault}
+use Rattle.session_slots.specs.Exchanging.{Exchanging, is_unconfirmed_of, without_unconfirmed, goes, stays, new_client, with_client, flags_fault, is_full, known, standing_new, standing_behind, standing_unless, standing, ExchangesBy, Exchanges}
 use Rattle.session_slots.specs.Destroying.{without_session, has_sessions, busy_unless_none, destroy_client_refusal, without_client, has_reclaimed, with_reclaimed}
 use Rattle.session_slots.proofs.Found.{lookup_changed, found_passes}
-use Rattle.session_slots.proofs.Members.{is_same, lookup_in, in_filter, found_kept, in_changed, found_beside, in_insert, found_insert, in_remove, lookup_removed, found_entry, none_passes, none_of, length_filter, length_remove, length_changed, length_insert, length_added}
+use Rattle.session_slots.proofs.Members.{lookup_in, in_filter, found_kept, in_changed, found_beside, in_insert, found_insert, in_remove, lookup_removed, found_entry, none_passes, none_of, length_filter, length_remove, length_changed, length_insert, length_added}
 use Rattle.session_slots.proofs.Creations.{still_there}
 
 pub nobody_is_orderly : (r : Registry) → r ≡ nobody → IsOrderly r

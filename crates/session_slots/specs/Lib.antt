@@ -7,6 +7,9 @@ pub mod Sequencing
 pub mod Creating
 pub mod Exchanging
 pub mod Destroying
+pub mod Restoring
+pub mod Lasting
+pub mod Letting
 pub mod Views
 pub mod Repeating
 pub mod Calls

@@ -1,8 +1,14 @@
--- The arguments of calls, as the definitions see them.
+-- The arguments of calls, and what is kept over a restart, as the definitions see them.
 use Rattle.session_slots.specs.declared.session.Sequence.{Sequence}
 use Rattle.session_slots.specs.declared.exchanging.Exchange.{Exchange}
 use Rattle.session_slots.specs.Exchanging.{Exchanging}
-use Rattle.session_slots.specs.Slots.{Call}
+use Rattle.session_slots.specs.declared.client.Record.{Record}
+use Rattle.std.specs.Prelude.{ℕ, List, [], ◌∷◌}
+use Rattle.session_slots.specs.declared.restoring.SlotCall.{SlotCall}
+use Rattle.session_slots.specs.Restoring.{with_kept}
+use Rattle.session_slots.specs.Registry.{Client, Registry}
+use Rattle.session_slots.specs.Slots.{Call, Kept}
+use Rattle.session_slots.specs.declared.slot.KeptCall.{KeptCall}
 use Rattle.session_slots.specs.Sequencing.{Asked}
 
 abbrev pub call_of : Sequence → Call
@@ -13,3 +19,14 @@ asked_of s = record { slot = s.slot; highest = s.highest; count = s.count; recor
 
 abbrev pub exchanging_of : Exchange → Exchanging
 exchanging_of e = record { owner = e.owner.now; verifier = e.verifier; uid = e.uid; flags = e.flags; has_opens = e.has_opens }
+
+abbrev pub kept_of : KeptCall → Kept
+kept_of k = record { call = record { number = k.number; caller = k.caller.now; arguments = k.arguments.now }; results = k.results.now }
+
+abbrev pub client_of : Record → Client
+client_of r = record { number = r.number; owner = r.owner.now; verifier = r.verifier; uid = r.uid; confirmed = r.confirmed; created = r.created; reclaimed = r.reclaimed }
+
+-- slots with their last calls, restored in turn
+abbrev pub with_calls : Registry → ℕ → List SlotCall → Registry
+with_calls r session [] = r
+with_calls r session (call ∷ calls) = with_calls (with_kept r session call.slot (kept_of call.kept)) session calls

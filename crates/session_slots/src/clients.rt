@@ -1,19 +1,24 @@
 //! Clients and their sessions, as a server calls them.
-ghost use Rattle.std.specs.Prelude.{◌≡◌, ◌≤◌, ◌<◌, length, Err, IfSome, IsOk, OnOk, OnErr, MatchOption};
+ghost use Rattle.std.specs.Prelude.{◌≡◌, ◌≤◌, ◌<◌, true, false, if◌then◌else◌, length, Err, IfSome, IsSome, IsOk, OnOk, OnErr, MatchOption};
 ghost use Rattle.std.specs.Option.{option_map};
 ghost use Rattle.session_slots.specs.Limits as limits;
 ghost use Rattle.session_slots.specs.Slots.{finished};
-ghost use Rattle.session_slots.specs.Registry.{nobody, session_at, results_at, kept_size, confirmed_entry, with_session, with_place};
+ghost use Rattle.session_slots.specs.Registry.{nobody, client_at, session_at, results_at, kept_size, confirmed_entry, with_session, with_place};
 ghost use Rattle.session_slots.specs.Sequencing.{sequence_begin, sequence_begun, SequencesByHistory, StandsIn, UnlessNew, KeepsAt};
 ghost use Rattle.session_slots.specs.Creating.{Creates, CreatesAt};
 ghost use Rattle.session_slots.specs.Exchanging.{Exchanges};
 ghost use Rattle.session_slots.specs.Destroying.{destroy_session_refusal, without_session, destroy_client_refusal, without_client, reclaim_refusal, with_reclaimed};
-ghost use Rattle.session_slots.specs.Views.{asked_of, exchanging_of};
+ghost use Rattle.session_slots.specs.Restoring.{nothing_yet, record_fits, with_record, session_fits, with_restored, slot_fits, with_kept, held_of, kept_at};
+ghost use Rattle.session_slots.specs.Letting.{let_go};
+ghost use Rattle.session_slots.specs.Views.{asked_of, exchanging_of, client_of, kept_of, with_calls};
 
+use crate::client::Record;
 use crate::creating::{Create, Made};
 use crate::exchanging::{Exchange, Exchanged};
 use crate::registry::Registry;
-use crate::session::{Begin, Sequence};
+use crate::restoring::{SlotCall, Unfit};
+use crate::session::{Begin, Held, Sequence};
+use crate::slot::KeptCall;
 use nfs_types::Status;
 use std::alloc::{Allocator, Global};
 use std::marker::Model;
@@ -133,5 +138,145 @@ impl<A: Allocator + Copy> Clients<A> {
         ensures by_history { KeepsAt self.old self.new session slot results.now }
     {
         self.registry.keep(session, slot, results);
+    }
+
+    // ---- over a restart
+
+    /// No client and no session: the next ones get these numbers, which are kept over a restart.
+    #[tactic(auto, using(crate::proofs::Restored::nothing_is_orderly))]
+    pub fn restoring(alloc: A, next_client: u64, next_session: u64) -> Self
+        requires { (next_client ≤ limits.END) × (next_session ≤ limits.END) }
+        ensures { result ≡ nothing_yet next_client next_session }
+    {
+        Clients {
+            registry: Registry::restoring(alloc, next_client, next_session),
+        }
+    }
+
+    /// Restores the record of a client. Misfit: its number wasn't given yet, or is there; its owner has another confirmed record; or
+    /// there are too many.
+    pub fn restore_record(&mut self, kept: Record<'_>) -> Result<(), Unfit>
+        ensures fits { OnOk result (record_fits self.old (client_of kept.entry) ≡ true) }
+        ensures misfit { result ≡ Err Unfit.Misfit → record_fits self.old (client_of kept.entry) ≡ false }
+        ensures ok { OnOk result (self.new ≡ with_record self.old (client_of kept.entry)) }
+        ensures err { OnErr result (self.new ≡ self.old) }
+    {
+        if !self.registry.record_fits(kept) {
+            return Err(Unfit::Misfit);
+        }
+        if let Err(_) = self.registry.restore_record(kept) {
+            return Err(Unfit::Memory);
+        }
+        Ok(())
+    }
+
+    /// Restores a session, whose slots lag and keep no call yet. Misfit: its number wasn't given yet, or is there; its client has no
+    /// confirmed record; more is granted than may be; or there are too many.
+    #[tactic(auto, using(crate::proofs::Restored::session_has_slots))]
+    pub fn restore_session(&mut self, number: u64, held: Held) -> Result<(), Unfit>
+        ensures fits { OnOk result (session_fits self.old number held ≡ true) }
+        ensures misfit { result ≡ Err Unfit.Misfit → session_fits self.old number held ≡ false }
+        ensures ok { OnOk result (self.new ≡ with_restored self.old number held) }
+        ensures err { OnErr result (self.new ≡ self.old) }
+    {
+        if !self.registry.session_fits(number, held) {
+            return Err(Unfit::Misfit);
+        }
+        if let Err(_) = self.registry.restore_session(number, held) {
+            return Err(Unfit::Memory);
+        }
+        Ok(())
+    }
+
+    /// Restores the last call of a slot, which lags. `false`: the slot isn't there, or hasn't the room. It takes no memory.
+    #[tactic(auto, using(crate::proofs::Restored::fits_slot, crate::proofs::Restored::fits_arguments, crate::proofs::Restored::fits_results))]
+    pub fn restore_slot(&mut self, session: u64, slot: u32, kept: KeptCall<'_>) -> bool
+        ensures fits { result ≡ slot_fits (session_at self.old session) slot (kept_of kept.entry) }
+        ensures kept { self.new ≡ (if result then with_kept self.old session slot (kept_of kept.entry) else self.old) }
+    {
+        if !self.registry.slot_fits(session, slot, kept) {
+            return false;
+        }
+        self.registry.restore_slot(session, slot, kept);
+        true
+    }
+
+    /// Restores the last calls of slots of a session. `false`: a slot isn't there, or hasn't the room.
+    pub fn restore_calls(&mut self, session: u64, calls: &[SlotCall<'_>]) -> bool
+        ensures { result ≡ true → self.new ≡ with_calls self.old session calls.now }
+    {
+        for call in calls {
+            if !self.restore_slot(session, call.slot, call.kept) {
+                return false;
+            }
+        }
+        true
+    }
+
+    /// Restores a session with its slots: those that kept a call have it, and all lag. `Err`: a part didn't fit, or memory was refused.
+    pub fn restore_whole(
+        &mut self,
+        number: u64,
+        held: Held,
+        calls: &[SlotCall<'_>],
+    ) -> Result<(), Unfit>
+        ensures { OnOk result (self.new ≡ with_calls (with_restored self.old number held) number calls.now) }
+    {
+        self.restore_session(number, held)?;
+        if !self.restore_calls(number, calls) {
+            return Err(Unfit::Misfit);
+        }
+        Ok(())
+    }
+
+    /// The record of a client, as it is kept over a restart.
+    pub fn record(&self, client: u64) -> Option<Record<'_>>
+        ensures { option_map client_of result ≡ client_at self.now client }
+    {
+        self.registry.record(client)
+    }
+
+    /// A session, as it is kept over a restart, without its slots.
+    pub fn held(&self, session: u64) -> Option<Held>
+        ensures { result ≡ option_map held_of (session_at self.now session) }
+    {
+        self.registry.held(session)
+    }
+
+    /// The call that a slot keeps, with its results.
+    pub fn kept(&self, session: u64, slot: u32) -> Option<KeptCall<'_>>
+        ensures { option_map kept_of result ≡ kept_at self.now session slot }
+    {
+        self.registry.kept(session, slot)
+    }
+
+    /// The numbers that the next client and the next session get.
+    pub fn next_numbers(&self) -> (u64, u64)
+        ensures { result ≡ (self.now.next_client, self.now.next_session) }
+    {
+        (self.registry.next_client, self.registry.next_session)
+    }
+
+    // ---- clients that are let go
+
+    /// A client was heard in this second, which is no part of the model.
+    pub fn hear(&mut self, client: u64, now: u64)
+        ensures { self.new ≡ self.old }
+    {
+        self.registry.hear(client, now);
+    }
+
+    /// The client that was silent longest, if it was for longer than the lease.
+    pub fn silent(&self, now: u64, lease: u64) -> Option<u64>
+        ensures { IfSome result (λ client. IsSome (client_at self.now client)) }
+    {
+        self.registry.silent(now, lease)
+    }
+
+    /// Lets a client go: its record goes with its sessions, and nothing else. It takes no memory.
+    pub fn expire(&mut self, client: u64)
+        ensures { self.new ≡ let_go client self.old }
+    {
+        self.registry.let_go(client);
     }
 }

@@ -11,22 +11,26 @@ mod creating;
 mod destroying;
 mod exchanging;
 mod laws;
+mod letting;
 mod limits;
 mod registry;
+mod restoring;
 mod session;
 mod slot;
 
-pub use client::Created;
+pub use client::{Created, Creation, Record};
 pub use clients::Clients;
 pub use creating::{Create, Made};
 pub use exchanging::{Exchange, Exchanged};
 pub use laws::{
-    World, every_slot_has_a_history, nothing_was_accepted, repeats_change_nothing,
-    slots_go_by_history,
+    World, calls_change_slots_alone, every_slot_has_a_history, few_calls_stand_between_multiples,
+    nothing_was_accepted, repeats_change_nothing, slots_go_by_history,
+    what_changes_the_world_acts_once,
 };
 pub use limits::{
-    CONFIRMED, END, LEAST_REPLY, MOST_BYTES, MOST_CLIENTS, MOST_OPERATIONS, MOST_RESULTS,
-    MOST_SESSIONS, MOST_SLOTS, REPLY_HEADER, UPDATE_CONFIRMED, USE_NON_PNFS,
+    CONFIRMED, END, LEAST_REPLY, MOST_AHEAD, MOST_BYTES, MOST_CLIENTS, MOST_OPERATIONS,
+    MOST_RESULTS, MOST_SESSIONS, MOST_SLOTS, REPLY_HEADER, UPDATE_CONFIRMED, USE_NON_PNFS,
 };
-pub use session::{Begin, Channel, NewCall, Sequence};
-pub use slot::due;
+pub use restoring::{SlotCall, Unfit};
+pub use session::{Begin, Channel, Held, NewCall, Sequence};
+pub use slot::{KeptCall, due};

@@ -24,6 +24,9 @@ pub const MOST_RESULTS: usize = 65_512;
 /// The most operations of a COMPOUND.
 pub const MOST_OPERATIONS: u32 = 16;
 
+/// How far a new call may be ahead of the last one of a slot that lags.
+pub const MOST_AHEAD: u32 = 1 << 20;
+
 /// No client and no session has this number.
 pub const END: u64 = 1 << 63;
 
