@@ -1,4 +1,4 @@
--- A slot that lags behind the history of its calls.
+-- A slot that lags after the history of its calls.
 use Rattle.std.proofs.Common.{◌≡◌, ℕ, ◌+◌, ◌-◌, ◌%◌, ◌^◌, ◌<◌, ◌≤◌, ◌==◌, ◌&&◌, Bool, true, false, nat_le, if◌then◌else◌, List, [], ◌∷◌, ◌++◌, length, Option, Some, None, zero, suc, refl, sym, ◌∙◌, ap, subst, arith, lit≤}
 use Rattle.nfs_types.specs.declared.status.Status.TheVariants as statuses
 use Rattle.session_slots.specs.declared.slot.Turn.{Turn}
@@ -25,10 +25,10 @@ split n l h = omega (arith, h)
 few_more : (n l : ℕ) → n ≤ l → l < n + MOST_AHEAD → l - n < MOST_AHEAD
 few_more n l h few = omega (arith, h, few)
 
-next_between : (n l : ℕ) → n ≤ l → l < n + MOST_AHEAD → is_next true (n % 2 ^ 32) (due l) ≡ true
+pub next_between : (n l : ℕ) → n ≤ l → l < n + MOST_AHEAD → is_next true (n % 2 ^ 32) (due l) ≡ true
 next_between n l h few = subst (λ m. is_next true (n % 2 ^ 32) (due m) ≡ true) (sym (split n l h)) (next_at n (l - n) (few_more n l h few))
 
--- ---- calls behind others
+-- ---- calls after others
 
 grows_if : (b : Bool) (x : Kept) (acc : List Kept) (n : ℕ) → n ≤ length acc → n ≤ length (if b then x ∷ acc else acc)
 grows_if true x acc n h = omega (arith, h)
@@ -136,7 +136,7 @@ again old call history results stands h =
 
 -- ---- some history
 
--- n calls behind a history, each accepted
+-- n calls after a history, each accepted
 more : Kept → ℕ → List Kept → List Kept
 more k zero history = []
 more k (suc n) history = record k { call = record k.call { number = due (n + length (accepted_calls history)) } } ∷ more k n history
@@ -161,7 +161,7 @@ runs_due : (acc : List Kept) (call : Call) → call.number ≡ due (length acc) 
 runs_due [] call h = grind arith
 runs_due (last ∷ before) call h = grind arith
 
--- a call that is ahead is the next one behind some calls more
+-- a call that is ahead is the next one after some calls more
 number_behind : (last n number : ℕ) → last ≡ n % 2 ^ 32 → number < 2 ^ 32 → 1 ≤ ahead last number → number ≡ due ((ahead last number - 1) + n)
 number_behind last n number e below h = omega (arith, e, below, h)
 

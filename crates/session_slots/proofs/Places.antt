@@ -58,12 +58,19 @@ has_room_for_arguments granted slots slot n h few = room_at (λ p. p.most_argume
 pub has_room_for_results : (granted : Channel) (slots : List Place) (slot n : ℕ) → HasSlots granted slots → n ≤ kept_size granted → IfSome (slice_get slots slot) (λ p. n ≤ p.most_results)
 has_room_for_results granted slots slot n h few = room_at (λ p. p.most_results) slots slot n (kept_size granted) (slice_get slots slot) refl h.results few
 
+argument_size_at : (slots : List Place) (slot most : ℕ) (o : Option Place) → slice_get slots slot ≡ o → All (λ p. p.most_arguments ≡ most) slots → IfSome o (λ p. p.most_arguments ≡ most)
+argument_size_at slots slot most None e h = tt
+argument_size_at slots slot most (Some p) e h = All-slice_get (λ p. p.most_arguments ≡ most) slots slot p e h
+
 size_at : (slots : List Place) (slot most : ℕ) (o : Option Place) → slice_get slots slot ≡ o → All (λ p. p.most_results ≡ most) slots → IfSome o (λ p. p.most_results ≡ most)
 size_at slots slot most None e h = tt
 size_at slots slot most (Some p) e h = All-slice_get (λ p. p.most_results ≡ most) slots slot p e h
 
 pub has_size : (granted : Channel) (slots : List Place) (slot : ℕ) → HasSlots granted slots → IfSome (slice_get slots slot) (λ p. p.most_results ≡ kept_size granted)
 has_size granted slots slot h = size_at slots slot (kept_size granted) (slice_get slots slot) refl h.results
+
+pub has_argument_size : (granted : Channel) (slots : List Place) (slot : ℕ) → HasSlots granted slots → IfSome (slice_get slots slot) (λ p. p.most_arguments ≡ granted.request_size)
+has_argument_size granted slots slot h = argument_size_at slots slot granted.request_size (slice_get slots slot) refl h.arguments
 
 pub unused_has_slots : (granted : Channel) (lags : Bool) (count most_arguments most_results : ℕ) → count ≡ granted.slots → 1 ≤ granted.slots → most_arguments ≡ granted.request_size → most_results ≡ kept_size granted →
     HasSlots granted (unused_places lags count most_arguments most_results)

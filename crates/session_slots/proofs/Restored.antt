@@ -12,12 +12,12 @@ use Rattle.session_slots.specs.declared.session.Held.{Held}
 use Rattle.session_slots.specs.Limits.{MOST_CLIENTS, MOST_SESSIONS, MOST_SLOTS, MOST_BYTES, LEAST_REPLY, MOST_OPERATIONS, END}
 use Rattle.session_slots.specs.Slots.{Kept, restored, finished}
 use Rattle.session_slots.specs.Registry.{Client, Session, Registry, client_at, session_at, is_confirmed_of, confirmed_entry, changed_client, kept_size, restored_session, with_session, with_place}
-use Rattle.session_slots.specs.Orderly.{IsIn, IsWithin, IsOrderly}
+use Rattle.session_slots.specs.Orderly.{has_form, IsIn, IsWithin, IsOrderly}
 use Rattle.session_slots.specs.Restoring.{nothing_yet, record_fits, with_record, is_within, is_home, session_fits, with_restored, slot_fits, with_kept, held_of, headed, HeadsStay}
 use Rattle.nfs_types.specs.declared.status.Status.{Status}
 use Rattle.session_slots.specs.Sequencing.{Asked, grant_fault, begun_unless, session_begun, sequence_begun}
 use Rattle.session_slots.specs.Letting.{let_go}
-use Rattle.session_slots.proofs.Members.{in_filter, found_kept, in_insert, found_insert, none_passes, length_filter, length_insert}
+use Rattle.session_slots.proofs.Members.{lookup_in, in_filter, found_kept, in_insert, found_insert, none_passes, length_filter, length_insert}
 use Rattle.session_slots.proofs.Orderly.{with_session_orderly}
 
 -- ---- tests
@@ -51,6 +51,7 @@ nothing_is_orderly r next_client next_session is clients sessions = subst IsOrde
   given = λ e h. absurd h;
   at_home = λ e h. absurd h;
   within = λ e h. absurd h;
+  formed = λ e h. absurd h;
   few_clients = lit≤ tt;
   few_sessions = lit≤ tt;
   clients_end = clients;
@@ -77,9 +78,10 @@ found_is_another es k n x found absent same =
 
 pub record_orderly : (r : Registry) (c : Client) → record_fits r c ≡ true → IsOrderly r → IsOrderly (with_record r c)
 record_orderly r c fits o =
-    let one = both (nat_lt c.number r.next_client) (nat_lt (length r.clients) MOST_CLIENTS && (is_none (client_at r c.number) && not (c.confirmed && is_some (confirmed_entry r c.owner)))) fits in
-    let two = both (nat_lt (length r.clients) MOST_CLIENTS) (is_none (client_at r c.number) && not (c.confirmed && is_some (confirmed_entry r c.owner))) one.1 in
-    let three = both (is_none (client_at r c.number)) (not (c.confirmed && is_some (confirmed_entry r c.owner))) two.1 in
+    let one = both (nat_lt c.number r.next_client) _ fits in
+    let two = both (nat_lt (length r.clients) MOST_CLIENTS) _ one.1 in
+    let three = both (is_none (client_at r c.number)) _ two.1 in
+    let four = both (not (c.confirmed && is_some (confirmed_entry r c.owner))) (has_form c) three.1 in
     let absent : client_at r c.number ≡ None = is_absent (client_at r c.number) three.0 in record {
       numbered = λ e h. elim (in_insert r.clients c.number c e h) [
         | inl m ↦ o.numbered e m
@@ -91,14 +93,15 @@ record_orderly r c fits o =
       one_confirmed = λ owner e f h k a b. elim (in_insert r.clients c.number c e h) [
         | inl m ↦ elim (in_insert r.clients c.number c f k) [
           | inl n ↦ o.one_confirmed owner e f m n a b
-          | inr p ↦ absurd (two_confirmed r c owner e three.1 m (sym (ap (λ (f : ℕ × Client). is_confirmed_of owner f.1) p) ∙ b) a)
+          | inr p ↦ absurd (two_confirmed r c owner e four.0 m (sym (ap (λ (f : ℕ × Client). is_confirmed_of owner f.1) p) ∙ b) a)
         ]
         | inr q ↦ elim (in_insert r.clients c.number c f k) [
-          | inl n ↦ absurd (two_confirmed r c owner f three.1 n (sym (ap (λ (e : ℕ × Client). is_confirmed_of owner e.1) q) ∙ a) b)
+          | inl n ↦ absurd (two_confirmed r c owner f four.0 n (sym (ap (λ (e : ℕ × Client). is_confirmed_of owner e.1) q) ∙ a) b)
           | inr p ↦ ap (λ (e : ℕ × Client). e.0) q ∙ sym (ap (λ (e : ℕ × Client). e.0) p)
         ]
       ];
       given = o.given;
+      formed = λ e h. elim (in_insert r.clients c.number c e h) [ inl m ↦ o.formed e m | inr q ↦ ap (λ (e : ℕ × Client). has_form e.1) q ∙ four.1 ];
       at_home = λ e h. let home = o.at_home e h in (
         home.0,
         found_insert e.1.client c.number r.clients c (found_is_another r.clients e.1.client c.number home.0 home.1 absent) ∙ home.1,
@@ -159,6 +162,7 @@ session_orderly r number held fits o =
         | inl m ↦ o.within e m
         | inr q ↦ subst IsWithin (sym (ap (λ (e : ℕ × Session). e.1.granted) q)) (within_of held.granted four.1).0
       ];
+      formed = o.formed;
       few_clients = o.few_clients;
       few_sessions = one_more _ (length r.sessions) MOST_SESSIONS (length_insert r.sessions number new) (less (length r.sessions) MOST_SESSIONS two.0);
       clients_end = o.clients_end;
@@ -261,6 +265,7 @@ let_go_orderly client r o =
         home.2,
       );
       within = λ e h. o.within e (in_filter q r.sessions e h).0;
+      formed = λ e h. o.formed e (in_filter p r.clients e h).0;
       few_clients = fewer _ _ MOST_CLIENTS (length_filter p r.clients) o.few_clients;
       few_sessions = fewer _ _ MOST_SESSIONS (length_filter q r.sessions) o.few_sessions;
       clients_end = o.clients_end;
@@ -269,3 +274,12 @@ let_go_orderly client r o =
 
 pub gone_orderly : (old new : Registry) (client : ℕ) → new ≡ let_go client old → IsOrderly old → IsOrderly new
 gone_orderly old new client is o = subst IsOrderly (sym is) (let_go_orderly client old o)
+
+-- ---- a record that is found has a form
+
+pub found_form : (r : Registry) (client : ℕ) → IsOrderly r → IfSome (client_at r client) (λ c. has_form c ≡ true)
+found_form r client o = form_if r client (client_at r client) refl o
+  where
+    form_if : (r : Registry) (client : ℕ) (found : Option Client) → client_at r client ≡ found → IsOrderly r → IfSome found (λ c. has_form c ≡ true)
+    form_if r client None is o = tt
+    form_if r client (Some c) is o = o.formed (client, c) (lookup_in client r.clients c is)

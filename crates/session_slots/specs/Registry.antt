@@ -95,7 +95,7 @@ with_place slot f s = record s { slots = changed_place slot f s.slots }
 abbrev pub unused_places : Bool → ℕ → ℕ → ℕ → List Place
 unused_places lags count most_arguments most_results = replicate count (record { kept = None; most_arguments = most_arguments; most_results = most_results; lags = lags })
 
--- how many bytes of results each slot of a session caches: those of a reply behind its header
+-- how many bytes of results each slot of a session caches: those of a reply after its header
 abbrev pub kept_size : Channel → ℕ
 kept_size granted = granted.reply_size - REPLY_HEADER
 

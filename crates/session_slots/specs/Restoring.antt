@@ -1,24 +1,31 @@
 -- What is kept over a restart, and how clients, sessions and slots are made of it again (RFC 8881, section 2.10.6.5).
-use Rattle.std.specs.Prelude.{◌≡◌, ℕ, ◌&&◌, Bool, false, not, nat_lt, nat_le, List, [], map, length, Option, Some, None, is_some, is_none}
+use Rattle.std.specs.Prelude.{◌≡◌, ℕ, ◌&&◌, ◌||◌, if◌then◌else◌, Bool, true, false, not, nat_lt, nat_le, List, [], map, length, Option, Some, None, is_some, is_none, find}
+use Rattle.std.specs.List.Sorted.{IsStrictlySortedBy}
+use Rattle.std.specs.Map.{keys_of}
 use Rattle.std.specs.Option.{option_and_then}
 use Rattle.std.specs.BTreeMap.{insert_entry}
 use Rattle.std.specs.Ordering.{nat_cmp}
 use Rattle.session_slots.specs.declared.session.Channel.{Channel}
 use Rattle.session_slots.specs.declared.session.Held.{Held}
-use Rattle.session_slots.specs.Limits.{MOST_CLIENTS, MOST_SESSIONS, MOST_SLOTS, MOST_BYTES, LEAST_REPLY, MOST_OPERATIONS}
+use Rattle.session_slots.specs.Limits.{MOST_CLIENTS, MOST_SESSIONS, MOST_SLOTS, MOST_BYTES, LEAST_REPLY, MOST_OPERATIONS, END}
 use Rattle.session_slots.specs.Slots.{Kept, restored}
+use Rattle.session_slots.specs.Orderly.{has_form}
 use Rattle.session_slots.specs.Registry.{Client, Session, Registry, client_at, session_at, place_at, confirmed_entry, kept_size, restored_session, with_session, with_place}
 
 -- nothing is restored yet: the next client and the next session get these numbers
 abbrev pub nothing_yet : ℕ → ℕ → Registry
 nothing_yet next_client next_session = record { clients = []; sessions = []; next_client = next_client; next_session = next_session }
 
+-- numbers that the next client and the next session may get
+abbrev pub numbers_fit : ℕ → ℕ → Bool
+numbers_fit next_client next_session = if nat_lt END next_client || nat_lt END next_session then false else true
+
 -- ---- a record
 
 -- a record may stand beside those that are there
 abbrev pub record_fits : Registry → Client → Bool
 record_fits r c =
-    nat_lt c.number r.next_client && (nat_lt (length r.clients) MOST_CLIENTS && (is_none (client_at r c.number) && not (c.confirmed && is_some (confirmed_entry r c.owner))))
+    nat_lt c.number r.next_client && (nat_lt (length r.clients) MOST_CLIENTS && (is_none (client_at r c.number) && (not (c.confirmed && is_some (confirmed_entry r c.owner)) && has_form c)))
 
 abbrev pub with_record : Registry → Client → Registry
 with_record r c = record r { clients = insert_entry nat_cmp r.clients c.number c }
@@ -52,7 +59,15 @@ slot_fits (Some s) slot k = nat_lt slot s.granted.slots && (nat_le (length k.cal
 abbrev pub with_kept : Registry → ℕ → ℕ → Kept → Registry
 with_kept r session slot k = with_session session (with_place slot (restored k)) r
 
--- ---- what is written
+-- ---- what is read out
+
+-- each number is below those after it
+abbrev pub IsRising : {X : Type 0} → List (ℕ × X) → Type 0
+IsRising es = IsStrictlySortedBy nat_cmp (keys_of es)
+
+-- the least number that is at least this one
+abbrev pub number_from : {X : Type 0} → ℕ → List (ℕ × X) → Option ℕ
+number_from number es = find (λ n. nat_le number n) (keys_of es)
 
 abbrev pub held_of : Session → Held
 held_of s = record { client = s.client; granted = s.granted }

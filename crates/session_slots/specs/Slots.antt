@@ -21,7 +21,7 @@ pub record Kept : Type 0 where
   pub results : List ℕ
 
 -- A slot: the call that it keeps, how many bytes it has reserved, and whether it lags: it is of before a restart, and has accepted no call
--- since, so that calls which changed nothing may have come behind the one that it keeps.
+-- since, so that calls which changed nothing may have come after the one that it keeps.
 pub record Place : Type 0 where
   pub kept : Option Kept
   pub most_arguments : ℕ
@@ -118,7 +118,7 @@ pub record BeginsByHistory (old new : Option Kept) (call : Call) (turn : Turn) :
 
 -- ---- a slot that lags
 
--- It stands for each history of which it stood for an earlier part: the calls behind that part changed nothing that is kept over a
+-- It stands for each history of which it stood for an earlier part: the calls after that part changed nothing that is kept over a
 -- restart, and there are few.
 pub record LagStandsFor (kept : Option Kept) (history : List Kept) : Type 0 where
   pub later : List Kept

@@ -3,10 +3,7 @@ use Rattle.session_slots.specs.declared.session.Sequence.{Sequence}
 use Rattle.session_slots.specs.declared.exchanging.Exchange.{Exchange}
 use Rattle.session_slots.specs.Exchanging.{Exchanging}
 use Rattle.session_slots.specs.declared.client.Record.{Record}
-use Rattle.std.specs.Prelude.{ℕ, List, [], ◌∷◌}
-use Rattle.session_slots.specs.declared.restoring.SlotCall.{SlotCall}
-use Rattle.session_slots.specs.Restoring.{with_kept}
-use Rattle.session_slots.specs.Registry.{Client, Registry}
+use Rattle.session_slots.specs.Registry.{Client}
 use Rattle.session_slots.specs.Slots.{Call, Kept}
 use Rattle.session_slots.specs.declared.slot.KeptCall.{KeptCall}
 use Rattle.session_slots.specs.Sequencing.{Asked}
@@ -25,8 +22,3 @@ kept_of k = record { call = record { number = k.number; caller = k.caller.now; a
 
 abbrev pub client_of : Record → Client
 client_of r = record { number = r.number; owner = r.owner.now; verifier = r.verifier; uid = r.uid; confirmed = r.confirmed; created = r.created; reclaimed = r.reclaimed }
-
--- slots with their last calls, restored in turn
-abbrev pub with_calls : Registry → ℕ → List SlotCall → Registry
-with_calls r session [] = r
-with_calls r session (call ∷ calls) = with_calls (with_kept r session call.slot (kept_of call.kept)) session calls

@@ -21,6 +21,8 @@ pub struct Created {
     pub session: u64,
     /// The sequence ID of the call.
     pub sequence: u32,
+    /// Whether the session and its slots are kept over a restart, CREATE_SESSION4_FLAG_PERSIST.
+    pub persist: bool,
     /// The fore channel, as far as it is granted.
     pub fore: Channel,
     /// The backchannel, as it was requested.
@@ -78,13 +80,14 @@ impl<A: Allocator> Model for Client<A> {
 }
 
 impl<A: Allocator> Client<A> {
-    /// The record of an owner that isn't confirmed. `Err`: there is no memory for it.
+    /// The record of an owner that isn't confirmed, heard in this second. `Err`: there is no memory for it.
     pub fn new(
         alloc: A,
         number: u64,
         owner: &[u8],
         verifier: u64,
         uid: u32,
+        now: u64,
     ) -> Result<Self, AllocError>
         ensures { IfOk result (λ c. c ≡ record { number = number; owner = owner.now; verifier = verifier; uid = uid; confirmed = false; created = None; reclaimed = false }) }
     {
@@ -96,12 +99,12 @@ impl<A: Allocator> Client<A> {
             confirmed: false,
             created: None,
             reclaimed: false,
-            heard: 0,
+            heard: now,
         })
     }
 
-    /// A record of before a restart. `Err`: there is no memory for it.
-    pub fn restored(alloc: A, kept: Record<'_>) -> Result<Self, AllocError>
+    /// A record of before a restart, which counts as heard in this second. `Err`: there is no memory for it.
+    pub fn restored(alloc: A, kept: Record<'_>, now: u64) -> Result<Self, AllocError>
         ensures { IfOk result (λ c. c ≡ client_of kept.entry) }
     {
         Ok(Client {
@@ -112,7 +115,7 @@ impl<A: Allocator> Client<A> {
             confirmed: kept.confirmed,
             created: kept.created,
             reclaimed: kept.reclaimed,
-            heard: 0,
+            heard: now,
         })
     }
 

@@ -1,15 +1,15 @@
 //! Laws of the definitions: each is the contract of a function with an empty body.
-ghost use Rattle.std.specs.Prelude.{◌≡◌, ℕ, ◌+◌, ◌%◌, ◌<◌, ◌^◌, List, [], Option, None};
-ghost use Rattle.session_slots.specs.Counting.{due, last_number};
-ghost use Rattle.session_slots.specs.Limits.{WRITTEN_EVERY};
+ghost use Rattle.std.specs.Prelude.{◌≡◌, ℕ, ◌<◌, ◌^◌, List, [], Option, None};
+ghost use Rattle.session_slots.specs.Counting.{last_number};
 ghost use Rattle.session_slots.specs.Slots.{Call, Kept, number_of, SlotStandsFor};
 ghost use Rattle.session_slots.specs.Creating.{RecordStandsFor};
 ghost use Rattle.session_slots.specs.Repeating.{AnswersAll, WithoutRepeats};
+ghost use Rattle.session_slots.specs.Acting as acting;
 ghost use Rattle.session_slots.specs.Calls as calls;
 ghost use Rattle.session_slots.specs.Calls.{Reply, State, fate, RunsSo, sent};
-ghost use Rattle.session_slots.specs.Lasting as lasting;
 ghost use Rattle.session_slots.specs.Registry.{Registry, with_session, with_place};
 ghost use Rattle.session_slots.specs.Restoring.{HeadsStay};
+ghost use Rattle.session_slots.specs.Restored.{IsReadable, IsReadInOrder, IsRestored};
 ghost use Rattle.session_slots.specs.Sequencing.{Asked, sequence_begun};
 ghost use Rattle.session_slots.specs.Slots.{finished};
 
@@ -45,19 +45,13 @@ pub fn slots_go_by_history<W: World>()
     ensures { (called : List calls.Call) (replies : List Reply) (old new : State W) → AnswersAll fate (RunsSo W.run) called replies old new → (history : List Kept) → SlotStandsFor old.kept history → SlotStandsFor new.kept (sent called replies history) }
 {}
 
-/// However calls come on a slot, and whenever the server starts again between them: the world is what the calls that stand made
-/// of the first one, each run once and in turn by rising number, if the slot is written behind each call that changes the world, fewer than
-/// 2^31 - 1 calls in turn aren't written, and the client sends the next number or that of its last call.
-#[tactic(auto, using(crate::proofs::Lasting::acts_once))]
+/// However calls come on many slots that change one world, and whenever the server starts again between them: the world is what the calls
+/// that stand, of all slots, made of the first one, each run once and in turn, and of each slot no number comes twice. The next number of
+/// a slot is new. It rests on this: a slot is written after each new call for which [`crate::is_written`] holds; and a client sends the
+/// next number of a slot, or that of the slot's last call again.
+#[tactic(auto, using(crate::proofs::Acting::acts_once))]
 pub fn what_changes_the_world_acts_once<W: World>()
-    ensures { (events : List lasting.Event) (first : W) (last : lasting.State W) → lasting.Steps W.run events (lasting.unused first) last → lasting.ActsOnce W.run first last }
-{}
-
-/// Where n calls stood as a slot was written, and none of the l calls behind them has a number that is a multiple of 2^20, they are fewer
-/// than 2^20: so a slot that is written at each such number, too, lags by fewer.
-#[tactic(auto, using(crate::proofs::Lasting::few_between))]
-pub fn few_calls_stand_between_multiples()
-    ensures { (n l : ℕ) → ((k : ℕ) → k < l → due (n + k) % WRITTEN_EVERY ≡ 0 → ⊥) → l < WRITTEN_EVERY }
+    ensures { (events : List acting.Event) (first : W) (last : acting.State W) → acting.Steps W.run events (acting.unused first) last → acting.ActsOnce W.run first last }
 {}
 
 /// A call that begins, and results that are kept, change a slot alone: records, sessions without their slots, and next numbers stay.
@@ -65,4 +59,17 @@ pub fn few_calls_stand_between_multiples()
 pub fn calls_change_slots_alone()
     ensures begun { (r : Registry) (session : ℕ) (a : Asked) → HeadsStay r (sequence_begun r session a) }
     ensures kept { (r : Registry) (session slot : ℕ) (results : List ℕ) → HeadsStay r (with_session session (with_place slot (λ p. finished p results)) r) }
+{}
+
+/// The records of a registry are those of the least number from 0 on, of the least number after that one, and so on, and so are its
+/// sessions.
+#[tactic(auto, using(crate::proofs::Rebuilt::read_in_order))]
+pub fn numbers_are_read_in_order()
+    ensures clients { (r : Registry) → IsReadable r → IsReadInOrder r.clients }
+    ensures sessions { (r : Registry) → IsReadable r → IsReadInOrder r.sessions }
+{}
+
+/// All that is read out of a registry and restored in order fits, and makes the registry again, in which every slot lags.
+pub fn what_is_read_out_is_restored()
+    ensures { (r : Registry) → IsReadable r → IsRestored r }
 {}

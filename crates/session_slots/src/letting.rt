@@ -1,5 +1,5 @@
 //! Clients that are let go (RFC 8881, section 8.3).
-ghost use Rattle.std.specs.Prelude.{◌≡◌, IsSome, IfSome};
+ghost use Rattle.std.specs.Prelude.{◌≡◌, is_some, IsSome, IfSome};
 ghost use Rattle.session_slots.specs.Registry.{client_at};
 ghost use Rattle.session_slots.specs.Letting.{let_go};
 
@@ -34,6 +34,13 @@ impl<A: Allocator + Copy> Registry<A> {
         } else {
             None
         }
+    }
+
+    /// Whether a client has a record.
+    pub fn has_record(&self, client: u64) -> bool
+        ensures { result ≡ is_some (client_at self.now client) }
+    {
+        self.clients.contains_key(&client)
     }
 
     /// Lets a client go, with its sessions.

@@ -10,6 +10,7 @@ mod clients;
 mod creating;
 mod destroying;
 mod exchanging;
+mod forms;
 mod laws;
 mod letting;
 mod limits;
@@ -22,15 +23,17 @@ pub use client::{Created, Creation, Record};
 pub use clients::Clients;
 pub use creating::{Create, Made};
 pub use exchanging::{Exchange, Exchanged};
+pub use forms::{CallForm, RecordForm, SessionForm, write_call};
 pub use laws::{
-    World, calls_change_slots_alone, every_slot_has_a_history, few_calls_stand_between_multiples,
-    nothing_was_accepted, repeats_change_nothing, slots_go_by_history,
-    what_changes_the_world_acts_once,
+    World, calls_change_slots_alone, every_slot_has_a_history, nothing_was_accepted,
+    numbers_are_read_in_order, repeats_change_nothing, slots_go_by_history,
+    what_changes_the_world_acts_once, what_is_read_out_is_restored,
 };
 pub use limits::{
-    CONFIRMED, END, LEAST_REPLY, MOST_AHEAD, MOST_BYTES, MOST_CLIENTS, MOST_OPERATIONS,
+    CONFIRMED, END, LEAST_REPLY, MOST_AHEAD, MOST_BYTES, MOST_CLIENTS, MOST_OPERATIONS, MOST_OWNER,
     MOST_RESULTS, MOST_SESSIONS, MOST_SLOTS, REPLY_HEADER, UPDATE_CONFIRMED, USE_NON_PNFS,
+    WRITTEN_EVERY,
 };
-pub use restoring::{SlotCall, Unfit};
+pub use restoring::RestoreFault;
 pub use session::{Begin, Channel, Held, NewCall, Sequence};
-pub use slot::{KeptCall, due};
+pub use slot::{KeptCall, due, is_written};

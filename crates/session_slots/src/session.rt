@@ -5,7 +5,7 @@ ghost use Rattle.session_slots.specs.Slots.{begun, finished, restored};
 ghost use Rattle.session_slots.specs.Registry.{changed_place, kept_size, with_place, unused_places, new_session, restored_session};
 ghost use Rattle.session_slots.specs.Restoring.{held_of, slot_fits};
 ghost use Rattle.session_slots.specs.Views.{asked_of, call_of, kept_of};
-ghost use Rattle.session_slots.specs.Sequencing.{grant_fault, place_turn, begin_of, session_begin, session_begun};
+ghost use Rattle.session_slots.specs.Sequencing.{HasSlots, grant_fault, place_turn, begin_of, session_begin, session_begun};
 
 use crate::limits::REPLY_HEADER;
 use crate::slot::{KeptCall, Slot, Turn};
@@ -44,7 +44,7 @@ pub struct Sequence<'a> {
     pub count: u32,
     /// How many bytes the call's record has.
     pub record_len: usize,
-    /// The bytes behind the call's header.
+    /// The bytes after the call's header.
     pub arguments: &'a [u8],
     /// The caller.
     pub caller: &'a Caller,
@@ -204,7 +204,8 @@ impl<A: Allocator + Copy> Session<A> {
 
     /// The session as it is kept over a restart, without its slots.
     pub fn held(&self) -> Held
-        ensures { result ≡ held_of self.now }
+        ensures held { result ≡ held_of self.now }
+        ensures slots { HasSlots self.now.granted self.now.slots }
     {
         Held {
             client: self.client,
@@ -241,10 +242,12 @@ impl<A: Allocator + Copy> Session<A> {
     }
 
     /// The slot of a number.
-    #[tactic(auto, using(crate::proofs::Places::has_size))]
+    #[tactic(auto, using(crate::proofs::Places::has_size, crate::proofs::Places::has_argument_size))]
     pub fn slot(&self, number: u32) -> Option<&Slot<A>>
         ensures slot { option_copied result ≡ slice_get self.now.slots number }
         ensures room { IfSome (slice_get self.now.slots number) (λ p. p.most_results ≡ kept_size self.now.granted) }
+        ensures argument_room { IfSome (slice_get self.now.slots number) (λ p. p.most_arguments ≡ self.now.granted.request_size) }
+        ensures slots { HasSlots self.now.granted self.now.slots }
     {
         self.slots.get(number as usize)
     }

@@ -1,11 +1,11 @@
 //! A slot of a session (RFC 8881, section 2.10.6.1).
-ghost use Rattle.std.specs.Prelude.{◌≡◌, ◌+◌, ◌%◌, ◌^◌, ◌≤◌, ◌<◌, ℕ, ◌==◌, if◌then◌else◌, length, Some, None, IfOk};
+ghost use Rattle.std.specs.Prelude.{◌≡◌, ◌+◌, ◌%◌, ◌^◌, ◌≤◌, ◌<◌, ℕ, ◌==◌, if◌then◌else◌, length, Some, None, IfOk, IfSome};
 ghost use Rattle.std.specs.Option.{option_map};
 ghost use Rattle.session_slots.specs.Counting as specs;
 ghost use Rattle.session_slots.specs.Slots.{Call, Kept, Place, number_of, turn_of, begun, finished, restored, results_of, BeginsBy, KeepsByHistory};
 ghost use Rattle.session_slots.specs.Views.{kept_of};
 
-use crate::limits::MOST_AHEAD;
+use crate::limits::{MOST_AHEAD, WRITTEN_EVERY};
 use nfs_types::Status;
 use rpc_record::Caller;
 use std::alloc::{AllocError, Allocator, Global};
@@ -40,6 +40,14 @@ fn is_next(lags: bool, last: u32, number: u32) -> bool
     ahead >= 1 && ahead <= MOST_AHEAD
 }
 
+/// Whether a slot is written after a new call of this number: where the call changed anything that is kept over a restart, and where the
+/// number is a multiple of 2^20.
+pub fn is_written(number: u32, changes: bool) -> bool
+    ensures { result ≡ specs.is_written number changes }
+{
+    changes || number % WRITTEN_EVERY == 0
+}
+
 /// The last call of a slot, with its results, as it is kept over a restart.
 #[derive(Clone, Copy, Debug)]
 pub struct KeptCall<'a> {
@@ -47,7 +55,7 @@ pub struct KeptCall<'a> {
     pub number: u32,
     /// The caller.
     pub caller: &'a Caller,
-    /// The bytes behind the call's header.
+    /// The bytes after the call's header.
     pub arguments: &'a [u8],
     /// The results.
     pub results: &'a [u8],
@@ -80,7 +88,7 @@ impl<A: Allocator> Model for Slot<A> {
       lags = s.lags;
     } };
 
-    ghost invariant = { λ s. (s.most_arguments ≤ vec_capacity s.arguments) × (s.most_results ≤ vec_capacity s.results) × (vec_len s.results ≤ s.most_results) };
+    ghost invariant = { λ s. (s.most_arguments ≤ vec_capacity s.arguments) × (s.most_results ≤ vec_capacity s.results) × (vec_len s.arguments ≤ s.most_arguments) × (vec_len s.results ≤ s.most_results) };
 }
 
 impl<A: Allocator + Copy> Slot<A> {
@@ -195,7 +203,8 @@ impl<A: Allocator + Copy> Slot<A> {
 
     /// The last call, with its results; `None`: no call is kept.
     pub fn kept(&self) -> Option<KeptCall<'_>>
-        ensures { option_map kept_of result ≡ self.now.kept }
+        ensures kept { option_map kept_of result ≡ self.now.kept }
+        ensures few { IfSome result (λ k. (length k.arguments.now ≤ self.now.most_arguments) × (length k.results.now ≤ self.now.most_results)) }
     {
         match &self.last {
             Some((number, caller)) => Some(KeptCall {
