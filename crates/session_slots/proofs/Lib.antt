@@ -14,4 +14,5 @@ pub mod Orderly
 pub mod Rebuilt
 pub mod Restored
 pub mod Staying
+pub mod Told
 pub mod Whole

@@ -1,5 +1,5 @@
 //! Laws of the definitions: each is the contract of a function with an empty body.
-ghost use Rattle.std.specs.Prelude.{◌≡◌, ℕ, ◌<◌, ◌^◌, List, [], Option, None};
+ghost use Rattle.std.specs.Prelude.{◌≡◌, ℕ, ◌<◌, ◌^◌, true, List, [], Option, None};
 ghost use Rattle.session_slots.specs.Counting.{last_number};
 ghost use Rattle.session_slots.specs.Slots.{Call, Kept, number_of, SlotStandsFor};
 ghost use Rattle.session_slots.specs.Creating.{RecordStandsFor};
@@ -7,7 +7,10 @@ ghost use Rattle.session_slots.specs.Repeating.{AnswersAll, WithoutRepeats};
 ghost use Rattle.session_slots.specs.Acting as acting;
 ghost use Rattle.session_slots.specs.Calls as calls;
 ghost use Rattle.session_slots.specs.Calls.{Reply, State, fate, RunsSo, sent};
-ghost use Rattle.session_slots.specs.Registry.{Registry, with_session, with_place};
+ghost use Rattle.session_slots.specs.declared.session.Held.{Held};
+ghost use Rattle.session_slots.specs.Forms.{client_value, session_value, call_value};
+ghost use Rattle.session_slots.specs.Orderly.{has_form};
+ghost use Rattle.session_slots.specs.Registry.{Client, Registry, with_session, with_place};
 ghost use Rattle.session_slots.specs.Restoring.{HeadsStay};
 ghost use Rattle.session_slots.specs.Restored.{IsReadable, IsReadInOrder, IsRestored};
 ghost use Rattle.session_slots.specs.Sequencing.{Asked, sequence_begun};
@@ -72,4 +75,12 @@ pub fn numbers_are_read_in_order()
 /// All that is read out of a registry and restored in order fits, and makes the registry again, in which every slot lags.
 pub fn what_is_read_out_is_restored()
     ensures { (r : Registry) → IsReadable r → IsRestored r }
+{}
+
+/// What is written is of one record that has a form, of one session, and of one call on one slot. So what is read is what was written, by
+/// the laws of [`xdr_wire`].
+pub fn what_is_written_is_of_one()
+    ensures clients { (c d : Client) → has_form c ≡ true → has_form d ≡ true → client_value c ≡ client_value d → c ≡ d }
+    ensures sessions { (m n : ℕ) (c d : Held) → session_value m c ≡ session_value n d → (m ≡ n) × (c ≡ d) }
+    ensures calls { (m n s t : ℕ) (k l : Kept) → call_value m s k ≡ call_value n t l → (m ≡ n) × (s ≡ t) × (k ≡ l) }
 {}

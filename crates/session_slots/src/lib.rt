@@ -27,7 +27,7 @@ pub use forms::{CallForm, RecordForm, SessionForm, write_call};
 pub use laws::{
     World, calls_change_slots_alone, every_slot_has_a_history, nothing_was_accepted,
     numbers_are_read_in_order, repeats_change_nothing, slots_go_by_history,
-    what_changes_the_world_acts_once, what_is_read_out_is_restored,
+    what_changes_the_world_acts_once, what_is_read_out_is_restored, what_is_written_is_of_one,
 };
 pub use limits::{
     CONFIRMED, END, LEAST_REPLY, MOST_AHEAD, MOST_BYTES, MOST_CLIENTS, MOST_OPERATIONS, MOST_OWNER,
