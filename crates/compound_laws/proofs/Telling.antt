@@ -80,32 +80,36 @@ same_parent caller name number = of (2 == number) refl
 
 -- the sight of a caller, by the names and the parents
 abbrev seen_by : Identity → List ℕ → (ℕ → List Name) × (ℕ → Option ℕ) → Sight
-seen_by caller name (names, parents) = record (view (unopened (with_name name)) caller) { names = names; parents = parents }
+seen_by caller name (names, parents) =
+    record (view (unopened (with_name name)) caller) { names = names; parents = parents }
 
-look_alike : (caller : Identity) (name : List ℕ) → view (unopened (with_name name)) caller ≡ view (unopened (with_name (longer name))) caller
+look_alike : (caller : Identity) (name : List ℕ)
+    → view (unopened (with_name name)) caller ≡ view (unopened (with_name (longer name))) caller
 unfolding AreAlike SameParent
-look_alike caller name = λ i. seen_by caller name (everywhere (alike caller name) i, everywhere (same_parent caller name) i)
+look_alike caller name =
+    λ i. seen_by caller name (everywhere (alike caller name) i, everywhere (same_parent caller name) i)
 
--- ---- what is told of them
+-- ---- the answers
 
 abbrev at_root : Handles
 at_root = record { current = Some 1; saved = None }
 
 -- the outcome in the world of a name
-abbrev told_in : Context → List ℕ → List ℕ → Result Outcome Status
-told_in c name given = (shown (telling_lookup name c at_root) (whole (unopened (with_name given)))).0
+abbrev answer_in : Context → List ℕ → List ℕ → Result Outcome Status
+answer_in c name given = (shown (telling_lookup name c at_root) (whole (unopened (with_name given)))).0
 
-refused : (c : Context) (name : List ℕ) → name_fault name ≡ None → told_in c name name ≡ Err statuses.Access
+refused : (c : Context) (name : List ℕ) → name_fault name ≡ None → answer_in c name name ≡ Err statuses.Access
 unfolding verdict has_bit
 refused c name valid = rw valid (rw (same name) refl)
 
-absent : (c : Context) (name : List ℕ) → name_fault name ≡ None → told_in c name (longer name) ≡ Err statuses.NoEnt
+absent : (c : Context) (name : List ℕ) → name_fault name ≡ None → answer_in c name (longer name) ≡ Err statuses.NoEnt
 absent c name valid = rw valid (rw (other 0 name) refl)
 
 apart : (r : Result Outcome Status) → r ≡ Err statuses.Access → r ≡ Err statuses.NoEnt → ⊥
 apart r a b = cc
 
-pub tells : (c : Context) (name : List ℕ) → name_fault name ≡ None → ((h : Handles) → DisclosesNothing (telling_lookup name c h)) → ⊥
+pub tells : (c : Context) (name : List ℕ) → name_fault name ≡ None
+    → ((h : Handles) → DisclosesNothing (telling_lookup name c h)) → ⊥
 tells c name valid law =
-    let equal = ap (λ p. p.0) (law at_root (unopened (with_name name)) (unopened (with_name (longer name))) (look_alike c.caller name)) in
-    apart (told_in c name name) (refused c name valid) (equal ∙ absent c name valid)
+    let equal = law at_root (unopened (with_name name)) (unopened (with_name (longer name))) (look_alike c.caller name) in
+    apart (answer_in c name name) (refused c name valid) (ap (λ p. p.0) equal ∙ absent c name valid)

@@ -4,6 +4,8 @@ use Rattle.std.specs.Prelude.{◌≡◌, ◌⊎◌, List, [], ◌∷◌, Some, N
 use Rattle.nfs_ops.specs.Operations.{Operation, Known}
 use Rattle.nfs_ops.specs.declared.op_kind.OpKind.TheVariants as kinds
 use Rattle.access_rows.specs.Rows.{Demands, first_demands, second_demands}
+use Rattle.access_rows.specs.declared.facts.First.{First}
+use Rattle.access_rows.specs.declared.facts.Second.{Second}
 use Rattle.compound_run.specs.Context.{Context, Handles}
 use Rattle.compound_run.specs.Sight.{Sight, child}
 use Rattle.compound_run.specs.Questions.{Question, Holds, Valid, Row, Suffices}
@@ -22,7 +24,7 @@ first_of c h (Known kinds.SetAttr v) s =
 first_of c h (Known kinds.Write v) s = first_demands (Known kinds.Write v) (sized_facts s h None)
 first_of c h op s = first_demands op (first_facts s h)
 
--- The second row, by the objects of the names: the file of OPEN, the child of REMOVE, the child and the target of RENAME.
+-- The second row, by the objects of the names: OPEN's file, REMOVE's child, RENAME's child and target.
 abbrev pub second_of : Context → Handles → Operation → Sight → Demands
 second_of c h (Known kinds.Open v) s =
     second_demands (Known kinds.Open v) (opening_facts s h (opens.found v h s) (opens.wanted c v).size)
@@ -38,6 +40,13 @@ IsEmpty [] = Unit {0}
 IsEmpty (None ∷ demands) = IsEmpty demands
 IsEmpty (Some demand ∷ demands) = ⊥
 
+-- the table has no first row, or no second one, for an operation, whatever the facts are
+abbrev pub HasNoFirst : Operation → Type 0
+HasNoFirst op = (facts : First) → IsEmpty (first_demands op facts)
+
+abbrev pub HasNoSecond : Operation → Type 0
+HasNoSecond op = (facts : Second) → IsEmpty (second_demands op facts)
+
 -- ---- their place
 
 -- the row is one of the questions
@@ -45,11 +54,7 @@ abbrev pub IsAmong : (Sight → Demands) → List Question → Type 0
 IsAmong row [] = ⊥
 IsAmong row (q ∷ questions) = (q ≡ Row row) ⊎ IsAmong row questions
 
--- the row is asked, or it never demands anything
-abbrev pub IsAsked : (Sight → Demands) → List Question → Type 0
-IsAsked row questions = IsAmong row questions ⊎ ((s : Sight) → IsEmpty (row s))
-
--- one of the questions suffices: those behind it aren't put
+-- one of the questions suffices: those after it aren't put
 abbrev pub SomeSuffices : Sight → List Question → Type 0
 SomeSuffices s [] = ⊥
 SomeSuffices s (Suffices test ∷ questions) = (test s ≡ true) ⊎ SomeSuffices s questions

@@ -24,8 +24,9 @@ pub fn sessions_disclose_nothing()
     ensures sequence { (call : Call) (count : ℕ) (v : Value sequence_args) → BeginsAlike call count v }
 {}
 
-/// The law refuses a LOOKUP that says whether a name is there before EXECUTE is asked (`telling_lookup`): it is false of it, for each
-/// caller and each valid name.
+/// The law refuses a LOOKUP that says whether a name is there before EXECUTE is asked (`telling_lookup`): it is false of it,
+/// for each caller and each valid name.
 pub fn a_lookup_that_tells_names_discloses()
-    ensures { (c : Context) (name : List ℕ) → name_fault name ≡ None → ((h : Handles) → DisclosesNothing (telling_lookup name c h)) → ⊥ }
+    ensures { (c : Context) (name : List ℕ) → name_fault name ≡ None →
+        ((h : Handles) → DisclosesNothing (telling_lookup name c h)) → ⊥ }
 {}

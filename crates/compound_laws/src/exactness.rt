@@ -21,7 +21,7 @@ ghost use Rattle.compound_run.specs.Operations.{meaning, may_delay};
 ghost use Rattle.compound_run.specs.Runs.{Point, Steps, outcome, traced};
 ghost use Rattle.compound_run.specs.Exact.{ArePassed, ArePassedOrSuffice, IsRefusedByRow, EndsInRefusal};
 ghost use Rattle.compound_laws.specs.EntriesExact.{GivesExactly, IsUnlisted, MeetsRefused};
-ghost use Rattle.compound_laws.specs.RowsAsked.{first_of, second_of, IsAsked, IsOntoItself, SomeSuffices};
+ghost use Rattle.compound_laws.specs.RowsAsked.{first_of, second_of, HasNoFirst, HasNoSecond, IsAmong, IsOntoItself, SomeSuffices};
 
 /// An outcome behind a row of demands comes only where the lists grant each of them; else the outcome is ACCESS.
 pub fn rows_decide()
@@ -44,27 +44,33 @@ pub fn access_is_exact()
         (row : IsRefusedByRow m.caller (whole r) m.questions) × EndsInRefusal m.caller m.number (judged_of r.world) (row.demands (whole r)) (traced m r) }
 {}
 
-/// Each row that the table of demands has for an operation stands among its questions, or demands nothing at any place: the first row,
-/// and the second, which depends on the objects of the operation's names.
+/// Each row that the table of demands has for an operation stands among its questions: the first row, and the second, which
+/// depends on the objects of the operation's names. Else the table has no such row for it, whatever the facts are.
 pub fn each_row_is_asked()
-    ensures first { (c : Context) (h : Handles) (op : Operation) → IsAsked (first_of c h op) (meaning c h op).questions }
-    ensures second { (c : Context) (h : Handles) (op : Operation) → IsAsked (second_of c h op) (meaning c h op).questions }
+    ensures first { (c : Context) (h : Handles) (op : Operation) →
+        IsAmong (first_of c h op) (meaning c h op).questions ⊎ HasNoFirst op }
+    ensures second { (c : Context) (h : Handles) (op : Operation) →
+        IsAmong (second_of c h op) (meaning c h op).questions ⊎ HasNoSecond op }
 {}
 
-/// So an operation that is OK was granted each demand of its rows; but for the second row of a RENAME whose names are those of one
-/// object, which changes nothing.
+/// So an operation that is OK was granted each demand of its rows; but for the second row of a RENAME whose names are those
+/// of one object, which changes nothing.
 pub fn ok_is_granted()
-    ensures first { (c : Context) (h : Handles) (op : Operation) (r : Realm) (o : Outcome) → outcome (meaning c h op) r ≡ Ok o →
+    ensures first { (c : Context) (h : Handles) (op : Operation) (r : Realm) (o : Outcome) →
+        outcome (meaning c h op) r ≡ Ok o →
         all_granted (judged_of r.world) c.caller (first_of c h op (whole r)) ≡ true }
-    ensures second { (c : Context) (h : Handles) (op : Operation) (r : Realm) (o : Outcome) → outcome (meaning c h op) r ≡ Ok o →
+    ensures second { (c : Context) (h : Handles) (op : Operation) (r : Realm) (o : Outcome) →
+        outcome (meaning c h op) r ≡ Ok o →
         (all_granted (judged_of r.world) c.caller (second_of c h op (whole r)) ≡ true) ⊎ IsOntoItself h op (whole r) }
 {}
 
-/// Where a row isn't granted the answer is the fault of a question before it, else ACCESS; unless a question before it suffices.
+/// Where a row isn't granted the answer is the fault of a question before it, else ACCESS; unless a question before it
+/// suffices.
 pub fn refused_is_access()
-    ensures { (m : Meaning) (r : Realm) (before behind : List Question) (row : Sight → Demands) → m.questions ≡ before ++ Row row ∷ behind →
-        all_granted (judged_of r.world) m.caller (row (whole r)) ≡ false →
-        (outcome m r ≡ Err (unwrap_or (failure m.caller (whole r) before) statuses.Access)) ⊎ SomeSuffices (whole r) before }
+    ensures { (m : Meaning) (r : Realm) (before after : List Question) (row : Sight → Demands) →
+        m.questions ≡ before ++ Row row ∷ after → all_granted (judged_of r.world) m.caller (row (whole r)) ≡ false →
+        (outcome m r ≡ Err (unwrap_or (failure m.caller (whole r) before) statuses.Access))
+        ⊎ SomeSuffices (whole r) before }
 {}
 
 /// An operation that takes no memory never answers DELAY: all but CREATE, LINK, NVERIFY, OPEN, RENAME, SETATTR, VERIFY and

@@ -18,26 +18,30 @@ use Rattle.access_guard.specs.Lists.{Lists, names}
 use Rattle.access_guard.specs.Lines.{lines, demand_lines, deny_lines}
 use Rattle.acl_reasons.specs.Reasons.{reason_of, denied_bit, reason}
 use Rattle.acl_reasons.specs.Removals.{by_mentions, removal_reason}
-use Rattle.reason_laws.specs.Traced.{side_of, decided, decided_removal}
+use Rattle.reason_laws.specs.Traced.{side_of, decided, decided_removal, traced}
 
-answer-reason : (object mask : ℕ) (bit : ℕ → ℕ) (v : Verdict) → answer object mask v ≡ decided object mask (reason_of bit v)
+answer-reason : (object mask : ℕ) (bit : ℕ → ℕ) (v : Verdict)
+    → answer object mask v ≡ decided object mask (reason_of bit v)
 answer-reason object mask bit Granted = refl
 answer-reason object mask bit (Denied index) = refl
 answer-reason object mask bit (Missing value) = refl
 
 pub decision-reason : (lists : Lists) (caller : Identity) (object mask : ℕ) (j : Judged) → lists object ≡ Some j
     → decision lists caller (Bits object mask) ≡ decided object mask (reason (names j caller) j.list mask)
-decision-reason lists caller object mask j there = rw there (answer-reason object mask (denied_bit (names j caller) j.list mask) (verdict (names j caller) j.list mask))
+decision-reason lists caller object mask j there =
+    rw there
+    (answer-reason object mask (denied_bit (names j caller) j.list mask) (verdict (names j caller) j.list mask))
 
 pub lines-reason : (lists : Lists) (caller : Identity) (op object mask : ℕ) (j : Judged) → lists object ≡ Some j
     → lines lists caller op (Bits object mask)
-    ≡ demand_lines lists caller op (is_granted (decided object mask (reason (names j caller) j.list mask))) (Bits object mask) ++ deny_lines caller op (decided object mask (reason (names j caller) j.list mask))
+    ≡ traced lists caller op (Bits object mask) (decided object mask (reason (names j caller) j.list mask))
 lines-reason lists caller op object mask j there =
-    ap (λ (d : Decision). demand_lines lists caller op (is_granted d) (Bits object mask) ++ deny_lines caller op d) (decision-reason lists caller object mask j there)
+    ap (traced lists caller op (Bits object mask)) (decision-reason lists caller object mask j there)
 
 -- of a removal, by the mention of ADD_FILE on the parent
 removal-reason : (parent target : ℕ) (on_target on_parent add : Mention)
-    → removal parent target on_target on_parent (verdict_on_bit places.add_file add) ≡ decided_removal parent target (by_mentions on_target on_parent (verdict_on_bit places.add_file add))
+    → removal parent target on_target on_parent (verdict_on_bit places.add_file add)
+    ≡ decided_removal parent target (by_mentions on_target on_parent (verdict_on_bit places.add_file add))
 removal-reason parent target (AllowedBy i) on_parent add = refl
 removal-reason parent target (DeniedBy i) (AllowedBy j) add = refl
 removal-reason parent target (DeniedBy i) (DeniedBy j) add = refl
@@ -48,16 +52,23 @@ removal-reason parent target Unmentioned Unmentioned (AllowedBy k) = refl
 removal-reason parent target Unmentioned Unmentioned (DeniedBy k) = refl
 removal-reason parent target Unmentioned Unmentioned Unmentioned = refl
 
-pub decision-removal : (lists : Lists) (caller : Identity) (parent target : ℕ) (p t : Judged) → lists parent ≡ Some p → lists target ≡ Some t
-    → decision lists caller (Removal parent target) ≡ decided_removal parent target (removal_reason (side_of p) (side_of t) caller)
+pub decision-removal : (lists : Lists) (caller : Identity) (parent target : ℕ) (p t : Judged)
+    → lists parent ≡ Some p → lists target ≡ Some t
+    → decision lists caller (Removal parent target)
+    ≡ decided_removal parent target (removal_reason (side_of p) (side_of t) caller)
 decision-removal lists caller parent target p t on_parent on_target =
-    let add : verdict (names p caller) p.list ADD_FILE ≡ verdict_on_bit places.add_file (mentioned (mention (names p caller) p.list places.add_file)) = verdict-bit (names p caller) p.list places.add_file (omega arith) in
+    let on_p = λ (place : ℕ). mentioned (mention (names p caller) p.list place) in
+    let add : verdict (names p caller) p.list ADD_FILE ≡ verdict_on_bit places.add_file (on_p places.add_file) =
+    verdict-bit (names p caller) p.list places.add_file (omega arith) in
     rw (on_parent, on_target, add)
-    (removal-reason parent target (mentioned (mention (names t caller) t.list places.delete)) (mentioned (mention (names p caller) p.list places.delete_child)) (mentioned (mention (names p caller) p.list places.add_file)))
+    (removal-reason parent target (mentioned (mention (names t caller) t.list places.delete)) (on_p places.delete_child)
+    (on_p places.add_file))
 
-pub lines-removal : (lists : Lists) (caller : Identity) (op parent target : ℕ) (p t : Judged) → lists parent ≡ Some p → lists target ≡ Some t
+pub lines-removal : (lists : Lists) (caller : Identity) (op parent target : ℕ) (p t : Judged)
+    → lists parent ≡ Some p → lists target ≡ Some t
     → lines lists caller op (Removal parent target)
-    ≡ demand_lines lists caller op (is_granted (decided_removal parent target (removal_reason (side_of p) (side_of t) caller))) (Removal parent target)
-    ++ deny_lines caller op (decided_removal parent target (removal_reason (side_of p) (side_of t) caller))
+    ≡ traced lists caller op (Removal parent target)
+    (decided_removal parent target (removal_reason (side_of p) (side_of t) caller))
 lines-removal lists caller op parent target p t on_parent on_target =
-    ap (λ (d : Decision). demand_lines lists caller op (is_granted d) (Removal parent target) ++ deny_lines caller op d) (decision-removal lists caller parent target p t on_parent on_target)
+    ap (traced lists caller op (Removal parent target))
+    (decision-removal lists caller parent target p t on_parent on_target)
