@@ -1,10 +1,10 @@
 -- CREATE_SESSION (RFC 8881, section 18.36): a client gets a session, and its record is confirmed.
-use Rattle.std.specs.Prelude.{◌≡◌, ℕ, [], Option, Some, None, Result}
+use Rattle.std.specs.Prelude.{◌≡◌, ℕ, false, not, ◌==◌, bit_and, if◌then◌else◌, [], Option, Some, None, Result}
 use Rattle.xdr_wire.specs.Xdr.{Value}
 use Rattle.rpc_record.specs.Identity.{Identity}
 use Rattle.nfs_types.specs.declared.status.Status.{Status}
 use Rattle.nfs_ops.specs.Forms.{create_session_args, channel}
-use Rattle.nfs_ops.specs.Parts.{session_client, session_sequence, fore_channel, back_channel, request_size, reply_size, cached_size, operations, slots}
+use Rattle.nfs_ops.specs.Parts.{session_client, session_sequence, session_flags, fore_channel, back_channel, request_size, reply_size, cached_size, operations, slots}
 use Rattle.nfs_ops.specs.declared.op_kind.OpKind.TheVariants as kinds
 use Rattle.nfs_ops.specs.Results.{Outcome, Done}
 use Rattle.session_slots.specs.declared.session.Channel.{Channel}
@@ -27,11 +27,18 @@ channel_of c = record {
   slots = slots c;
 }
 
+-- CREATE_SESSION4_FLAG_PERSIST
+abbrev pub PERSIST : ℕ
+PERSIST = 1
+
+-- no session is kept over a restart
 abbrev pub create_of : Identity → Value create_session_args → Create
 create_of caller v = record {
   client = session_client v;
   sequence = session_sequence v;
   uid = caller.uid;
+  persist = not (bit_and (session_flags v) PERSIST == 0);
+  lasting = false;
   fore = channel_of (fore_channel v);
   back = channel_of (back_channel v);
 }
@@ -41,7 +48,7 @@ abbrev pub channel_given : Channel → Value channel
 channel_given c = (c.padding, (c.request_size, (c.reply_size, (c.cached_size, (c.operations, (c.slots, []))))))
 
 abbrev pub session_made : Created → Outcome
-session_made c = Done kinds.CreateSession (session_id c.session, (c.sequence, (0, (channel_given c.fore, channel_given c.back))))
+session_made c = Done kinds.CreateSession (session_id c.session, (c.sequence, (if c.persist then PERSIST else 0, (channel_given c.fore, channel_given c.back))))
 
 abbrev pub kept_for : ℕ → Option Client → Option (Result Created Status)
 kept_for sequence None = None

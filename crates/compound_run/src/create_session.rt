@@ -22,6 +22,9 @@ use session_slots::{Channel, Create, Created, Made};
 use std::alloc::Allocator;
 use xdr_wire::Writer;
 
+/// CREATE_SESSION4_FLAG_PERSIST: the session and its slots are kept over a restart.
+const PERSIST: u32 = 1;
+
 /// The attributes of a channel that is requested, RDMA apart.
 fn channel_of(asked: &nfs_ops::Channel) -> Channel
     ensures { result ≡ channel_of (channel_value asked.now) }
@@ -61,7 +64,7 @@ fn put_created<A: Allocator>(created: Created, out: &mut Writer<A>)
         OpResult::CreateSession(CreateSessionResult {
             session: session_id(created.session),
             sequence: created.sequence,
-            flags: 0,
+            flags: if created.persist { PERSIST } else { 0 },
             fore: channel_given(created.fore),
             back: channel_given(created.back),
         }),
@@ -80,6 +83,8 @@ impl<A: Allocator + Copy> Realm<A> {
             client: args.client,
             sequence: args.sequence,
             uid: caller.uid(),
+            persist: args.flags & PERSIST != 0,
+            lasting: false,
             fore: channel_of(&args.fore),
             back: channel_of(&args.back),
         });

@@ -14,7 +14,7 @@ ghost use Rattle.compound_run.specs.Views.{realm_of};
 use crate::operation_results::put_result;
 use crate::realm::Realm;
 use nfs_ops::{ExchangeIdArgs, ExchangeIdResult, OpResult};
-use nfs_types::Status;
+use nfs_types::{Moment, Status};
 use rpc_record::Caller;
 use session_slots::{Exchange, Exchanged};
 use std::alloc::Allocator;
@@ -43,7 +43,12 @@ fn put_exchanged<A: Allocator>(told: Exchanged, out: &mut Writer<A>)
 
 impl<A: Allocator + Copy> Realm<A> {
     /// Asks for the record of a client.
-    fn exchange(&mut self, caller: &Caller, args: &ExchangeIdArgs<'_>) -> Result<Exchanged, Status>
+    fn exchange(
+        &mut self,
+        caller: &Caller,
+        now: Moment,
+        args: &ExchangeIdArgs<'_>,
+    ) -> Result<Exchanged, Status>
         ensures exchanges { Exchanges self.old.clients (exchanging caller.now (exchange_id_args_value args.now) (realm_of self.old)) result self.new.clients }
         ensures others { self.new ≡ record self.old { clients = self.new.clients } }
     {
@@ -54,13 +59,15 @@ impl<A: Allocator + Copy> Realm<A> {
             uid: caller.uid(),
             flags: args.flags,
             has_opens,
+            now: now.seconds.max(0) as u64,
         })
     }
 
-    /// A client is made known. DELAY: there is no memory for a new record, and nothing changes.
+    /// A client is made known, and counts as heard at this moment. DELAY: there is no memory for a new record, and nothing changes.
     pub fn exchange_id(
         &mut self,
         caller: &Caller,
+        now: Moment,
         args: &ExchangeIdArgs<'_>,
         out: &mut Writer<A>,
     ) -> Result<(), Status>
@@ -68,7 +75,7 @@ impl<A: Allocator + Copy> Realm<A> {
         ensures gives { ActGives caller.now (Known kinds.ExchangeId (exchange_id_args_value args.now)) (realm_of self.old) out.old result (realm_of self.new) out.new }
         ensures others { IsOfClients self.old self.new }
     {
-        let told = self.exchange(caller, args)?;
+        let told = self.exchange(caller, now, args)?;
         put_exchanged(told, out);
         Ok(())
     }

@@ -144,7 +144,9 @@ impl<A: Allocator + Copy> Realm<A> {
         match begin(compound.minor_version, compound.count, compound.operations) {
             Beginning::Ends(status) => put_ended(compound.tag, status, out),
             Beginning::Refuses(number, status) => put_refused(compound.tag, number, status, out),
-            Beginning::Acts(lone) => self.answer_alone(compound.tag, call.caller, &lone, out),
+            Beginning::Acts(lone) => {
+                self.answer_alone(compound.tag, call.caller, call.now, &lone, out);
+            }
             Beginning::Follows(args, operations) => {
                 self.answer_sequence(call, &args, operations, out);
             }

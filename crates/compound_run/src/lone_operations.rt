@@ -11,7 +11,7 @@ use crate::operation_results::put_refusal;
 use crate::realm::Realm;
 use crate::result_heads::put_head;
 use nfs_ops::{OP_CREATE_SESSION, OP_DESTROY_CLIENTID, OP_DESTROY_SESSION, OP_EXCHANGE_ID};
-use nfs_types::Status;
+use nfs_types::{Moment, Status};
 use rpc_record::Caller;
 use std::alloc::Allocator;
 use xdr_wire::Writer;
@@ -32,13 +32,19 @@ impl Lone<'_> {
 
 impl<A: Allocator + Copy> Realm<A> {
     /// Runs the operation.
-    fn act(&mut self, caller: &Caller, lone: &Lone<'_>, out: &mut Writer<A>) -> Result<(), Status>
+    fn act(
+        &mut self,
+        caller: &Caller,
+        now: Moment,
+        lone: &Lone<'_>,
+        out: &mut Writer<A>,
+    ) -> Result<(), Status>
         requires room { limits.MIN_ROOM ≤ out.old.room }
         ensures gives { ActGives caller.now (lone_view lone.now) (realm_of self.old) out.old result (realm_of self.new) out.new }
         ensures others { IsOfClients self.old self.new }
     {
         match lone {
-            Lone::ExchangeId(args) => self.exchange_id(caller, args, out),
+            Lone::ExchangeId(args) => self.exchange_id(caller, now, args, out),
             Lone::CreateSession(args) => self.create_session(caller, args, out),
             Lone::DestroySession(args) => self.destroy_session(caller, args, out),
             Lone::DestroyClientId(args) => self.destroy_clientid(caller, args, out),
@@ -46,12 +52,18 @@ impl<A: Allocator + Copy> Realm<A> {
     }
 
     /// Runs the operation, and writes its result. Answers its status.
-    fn act_alone(&mut self, caller: &Caller, lone: &Lone<'_>, out: &mut Writer<A>) -> Status
+    fn act_alone(
+        &mut self,
+        caller: &Caller,
+        now: Moment,
+        lone: &Lone<'_>,
+        out: &mut Writer<A>,
+    ) -> Status
         requires room { limits.MIN_ROOM ≤ out.old.room }
         ensures gives { ActedSo caller.now (lone_view lone.now) (realm_of self.old) out.old result (realm_of self.new) out.new }
         ensures others { IsOfClients self.old self.new }
     {
-        match self.act(caller, lone, out) {
+        match self.act(caller, now, lone, out) {
             Ok(()) => Status::Ok,
             Err(status) => {
                 put_refusal(lone.number(), status, out);
@@ -65,6 +77,7 @@ impl<A: Allocator + Copy> Realm<A> {
         &mut self,
         tag: &[u8],
         caller: &Caller,
+        now: Moment,
         lone: &Lone<'_>,
         out: &mut Writer<A>,
     )
@@ -75,7 +88,7 @@ impl<A: Allocator + Copy> Realm<A> {
     {
         let status_at = out.len();
         put_head(Status::Ok, tag, 1, out);
-        let status = self.act_alone(caller, lone, out);
+        let status = self.act_alone(caller, now, lone, out);
         out.fill(status_at, status.number());
     }
 }

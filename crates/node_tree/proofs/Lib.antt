@@ -21,3 +21,8 @@ pub mod Counting
 pub mod Listed
 pub mod Keeping
 pub mod Places
+pub mod Saying
+pub mod Ranging
+pub mod Reading
+pub mod Quiet
+pub mod Allowing

@@ -6,6 +6,7 @@ use Rattle.acl_list.specs.declared.entry.Kind.{Kind}
 use Rattle.acl_list.specs.declared.entry.Kind.TheVariants.{File, Directory}
 use Rattle.acl_shape.specs.Bounds.{IsBounded}
 use Rattle.acl_shape.specs.Mode.{set_mode}
+use Rattle.node_tree.specs.Noted.{noted}
 use Rattle.node_tree.specs.World.{World, Object, kind_of}
 use Rattle.node_tree.specs.Changes.{changed, alone, root_of, epoch, with_new}
 use Rattle.node_tree.specs.Sample.{sample}
@@ -59,6 +60,7 @@ module _ (of_root of_notes of_pub : List Entry) (root_bounded : IsBounded of_roo
       IsSound-with_change second 1 1 two (lit< tt)
 
 pub IsSound-sample : ((entries : List Entry) (kind : Kind) (mode : ℕ) → IsBounded entries → IsBounded (set_mode entries kind mode)) → IsSound sample
+unfolding noted
 IsSound-sample bounds =
     let empty : IsBounded [] = record { all = lit≤ tt; kept = lit≤ tt } in
     is_sound (set_mode [] Directory 0x1ed) (set_mode [] File 0x1a0) (set_mode [] Directory 0x1ff) (bounds [] Directory 0x1ed empty) (bounds [] File 0x1a0 empty) (bounds [] Directory 0x1ff empty)

@@ -13,6 +13,9 @@ use Rattle.node_tree.specs.World.{World, Object, object, kind_of, bytes_of}
 use Rattle.node_tree.specs.Changes.{changed, touched, retold, written, resized, with_bytes, with_size, with_list, with_owner}
 use Rattle.node_tree.specs.Judged.{Judged, judged, KeepsJudged}
 use Rattle.node_tree.specs.Sound.{stamp_of, IsRooted, IsStamped, IsFit, IsSound, IsTick, most_bytes}
+use Rattle.node_tree.specs.Noted.{noted}
+use Rattle.node_tree.specs.Steps.{Write, Resize, SetList, SetOwner}
+use Rattle.node_tree.proofs.Quiet.{IsSound-noted, KeepsJudged-noted}
 use Rattle.node_tree.proofs.Objects.{option_map-changed, Changed, Kept, changed_cases, read_off}
 use Rattle.node_tree.proofs.Holding.{IsHeld, IsHeld-later, IsHeld-changed}
 use Rattle.node_tree.proofs.Stamps.{IsStamped-restamped}
@@ -65,11 +68,12 @@ length-written : (bytes : List ℕ) (offset : ℕ) (more : List ℕ) → length 
 length-written bytes offset more = grind (arith, common_steps, length-range_with_len)
 
 pub IsSound-with_bytes : (w : World) (file offset : ℕ) (more : List ℕ) (at : At) → IsSound w → IsTick w at.tick → kind_of w file ≡ Some File → offset + length more ≤ 1048576 → IsSound (with_bytes w file offset more at)
-IsSound-with_bytes w file offset more at sound tick is_file short = IsSound-with_new_bytes w file (λ old. written old offset more) at sound tick is_file
-    (λ old fits. rw (length-written old offset more) (omega (arith, fits, short)))
+IsSound-with_bytes w file offset more at sound tick is_file short =
+    IsSound-noted (with_new_bytes w file (λ old. written old offset more) at) (noted w (Write file offset more at))
+    (IsSound-with_new_bytes w file (λ old. written old offset more) at sound tick is_file (λ old fits. rw (length-written old offset more) (omega (arith, fits, short))))
 
 pub KeepsJudged-with_bytes : (w : World) (file offset : ℕ) (more : List ℕ) (at : At) → KeepsJudged w (with_bytes w file offset more at)
-KeepsJudged-with_bytes w file offset more at = KeepsJudged-with_new_bytes w file (λ old. written old offset more) at
+KeepsJudged-with_bytes w file offset more at = KeepsJudged-noted w (with_new_bytes w file (λ old. written old offset more) at) (noted w (Write file offset more at)) (KeepsJudged-with_new_bytes w file (λ old. written old offset more) at)
 
 -- a file is never too long
 pub short_file : (w : World) → IsSound w → (file : ℕ) → kind_of w file ≡ Some File → length (bytes_of w file) ≤ 1048576
@@ -83,11 +87,12 @@ length-resized : (bytes : List ℕ) (size : ℕ) → length (resized bytes size)
 length-resized bytes size = grind (arith, common_steps)
 
 pub IsSound-with_size : (w : World) (file size : ℕ) (at : At) → IsSound w → IsTick w at.tick → kind_of w file ≡ Some File → size ≤ 1048576 → IsSound (with_size w file size at)
-IsSound-with_size w file size at sound tick is_file short = IsSound-with_new_bytes w file (λ old. resized old size) at sound tick is_file
-    (λ old fits. subst (λ n. n ≤ 1048576) (sym (length-resized old size)) short)
+IsSound-with_size w file size at sound tick is_file short =
+    IsSound-noted (with_new_bytes w file (λ old. resized old size) at) (noted w (Resize file size at))
+    (IsSound-with_new_bytes w file (λ old. resized old size) at sound tick is_file (λ old fits. subst (λ n. n ≤ 1048576) (sym (length-resized old size)) short))
 
 pub KeepsJudged-with_size : (w : World) (file size : ℕ) (at : At) → KeepsJudged w (with_size w file size at)
-KeepsJudged-with_size w file size at = KeepsJudged-with_new_bytes w file (λ old. resized old size) at
+KeepsJudged-with_size w file size at = KeepsJudged-noted w (with_new_bytes w file (λ old. resized old size) at) (noted w (Resize file size at)) (KeepsJudged-with_new_bytes w file (λ old. resized old size) at)
 
 -- ---- the list, owner and group of an object
 
@@ -128,16 +133,20 @@ KeepsJudged-with_new_stamp w number f at stamp = record {
 
 pub IsSound-with_list : (w : World) (number : ℕ) (list : List Entry) (high : ℕ) (at : At) → IsSound w → IsTick w at.tick → w.next_stamp < 2 ^ 63 → IsBounded list → IsSound (with_list w number list high at)
 IsSound-with_list w number list high at sound tick left bounded =
-    IsSound-with_new_stamp w number (λ o. retold at (record o { list = list; high = high; stamp = w.next_stamp })) at sound tick left (λ o. refl) (λ o. refl)
-    (λ o fit. record { list = bounded; bytes = fit.bytes; change = let goal : at.tick < at.tick + 1 = omega arith in goal })
+    IsSound-noted (with_new_stamp w number (λ o. retold at (record o { list = list; high = high; stamp = w.next_stamp })) at) (noted w (SetList number list high at))
+    (IsSound-with_new_stamp w number (λ o. retold at (record o { list = list; high = high; stamp = w.next_stamp })) at sound tick left (λ o. refl) (λ o. refl)
+    (λ o fit. record { list = bounded; bytes = fit.bytes; change = let goal : at.tick < at.tick + 1 = omega arith in goal }))
 
 pub KeepsJudged-with_list : (w : World) (number : ℕ) (list : List Entry) (high : ℕ) (at : At) → KeepsJudged w (with_list w number list high at)
-KeepsJudged-with_list w number list high at = KeepsJudged-with_new_stamp w number (λ o. retold at (record o { list = list; high = high; stamp = w.next_stamp })) at (λ o. refl)
+KeepsJudged-with_list w number list high at =
+    KeepsJudged-noted w (with_new_stamp w number (λ o. retold at (record o { list = list; high = high; stamp = w.next_stamp })) at) (noted w (SetList number list high at)) (KeepsJudged-with_new_stamp w number (λ o. retold at (record o { list = list; high = high; stamp = w.next_stamp })) at (λ o. refl))
 
 pub IsSound-with_owner : (w : World) (number owner group : ℕ) (at : At) → IsSound w → IsTick w at.tick → w.next_stamp < 2 ^ 63 → IsSound (with_owner w number owner group at)
 IsSound-with_owner w number owner group at sound tick left =
-    IsSound-with_new_stamp w number (λ o. retold at (record o { owner = owner; group = group; stamp = w.next_stamp })) at sound tick left (λ o. refl) (λ o. refl)
-    (λ o fit. record { list = fit.list; bytes = fit.bytes; change = let goal : at.tick < at.tick + 1 = omega arith in goal })
+    IsSound-noted (with_new_stamp w number (λ o. retold at (record o { owner = owner; group = group; stamp = w.next_stamp })) at) (noted w (SetOwner number owner group at))
+    (IsSound-with_new_stamp w number (λ o. retold at (record o { owner = owner; group = group; stamp = w.next_stamp })) at sound tick left (λ o. refl) (λ o. refl)
+    (λ o fit. record { list = fit.list; bytes = fit.bytes; change = let goal : at.tick < at.tick + 1 = omega arith in goal }))
 
 pub KeepsJudged-with_owner : (w : World) (number owner group : ℕ) (at : At) → KeepsJudged w (with_owner w number owner group at)
-KeepsJudged-with_owner w number owner group at = KeepsJudged-with_new_stamp w number (λ o. retold at (record o { owner = owner; group = group; stamp = w.next_stamp })) at (λ o. refl)
+KeepsJudged-with_owner w number owner group at =
+    KeepsJudged-noted w (with_new_stamp w number (λ o. retold at (record o { owner = owner; group = group; stamp = w.next_stamp })) at) (noted w (SetOwner number owner group at)) (KeepsJudged-with_new_stamp w number (λ o. retold at (record o { owner = owner; group = group; stamp = w.next_stamp })) at (λ o. refl))

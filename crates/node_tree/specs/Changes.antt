@@ -1,5 +1,5 @@
 -- The changes of the world (RFC 8881, sections 5.8, 18.4, 18.9, 18.25, 18.26, 18.30 and 18.32). A change takes a tick, and each
--- object that it changes gets the tick; the changes of one operation share it.
+-- object that it changes gets the tick; the changes of one operation share it. Each change is noted.
 use Rattle.std.specs.Prelude.{ℕ, pos, ◌+◌, ◌-◌, not, ◌&&◌, nat_le, nat_lt, if◌then◌else◌, max, List, [], ◌∷◌, ◌++◌, length, map, filter, take, replicate, slice_index, Option}
 use Rattle.std.proofs.Common.{lit<}
 use Rattle.std.specs.List.{range_with_len}
@@ -13,6 +13,9 @@ use Rattle.acl_list.specs.declared.entry.Kind.TheVariants.{Directory}
 use Rattle.nfs_types.specs.declared.moment.Moment.{Moment}
 use Rattle.node_tree.specs.declared.at.At.{At}
 use Rattle.node_tree.specs.declared.node.NewObject.{NewObject}
+use Rattle.node_tree.specs.Notes.{no_notes}
+use Rattle.node_tree.specs.Noted.{noted}
+use Rattle.node_tree.specs.Steps.{Add, Link, Unlink, Rename, Write, Resize, SetList, SetOwner}
 use Rattle.node_tree.specs.World.{World, Object, Name, child_named, is_one, is_named, has_name}
 
 -- ---- objects
@@ -67,7 +70,7 @@ root_of owner group list high = new_object Directory [] owner group list high 1 
 
 -- a root and no other object
 abbrev pub alone : Object → World
-alone root = record { objects = (1, root) ∷ []; names = []; next_number = 2; next_tick = 2; next_stamp = 2; next_cookie = 3 }
+alone root = record { objects = (1, root) ∷ []; names = []; next_number = 2; next_tick = 2; next_stamp = 2; next_cookie = 3; notes = no_notes }
 
 -- ---- names
 
@@ -92,6 +95,7 @@ with_new w directory name o at = record w {
   next_tick = at.tick + 1;
   next_stamp = w.next_stamp + 1;
   next_cookie = w.next_cookie + 1;
+  notes = noted w (Add directory name o.kind o.bytes o.owner o.group o.list o.high at);
 }
 
 -- one more name for an object (LINK)
@@ -101,6 +105,7 @@ with_link w directory name number at = record w {
   names = named w directory name number w.names;
   next_tick = at.tick + 1;
   next_cookie = w.next_cookie + 1;
+  notes = noted w (Link directory name number at);
 }
 
 -- without the name of a child, and without the child if that was its last name (REMOVE)
@@ -111,6 +116,7 @@ without_name w directory name child at =
       objects = changed directory (touched at) (released names child at w.objects);
       names = names;
       next_tick = at.tick + 1;
+      notes = noted w (Unlink directory name at);
     }
 
 abbrev pub unlinked : World → ℕ → List ℕ → At → World
@@ -125,6 +131,7 @@ with_move w from old to new child target at =
       names = named w to new child names;
       next_tick = at.tick + 1;
       next_cookie = w.next_cookie + 1;
+      notes = noted w (Rename from old to new at);
     }
 
 -- two names of one object stay as they are
@@ -146,6 +153,7 @@ abbrev pub with_bytes : World → ℕ → ℕ → List ℕ → At → World
 with_bytes w file offset more at = record w {
   objects = changed file (λ o. touched at (record o { bytes = written o.bytes offset more })) w.objects;
   next_tick = at.tick + 1;
+  notes = noted w (Write file offset more at);
 }
 
 -- no bytes change nothing (WRITE)
@@ -162,6 +170,7 @@ abbrev pub with_size : World → ℕ → ℕ → At → World
 with_size w file size at = record w {
   objects = changed file (λ o. touched at (record o { bytes = resized o.bytes size })) w.objects;
   next_tick = at.tick + 1;
+  notes = noted w (Resize file size at);
 }
 
 -- ---- the list, owner and group of an object
@@ -172,6 +181,7 @@ with_list w number list high at = record w {
   objects = changed number (λ o. retold at (record o { list = list; high = high; stamp = w.next_stamp })) w.objects;
   next_tick = at.tick + 1;
   next_stamp = w.next_stamp + 1;
+  notes = noted w (SetList number list high at);
 }
 
 -- an owner and a group are set (SETATTR)
@@ -180,4 +190,5 @@ with_owner w number owner group at = record w {
   objects = changed number (λ o. retold at (record o { owner = owner; group = group; stamp = w.next_stamp })) w.objects;
   next_tick = at.tick + 1;
   next_stamp = w.next_stamp + 1;
+  notes = noted w (SetOwner number owner group at);
 }

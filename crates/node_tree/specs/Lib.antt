@@ -1,4 +1,5 @@
 pub mod Limits
+pub mod Notes
 pub mod World
 pub mod Ways
 pub mod Changes
@@ -12,3 +13,9 @@ pub mod Indexes
 pub mod Judged
 pub mod Sound
 pub mod Sample
+pub mod Restored
+pub mod Parts
+pub mod Steps
+pub mod Forms
+pub mod Ranges
+pub mod Noted

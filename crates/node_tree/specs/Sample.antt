@@ -4,6 +4,7 @@ use Rattle.acl_list.specs.declared.entry.Kind.{Kind}
 use Rattle.acl_list.specs.declared.entry.Kind.TheVariants.{File, Directory}
 use Rattle.acl_shape.specs.Mode.{set_mode}
 use Rattle.node_tree.specs.Limits.{ROOT}
+use Rattle.node_tree.specs.Notes.{no_notes}
 use Rattle.node_tree.specs.World.{World, Object}
 use Rattle.node_tree.specs.Changes.{new_object, from_start}
 
@@ -20,4 +21,5 @@ sample = record {
   next_tick = 4;
   next_stamp = 4;
   next_cookie = 5;
+  notes = no_notes;
 }

@@ -11,6 +11,7 @@ use Rattle.acl_list.specs.declared.entry.Entry.{Entry}
 use Rattle.acl_list.specs.declared.entry.Kind.{Kind}
 use Rattle.acl_shape.specs.Inherited.{is_directory}
 use Rattle.nfs_types.specs.declared.moment.Moment.{Moment}
+use Rattle.node_tree.specs.Notes.{Notes}
 
 pub record Object : Type 0 where
   pub kind : Kind
@@ -43,6 +44,8 @@ pub record World : Type 0 where
   pub next_tick : ℕ
   pub next_stamp : ℕ
   pub next_cookie : ℕ
+  -- the changes that were noted for a store, which nothing else depends on
+  pub notes : Notes
 
 -- ---- objects
 

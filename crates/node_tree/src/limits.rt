@@ -13,6 +13,9 @@ pub const MAX_BYTES: u64 = 1_048_576;
 /// The most bytes of a link's text.
 pub const MAX_TEXT: u64 = 1024;
 
+/// The most bytes of a name.
+pub const MAX_NAME: usize = 255;
+
 /// The most names in a directory.
 pub const MAX_NAMES: usize = 4096;
 

@@ -13,6 +13,7 @@ use crate::entry::DirEntry;
 use std::alloc::{AllocError, Allocator, Global};
 use std::collections::{BTreeMap, BTreeSet};
 use std::marker::Model;
+use std::ops::Bound;
 
 /// The names of all directories, by rising cookie.
 #[derive(Debug, Drop)]
@@ -49,6 +50,22 @@ fn put_entry<A: Allocator + Copy>(
     Ok(())
 }
 
+/// The entry of the least cookie above another one.
+fn entry_above<A: Allocator>(
+    entries: &BTreeMap<u64, DirEntry<A>, A>,
+    cookie: u64,
+) -> Option<&DirEntry<A>>
+    ensures { option_copied result ≡ option_map (λ e. e.1) (find (λ e. nat_lt cookie e.0) entries.now.entries) }
+{
+    match entries
+        .range((Bound::Excluded(cookie), Bound::Unbounded))
+        .next()
+    {
+        Some((_, entry)) => Some(entry),
+        None => None,
+    }
+}
+
 /// One cookie less for a directory and for a child.
 fn take_both<A: Allocator>(
     by_directory: &mut BTreeMap<u64, BTreeSet<u64, A>, A>,
@@ -81,6 +98,13 @@ impl<A: Allocator> NameList<A> {
             return None;
         };
         self.get(next)
+    }
+
+    /// The next name of all, by rising cookie.
+    pub fn after(&self, cookie: u64) -> Option<&DirEntry<A>>
+        ensures { option_copied result ≡ find (λ n. nat_lt cookie n.cookie) self.now }
+    {
+        entry_above(&self.by_cookie, cookie)
     }
 
     /// The first name of a child, by rising cookie.

@@ -60,6 +60,13 @@ impl<A: Allocator> NameTable<A> {
         self.list.list_after(directory, cookie)
     }
 
+    /// The next name of all, by rising cookie.
+    pub fn after(&self, cookie: u64) -> Option<&DirEntry<A>>
+        ensures { option_copied result ≡ find (λ n. nat_lt cookie n.cookie) self.now }
+    {
+        self.list.after(cookie)
+    }
+
     /// The directory of the first name that an object has.
     pub fn directory_of(&self, number: u64) -> Option<u64>
         ensures { result ≡ option_map (λ n. n.directory) (find (λ n. n.child == number) self.now) }

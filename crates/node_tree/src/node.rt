@@ -3,6 +3,7 @@ ghost use Rattle.std.specs.Prelude.{◌≡◌, ◌+◌, ◌<◌, ◌≤◌, ◌^
 ghost use Rattle.acl_list.specs.declared.entry.Kind.TheVariants as kinds;
 ghost use Rattle.acl_shape.specs.Inherited.{is_directory};
 ghost use Rattle.node_tree.specs.Sound.{most_bytes};
+ghost use Rattle.node_tree.specs.Restored.{kept_object};
 ghost use Rattle.node_tree.specs.Changes.{made, touched, retold, written, resized};
 
 use crate::at::At;
@@ -27,6 +28,19 @@ pub struct NewObject<A: Allocator = Global> {
     pub list: AclList<A>,
     /// The bits 0o7000 of the mode.
     pub high: u32,
+}
+
+/// The attributes of an object that a checkpoint keeps beside its parts.
+#[derive(Clone, Copy, Debug, PartialEq, Eq)]
+pub struct Kept {
+    /// The tick of the last change.
+    pub change: u64,
+    /// The time of the last change of the bytes or names.
+    pub time_modify: Moment,
+    /// The time of the last change.
+    pub time_metadata: Moment,
+    /// The stamp.
+    pub stamp: u64,
 }
 
 /// An object of a tree: its attributes, also those that decide access. [`crate::Tree::read`] gives its bytes.
@@ -212,6 +226,24 @@ impl<A: Allocator + Copy> Node<A> {
             time_modify: at.moment,
             time_metadata: at.moment,
             stamp,
+        })
+    }
+
+    /// An object of before. `Err`: there is no memory for the bytes of a file.
+    pub(crate) fn kept(alloc: A, new: NewObject<A>, kept: Kept) -> Result<Self, AllocError>
+        requires { length new.bytes.items ≤ most_bytes new.kind }
+        ensures { IfOk result (λ node. node ≡ kept_object new kept) }
+    {
+        Ok(Node {
+            contents: Contents::made(alloc, new.kind, new.bytes)?,
+            owner: new.owner,
+            group: new.group,
+            list: new.list,
+            high: new.high,
+            change: kept.change,
+            time_modify: kept.time_modify,
+            time_metadata: kept.time_metadata,
+            stamp: kept.stamp,
         })
     }
 

@@ -1,6 +1,6 @@
 //! The objects, each in a place of its own, with an index by number.
-ghost use Rattle.std.specs.Prelude.{◌≡◌, ◌+◌, [], length, OnOk, OnErr, None, Some};
-ghost use Rattle.std.specs.Option.{option_copied, option_copied_mut};
+ghost use Rattle.std.specs.Prelude.{◌≡◌, ◌+◌, [], length, find, nat_lt, OnOk, OnErr, None, Some};
+ghost use Rattle.std.specs.Option.{option_copied, option_copied_mut, option_map};
 ghost use Rattle.std.specs.Map.{lookup};
 ghost use Rattle.std.specs.BTreeMap.{insert_entry, is_at};
 ghost use Rattle.std.specs.Ordering.{nat_cmp};
@@ -13,6 +13,7 @@ use slab::Slab;
 use std::alloc::{AllocError, Allocator, Global};
 use std::collections::BTreeMap;
 use std::marker::Model;
+use std::ops::Bound;
 
 /// The objects by rising number.
 #[derive(Debug, Drop)]
@@ -39,6 +40,19 @@ fn place_of<A: Allocator>(places: &BTreeMap<u64, usize, A>, number: u64) -> Opti
     ensures { result ≡ lookup (is_at (nat_cmp number)) places.now.entries }
 {
     places.get(&number).copied()
+}
+
+/// The least number above another one.
+fn above<A: Allocator>(places: &BTreeMap<u64, usize, A>, number: u64) -> Option<u64>
+    ensures { result ≡ option_map (λ e. e.0) (find (λ e. nat_lt number e.0) places.now.entries) }
+{
+    match places
+        .range((Bound::Excluded(number), Bound::Unbounded))
+        .next()
+    {
+        Some((next, _)) => Some(*next),
+        None => None,
+    }
 }
 
 /// Puts an object into the next place, for which there is room.
@@ -89,6 +103,13 @@ impl<A: Allocator> NodeTable<A> {
             return None;
         };
         self.nodes.get(place)
+    }
+
+    /// The least number above another one that has an object.
+    pub fn number_after(&self, number: u64) -> Option<u64>
+        ensures { result ≡ option_map (λ e. e.0) (find (λ e. nat_lt number e.0) self.now) }
+    {
+        above(&self.places, number)
     }
 
     /// The object of a number, to be changed.

@@ -1,9 +1,17 @@
 //! The storage of a tree: objects in a map by number, names by rising cookie. Its results and changes are right for any
 //! objects and names; [`crate::Tree`] keeps them a tree.
-ghost use Rattle.std.specs.Prelude.{◌≡◌, ◌+◌, ◌-◌, ◌<◌, ◌≤◌, ◌^◌, ◌&&◌, ◌++◌, ℕ, nat_le, nat_lt, if◌then◌else◌, slice_index, length, drop, filter, not, None, OnOk, OnErr, IfOk, Some, false, ◌≢◌};
+ghost use Rattle.std.specs.Prelude.{◌≡◌, ◌∷◌, [], ◌+◌, ◌-◌, ◌<◌, ◌≤◌, ◌^◌, ◌&&◌, ◌++◌, ℕ, nat_le, nat_lt, if◌then◌else◌, slice_index, length, drop, filter, not, None, OnOk, OnErr, IfOk, MatchOption, Some, true, false, ◌≢◌};
 ghost use Rattle.std.specs.Option.{option_copied, option_map_or};
 ghost use Rattle.node_tree.specs.World.{object, kind_of, bytes_at, child_named, name_after, is_named, is_directory_at, has_name, has_entries, name_count, link_count, parent_of};
+ghost use Rattle.std.specs.List.{list_all};
+ghost use Rattle.node_tree.specs.Restored.{kept_object, put_object, put_name, child_fits, leads_up, is_placed};
+ghost use Rattle.node_tree.specs.Parts.{number_after, any_after};
 ghost use Rattle.node_tree.specs.Ways.{is_within};
+ghost use Rattle.node_tree.specs.Notes.{no_notes, begun_notes, cleared, note};
+ghost use Rattle.node_tree.specs.Noted.{quietly, CutsTo};
+ghost use Rattle.node_tree.specs.Steps.{Add, Link, Unlink, Rename, Write, Resize, SetList, SetOwner};
+ghost use Rattle.node_tree.specs.Forms.{spelled};
+ghost use Rattle.node_tree.specs.Ranges.{in_range};
 ghost use Rattle.node_tree.specs.Changes.{alone, made, changed, touched, retold, without, released, other_names, written, resized, with_new, with_link, without_name, with_move, with_bytes, with_size, with_list, with_owner};
 ghost use Rattle.node_tree.specs.Sound.{most_bytes, Rises};
 ghost use Rattle.node_tree.specs.Refusals.{add_refusal, link_refusal, has_left, has_room, has_object_room, may_link, may_name, may_add, is_below, may_replace, may_move};
@@ -15,14 +23,15 @@ use crate::entry::DirEntry;
 use crate::fault::TreeFault;
 use crate::limits::{MAX_LINKS, MAX_NAMES, MAX_OBJECTS, ROOT};
 use crate::name_table::NameTable;
-use crate::node::{NewObject, Node};
+use crate::node::{Kept, NewObject, Node};
 use crate::node_table::NodeTable;
-use acl_list::{AclList, Kind};
+use crate::notes::{Mark, Notes};
+use acl_list::{AclList, Entry, Kind};
 use std::alloc::{AllocError, Allocator, Global};
 use std::marker::Model;
 
 /// The bound of all counters.
-const END: u64 = 1 << 63;
+pub const END: u64 = 1 << 63;
 
 /// Objects by number, names by cookie, and the counters.
 #[derive(Debug, Drop)]
@@ -34,6 +43,8 @@ pub struct Store<A: Allocator = Global> {
     next_tick: u64,
     next_stamp: u64,
     next_cookie: u64,
+    /// The changes since notes were begun.
+    notes: Notes<A>,
 }
 
 impl<A: Allocator> Model for Store<A> {
@@ -48,6 +59,7 @@ impl<A: Allocator> Model for Store<A> {
       next_tick = s.next_tick;
       next_stamp = s.next_stamp;
       next_cookie = s.next_cookie;
+      notes = s.notes;
     } };
 }
 
@@ -83,6 +95,20 @@ impl<A: Allocator + Copy> Store<A> {
         ensures { option_copied result ≡ name_after self.now directory cookie }
     {
         self.names.list_after(directory, cookie)
+    }
+
+    /// The least number above another one that has an object.
+    pub fn number_after(&self, number: u64) -> Option<u64>
+        ensures { result ≡ number_after self.now number }
+    {
+        self.objects.number_after(number)
+    }
+
+    /// The next name of all, by rising cookie.
+    pub fn any_after(&self, cookie: u64) -> Option<&DirEntry<A>>
+        ensures { option_copied result ≡ any_after self.now cookie }
+    {
+        self.names.after(cookie)
     }
 
     /// Whether a directory has names.
@@ -282,7 +308,7 @@ impl<A: Allocator + Copy> Store<A> {
         next: u64,
         next_cookie: u64,
     ) -> Self
-        ensures { result ≡ record { objects = objects; names = names; next_number = next; next_tick = next; next_stamp = next; next_cookie = next_cookie } }
+        ensures { result ≡ record { objects = objects; names = names; next_number = next; next_tick = next; next_stamp = next; next_cookie = next_cookie; notes = no_notes } }
     {
         Store {
             alloc,
@@ -292,6 +318,7 @@ impl<A: Allocator + Copy> Store<A> {
             next_tick: next,
             next_stamp: next,
             next_cookie,
+            notes: Notes::none(alloc),
         }
     }
 
@@ -312,7 +339,7 @@ impl<A: Allocator + Copy> Store<A> {
         requires listed { Rises (λ n. n.cookie) 3 self.old.names self.old.next_cookie }
         requires numbered { Rises (λ e. e.0) 1 self.old.objects self.old.next_number }
         ensures number { IfOk result (λ number. number ≡ self.old.next_number) }
-        ensures ok { OnOk result (self.new ≡ with_new self.old directory name.now (made new self.old.next_stamp at) at) }
+        ensures ok { OnOk result (self.new ≡ quietly self.old (with_new self.old directory name.now (made new self.old.next_stamp at) at)) }
         ensures err { OnErr result (self.new ≡ self.old) }
     {
         let node = Node::made(self.alloc, new, self.next_stamp, at)?;
@@ -343,7 +370,7 @@ impl<A: Allocator + Copy> Store<A> {
         requires cookies { self.old.next_cookie < 2 ^ 63 }
         requires absent { child_named self.old directory name.now ≡ None }
         requires listed { Rises (λ n. n.cookie) 3 self.old.names self.old.next_cookie }
-        ensures ok { OnOk result (self.new ≡ with_link self.old directory name.now number at) }
+        ensures ok { OnOk result (self.new ≡ quietly self.old (with_link self.old directory name.now number at)) }
         ensures err { OnErr result (self.new ≡ self.old) }
     {
         self.names
@@ -358,7 +385,7 @@ impl<A: Allocator + Copy> Store<A> {
     /// Takes a name away. Its child goes with its last name.
     pub fn unlink(&mut self, directory: u64, name: &[u8], child: u64, at: At)
         requires { at.tick < 2 ^ 63 }
-        ensures { self.new ≡ without_name self.old directory name.now child at }
+        ensures { self.new ≡ quietly self.old (without_name self.old directory name.now child at) }
     {
         self.names.remove(directory, name);
         let stays = self.names.has_name(child);
@@ -382,7 +409,7 @@ impl<A: Allocator + Copy> Store<A> {
         requires cookies { self.old.next_cookie < 2 ^ 63 }
         requires listed { Rises (λ n. n.cookie) 3 self.old.names self.old.next_cookie }
         requires other { target ≢ Some child }
-        ensures ok { OnOk result (self.new ≡ with_move self.old from old.now to new.now child target at) }
+        ensures ok { OnOk result (self.new ≡ quietly self.old (with_move self.old from old.now to new.now child target at)) }
         ensures err { OnErr result (self.new ≡ self.old) }
     {
         self.names
@@ -420,7 +447,7 @@ impl<A: Allocator + Copy> Store<A> {
         requires ticks { at.tick < 2 ^ 63 }
         requires few { offset + length more.now < 2 ^ 32 }
         requires file { kind_of self.old file ≡ Some Kind.File }
-        ensures ok { OnOk result (self.new ≡ with_bytes self.old file offset more.now at) }
+        ensures ok { OnOk result (self.new ≡ quietly self.old (with_bytes self.old file offset more.now at)) }
         ensures err { OnErr result (self.new ≡ self.old) }
     {
         edits::write(&mut self.objects, self.alloc, file, offset, more, at)?;
@@ -432,7 +459,7 @@ impl<A: Allocator + Copy> Store<A> {
     pub fn resize(&mut self, file: u64, size: usize, at: At)
         requires ticks { at.tick < 2 ^ 63 }
         requires file { kind_of self.old file ≡ Some Kind.File }
-        ensures { self.new ≡ with_size self.old file size at }
+        ensures { self.new ≡ quietly self.old (with_size self.old file size at) }
     {
         edits::resize(&mut self.objects, file, size, at);
         self.next_tick = at.tick + 1;
@@ -442,7 +469,7 @@ impl<A: Allocator + Copy> Store<A> {
     pub fn set_list(&mut self, number: u64, list: AclList<A>, high: u32, at: At)
         requires stamps { self.old.next_stamp < 2 ^ 63 }
         requires ticks { at.tick < 2 ^ 63 }
-        ensures { self.new ≡ with_list self.old number list high at }
+        ensures { self.new ≡ quietly self.old (with_list self.old number list high at) }
     {
         edits::set_list(&mut self.objects, number, list, high, self.next_stamp, at);
         self.next_tick = at.tick + 1;
@@ -453,10 +480,233 @@ impl<A: Allocator + Copy> Store<A> {
     pub fn set_owner(&mut self, number: u64, owner: u32, group: u32, at: At)
         requires stamps { self.old.next_stamp < 2 ^ 63 }
         requires ticks { at.tick < 2 ^ 63 }
-        ensures { self.new ≡ with_owner self.old number owner group at }
+        ensures { self.new ≡ quietly self.old (with_owner self.old number owner group at) }
     {
         edits::set_owner(&mut self.objects, number, owner, group, self.next_stamp, at);
         self.next_tick = at.tick + 1;
         self.next_stamp += 1;
+    }
+}
+
+// What a checkpoint says.
+impl<A: Allocator + Copy> Store<A> {
+    /// No objects and no names.
+    pub fn empty(
+        alloc: A,
+        next_number: u64,
+        next_tick: u64,
+        next_stamp: u64,
+        next_cookie: u64,
+    ) -> Self
+        ensures { result ≡ record { objects = []; names = []; next_number = next_number; next_tick = next_tick; next_stamp = next_stamp; next_cookie = next_cookie; notes = no_notes } }
+    {
+        Store {
+            alloc,
+            objects: NodeTable::new(alloc),
+            names: NameTable::new(alloc),
+            next_number,
+            next_tick,
+            next_stamp,
+            next_cookie,
+            notes: Notes::none(alloc),
+        }
+    }
+
+    /// The number of the next object.
+    pub fn next_number(&self) -> u64
+        ensures { result ≡ self.now.next_number }
+    {
+        self.next_number
+    }
+
+    /// The cookie of the next name.
+    pub fn next_cookie(&self) -> u64
+        ensures { result ≡ self.now.next_cookie }
+    {
+        self.next_cookie
+    }
+
+    /// One more object, of a number above all others.
+    pub fn put_object(
+        &mut self,
+        number: u64,
+        new: NewObject<A>,
+        kept: Kept,
+    ) -> Result<(), AllocError>
+        requires bytes { length new.bytes.items ≤ most_bytes new.kind }
+        requires last { Rises (λ e. e.0) 1 self.old.objects number }
+        ensures { OnOk result (self.new ≡ put_object self.old number (kept_object new kept)) }
+    {
+        let node = Node::kept(self.alloc, new, kept)?;
+        self.objects.insert(number, node)?;
+        Ok(())
+    }
+
+    /// One more name, which isn't there, with a cookie above all others.
+    pub fn put_name(
+        &mut self,
+        cookie: u64,
+        directory: u64,
+        name: &[u8],
+        child: u64,
+    ) -> Result<(), AllocError>
+        requires absent { child_named self.old directory name.now ≡ None }
+        requires last { Rises (λ n. n.cookie) 3 self.old.names cookie }
+        ensures { OnOk result (self.new ≡ put_name self.old (record { cookie = cookie; directory = directory; name = name.now; child = child })) }
+    {
+        self.names.push(self.alloc, cookie, directory, name, child)
+    }
+
+    /// Whether an object may have one more name: a directory only one.
+    pub fn child_fits(&self, child: u64) -> bool
+        ensures { result ≡ child_fits self.now child }
+    {
+        if self.is_directory(child) {
+            !self.names.has_name(child)
+        } else {
+            self.object(child).is_some() && self.may_link(child)
+        }
+    }
+
+    /// Whether the way up from an object leads to the root.
+    fn leads_up(&self, number: u64) -> bool
+        ensures { result ≡ leads_up (parent_of self.now) (length self.now.objects) number }
+    {
+        let mut here = number;
+        for _ in 0..self.objects.len() {
+            if here == ROOT {
+                return true;
+            }
+            let Some(parent) = self.parent(here) else {
+                return false;
+            };
+            here = parent;
+        }
+        false
+    }
+
+    /// Whether an object has a place in the tree.
+    fn is_placed(&self, number: u64) -> bool
+        ensures { result ≡ is_placed self.now number }
+    {
+        if self.is_directory(number) {
+            self.leads_up(number)
+        } else {
+            self.names.has_name(number)
+        }
+    }
+
+    /// Whether each of these objects has a place in the tree.
+    pub fn all_placed(&self, numbers: &[u64]) -> bool
+        ensures { result ≡ list_all (is_placed self.now) numbers.now }
+    {
+        for number in numbers {
+            if !self.is_placed(*number) {
+                return false;
+            }
+        }
+        true
+    }
+}
+
+// What is noted.
+impl<A: Allocator + Copy> Store<A> {
+    /// Begins notes, with room for this many bytes. `Err`: there is no memory for it, and nothing has changed.
+    pub fn begin_notes(&mut self, room: usize) -> Result<(), AllocError>
+        ensures ok { OnOk result (self.new ≡ record self.old { notes = begun_notes room }) }
+        ensures err { OnErr result (self.new ≡ self.old) }
+    {
+        self.notes = Notes::new(self.alloc, room)?;
+        Ok(())
+    }
+
+    /// The changes that were noted, one after the other. `None`: one was lost, or none are kept.
+    pub fn notes(&self) -> Option<&[u8]>
+        ensures { MatchOption result (self.now.notes.is_lost ≡ true) (λ bytes. (self.now.notes.is_lost ≡ false) × (bytes.now ≡ self.now.notes.bytes)) }
+    {
+        self.notes.bytes()
+    }
+
+    /// Forgets what was noted.
+    pub fn clear_notes(&mut self)
+        ensures { self.new ≡ record self.old { notes = cleared self.old.notes } }
+    {
+        self.notes.clear();
+    }
+
+    /// Notes that an object was made, and answers where the notes were before.
+    pub fn note_add(&mut self, directory: u64, name: &[u8], new: &NewObject<A>, at: At) -> Mark
+        requires name { length name.now ≤ 255 }
+        requires bytes { length new.now.bytes.items ≤ 1048576 }
+        requires list { length new.now.list ≤ 64 }
+        ensures noted { self.new ≡ record self.old { notes = note self.old.notes (in_range (Add directory name.now new.now.kind new.now.bytes.items new.now.owner new.now.group new.now.list new.now.high at)) (spelled (Add directory name.now new.now.kind new.now.bytes.items new.now.owner new.now.group new.now.list new.now.high at)) } }
+        ensures mark { (result.len ≡ length self.old.notes.bytes) × (result.was_lost ≡ self.old.notes.is_lost) }
+    {
+        let mark = self.notes.mark();
+        self.notes.add(directory, name, new, at);
+        mark
+    }
+
+    /// Takes back what was noted after a mark.
+    pub fn cut_notes(&mut self, mark: Mark)
+        requires { mark.len ≤ length self.old.notes.bytes }
+        ensures { CutsTo self.old self.new mark.len mark.was_lost }
+    {
+        self.notes.cut(mark);
+    }
+
+    /// Notes that an object got a further name.
+    pub fn note_link(&mut self, directory: u64, name: &[u8], number: u64, at: At)
+        requires { length name.now ≤ 255 }
+        ensures { self.new ≡ record self.old { notes = note self.old.notes (in_range (Link directory name.now number at)) (spelled (Link directory name.now number at)) } }
+    {
+        self.notes.link(directory, name, number, at);
+    }
+
+    /// Notes that a name was taken away.
+    pub fn note_unlink(&mut self, directory: u64, name: &[u8], at: At)
+        requires { length name.now ≤ 255 }
+        ensures { self.new ≡ record self.old { notes = note self.old.notes (in_range (Unlink directory name.now at)) (spelled (Unlink directory name.now at)) } }
+    {
+        self.notes.unlink(directory, name, at);
+    }
+
+    /// Notes that a child got another name.
+    pub fn note_rename(&mut self, from: u64, old: &[u8], to: u64, new: &[u8], at: At)
+        requires old { length old.now ≤ 255 }
+        requires new { length new.now ≤ 255 }
+        ensures { self.new ≡ record self.old { notes = note self.old.notes (in_range (Rename from old.now to new.now at)) (spelled (Rename from old.now to new.now at)) } }
+    {
+        self.notes.rename(from, old, to, new, at);
+    }
+
+    /// Notes that data were written.
+    pub fn note_write(&mut self, file: u64, offset: u64, more: &[u8], at: At)
+        requires { length more.now ≤ 1048576 }
+        ensures { self.new ≡ record self.old { notes = note self.old.notes (in_range (Write file offset more.now at)) (spelled (Write file offset more.now at)) } }
+    {
+        self.notes.write(file, offset, more, at);
+    }
+
+    /// Notes that a size was set.
+    pub fn note_resize(&mut self, file: u64, size: u64, at: At)
+        ensures { self.new ≡ record self.old { notes = note self.old.notes (in_range (Resize file size at)) (spelled (Resize file size at)) } }
+    {
+        self.notes.resize(file, size, at);
+    }
+
+    /// Notes that a list was set.
+    pub fn note_set_list(&mut self, number: u64, list: &[Entry], high: u32, at: At)
+        requires { length list.now ≤ 64 }
+        ensures { self.new ≡ record self.old { notes = note self.old.notes (in_range (SetList number list.now high at)) (spelled (SetList number list.now high at)) } }
+    {
+        self.notes.set_list(number, list, high, at);
+    }
+
+    /// Notes that an owner and a group were set.
+    pub fn note_set_owner(&mut self, number: u64, owner: u32, group: u32, at: At)
+        ensures { self.new ≡ record self.old { notes = note self.old.notes (in_range (SetOwner number owner group at)) (spelled (SetOwner number owner group at)) } }
+    {
+        self.notes.set_owner(number, owner, group, at);
     }
 }

@@ -7,6 +7,8 @@ ghost use Rattle.node_tree.specs.World.{object, kind_of, bytes_of, bytes_at, chi
 ghost use Rattle.node_tree.specs.Changes.{alone, root_of, made, with_new, with_link, unlinked, renamed, with_write, with_size, with_list, with_owner};
 ghost use Rattle.node_tree.specs.Refusals.{add_refusal, link_refusal, unlink_refusal, is_below, may_replace, may_move, write_refusal, resize_refusal};
 ghost use Rattle.node_tree.specs.Judged.{KeepsJudged};
+ghost use Rattle.node_tree.specs.Notes.{begun_notes, cleared};
+ghost use Rattle.node_tree.specs.Parts.{number_after, any_after};
 ghost use Rattle.node_tree.specs.Sample.{sample};
 ghost use Rattle.node_tree.specs.Sound.{IsSound, IsTick, IsNextName, most_bytes};
 
@@ -146,6 +148,74 @@ impl<A: Allocator + Copy> Tree<A> {
     }
 }
 
+// The parts in order, as a checkpoint has them. None takes memory.
+impl<A: Allocator + Copy> Tree<A> {
+    /// The number of the next object. No number is above 2^63.
+    pub fn next_number(&self) -> u64
+        ensures { result ≡ self.now.next_number }
+    {
+        self.store.next_number()
+    }
+
+    /// The cookie of the next name. No cookie is above 2^63.
+    pub fn next_cookie(&self) -> u64
+        ensures { result ≡ self.now.next_cookie }
+    {
+        self.store.next_cookie()
+    }
+
+    /// The least number above another one that has an object. No object has the number 0, so the objects of a tree are those of the
+    /// number after 0, the number after that, and so on.
+    pub fn number_after(&self, number: u64) -> Option<u64>
+        ensures { result ≡ number_after self.now number }
+    {
+        self.store.number_after(number)
+    }
+
+    /// The name of the least cookie above another one, in any directory. No name has the cookie 0.
+    pub fn any_after(&self, cookie: u64) -> Option<&DirEntry<A>>
+        ensures { option_copied result ≡ any_after self.now cookie }
+    {
+        self.store.any_after(cookie)
+    }
+}
+
+// What is noted of the changes, for a store. Nothing else depends on it.
+impl<A: Allocator + Copy> Tree<A> {
+    /// Begins notes: from now on each change is noted, in this many bytes, where there is room for it. `Err`: there is no memory for
+    /// them, and nothing has changed.
+    pub fn begin_notes(&mut self, room: usize) -> Result<(), AllocError>
+        ensures ok { OnOk result (self.new ≡ record self.old { notes = begun_notes room }) }
+        ensures err { OnErr result (self.new ≡ self.old) }
+    {
+        self.store.begin_notes(room)
+    }
+
+    /// The changes that were noted, one after the other. `None`: one of them had no room, or none are kept.
+    pub fn notes(&self) -> Option<&[u8]>
+        ensures { MatchOption result (self.now.notes.is_lost ≡ true) (λ bytes. (self.now.notes.is_lost ≡ false) × (bytes.now ≡ self.now.notes.bytes)) }
+    {
+        self.store.notes()
+    }
+
+    /// Forgets what was noted, and whether a change was lost, once a record or a checkpoint has it.
+    pub fn clear_notes(&mut self)
+        ensures { self.new ≡ record self.old { notes = cleared self.old.notes } }
+    {
+        self.store.clear_notes();
+    }
+}
+
+impl<A: Allocator> Tree<A> {
+    /// The tree of a sound store.
+    pub(crate) fn of_sound(store: Store<A>) -> Self
+        requires { IsSound store }
+        ensures { result ≡ store }
+    {
+        Tree { store }
+    }
+}
+
 // Changes. Each grows first, and a refusal leaves all as it was.
 impl<A: Allocator + Copy> Tree<A> {
     /// A root alone, with a list within the bounds of [`acl_shape::is_bounded`]. Its times are the epoch. `Err`: there is no
@@ -211,7 +281,14 @@ impl<A: Allocator + Copy> Tree<A> {
         if let Some(fault) = self.store.add_fault(directory, name) {
             return Err(fault);
         }
-        Ok(self.store.add(directory, name, new, at)?)
+        let mark = self.store.note_add(directory, name, &new, at);
+        match self.store.add(directory, name, new, at) {
+            Ok(number) => Ok(number),
+            Err(_) => {
+                self.store.cut_notes(mark);
+                Err(TreeFault::Memory)
+            }
+        }
     }
 
     /// Gives an object that is no directory a new name of at most 255 bytes (LINK: RFC 8881, section 18.9). It takes a cookie.
@@ -241,6 +318,7 @@ impl<A: Allocator + Copy> Tree<A> {
             return Err(fault);
         }
         self.store.link(directory, name, number, at)?;
+        self.store.note_link(directory, name, number, at);
         Ok(())
     }
 
@@ -262,6 +340,7 @@ impl<A: Allocator + Copy> Tree<A> {
             return Err(TreeFault::NotEmpty);
         }
         self.store.unlink(directory, name, child, at);
+        self.store.note_unlink(directory, name, at);
         Ok(())
     }
 
@@ -297,6 +376,7 @@ impl<A: Allocator + Copy> Tree<A> {
             target,
         } = moved;
         self.store.rename(from, old, to, new, child, target, at)?;
+        self.store.note_rename(from, old, to, new, at);
         Ok(())
     }
 
@@ -320,6 +400,7 @@ impl<A: Allocator + Copy> Tree<A> {
             return Err(TreeFault::FBig);
         }
         self.store.write(file, offset as usize, more, at)?;
+        self.store.note_write(file, offset, more, at);
         Ok(())
     }
 
@@ -341,6 +422,7 @@ impl<A: Allocator + Copy> Tree<A> {
             return Err(TreeFault::FBig);
         }
         self.store.resize(file, size as usize, at);
+        self.store.note_resize(file, size, at);
         Ok(())
     }
 
@@ -353,6 +435,7 @@ impl<A: Allocator + Copy> Tree<A> {
         ensures value { self.new ≡ with_list self.old number list high at }
         ensures judged { KeepsJudged self.old self.new }
     {
+        self.store.note_set_list(number, list.as_slice(), high, at);
         self.store.set_list(number, list, high, at);
     }
 
@@ -365,5 +448,6 @@ impl<A: Allocator + Copy> Tree<A> {
         ensures judged { KeepsJudged self.old self.new }
     {
         self.store.set_owner(number, owner, group, at);
+        self.store.note_set_owner(number, owner, group, at);
     }
 }

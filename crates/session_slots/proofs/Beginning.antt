@@ -1,5 +1,5 @@
 -- A call that begins on a slot, by the history of the slot.
-use Rattle.std.proofs.Common.{◌≡◌, ◌<◌, ◌≤◌, ◌+◌, ◌-◌, ℕ, Bool, true, false, cond, set, slice_get, Option, Some, None, IsSome, refl, sym, subst, ap, ◌∙◌, arith, if◌then◌else◌, nat_le, nat_lt}
+use Rattle.std.proofs.Common.{◌≡◌, ◌<◌, ◌≤◌, ◌+◌, ◌-◌, ℕ, Bool, true, false, set, slice_get, Option, Some, None, IsSome, refl, sym, subst, ap, ◌∙◌, arith, if◌then◌else◌, nat_le, nat_lt}
 use Rattle.std.specs.Option.{option_and_then, option_map_or}
 use Rattle.std.specs.BTreeMap.{is_at}
 use Rattle.std.specs.Ordering.{nat_cmp}
@@ -10,11 +10,11 @@ use Rattle.session_slots.specs.declared.session.Channel.{Channel}
 use Rattle.session_slots.specs.declared.session.Begin.{Begin}
 use Rattle.session_slots.specs.declared.slot.Turn.{Turn}
 use Rattle.session_slots.specs.declared.slot.Turn.TheVariants as turns
-use Rattle.session_slots.specs.Slots.{Place, turn_of, begun, kept_after}
+use Rattle.session_slots.specs.Slots.{Place, turn_of, begun}
 use Rattle.session_slots.specs.Registry.{Session, Registry, client_at, session_at, place_at}
 use Rattle.session_slots.specs.Orderly.{IsOrderly}
 use Rattle.session_slots.specs.Sequencing.{Asked, grant_fault, place_turn, turn_unless, begun_unless, session_turn, session_begun, begin_of, begin_in, sequence_begin, sequence_begun, turn_told, SequencesByHistory, StandsIn}
-use Rattle.session_slots.proofs.Histories.{begins_by_history}
+use Rattle.session_slots.proofs.Lagging.{begins_by}
 use Rattle.session_slots.proofs.Found.{lookup_changed, slice_get_set}
 use Rattle.session_slots.proofs.Members.{lookup_in, found_is_some}
 
@@ -24,7 +24,7 @@ told_back client granted turns.Repeat = refl
 told_back client granted (turns.Refused status) = refl
 
 turn_is : (r : Registry) (session : ℕ) (a : Asked) (s : Session) (p : Place) → session_at r session ≡ Some s → grant_fault s.granted a ≡ None → slice_get s.slots a.slot ≡ Some p →
-    turn_told (sequence_begin r session a) ≡ turn_of p.kept a.call
+    turn_told (sequence_begin r session a) ≡ turn_of p.lags p.kept a.call
 turn_is r session a s p is_s free is_p =
     ap (λ (o : Option Session). turn_told (begin_in o a)) is_s ∙ told_back s.client s.granted (session_turn s a)
     ∙ ap (λ (g : Option Status). turn_unless g s a) free ∙ ap (λ (o : Option Place). place_turn o a.call) is_p
@@ -48,7 +48,7 @@ sequences_by_history old new session a answer is_answer is_new = record {
   by_history = λ s p is_s free is_p. (
     begun p a.call,
     ap (λ (r : Registry). place_at r session a.slot) is_new ∙ place_is old session a s p is_s free is_p,
-    begins_by_history p.kept (kept_after p.kept a.call) a.call (turn_told answer) (ap turn_told is_answer ∙ turn_is old session a s p is_s free is_p) refl,
+    begins_by p (begun p a.call) a.call (turn_told answer) (ap turn_told is_answer ∙ turn_is old session a s p is_s free is_p) refl,
   );
 }
 

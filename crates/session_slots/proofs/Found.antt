@@ -1,5 +1,5 @@
 -- Finding by number and by place, after a change.
-use Rattle.std.proofs.Common.{◌≡◌, ◌≢◌, ℕ, ◌<◌, Bool, true, false, cond, List, [], ◌∷◌, length, set, slice_get, find, Option, Some, refl, sym, ap, ◌∙◌, subst, get_or-set_same, length-set}
+use Rattle.std.proofs.Common.{◌≡◌, ℕ, ◌<◌, Bool, true, false, cond, List, [], ◌∷◌, length, set, slice_get, find, Option, Some, refl, sym, ap, ◌∙◌, subst, get_or-set_same, length-set}
 use Rattle.std.specs.Option.{option_map_or}
 use Rattle.std.specs.Map.{lookup, set_value}
 use Rattle.std.proofs.lemmas.Option.{slice_get_within, slice_get-get_or}

@@ -29,16 +29,16 @@ stands_for number_of keeps last history h = record { kept = h; number = ap (last
 
 -- ---- a call that begins
 
-told_behind : (acc : List Kept) (call : Call) → last_number number_of (newest acc) ≡ length acc % 2 ^ 32 → told (turn_of (newest acc) call) (newest acc) ≡ fate_behind acc call
+told_behind : (acc : List Kept) (call : Call) → last_number number_of (newest acc) ≡ length acc % 2 ^ 32 → told (turn_of false (newest acc) call) (newest acc) ≡ fate_behind acc call
 told_behind [] call h = grind arith
 told_behind (last ∷ before) call h = grind arith
 
 due_behind : (kept : Option Kept) (history : List Kept) → SlotStandsFor kept history → due (last_number number_of kept) ≡ due (length (accepted_calls history))
 due_behind kept history stands = ap due stands.number ∙ due_of_rest (length (accepted_calls history))
 
-pub fate_told : (kept : Option Kept) (call : Call) (history : List Kept) → SlotStandsFor kept history → told (turn_of kept call) kept ≡ fate history call
+pub fate_told : (kept : Option Kept) (call : Call) (history : List Kept) → SlotStandsFor kept history → told (turn_of false kept call) kept ≡ fate history call
 fate_told kept call history stands =
-    ap (λ (k : Option Kept). told (turn_of k call) k) stands.kept ∙ told_behind (accepted_calls history) call (newest_number number_of any history)
+    ap (λ (k : Option Kept). told (turn_of false k call) k) stands.kept ∙ told_behind (accepted_calls history) call (newest_number number_of any history)
 
 begun_if : (t u : Bool) (x : Kept) (acc : List Kept) (kept : Option Kept) → t ≡ u → kept ≡ newest acc → (if t then Some x else kept) ≡ newest (if u && true then x ∷ acc else acc)
 begun_if true true x acc kept e h = refl
@@ -46,13 +46,13 @@ begun_if false false x acc kept e h = h
 begun_if true false x acc kept e h = cc
 begun_if false true x acc kept e h = cc
 
-pub begun_stands : (kept : Option Kept) (call : Call) (history : List Kept) → SlotStandsFor kept history → SlotStandsFor (kept_after kept call) (opened call ∷ history)
+pub begun_stands : (kept : Option Kept) (call : Call) (history : List Kept) → SlotStandsFor kept history → SlotStandsFor (kept_after false kept call) (opened call ∷ history)
 begun_stands kept call history stands =
-    stands_for number_of any (kept_after kept call) (opened call ∷ history)
+    stands_for number_of any (kept_after false kept call) (opened call ∷ history)
     (begun_if (call.number == due (last_number number_of kept)) (call.number == due (length (accepted_calls history))) (opened call) (accepted_calls history) kept
     (ap (λ d. call.number == d) (due_behind kept history stands)) stands.kept)
 
-pub begins_by_history : (old new : Option Kept) (call : Call) (turn : Turn) → turn ≡ turn_of old call → new ≡ kept_after old call → BeginsByHistory old new call turn
+pub begins_by_history : (old new : Option Kept) (call : Call) (turn : Turn) → turn ≡ turn_of false old call → new ≡ kept_after false old call → BeginsByHistory old new call turn
 begins_by_history old new call turn is_turn is_new = record {
   fate = λ history stands. ap (λ (t : Turn). told t old) is_turn ∙ fate_told old call history stands;
   stands = λ history stands. let P : Option Kept → Type 0 = λ k. SlotStandsFor k (opened call ∷ history) in subst P (sym is_new) (begun_stands old call history stands);
@@ -60,7 +60,7 @@ begins_by_history old new call turn is_turn is_new = record {
 
 -- ---- results that are kept
 
-runs_behind : (acc : List Kept) (call : Call) → fate_behind acc call ≡ Runs → (call.number == due (length acc)) ≡ true
+pub runs_behind : (acc : List Kept) (call : Call) → fate_behind acc call ≡ Runs → (call.number == due (length acc)) ≡ true
 runs_behind [] call h = grind arith
 runs_behind (last ∷ before) call h = grind arith
 
@@ -90,7 +90,7 @@ length_if : (t : Bool) (x : Kept) (acc : List Kept) (n : ℕ) → t ≡ true →
 length_if true x acc n e h = ap suc h
 length_if false x acc n e h = cc
 
-same_number : (m n : ℕ) → m ≡ n → (m == n) ≡ true
+pub same_number : (m n : ℕ) → m ≡ n → (m == n) ≡ true
 same_number m n h = grind (arith, h)
 
 pub all_accepted : (k : Kept) (n : ℕ) → length (accepted_calls (count_up k n)) ≡ n
@@ -108,7 +108,7 @@ due_before : (number : ℕ) → number < 2 ^ 32 → due (count_before number) �
 unfolding count_before
 due_before number h = omega arith
 
-newest_if : (t : Bool) (x : Kept) (acc : List Kept) → t ≡ true → Some x ≡ newest (if t && true then x ∷ acc else acc)
+pub newest_if : (t : Bool) (x : Kept) (acc : List Kept) → t ≡ true → Some x ≡ newest (if t && true then x ∷ acc else acc)
 newest_if true x acc e = refl
 newest_if false x acc e = cc
 

@@ -1,5 +1,5 @@
 -- Entries of maps by number: which are there, and which are found, after a change.
-use Rattle.std.proofs.Common.{◌≡◌, ◌≢◌, ◌⊎◌, inl, inr, ℕ, ◌==◌, Bool, true, false, not, ◌||◌, cond, List, [], ◌∷◌, filter, find, Option, Some, None, IsSome, refl, sym, ap, ◌∙◌, subst, arith, ◌<◌, ◌≤◌, ◌+◌, suc, length}
+use Rattle.std.proofs.Common.{◌≡◌, ◌≢◌, ◌⊎◌, inl, inr, ℕ, ◌==◌, Bool, true, false, ◌||◌, cond, List, [], ◌∷◌, filter, find, Option, Some, None, IsSome, refl, sym, ap, ◌∙◌, arith, ◌<◌, ◌≤◌, ◌+◌, suc, length}
 use Rattle.std.specs.List.{list_any}
 use Rattle.std.specs.Option.{option_map_or}
 use Rattle.std.specs.Map.{lookup, set_value, remove_entry, values_of}
@@ -88,7 +88,7 @@ in_changed_if n f es e (Some x) is_o h =
       | inr b ↦ inr (x, is_o, sym (pair_is n (f x) e (is_same n e.0 b.0) (sym b.1)))
     ]
 
--- an entry behind a change of one value by f was there, or has that number and f of the value that was found
+-- an entry after a change of one value by f was there, or has that number and f of the value that was found
 pub in_changed : {X : Type 0} (n : ℕ) (f : X → X) (es : List (ℕ × X)) (e : ℕ × X) →
     IsIn e (option_map_or (λ x. set_value (is_at (nat_cmp n)) es (f x)) (lookup (is_at (nat_cmp n)) es) es) → IsIn e es ⊎ ((x : X) × (lookup (is_at (nat_cmp n)) es ≡ Some x) × (e ≡ (n, f x)))
 in_changed n f es e h = in_changed_if n f es e (lookup (is_at (nat_cmp n)) es) refl h

@@ -1,6 +1,6 @@
 -- Records and sessions stay orderly.
-use Rattle.std.proofs.Common.{◌≡◌, ◌≢◌, ◌⊎◌, inl, inr, ℕ, ◌+◌, ◌-◌, ◌<◌, ◌==◌, ◌&&◌, ◌||◌, Bool, true, false, not, if◌then◌else◌, nat_eq, List, [], ◌∷◌, filter, find, Option, Some, None, Result, Ok, Err, refl, sym, ap, ◌∙◌, subst, arith, ◌≤◌, length, nat_le, lit≤, suc, nat_lt, min, max}
-use Rattle.std.specs.Option.{option_map, IsSome, MatchOption}
+use Rattle.std.proofs.Common.{◌≡◌, ◌≢◌, ◌⊎◌, inl, inr, ℕ, ◌+◌, ◌-◌, ◌<◌, ◌==◌, ◌&&◌, ◌||◌, Bool, true, false, not, if◌then◌else◌, nat_eq, List, filter, find, Option, Some, None, Result, Ok, Err, refl, sym, ap, ◌∙◌, subst, arith, ◌≤◌, length, nat_le, lit≤, suc, nat_lt, min, max}
+use Rattle.std.specs.Option.{option_map, MatchOption}
 use Rattle.std.specs.Result.{OnOk, OnErr, IsOk}
 use Rattle.std.specs.Cmp.Lexicographic.{pointwise, same_text}
 use Rattle.std.specs.Map.{lookup, values_of}
@@ -9,26 +9,25 @@ use Rattle.std.specs.Ordering.{nat_cmp}
 use Rattle.nfs_types.specs.declared.status.Status.{Status}
 use Rattle.nfs_types.specs.declared.status.Status.TheVariants as statuses
 use Rattle.std.proofs.lemmas.Bool.{leb-false}
-use Rattle.session_slots.specs.Limits.{MOST_CLIENTS, MOST_SESSIONS, MOST_SLOTS, MOST_BYTES, MOST_RESULTS, LEAST_REPLY, MOST_OPERATIONS, END}
+use Rattle.session_slots.specs.Limits.{MOST_CLIENTS, MOST_SESSIONS, MOST_SLOTS, MOST_BYTES, MOST_RESULTS, LEAST_REPLY, MOST_OPERATIONS, MOST_OWNER, END}
 use Rattle.session_slots.specs.Counting.{due, last_number}
 use Rattle.session_slots.specs.declared.session.Channel.{Channel}
 use Rattle.session_slots.specs.declared.client.Created.{Created}
 use Rattle.session_slots.specs.declared.creating.Create.{Create}
 use Rattle.session_slots.specs.declared.creating.Made.{Made}
-use Rattle.session_slots.specs.declared.creating.Judged.{Judged}
 use Rattle.session_slots.specs.declared.creating.Judged.TheVariants as judgements
 use Rattle.session_slots.specs.declared.exchanging.Exchanged.{Exchanged}
 use Rattle.session_slots.specs.declared.exchanging.Standing.{Standing}
 use Rattle.session_slots.specs.declared.exchanging.Standing.TheVariants as standings
 use Rattle.session_slots.specs.Slots.{finished}
-use Rattle.session_slots.specs.Registry.{Client, Session, Registry, nobody, client_at, kept_size, most_kept, session_at, is_confirmed_of, confirmed_entry, changed_client, without_record, without_sessions, new_session, with_session, with_place}
-use Rattle.session_slots.specs.Orderly.{IsIn, IsWithin, IsOrderly}
+use Rattle.session_slots.specs.Registry.{Client, Session, Registry, nobody, client_at, most_kept, session_at, is_confirmed_of, confirmed_entry, changed_client, without_record, without_sessions, new_session, with_session, with_place}
+use Rattle.session_slots.specs.Orderly.{is_kept_refusal, is_kept_result, has_creation_form, has_form, IsIn, IsWithin, IsOrderly}
 use Rattle.session_slots.specs.Sequencing.{Asked, grant_fault, begun_unless, session_begun, sequence_begun}
-use Rattle.session_slots.specs.Creating.{number_of, granted, refusing, created_of, accepts, with_refusal, is_other, other_record, with_creation, judged_due, judged_unless, judged_for, judged, MakesSession, CreatesBy, Creates, repeated, creation_fault}
-use Rattle.session_slots.specs.Exchanging.{Exchanging, is_unconfirmed_of, without_unconfirmed, goes, stays, new_client, with_client, flags_fault, is_full, known, standing_new, standing_behind, standing_unless, standing, MakesClient, ExchangesBy, Exchanges}
+use Rattle.session_slots.specs.Creating.{number_of, granted, refusing, created_of, accepts, with_refusal, is_other, other_record, with_creation, judged_due, judged_unless, judged_for, CreatesBy, Creates, repeated, creation_fault}
+use Rattle.session_slots.specs.Exchanging.{Exchanging, is_unconfirmed_of, without_unconfirmed, goes, stays, new_client, with_client, flags_fault, is_full, known, standing_new, standing_behind, standing_unless, standing, ExchangesBy, Exchanges}
 use Rattle.session_slots.specs.Destroying.{without_session, has_sessions, busy_unless_none, destroy_client_refusal, without_client, has_reclaimed, with_reclaimed}
 use Rattle.session_slots.proofs.Found.{lookup_changed, found_passes}
-use Rattle.session_slots.proofs.Members.{is_same, lookup_in, in_filter, found_kept, in_changed, found_beside, in_insert, found_insert, in_remove, lookup_removed, found_entry, none_passes, none_of, length_filter, length_remove, length_changed, length_insert, length_added}
+use Rattle.session_slots.proofs.Members.{lookup_in, in_filter, found_kept, in_changed, found_beside, in_insert, found_insert, in_remove, lookup_removed, found_entry, none_passes, none_of, length_filter, length_remove, length_changed, length_insert, length_added}
 use Rattle.session_slots.proofs.Creations.{still_there}
 
 pub nobody_is_orderly : (r : Registry) → r ≡ nobody → IsOrderly r
@@ -38,6 +37,7 @@ nobody_is_orderly r is = subst IsOrderly (sym is) (record {
   given = λ e h. absurd h;
   at_home = λ e h. absurd h;
   within = λ e h. absurd h;
+  formed = λ e h. absurd h;
   few_clients = lit≤ tt;
   few_sessions = lit≤ tt;
   clients_end = lit≤ tt;
@@ -67,6 +67,7 @@ with_session_orderly r n f keeps grants o = record {
     | inl m ↦ o.within e m
     | inr x ↦ subst IsWithin (sym (ap (λ (e : ℕ × Session). e.1.granted) x.2 ∙ grants x.0)) (o.within (n, x.0) (lookup_in n r.sessions x.0 x.1))
   ];
+  formed = o.formed;
   few_clients = o.few_clients;
   few_sessions = subst (λ (k : ℕ). k ≤ MOST_SESSIONS) (sym (length_changed (is_at (nat_cmp n)) f r.sessions (lookup (is_at (nat_cmp n)) r.sessions))) o.few_sessions;
   clients_end = o.clients_end;
@@ -93,6 +94,7 @@ pub record KeepsName (f : Client → Client) : Type 0 where
   pub number : (c : Client) → (f c).number ≡ c.number
   pub owner : (owner : List ℕ) (c : Client) → is_confirmed_of owner (f c) ≡ is_confirmed_of owner c
   pub confirmed : (c : Client) → (f c).confirmed ≡ c.confirmed
+  pub form : (c : Client) → has_form c ≡ true → has_form (f c) ≡ true
 
 -- the entry before the change
 was : (r : Registry) (n : ℕ) (f : Client → Client) → KeepsName f → (e : ℕ × Client) → IsIn e (changed_client n f r.clients) →
@@ -109,7 +111,7 @@ was r n f keeps e h =
       )
     ]
 
--- a confirmed record is found confirmed behind a change that confirms, or keeps this
+-- a confirmed record is found confirmed after a change that confirms, or keeps this
 home_if : (clients : List (ℕ × Client)) (n k : ℕ) (f : Client → Client) (b : Bool) → ((c : Client) → c.confirmed ≡ true → (f c).confirmed ≡ true) → (n == k) ≡ b →
     (c : Client) → lookup (is_at (nat_cmp k)) clients ≡ Some c → c.confirmed ≡ true →
     (d : Client) × (lookup (is_at (nat_cmp k)) (changed_client n f clients) ≡ Some d) × (d.confirmed ≡ true)
@@ -136,6 +138,10 @@ changed_orderly r n f keeps o = record {
   given = o.given;
   at_home = λ e h. let home = o.at_home e h in home_if r.clients n e.1.client f (n == e.1.client) (λ c h. keeps.confirmed c ∙ h) refl home.0 home.1 home.2;
   within = o.within;
+  formed = λ e h. elim (in_changed n f r.clients e h) [
+    | inl m ↦ o.formed e m
+    | inr x ↦ ap (λ (e : ℕ × Client). has_form e.1) x.2 ∙ keeps.form x.0 (o.formed (n, x.0) (lookup_in n r.clients x.0 x.1))
+  ];
   few_clients = subst (λ (k : ℕ). k ≤ MOST_CLIENTS) (sym (length_changed (is_at (nat_cmp n)) f r.clients (lookup (is_at (nat_cmp n)) r.clients))) o.few_clients;
   few_sessions = o.few_sessions;
   clients_end = o.clients_end;
@@ -143,10 +149,19 @@ changed_orderly r n f keeps o = record {
 }
 
 pub with_reclaimed_orderly : (old : Registry) (client : ℕ) → IsOrderly old → IsOrderly (with_reclaimed old client)
-with_reclaimed_orderly old client o = changed_orderly old client has_reclaimed (record { number = λ c. refl; owner = λ owner c. refl; confirmed = λ c. refl }) o
+with_reclaimed_orderly old client o = changed_orderly old client has_reclaimed (record { number = λ c. refl; owner = λ owner c. refl; confirmed = λ c. refl; form = λ c h. h }) o
 
-with_refusal_orderly : (r : Registry) (a : Create) (status : Status) → IsOrderly r → IsOrderly (with_refusal r a status)
-with_refusal_orderly r a status o = changed_orderly r a.client (accepts a (Err status)) (record { number = λ c. refl; owner = λ owner c. refl; confirmed = λ c. refl }) o
+-- a short owner, with a call that may be kept
+owner_is_short : (b d : Bool) → (if b then false else d) ≡ true → b ≡ false
+owner_is_short true d h = cc
+owner_is_short false d h = refl
+
+accepted_form : (c : Client) (a : Create) (result : Result Created Status) → is_kept_result result ≡ true → has_form c ≡ true → has_form (accepts a result c) ≡ true
+accepted_form c a result kept h = ap (λ (b : Bool). if b then false else is_kept_result result) (owner_is_short (nat_lt MOST_OWNER (length c.owner)) (has_creation_form c.created) h) ∙ kept
+
+with_refusal_orderly : (r : Registry) (a : Create) (status : Status) → is_kept_refusal status ≡ true → IsOrderly r → IsOrderly (with_refusal r a status)
+with_refusal_orderly r a status kept o =
+    changed_orderly r a.client (accepts a (Err status)) (record { number = λ c. refl; owner = λ owner c. refl; confirmed = λ c. refl; form = λ c h. accepted_form c a (Err status) kept h }) o
 
 -- ---- DESTROY_SESSION, DESTROY_CLIENTID, RECLAIM_COMPLETE
 
@@ -160,6 +175,7 @@ removed_session_orderly r session o = record {
   given = λ e h. o.given e (in_remove (is_at (nat_cmp session)) r.sessions e h);
   at_home = λ e h. o.at_home e (in_remove (is_at (nat_cmp session)) r.sessions e h);
   within = λ e h. o.within e (in_remove (is_at (nat_cmp session)) r.sessions e h);
+  formed = o.formed;
   few_clients = o.few_clients;
   few_sessions = at_most _ _ _ (length_remove (is_at (nat_cmp session)) r.sessions) o.few_sessions;
   clients_end = o.clients_end;
@@ -184,6 +200,7 @@ removed_client_orderly r client none o = record {
     home.2,
   );
   within = o.within;
+  formed = λ e h. o.formed e (in_remove (is_at (nat_cmp client)) r.clients e h);
   few_clients = at_most _ _ _ (length_remove (is_at (nat_cmp client)) r.clients) o.few_clients;
   few_sessions = o.few_sessions;
   clients_end = o.clients_end;
@@ -229,6 +246,7 @@ known_orderly r owner o =
         home.2,
       );
       within = o.within;
+      formed = λ e h. o.formed e (in_filter p r.clients e h).0;
       few_clients = at_most _ _ _ (length_filter p r.clients) o.few_clients;
       few_sessions = o.few_sessions;
       clients_end = o.clients_end;
@@ -276,8 +294,14 @@ one_more m n k h i = omega arith
 next_fits : (n k : ℕ) → n < k → n + 1 ≤ k
 next_fits n k h = omega arith
 
-made_orderly : (leaving : Option ℕ) (r : Registry) (a : Exchanging) → is_full leaving r a ≡ false → IsOrderly r → IsOrderly (with_client leaving r a)
-made_orderly leaving r a room o = record {
+new_form : (n : ℕ) (a : Exchanging) → length a.owner ≤ MOST_OWNER → has_form (new_client n a) ≡ true
+new_form n a short = ap (λ (b : Bool). if b then false else true) (not_longer MOST_OWNER (length a.owner) short)
+  where
+    not_longer : (m n : ℕ) → n ≤ m → nat_lt m n ≡ false
+    not_longer m n h = grind (arith, h)
+
+made_orderly : (leaving : Option ℕ) (r : Registry) (a : Exchanging) → length a.owner ≤ MOST_OWNER → is_full leaving r a ≡ false → IsOrderly r → IsOrderly (with_client leaving r a)
+made_orderly leaving r a short room o = record {
   numbered = λ e h. elim (was_or_new leaving r a e h) [
     | inl m ↦ let old = o.numbered e m in (old.0, below_next e.0 r.next_client old.1)
     | inr q ↦ (
@@ -304,6 +328,7 @@ made_orderly leaving r a room o = record {
         home.2,
       );
   within = λ e h. o.within e (session_stays leaving r.sessions e h).0;
+  formed = λ e h. elim (was_or_new leaving r a e h) [ inl m ↦ o.formed e m | inr q ↦ ap (λ (e : ℕ × Client). has_form e.1) q ∙ new_form r.next_client a short ];
   few_clients =
       one_more _ _ MOST_CLIENTS (length_added (stays leaving a.owner) r.clients r.next_client (new_client r.next_client a) (λ e h. (o.numbered e h).1))
       (leb-false MOST_CLIENTS (length (filter (stays leaving a.owner) r.clients)) (or_false (nat_le MOST_CLIENTS (length (filter (stays leaving a.owner) r.clients))) (nat_le END r.next_client) room).0);
@@ -336,17 +361,17 @@ standing_room : (fault : Option Status) (leaving : Option ℕ) (r : Registry) (a
 standing_room (Some status) leaving r a h = cc
 standing_room None leaving r a h = found_room (confirmed_entry r a.owner) leaving r a h
 
-exchanged_by : (s : Standing) (r new : Registry) (a : Exchanging) (result : Result Exchanged Status) → standing r a ≡ s → ExchangesBy s r a result new → IsOrderly r → IsOrderly new
-exchanged_by (standings.Refuses status) r new a result is h o = subst IsOrderly (sym h.1) o
-exchanged_by (standings.Knows known) r new a result is h o = subst IsOrderly (sym h.1) (known_orderly r a.owner o)
-exchanged_by (standings.Makes leaving) r new a result is h o =
+exchanged_by : (s : Standing) (r new : Registry) (a : Exchanging) (result : Result Exchanged Status) → length a.owner ≤ MOST_OWNER → standing r a ≡ s → ExchangesBy s r a result new → IsOrderly r → IsOrderly new
+exchanged_by (standings.Refuses status) r new a result short is h o = subst IsOrderly (sym h.1) o
+exchanged_by (standings.Knows known) r new a result short is h o = subst IsOrderly (sym h.1) (known_orderly r a.owner o)
+exchanged_by (standings.Makes leaving) r new a result short is h o =
     elim h [
-      | inl made ↦ subst IsOrderly (sym made.1) (made_orderly leaving r a (standing_room (flags_fault a.flags) leaving r a is) o)
+      | inl made ↦ subst IsOrderly (sym made.1) (made_orderly leaving r a short (standing_room (flags_fault a.flags) leaving r a is) o)
       | inr delayed ↦ subst IsOrderly (sym delayed.1) o
     ]
 
-pub exchanges_orderly : (r new : Registry) (a : Exchanging) (result : Result Exchanged Status) → Exchanges r a result new → IsOrderly r → IsOrderly new
-exchanges_orderly r new a result h o = exchanged_by (standing r a) r new a result refl h o
+pub exchanges_orderly : (r new : Registry) (a : Exchanging) (result : Result Exchanged Status) → length a.owner ≤ MOST_OWNER → Exchanges r a result new → IsOrderly r → IsOrderly new
+exchanges_orderly r new a result short h o = exchanged_by (standing r a) r new a result short refl h o
 
 -- ---- CREATE_SESSION
 
@@ -462,6 +487,10 @@ created_orderly r a c is_c room enough o =
         | inl m ↦ o.within e m
         | inr q ↦ subst IsWithin (sym (ap (λ (e : ℕ × Session). e.1.granted) q)) (granted_within a.fore enough)
       ];
+      formed = λ e h. elim (in_changed a.client f clients e h) [
+        | inl m ↦ o.formed e (record_stays other r.clients e m).0
+        | inr x ↦ ap (λ (e : ℕ × Client). has_form e.1) x.2 ∙ accepted_form x.0 a (Ok (created_of r a)) refl (o.formed (a.client, x.0) (record_stays other r.clients (a.client, x.0) (lookup_in a.client clients x.0 x.1)).0)
+      ];
       few_clients = subst (λ (k : ℕ). k ≤ MOST_CLIENTS) (sym (length_changed (is_at (nat_cmp a.client)) f clients (lookup (is_at (nat_cmp a.client)) clients))) (at_most _ _ _ (length_records other r.clients) o.few_clients);
       few_sessions =
           at_most _ _ _ (length_stays other added) (at_most _ _ _ (length_insert r.sessions r.next_session (new_session a.client (granted a.fore)))
@@ -487,8 +516,17 @@ has_enough c r a h = enough_if (not c.confirmed && not (c.uid == a.uid)) (nat_lt
 has_room : (c : Client) (r : Registry) (a : Create) → creation_fault c r a ≡ None → has_no_place r ≡ false
 has_room c r a h = room_if (not c.confirmed && not (c.uid == a.uid)) (nat_lt a.fore.reply_size LEAST_REPLY) (has_no_place r) statuses.ClidInUse statuses.TooSmall statuses.NoSpc h
 
+kept_if_refused : (t u v : Bool) (status : Status) → (if t then Some statuses.ClidInUse else if u then Some statuses.TooSmall else if v then Some statuses.NoSpc else None) ≡ Some status → is_kept_refusal status ≡ true
+kept_if_refused true u v status h = let is : statuses.ClidInUse ≡ status = cc in ap is_kept_refusal (sym is)
+kept_if_refused false true v status h = let is : statuses.TooSmall ≡ status = cc in ap is_kept_refusal (sym is)
+kept_if_refused false false true status h = let is : statuses.NoSpc ≡ status = cc in ap is_kept_refusal (sym is)
+kept_if_refused false false false status h = cc
+
+refusal_is_kept : (c : Client) (r : Registry) (a : Create) (status : Status) → creation_fault c r a ≡ Some status → is_kept_refusal status ≡ true
+refusal_is_kept c r a status h = kept_if_refused (not c.confirmed && not (c.uid == a.uid)) (nat_lt a.fore.reply_size LEAST_REPLY) (has_no_place r) status h
+
 created_due : (fault : Option Status) (r new : Registry) (a : Create) (made : Made) (c : Client) → client_at r a.client ≡ Some c → creation_fault c r a ≡ fault → CreatesBy (judged_due fault c r a) r a made new → IsOrderly r → IsOrderly new
-created_due (Some status) r new a made c is_c is_fault h o = subst IsOrderly (sym h.1) (with_refusal_orderly r a status o)
+created_due (Some status) r new a made c is_c is_fault h o = subst IsOrderly (sym h.1) (with_refusal_orderly r a status (refusal_is_kept c r a status is_fault) o)
 created_due None r new a made c is_c is_fault h o =
     elim h [ inl made ↦ subst IsOrderly (sym made.1) (created_orderly r a c is_c (has_room c r a is_fault) (has_enough c r a is_fault) o) | inr delayed ↦ subst IsOrderly (sym delayed.1) o ]
 

@@ -1,11 +1,11 @@
 -- The slots of a session, as they change.
-use Rattle.std.proofs.Common.{◌≡◌, ℕ, ◌<◌, ◌≤◌, List, length, set, slice_get, Option, Some, None, All, get_or, refl, sym, ap, subst, ◌∙◌, arith, length-set}
+use Rattle.std.proofs.Common.{◌≡◌, ℕ, Bool, ◌<◌, ◌≤◌, List, length, set, slice_get, Option, Some, None, All, get_or, refl, sym, ap, subst, ◌∙◌, arith, length-set}
 use Rattle.std.specs.Option.{option_map_or, IfSome}
 use Rattle.std.proofs.lemmas.Option.{slice_get_read, slice_get_within, get_or_from_slice_get}
 use Rattle.std.proofs.lemmas.List.{length-replicate}
 use Rattle.std.proofs.lemmas.List.Elements.{All-set, All-get_or, All-replicate}
 use Rattle.session_slots.specs.declared.session.Channel.{Channel}
-use Rattle.session_slots.specs.Slots.{Call, Place, begun, finished}
+use Rattle.session_slots.specs.Slots.{Call, Kept, Place, begun, finished, restored}
 use Rattle.session_slots.specs.Registry.{changed_place, kept_size, unused_places}
 use Rattle.session_slots.specs.Sequencing.{HasSlots}
 
@@ -42,6 +42,9 @@ has_slots granted slot f slots arguments results h = record {
 pub begun_has_slots : (granted : Channel) (slot : ℕ) (call : Call) (slots : List Place) → HasSlots granted slots → HasSlots granted (changed_place slot (λ p. begun p call) slots)
 begun_has_slots granted slot call slots h = has_slots granted slot (λ p. begun p call) slots (λ p. refl) (λ p. refl) h
 
+pub restored_has_slots : (granted : Channel) (slot : ℕ) (kept : Kept) (slots : List Place) → HasSlots granted slots → HasSlots granted (changed_place slot (restored kept) slots)
+restored_has_slots granted slot kept slots h = has_slots granted slot (restored kept) slots (λ p. refl) (λ p. refl) h
+
 pub finished_has_slots : (granted : Channel) (slot : ℕ) (results : List ℕ) (slots : List Place) → HasSlots granted slots → HasSlots granted (changed_place slot (λ p. finished p results) slots)
 finished_has_slots granted slot results slots h = has_slots granted slot (λ p. finished p results) slots (λ p. refl) (λ p. refl) h
 
@@ -55,6 +58,10 @@ has_room_for_arguments granted slots slot n h few = room_at (λ p. p.most_argume
 pub has_room_for_results : (granted : Channel) (slots : List Place) (slot n : ℕ) → HasSlots granted slots → n ≤ kept_size granted → IfSome (slice_get slots slot) (λ p. n ≤ p.most_results)
 has_room_for_results granted slots slot n h few = room_at (λ p. p.most_results) slots slot n (kept_size granted) (slice_get slots slot) refl h.results few
 
+argument_size_at : (slots : List Place) (slot most : ℕ) (o : Option Place) → slice_get slots slot ≡ o → All (λ p. p.most_arguments ≡ most) slots → IfSome o (λ p. p.most_arguments ≡ most)
+argument_size_at slots slot most None e h = tt
+argument_size_at slots slot most (Some p) e h = All-slice_get (λ p. p.most_arguments ≡ most) slots slot p e h
+
 size_at : (slots : List Place) (slot most : ℕ) (o : Option Place) → slice_get slots slot ≡ o → All (λ p. p.most_results ≡ most) slots → IfSome o (λ p. p.most_results ≡ most)
 size_at slots slot most None e h = tt
 size_at slots slot most (Some p) e h = All-slice_get (λ p. p.most_results ≡ most) slots slot p e h
@@ -62,9 +69,12 @@ size_at slots slot most (Some p) e h = All-slice_get (λ p. p.most_results ≡ m
 pub has_size : (granted : Channel) (slots : List Place) (slot : ℕ) → HasSlots granted slots → IfSome (slice_get slots slot) (λ p. p.most_results ≡ kept_size granted)
 has_size granted slots slot h = size_at slots slot (kept_size granted) (slice_get slots slot) refl h.results
 
-pub unused_has_slots : (granted : Channel) (count most_arguments most_results : ℕ) → count ≡ granted.slots → 1 ≤ granted.slots → most_arguments ≡ granted.request_size → most_results ≡ kept_size granted →
-    HasSlots granted (unused_places count most_arguments most_results)
-unused_has_slots granted count most_arguments most_results a s b c = record {
+pub has_argument_size : (granted : Channel) (slots : List Place) (slot : ℕ) → HasSlots granted slots → IfSome (slice_get slots slot) (λ p. p.most_arguments ≡ granted.request_size)
+has_argument_size granted slots slot h = argument_size_at slots slot granted.request_size (slice_get slots slot) refl h.arguments
+
+pub unused_has_slots : (granted : Channel) (lags : Bool) (count most_arguments most_results : ℕ) → count ≡ granted.slots → 1 ≤ granted.slots → most_arguments ≡ granted.request_size → most_results ≡ kept_size granted →
+    HasSlots granted (unused_places lags count most_arguments most_results)
+unused_has_slots granted lags count most_arguments most_results a s b c = record {
   count = length-replicate count _ ∙ a;
   some = s;
   arguments = All-replicate (λ p. p.most_arguments ≡ granted.request_size) count _ b;

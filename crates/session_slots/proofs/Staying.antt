@@ -1,5 +1,5 @@
 -- A call that isn't new leaves clients and sessions as they are.
-use Rattle.std.proofs.Common.{◌≡◌, ℕ, ◌==◌, Bool, true, false, List, set, slice_get, get_or, Option, Some, None, refl, sym, ap, subst, ◌∙◌, if◌then◌else◌}
+use Rattle.std.proofs.Common.{◌≡◌, ℕ, Bool, true, false, List, set, slice_get, Option, Some, None, refl, sym, ap, subst, ◌∙◌, if◌then◌else◌}
 use Rattle.std.specs.Option.{option_map_or}
 use Rattle.std.specs.Map.{set_value}
 use Rattle.std.specs.BTreeMap.{is_at}
@@ -13,8 +13,8 @@ use Rattle.session_slots.specs.declared.session.Begin.{Begin}
 use Rattle.session_slots.specs.declared.session.Begin.TheVariants as begins
 use Rattle.session_slots.specs.declared.slot.Turn.{Turn}
 use Rattle.session_slots.specs.declared.slot.Turn.TheVariants as turns
-use Rattle.session_slots.specs.Counting.{due, last_number}
-use Rattle.session_slots.specs.Slots.{Call, Kept, Place, begun, kept_after, number_of, old_turn, opened}
+use Rattle.session_slots.specs.Counting.{is_next, last_number}
+use Rattle.session_slots.specs.Slots.{Call, Place, begun, number_of, old_turn, opened}
 use Rattle.session_slots.specs.Registry.{Session, Registry, changed_place, session_at}
 use Rattle.session_slots.specs.Sequencing.{Asked, UnlessNew, begin_in, begin_of, begun_unless, grant_fault, place_turn, sequence_begin, sequence_begun, session_begun, turn_unless}
 
@@ -23,12 +23,12 @@ unless (begins.New new) f h = tt
 unless begins.Repeat f h = f h
 unless (begins.Refused status) f h = f h
 
-kept_stays : (client : ℕ) (granted : Channel) (b : Bool) (kept : Option Kept) (call : Call) (old : Turn) →
-    UnlessNew (begin_of client granted (if b then turns.New else old)) ((if b then Some (opened call) else kept) ≡ kept)
-kept_stays client granted true kept call old = tt
-kept_stays client granted false kept call turns.New = tt
-kept_stays client granted false kept call turns.Repeat = refl
-kept_stays client granted false kept call (turns.Refused status) = refl
+place_stays : (client : ℕ) (granted : Channel) (b : Bool) (p : Place) (call : Call) (old : Turn) →
+    UnlessNew (begin_of client granted (if b then turns.New else old)) (record p { kept = if b then Some (opened call) else p.kept; lags = if b then false else p.lags } ≡ p)
+place_stays client granted true p call old = tt
+place_stays client granted false p call turns.New = tt
+place_stays client granted false p call turns.Repeat = refl
+place_stays client granted false p call (turns.Refused status) = refl
 
 set_same : (slots : List Place) (i : ℕ) (p : Place) → slice_get slots i ≡ Some p → set slots i p ≡ slots
 set_same slots i p e = ap (set slots i) (sym (get_or_from_slice_get slots i p p e)) ∙ set-get_or slots i p
@@ -38,10 +38,10 @@ slots_stay : (o : Option Place) (s : Session) (a : Asked) → slice_get s.slots 
 slots_stay None s a e = ap (λ (o : Option Place). option_map_or (λ p. set s.slots a.slot (begun p a.call)) o s.slots) e
 slots_stay (Some p) s a e =
     unless (begin_of s.client s.granted (place_turn (Some p) a.call))
-    (λ (k : kept_after p.kept a.call ≡ p.kept).
+    (λ (k : begun p a.call ≡ p).
     ap (λ (o : Option Place). option_map_or (λ p. set s.slots a.slot (begun p a.call)) o s.slots) e
-    ∙ ap (λ (k : Option Kept). set s.slots a.slot (record p { kept = k })) k ∙ set_same s.slots a.slot p e)
-    (kept_stays s.client s.granted (a.call.number == due (last_number number_of p.kept)) p.kept a.call (old_turn p.kept a.call))
+    ∙ ap (λ (q : Place). set s.slots a.slot q) k ∙ set_same s.slots a.slot p e)
+    (place_stays s.client s.granted (is_next p.lags (last_number number_of p.kept) a.call.number) p a.call (old_turn p.kept a.call))
 
 session_stays : (f : Option Status) (s : Session) (a : Asked) → UnlessNew (begin_of s.client s.granted (turn_unless f s a)) (begun_unless f s a ≡ s)
 session_stays (Some status) s a = refl

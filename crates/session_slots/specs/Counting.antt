@@ -1,10 +1,24 @@
--- Sequence IDs, on a slot and for the sessions of a client: each call that is accepted has the number behind the number of the call
+-- Sequence IDs, on a slot and for the sessions of a client: each call that is accepted has the number after the number of the call
 -- before it, from 1 on, modulo 2^32 (RFC 8881, sections 2.10.6.1 and 18.36.4).
-use Rattle.std.specs.Prelude.{◌≡◌, ℕ, ◌+◌, ◌%◌, ◌^◌, ◌==◌, ◌&&◌, Bool, if◌then◌else◌, List, [], ◌∷◌, length, Option, Some, None}
+use Rattle.std.specs.Prelude.{◌≡◌, ℕ, ◌+◌, ◌-◌, ◌%◌, ◌^◌, ◌==◌, ◌&&◌, ◌||◌, Bool, true, false, nat_le, if◌then◌else◌, List, [], ◌∷◌, length, Option, Some, None}
+use Rattle.session_slots.specs.Limits.{MOST_AHEAD, WRITTEN_EVERY}
 
--- the number behind a number
+-- the number after a number
 abbrev pub due : ℕ → ℕ
 due last = (last + 1) % 2 ^ 32
+
+-- how far a number is ahead of the last one, modulo 2^32
+abbrev pub ahead : ℕ → ℕ → ℕ
+ahead last number = (number + (2 ^ 32 - last)) % 2 ^ 32
+
+-- A new call has this number after the last one: the next number, or, where the slot lags, one that is ahead of it.
+abbrev pub is_next : Bool → ℕ → ℕ → Bool
+is_next false last number = number == due last
+is_next true last number = nat_le 1 (ahead last number) && nat_le (ahead last number) MOST_AHEAD
+
+-- A slot is written after a new call that changed anything which is kept over a restart, and after one whose number is a multiple of 2^20.
+abbrev pub is_written : ℕ → Bool → Bool
+is_written number changes = changes || (number % WRITTEN_EVERY == 0)
 
 -- Of calls with numbers, the newest first, those that were accepted: each has the number that was next after those before it. `keeps`
 -- tells whether a call of the next number was accepted.

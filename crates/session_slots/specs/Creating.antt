@@ -44,8 +44,9 @@ creation_fault c r a =
     else if nat_le MOST_SESSIONS (length r.sessions) || nat_le END r.next_session then Some statuses.NoSpc
     else None
 
+-- the session: its slots are said to persist where it was asked for, and the server keeps them over a restart
 abbrev pub created_of : Registry → Create → Created
-created_of r a = record { session = r.next_session; sequence = a.sequence; fore = granted a.fore; back = a.back }
+created_of r a = record { session = r.next_session; sequence = a.sequence; persist = a.persist && a.lasting; fore = granted a.fore; back = a.back }
 
 -- the call is accepted, with this result
 abbrev pub accepts : Create → Result Created Status → Client → Client

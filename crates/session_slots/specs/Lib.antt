@@ -7,6 +7,12 @@ pub mod Sequencing
 pub mod Creating
 pub mod Exchanging
 pub mod Destroying
+pub mod Restoring
+pub mod Restored
+pub mod Acting
+pub mod Letting
+pub mod Forms
+pub mod FormViews
 pub mod Views
 pub mod Repeating
 pub mod Calls

@@ -33,6 +33,18 @@ MOST_RESULTS = 65512
 abbrev pub MOST_OPERATIONS : ℕ
 MOST_OPERATIONS = 16
 
+-- how far a new call may be ahead of the last one of a slot that lags: 2 ^ 20
+abbrev pub MOST_AHEAD : ℕ
+MOST_AHEAD = 1048576
+
+-- A slot is written after each call whose number is a multiple of this, whatever the call changed: 2 ^ 20, which divides 2 ^ 32.
+abbrev pub WRITTEN_EVERY : ℕ
+WRITTEN_EVERY = 1048576
+
+-- bytes of a client owner's ID, NFS4_OPAQUE_LIMIT (RFC 8881, section 3.1)
+abbrev pub MOST_OWNER : ℕ
+MOST_OWNER = 1024
+
 -- 2 ^ 63: no client and no session has this number
 abbrev pub END : ℕ
 END = 9223372036854775808

@@ -1,6 +1,10 @@
 -- Records and sessions that belong together.
-use Rattle.std.specs.Prelude.{◌≡◌, ℕ, ◌<◌, ◌≤◌, true, List, [], ◌∷◌, ◌⊎◌, Some, length}
-use Rattle.session_slots.specs.Limits.{MOST_CLIENTS, MOST_SESSIONS, MOST_SLOTS, MOST_BYTES, LEAST_REPLY, MOST_OPERATIONS, END}
+use Rattle.std.specs.Prelude.{◌≡◌, ℕ, ◌<◌, ◌≤◌, Bool, true, false, nat_lt, if◌then◌else◌, List, [], ◌∷◌, ◌⊎◌, Option, Some, None, Result, Ok, Err, length}
+use Rattle.nfs_types.specs.declared.status.Status.{Status}
+use Rattle.nfs_types.specs.declared.status.Status.TheVariants as statuses
+use Rattle.session_slots.specs.declared.client.Created.{Created}
+use Rattle.session_slots.specs.declared.client.Creation.{Creation}
+use Rattle.session_slots.specs.Limits.{MOST_CLIENTS, MOST_SESSIONS, MOST_SLOTS, MOST_BYTES, LEAST_REPLY, MOST_OPERATIONS, MOST_OWNER, END}
 use Rattle.session_slots.specs.declared.session.Channel.{Channel}
 use Rattle.session_slots.specs.Registry.{Client, Session, Registry, client_at, is_confirmed_of}
 
@@ -8,6 +12,25 @@ use Rattle.session_slots.specs.Registry.{Client, Session, Registry, client_at, i
 abbrev pub IsIn : {X : Type 0} → X → List X → Type 0
 IsIn x [] = ⊥
 IsIn x (y ∷ ys) = (x ≡ y) ⊎ IsIn x ys
+
+-- a refusal of CREATE_SESSION that is kept with its number
+abbrev pub is_kept_refusal : Status → Bool
+is_kept_refusal statuses.NoSpc = true
+is_kept_refusal statuses.TooSmall = true
+is_kept_refusal statuses.ClidInUse = true
+is_kept_refusal _ = false
+
+abbrev pub is_kept_result : Result Created Status → Bool
+is_kept_result (Ok created) = true
+is_kept_result (Err status) = is_kept_refusal status
+
+abbrev pub has_creation_form : Option Creation → Bool
+has_creation_form None = true
+has_creation_form (Some c) = is_kept_result c.result
+
+-- A record has a form, in which it is kept over a restart: its owner isn't too long, and a refusal that it keeps is one of those that are kept.
+abbrev pub has_form : Client → Bool
+has_form c = if nat_lt MOST_OWNER (length c.owner) then false else has_creation_form c.created
 
 -- the most that may be granted
 pub record IsWithin (granted : Channel) : Type 0 where
@@ -27,6 +50,7 @@ pub record IsOrderly (r : Registry) : Type 0 where
   -- the client of a session has a confirmed record
   pub at_home : (e : ℕ × Session) → IsIn e r.sessions → (c : Client) × (client_at r e.1.client ≡ Some c) × (c.confirmed ≡ true)
   pub within : (e : ℕ × Session) → IsIn e r.sessions → IsWithin e.1.granted
+  pub formed : (e : ℕ × Client) → IsIn e r.clients → has_form e.1 ≡ true
   -- there aren't too many records and sessions, and no number is 2 ^ 63
   pub few_clients : length r.clients ≤ MOST_CLIENTS
   pub few_sessions : length r.sessions ≤ MOST_SESSIONS

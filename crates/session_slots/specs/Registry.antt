@@ -1,5 +1,5 @@
 -- Clients and their sessions, by number, and the slots of a session, by place (RFC 8881, sections 2.4 and 2.10).
-use Rattle.std.specs.Prelude.{ℕ, ◌-◌, ◌==◌, ◌&&◌, Bool, not, nat_eq, List, [], filter, find, set, replicate, slice_get, Option, Some, None}
+use Rattle.std.specs.Prelude.{ℕ, ◌-◌, ◌==◌, ◌&&◌, Bool, true, false, not, nat_eq, List, [], filter, find, set, replicate, slice_get, Option, Some, None}
 use Rattle.std.specs.Option.{option_map_or, option_and_then}
 use Rattle.std.specs.Map.{lookup, set_value, values_of}
 use Rattle.std.specs.BTreeMap.{is_at}
@@ -91,11 +91,11 @@ changed_place slot f slots = option_map_or (λ p. set slots slot (f p)) (slice_g
 abbrev pub with_place : ℕ → (Place → Place) → Session → Session
 with_place slot f s = record s { slots = changed_place slot f s.slots }
 
--- so many slots that have accepted no call
-abbrev pub unused_places : ℕ → ℕ → ℕ → List Place
-unused_places count most_arguments most_results = replicate count (record { kept = None; most_arguments = most_arguments; most_results = most_results })
+-- so many slots that have accepted no call, or that keep none and lag
+abbrev pub unused_places : Bool → ℕ → ℕ → ℕ → List Place
+unused_places lags count most_arguments most_results = replicate count (record { kept = None; most_arguments = most_arguments; most_results = most_results; lags = lags })
 
--- how many bytes of results each slot of a session caches: those of a reply behind its header
+-- how many bytes of results each slot of a session caches: those of a reply after its header
 abbrev pub kept_size : Channel → ℕ
 kept_size granted = granted.reply_size - REPLY_HEADER
 
@@ -105,4 +105,8 @@ most_kept None = 0
 most_kept (Some s) = kept_size s.granted
 
 abbrev pub new_session : ℕ → Channel → Session
-new_session client granted = record { client = client; granted = granted; slots = unused_places granted.slots granted.request_size (kept_size granted) }
+new_session client granted = record { client = client; granted = granted; slots = unused_places false granted.slots granted.request_size (kept_size granted) }
+
+-- a session after a restart, whose slots keep no call yet
+abbrev pub restored_session : ℕ → Channel → Session
+restored_session client granted = record { client = client; granted = granted; slots = unused_places true granted.slots granted.request_size (kept_size granted) }

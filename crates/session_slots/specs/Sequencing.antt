@@ -8,7 +8,7 @@ use Rattle.session_slots.specs.declared.session.Begin.TheVariants as begins
 use Rattle.session_slots.specs.declared.slot.Turn.{Turn}
 use Rattle.session_slots.specs.declared.slot.Turn.TheVariants as turns
 use Rattle.session_slots.specs.Limits.{MOST_BYTES, LEAST_REPLY}
-use Rattle.session_slots.specs.Slots.{Call, Place, turn_of, begun, BeginsByHistory, KeepsByHistory}
+use Rattle.session_slots.specs.Slots.{Call, Place, turn_of, begun, BeginsBy, KeepsByHistory}
 use Rattle.session_slots.specs.Registry.{Session, Registry, kept_size, session_at, place_at, client_at, with_session, with_place}
 
 -- the arguments of SEQUENCE, and its COMPOUND
@@ -31,7 +31,7 @@ grant_fault granted a =
 
 abbrev pub place_turn : Option Place → Call → Turn
 place_turn None call = turns.Refused statuses.BadSlot
-place_turn (Some p) call = turn_of p.kept call
+place_turn (Some p) call = turn_of p.lags p.kept call
 
 abbrev pub turn_unless : Option Status → Session → Asked → Turn
 turn_unless (Some status) s a = turns.Refused status
@@ -90,7 +90,7 @@ turn_told (begins.Refused status) = turns.Refused status
 -- stands for the history with the call.
 pub record SequencesByHistory (old new : Registry) (session : ℕ) (a : Asked) (answer : Begin) : Type 0 where
   pub by_history : (s : Session) (p : Place) → session_at old session ≡ Some s → grant_fault s.granted a ≡ None → slice_get s.slots a.slot ≡ Some p →
-      (q : Place) × (place_at new session a.slot ≡ Some q) × BeginsByHistory p.kept q.kept a.call (turn_told answer)
+      (q : Place) × (place_at new session a.slot ≡ Some q) × BeginsBy p.lags p.kept q a.call (turn_told answer)
 
 -- A new call has a session that is there, with its slot and its client, until one of them is destroyed; its results may be cached.
 abbrev pub StandsIn : Registry → ℕ → ℕ → Begin → Type 0

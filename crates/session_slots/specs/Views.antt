@@ -1,8 +1,11 @@
--- The arguments of calls, as the definitions see them.
+-- The arguments of calls, and what is kept over a restart, as the definitions see them.
 use Rattle.session_slots.specs.declared.session.Sequence.{Sequence}
 use Rattle.session_slots.specs.declared.exchanging.Exchange.{Exchange}
 use Rattle.session_slots.specs.Exchanging.{Exchanging}
-use Rattle.session_slots.specs.Slots.{Call}
+use Rattle.session_slots.specs.declared.client.Record.{Record}
+use Rattle.session_slots.specs.Registry.{Client}
+use Rattle.session_slots.specs.Slots.{Call, Kept}
+use Rattle.session_slots.specs.declared.slot.KeptCall.{KeptCall}
 use Rattle.session_slots.specs.Sequencing.{Asked}
 
 abbrev pub call_of : Sequence → Call
@@ -13,3 +16,9 @@ asked_of s = record { slot = s.slot; highest = s.highest; count = s.count; recor
 
 abbrev pub exchanging_of : Exchange → Exchanging
 exchanging_of e = record { owner = e.owner.now; verifier = e.verifier; uid = e.uid; flags = e.flags; has_opens = e.has_opens }
+
+abbrev pub kept_of : KeptCall → Kept
+kept_of k = record { call = record { number = k.number; caller = k.caller.now; arguments = k.arguments.now }; results = k.results.now }
+
+abbrev pub client_of : Record → Client
+client_of r = record { number = r.number; owner = r.owner.now; verifier = r.verifier; uid = r.uid; confirmed = r.confirmed; created = r.created; reclaimed = r.reclaimed }

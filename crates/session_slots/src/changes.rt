@@ -121,6 +121,15 @@ pub fn reclaim<A: Allocator>(clients: &mut BTreeMap<u64, Client<A>, A>, number: 
     }
 }
 
+/// A client was heard in this second.
+pub fn hear<A: Allocator>(clients: &mut BTreeMap<u64, Client<A>, A>, number: u64, now: u64)
+    ensures { clients.new.entries ≡ changed_client number (λ c. c) clients.old.entries }
+{
+    if let Some(client) = clients.get_mut(&number) {
+        client.hear(now);
+    }
+}
+
 /// Whether a client has sessions.
 pub fn has_sessions<A: Allocator + Copy>(
     sessions: &BTreeMap<u64, Session<A>, A>,

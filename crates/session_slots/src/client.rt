@@ -6,6 +6,7 @@ ghost use Rattle.session_slots.specs.Creating.{number_of, repeated};
 ghost use Rattle.session_slots.specs.Destroying.{has_reclaimed};
 ghost use Rattle.session_slots.specs.Exchanging.{is_unconfirmed_of};
 ghost use Rattle.session_slots.specs.Registry.{is_confirmed_of};
+ghost use Rattle.session_slots.specs.Views.{client_of};
 
 use crate::session::Channel;
 use crate::slot;
@@ -20,6 +21,8 @@ pub struct Created {
     pub session: u64,
     /// The sequence ID of the call.
     pub sequence: u32,
+    /// Whether the session and its slots are kept over a restart, CREATE_SESSION4_FLAG_PERSIST.
+    pub persist: bool,
     /// The fore channel, as far as it is granted.
     pub fore: Channel,
     /// The backchannel, as it was requested.
@@ -35,6 +38,25 @@ pub struct Creation {
     pub result: Result<Created, Status>,
 }
 
+/// The record of a client, as it is kept over a restart.
+#[derive(Clone, Copy, Debug)]
+pub struct Record<'a> {
+    /// The number of the client.
+    pub number: u64,
+    /// The client owner's ID.
+    pub owner: &'a [u8],
+    /// The verifier.
+    pub verifier: u64,
+    /// The user for whom the record was created.
+    pub uid: u32,
+    /// Whether the record is confirmed.
+    pub confirmed: bool,
+    /// The last CREATE_SESSION that was accepted, with its result.
+    pub created: Option<Creation>,
+    /// Whether the client has sent RECLAIM_COMPLETE.
+    pub reclaimed: bool,
+}
+
 /// The record of a client.
 #[derive(Drop)]
 pub struct Client<A: Allocator = Global> {
@@ -45,6 +67,8 @@ pub struct Client<A: Allocator = Global> {
     confirmed: bool,
     created: Option<Creation>,
     reclaimed: bool,
+    // the second in which the client was heard last, which is no part of the model
+    heard: u64,
 }
 
 impl<A: Allocator> Model for Client<A> {
@@ -56,13 +80,14 @@ impl<A: Allocator> Model for Client<A> {
 }
 
 impl<A: Allocator> Client<A> {
-    /// The record of an owner that isn't confirmed. `Err`: there is no memory for it.
+    /// The record of an owner that isn't confirmed, heard in this second. `Err`: there is no memory for it.
     pub fn new(
         alloc: A,
         number: u64,
         owner: &[u8],
         verifier: u64,
         uid: u32,
+        now: u64,
     ) -> Result<Self, AllocError>
         ensures { IfOk result (λ c. c ≡ record { number = number; owner = owner.now; verifier = verifier; uid = uid; confirmed = false; created = None; reclaimed = false }) }
     {
@@ -74,7 +99,51 @@ impl<A: Allocator> Client<A> {
             confirmed: false,
             created: None,
             reclaimed: false,
+            heard: now,
         })
+    }
+
+    /// A record of before a restart, which counts as heard in this second. `Err`: there is no memory for it.
+    pub fn restored(alloc: A, kept: Record<'_>, now: u64) -> Result<Self, AllocError>
+        ensures { IfOk result (λ c. c ≡ client_of kept.entry) }
+    {
+        Ok(Client {
+            number: kept.number,
+            owner: Vec::from_slice(alloc, kept.owner)?,
+            verifier: kept.verifier,
+            uid: kept.uid,
+            confirmed: kept.confirmed,
+            created: kept.created,
+            reclaimed: kept.reclaimed,
+            heard: now,
+        })
+    }
+
+    /// The record as it is kept over a restart.
+    pub fn record(&self) -> Record<'_>
+        ensures { client_of result ≡ self.now }
+    {
+        Record {
+            number: self.number,
+            owner: &self.owner,
+            verifier: self.verifier,
+            uid: self.uid,
+            confirmed: self.confirmed,
+            created: self.created,
+            reclaimed: self.reclaimed,
+        }
+    }
+
+    /// The second in which the client was heard last.
+    pub fn heard(&self) -> u64 {
+        self.heard
+    }
+
+    /// The client was heard.
+    pub fn hear(&mut self, now: u64)
+        ensures { self.new ≡ self.old }
+    {
+        self.heard = self.heard.max(now);
     }
 
     /// The number of the client.

@@ -1,19 +1,26 @@
 //! Clients and their sessions, as a server calls them.
-ghost use Rattle.std.specs.Prelude.{◌≡◌, ◌≤◌, ◌<◌, length, Err, IfSome, IsOk, OnOk, OnErr, MatchOption};
+ghost use Rattle.std.specs.Prelude.{◌≡◌, ◌≤◌, ◌<◌, true, false, if◌then◌else◌, length, is_some, Err, IfSome, IsSome, IsOk, OnOk, OnErr, MatchOption};
 ghost use Rattle.std.specs.Option.{option_map};
 ghost use Rattle.session_slots.specs.Limits as limits;
 ghost use Rattle.session_slots.specs.Slots.{finished};
-ghost use Rattle.session_slots.specs.Registry.{nobody, session_at, results_at, kept_size, confirmed_entry, with_session, with_place};
-ghost use Rattle.session_slots.specs.Sequencing.{sequence_begin, sequence_begun, SequencesByHistory, StandsIn, UnlessNew, KeepsAt};
+ghost use Rattle.session_slots.specs.Registry.{nobody, client_at, session_at, results_at, kept_size, confirmed_entry, with_session, with_place};
+ghost use Rattle.session_slots.specs.Sequencing.{sequence_begin, sequence_begun, SequencesByHistory, StandsIn, UnlessNew, KeepsAt, HasSlots};
 ghost use Rattle.session_slots.specs.Creating.{Creates, CreatesAt};
 ghost use Rattle.session_slots.specs.Exchanging.{Exchanges};
 ghost use Rattle.session_slots.specs.Destroying.{destroy_session_refusal, without_session, destroy_client_refusal, without_client, reclaim_refusal, with_reclaimed};
-ghost use Rattle.session_slots.specs.Views.{asked_of, exchanging_of};
+ghost use Rattle.session_slots.specs.Orderly.{IsOrderly, has_form};
+ghost use Rattle.session_slots.specs.Restoring.{IsRising, number_from, numbers_fit, nothing_yet, record_fits, with_record, session_fits, with_restored, slot_fits, with_kept, held_of, kept_at};
+ghost use Rattle.session_slots.specs.Letting.{let_go};
+ghost use Rattle.session_slots.specs.Views.{asked_of, exchanging_of, client_of, kept_of};
 
+use crate::client::Record;
 use crate::creating::{Create, Made};
 use crate::exchanging::{Exchange, Exchanged};
+use crate::limits::END;
 use crate::registry::Registry;
-use crate::session::{Begin, Sequence};
+use crate::restoring::RestoreFault;
+use crate::session::{Begin, Held, Sequence};
+use crate::slot::KeptCall;
 use nfs_types::Status;
 use std::alloc::{Allocator, Global};
 use std::marker::Model;
@@ -55,6 +62,7 @@ impl<A: Allocator + Copy> Clients<A> {
 
     /// EXCHANGE_ID (RFC 8881, section 18.35). DELAY: there is no memory for a new record, and nothing changes.
     pub fn exchange_id(&mut self, asked: Exchange<'_>) -> Result<Exchanged, Status>
+        requires { length asked.owner.now ≤ limits.MOST_OWNER }
         ensures { Exchanges self.old (exchanging_of asked.entry) result self.new }
     {
         self.registry.exchange(asked)
@@ -123,7 +131,7 @@ impl<A: Allocator + Copy> Clients<A> {
         self.registry.results(session, slot)
     }
 
-    /// Keeps the results of the call that was begun last on a slot: those of a reply of the granted size, behind its header of 24 bytes. It
+    /// Keeps the results of the call that was begun last on a slot: those of a reply of the granted size, after its header of 24 bytes. It
     /// takes no memory.
     #[tactic(auto, using(crate::proofs::Keeping::keeps_at_by_history))]
     pub fn keep(&mut self, session: u64, slot: u32, results: &[u8])
@@ -133,5 +141,156 @@ impl<A: Allocator + Copy> Clients<A> {
         ensures by_history { KeepsAt self.old self.new session slot results.now }
     {
         self.registry.keep(session, slot, results);
+    }
+
+    // ---- over a restart
+
+    /// No client and no session: the next ones get these numbers, which are kept over a restart. `None`: a number is above 2^63.
+    #[tactic(auto, using(crate::proofs::Restored::nothing_is_orderly))]
+    pub fn restoring(alloc: A, next_client: u64, next_session: u64) -> Option<Self>
+        ensures fits { is_some result ≡ numbers_fit next_client next_session }
+        ensures begun { IfSome result (λ clients. clients ≡ nothing_yet next_client next_session) }
+    {
+        if next_client > END || next_session > END {
+            return None;
+        }
+        Some(Clients {
+            registry: Registry::restoring(alloc, next_client, next_session),
+        })
+    }
+
+    /// Restores the record of a client, which counts as heard in this second. Misfit: its number wasn't given yet, or is there; its owner
+    /// has another confirmed record, or more than 1,024 bytes; it keeps a refusal that is never kept; or there are 64 records.
+    pub fn restore_record(&mut self, kept: Record<'_>, now: u64) -> Result<(), RestoreFault>
+        ensures fits { OnOk result (record_fits self.old (client_of kept.entry) ≡ true) }
+        ensures misfit { result ≡ Err RestoreFault.Misfit → record_fits self.old (client_of kept.entry) ≡ false }
+        ensures memory { result ≡ Err RestoreFault.Memory → record_fits self.old (client_of kept.entry) ≡ true }
+        ensures ok { OnOk result (self.new ≡ with_record self.old (client_of kept.entry)) }
+        ensures err { OnErr result (self.new ≡ self.old) }
+    {
+        if !self.registry.record_fits(kept) {
+            return Err(RestoreFault::Misfit);
+        }
+        if let Err(_) = self.registry.restore_record(kept, now) {
+            return Err(RestoreFault::Memory);
+        }
+        Ok(())
+    }
+
+    /// Restores a session, whose slots lag and keep no call yet. Misfit: its number wasn't given yet, or is there; its client has no
+    /// confirmed record; more is granted than may be; or there are 64 sessions.
+    #[tactic(auto, using(crate::proofs::Restored::session_has_slots))]
+    pub fn restore_session(&mut self, number: u64, held: Held) -> Result<(), RestoreFault>
+        ensures fits { OnOk result (session_fits self.old number held ≡ true) }
+        ensures misfit { result ≡ Err RestoreFault.Misfit → session_fits self.old number held ≡ false }
+        ensures memory { result ≡ Err RestoreFault.Memory → session_fits self.old number held ≡ true }
+        ensures ok { OnOk result (self.new ≡ with_restored self.old number held) }
+        ensures err { OnErr result (self.new ≡ self.old) }
+    {
+        if !self.registry.session_fits(number, held) {
+            return Err(RestoreFault::Misfit);
+        }
+        if let Err(_) = self.registry.restore_session(number, held) {
+            return Err(RestoreFault::Memory);
+        }
+        Ok(())
+    }
+
+    /// Restores the last call of a slot, which lags. `false`: the slot isn't there, or hasn't the room, and nothing changes. It takes no
+    /// memory.
+    #[tactic(auto, using(crate::proofs::Restored::fits_slot, crate::proofs::Restored::fits_arguments, crate::proofs::Restored::fits_results))]
+    pub fn restore_slot(&mut self, session: u64, slot: u32, kept: KeptCall<'_>) -> bool
+        ensures fits { result ≡ slot_fits (session_at self.old session) slot (kept_of kept.entry) }
+        ensures kept { self.new ≡ (if result then with_kept self.old session slot (kept_of kept.entry) else self.old) }
+    {
+        if !self.registry.slot_fits(session, slot, kept) {
+            return false;
+        }
+        self.registry.restore_slot(session, slot, kept);
+        true
+    }
+
+    /// The least number of a client's record that is at least this one, so that all are found in order from 0 on. It takes no memory.
+    pub fn client_from(&self, number: u64) -> Option<u64>
+        ensures { result ≡ number_from number self.now.clients }
+    {
+        self.registry.client_from(number)
+    }
+
+    /// The least number of a session that is at least this one, so that all are found in order from 0 on. It takes no memory.
+    pub fn session_from(&self, number: u64) -> Option<u64>
+        ensures { result ≡ number_from number self.now.sessions }
+    {
+        self.registry.session_from(number)
+    }
+
+    /// How many records and sessions there are, at most 64 of each. They are kept by rising number.
+    pub fn counts(&self) -> (usize, usize)
+        ensures counts { result ≡ (length self.now.clients, length self.now.sessions) }
+        ensures rising { IsRising self.now.clients × IsRising self.now.sessions }
+        ensures orderly { IsOrderly self.now }
+    {
+        self.registry.counts()
+    }
+
+    /// The record of a client, as it is kept over a restart.
+    #[tactic(auto, using(crate::proofs::Restored::found_form))]
+    pub fn record(&self, client: u64) -> Option<Record<'_>>
+        ensures record { option_map client_of result ≡ client_at self.now client }
+        ensures form { IfSome (client_at self.now client) (λ c. has_form c ≡ true) }
+    {
+        self.registry.record(client)
+    }
+
+    /// A session, as it is kept over a restart, without its slots.
+    pub fn held(&self, session: u64) -> Option<Held>
+        ensures held { result ≡ option_map held_of (session_at self.now session) }
+        ensures slots { IfSome (session_at self.now session) (λ s. HasSlots s.granted s.slots) }
+    {
+        self.registry.held(session)
+    }
+
+    /// The call that a slot keeps, with its results: it fits the slot when it is restored.
+    pub fn kept(&self, session: u64, slot: u32) -> Option<KeptCall<'_>>
+        ensures kept { option_map kept_of result ≡ kept_at self.now session slot }
+        ensures fits { IfSome result (λ k. slot_fits (session_at self.now session) slot (kept_of k) ≡ true) }
+    {
+        self.registry.kept(session, slot)
+    }
+
+    /// The numbers that the next client and the next session get.
+    pub fn next_numbers(&self) -> (u64, u64)
+        ensures { result ≡ (self.now.next_client, self.now.next_session) }
+    {
+        (self.registry.next_client, self.registry.next_session)
+    }
+
+    // ---- clients that are let go
+
+    /// A client was heard in this second, which is no part of the model. A second before the last one changes nothing.
+    pub fn hear(&mut self, client: u64, now: u64)
+        ensures { self.new ≡ self.old }
+    {
+        self.registry.hear(client, now);
+    }
+
+    /// The client that was silent longest, if it was for more seconds than the lease.
+    pub fn silent(&self, now: u64, lease: u64) -> Option<u64>
+        ensures { IfSome result (λ client. IsSome (client_at self.now client)) }
+    {
+        self.registry.silent(now, lease)
+    }
+
+    /// Lets a client go: its record goes with its sessions, and nothing else. `false`: it has no record, and nothing changes. It takes no
+    /// memory.
+    pub fn let_go(&mut self, client: u64) -> bool
+        ensures live { result ≡ is_some (client_at self.old client) }
+        ensures gone { self.new ≡ (if result then let_go client self.old else self.old) }
+    {
+        if !self.registry.has_record(client) {
+            return false;
+        }
+        self.registry.let_go(client);
+        true
     }
 }

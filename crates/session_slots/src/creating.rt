@@ -22,6 +22,10 @@ pub struct Create {
     pub sequence: u32,
     /// The user of the caller.
     pub uid: u32,
+    /// Whether CREATE_SESSION4_FLAG_PERSIST is asked for.
+    pub persist: bool,
+    /// Whether the server keeps sessions and slots over a restart, and so may grant it.
+    pub lasting: bool,
     /// The fore channel that is requested.
     pub fore: Channel,
     /// The backchannel that is requested.
@@ -134,6 +138,7 @@ impl<A: Allocator + Copy> Registry<A> {
         let created = Created {
             session: number,
             sequence: asked.sequence,
+            persist: asked.persist && asked.lasting,
             fore: granted,
             back: asked.back,
         };

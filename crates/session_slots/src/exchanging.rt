@@ -25,6 +25,8 @@ pub struct Exchange<'a> {
     pub flags: u32,
     /// Whether the owner's confirmed record has opens.
     pub has_opens: bool,
+    /// The second of the server's clock, in which a new record counts as heard.
+    pub now: u64,
 }
 
 /// The answer to EXCHANGE_ID: the record of the client.
@@ -116,8 +118,14 @@ impl<A: Allocator + Copy> Registry<A> {
         ensures { MakesClient self.old (exchanging_of asked.entry) gone result self.new }
     {
         let number = self.next_client;
-        let Ok(client) = Client::new(self.alloc, number, asked.owner, asked.verifier, asked.uid)
-        else {
+        let Ok(client) = Client::new(
+            self.alloc,
+            number,
+            asked.owner,
+            asked.verifier,
+            asked.uid,
+            asked.now,
+        ) else {
             return Err(Status::Delay);
         };
         if let Err(_) = add_client(&mut self.clients, number, client) {

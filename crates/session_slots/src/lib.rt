@@ -10,23 +10,30 @@ mod clients;
 mod creating;
 mod destroying;
 mod exchanging;
+mod forms;
 mod laws;
+mod letting;
 mod limits;
 mod registry;
+mod restoring;
 mod session;
 mod slot;
 
-pub use client::Created;
+pub use client::{Created, Creation, Record};
 pub use clients::Clients;
 pub use creating::{Create, Made};
 pub use exchanging::{Exchange, Exchanged};
+pub use forms::{CallForm, RecordForm, SessionForm, write_call};
 pub use laws::{
-    World, every_slot_has_a_history, nothing_was_accepted, repeats_change_nothing,
-    slots_go_by_history,
+    World, calls_change_slots_alone, every_slot_has_a_history, nothing_was_accepted,
+    numbers_are_read_in_order, repeats_change_nothing, slots_go_by_history,
+    what_changes_the_world_acts_once, what_is_read_out_is_restored, what_is_written_is_of_one,
 };
 pub use limits::{
-    CONFIRMED, END, LEAST_REPLY, MOST_BYTES, MOST_CLIENTS, MOST_OPERATIONS, MOST_RESULTS,
-    MOST_SESSIONS, MOST_SLOTS, REPLY_HEADER, UPDATE_CONFIRMED, USE_NON_PNFS,
+    CONFIRMED, END, LEAST_REPLY, MOST_AHEAD, MOST_BYTES, MOST_CLIENTS, MOST_OPERATIONS, MOST_OWNER,
+    MOST_RESULTS, MOST_SESSIONS, MOST_SLOTS, REPLY_HEADER, UPDATE_CONFIRMED, USE_NON_PNFS,
+    WRITTEN_EVERY,
 };
-pub use session::{Begin, Channel, NewCall, Sequence};
-pub use slot::due;
+pub use restoring::RestoreFault;
+pub use session::{Begin, Channel, Held, NewCall, Sequence};
+pub use slot::{KeptCall, due, is_written};

@@ -1,13 +1,14 @@
 //! A session (RFC 8881, section 2.10).
-ghost use Rattle.std.specs.Prelude.{◌≡◌, ◌≤◌, ◌<◌, length, slice_get, IfSome, IfOk};
+ghost use Rattle.std.specs.Prelude.{◌≡◌, ◌≤◌, ◌<◌, length, slice_get, Some, IfSome, IfOk};
 ghost use Rattle.std.specs.Option.{option_copied};
-ghost use Rattle.session_slots.specs.Slots.{begun, finished};
-ghost use Rattle.session_slots.specs.Registry.{changed_place, kept_size, with_place, unused_places, new_session};
-ghost use Rattle.session_slots.specs.Views.{asked_of, call_of};
-ghost use Rattle.session_slots.specs.Sequencing.{grant_fault, place_turn, begin_of, session_begin, session_begun};
+ghost use Rattle.session_slots.specs.Slots.{begun, finished, restored};
+ghost use Rattle.session_slots.specs.Registry.{changed_place, kept_size, with_place, unused_places, new_session, restored_session};
+ghost use Rattle.session_slots.specs.Restoring.{held_of, slot_fits};
+ghost use Rattle.session_slots.specs.Views.{asked_of, call_of, kept_of};
+ghost use Rattle.session_slots.specs.Sequencing.{HasSlots, grant_fault, place_turn, begin_of, session_begin, session_begun};
 
 use crate::limits::REPLY_HEADER;
-use crate::slot::{Slot, Turn};
+use crate::slot::{KeptCall, Slot, Turn};
 use nfs_types::Status;
 use rpc_record::Caller;
 use std::alloc::{AllocError, Allocator, Global};
@@ -43,7 +44,7 @@ pub struct Sequence<'a> {
     pub count: u32,
     /// How many bytes the call's record has.
     pub record_len: usize,
-    /// The bytes behind the call's header.
+    /// The bytes after the call's header.
     pub arguments: &'a [u8],
     /// The caller.
     pub caller: &'a Caller,
@@ -69,6 +70,15 @@ pub enum Begin {
     Repeat,
     /// The call is refused.
     Refused(Status),
+}
+
+/// A session, as it is kept over a restart, without its slots.
+#[derive(Clone, Copy, Debug, PartialEq, Eq)]
+pub struct Held {
+    /// The client of the session.
+    pub client: u64,
+    /// The fore channel, as far as it is granted.
+    pub granted: Channel,
 }
 
 /// A session.
@@ -130,18 +140,31 @@ fn keep_at<A: Allocator + Copy>(slots: &mut Vec<Slot<A>, A>, index: usize, resul
     slot.keep(results);
 }
 
-/// So many slots that have accepted no call, each with this room.
+/// Keeps a call of before a restart as the last one on one of these slots.
+#[tactic(auto, using(crate::proofs::Places::changed_there, crate::proofs::Places::is_there))]
+fn restore_at<A: Allocator + Copy>(slots: &mut Vec<Slot<A>, A>, index: usize, kept: KeptCall<'_>)
+    requires within { index < length slots.old.items }
+    requires arguments { IfSome (slice_get slots.old.items index) (λ p. length kept.arguments.now ≤ p.most_arguments) }
+    requires results { IfSome (slice_get slots.old.items index) (λ p. length kept.results.now ≤ p.most_results) }
+    ensures { slots.new.items ≡ changed_place index (restored (kept_of kept.entry)) slots.old.items }
+{
+    let slot = &mut slots[index];
+    slot.restore(kept);
+}
+
+/// So many slots that keep no call, and lag or have accepted none, each with this room.
 fn new_slots<A: Allocator + Copy>(
     alloc: A,
+    lags: bool,
     count: u32,
     most_arguments: usize,
     most_results: usize,
 ) -> Result<Vec<Slot<A>, A>, AllocError>
-    ensures { IfOk result (λ slots. slots.items ≡ unused_places count most_arguments most_results) }
+    ensures { IfOk result (λ slots. slots.items ≡ unused_places lags count most_arguments most_results) }
 {
     let mut slots = Vec::with_capacity(alloc, count as usize)?;
     for _ in 0..count {
-        slots.push(Slot::new(alloc, most_arguments, most_results)?)?;
+        slots.push(Slot::new(alloc, lags, most_arguments, most_results)?)?;
     }
     Ok(slots)
 }
@@ -159,8 +182,56 @@ impl<A: Allocator + Copy> Session<A> {
         Ok(Session {
             client,
             granted,
-            slots: new_slots(alloc, granted.slots, arguments, results)?,
+            slots: new_slots(alloc, false, granted.slots, arguments, results)?,
         })
+    }
+
+    /// A session of before a restart. Its slots lag and keep no call yet. `Err`: there is no memory for it.
+    #[tactic(auto, using(crate::proofs::Places::unused_has_slots))]
+    pub fn restored(alloc: A, held: Held) -> Result<Self, AllocError>
+        requires { 1 ≤ held.granted.slots }
+        ensures { IfOk result (λ session. session ≡ restored_session held.client held.granted) }
+    {
+        let granted = held.granted;
+        let arguments = granted.request_size as usize;
+        let results = (granted.reply_size as usize).saturating_sub(REPLY_HEADER);
+        Ok(Session {
+            client: held.client,
+            granted,
+            slots: new_slots(alloc, true, granted.slots, arguments, results)?,
+        })
+    }
+
+    /// The session as it is kept over a restart, without its slots.
+    pub fn held(&self) -> Held
+        ensures held { result ≡ held_of self.now }
+        ensures slots { HasSlots self.now.granted self.now.slots }
+    {
+        Held {
+            client: self.client,
+            granted: self.granted,
+        }
+    }
+
+    /// Whether a call of before a restart may stand in a slot.
+    pub fn has_room(&self, number: u32, kept: KeptCall<'_>) -> bool
+        ensures { result ≡ slot_fits (Some self.now) number (kept_of kept.entry) }
+    {
+        let granted = &self.granted;
+        number < granted.slots
+            && (kept.arguments.len() <= granted.request_size as usize
+                && kept.results.len() <= (granted.reply_size as usize).saturating_sub(REPLY_HEADER))
+    }
+
+    /// Keeps a call of before a restart as the last one on a slot, which lags. It takes no memory.
+    #[tactic(auto, using(crate::proofs::Places::restored_has_slots, crate::proofs::Places::has_room_for_arguments, crate::proofs::Places::has_room_for_results))]
+    pub fn restore(&mut self, number: u32, kept: KeptCall<'_>)
+        requires slot { number < self.old.granted.slots }
+        requires arguments { length kept.arguments.now ≤ self.old.granted.request_size }
+        requires results { length kept.results.now ≤ kept_size self.old.granted }
+        ensures { self.new ≡ with_place number (restored (kept_of kept.entry)) self.old }
+    {
+        restore_at(&mut self.slots, number as usize, kept);
     }
 
     /// The number of the session's client.
@@ -171,10 +242,12 @@ impl<A: Allocator + Copy> Session<A> {
     }
 
     /// The slot of a number.
-    #[tactic(auto, using(crate::proofs::Places::has_size))]
+    #[tactic(auto, using(crate::proofs::Places::has_size, crate::proofs::Places::has_argument_size))]
     pub fn slot(&self, number: u32) -> Option<&Slot<A>>
         ensures slot { option_copied result ≡ slice_get self.now.slots number }
         ensures room { IfSome (slice_get self.now.slots number) (λ p. p.most_results ≡ kept_size self.now.granted) }
+        ensures argument_room { IfSome (slice_get self.now.slots number) (λ p. p.most_arguments ≡ self.now.granted.request_size) }
+        ensures slots { HasSlots self.now.granted self.now.slots }
     {
         self.slots.get(number as usize)
     }

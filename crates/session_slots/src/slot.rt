@@ -1,8 +1,11 @@
 //! A slot of a session (RFC 8881, section 2.10.6.1).
-ghost use Rattle.std.specs.Prelude.{◌≡◌, ◌+◌, ◌%◌, ◌^◌, ◌≤◌, ◌<◌, ℕ, ◌==◌, if◌then◌else◌, length, Some, None, IfOk};
+ghost use Rattle.std.specs.Prelude.{◌≡◌, ◌+◌, ◌%◌, ◌^◌, ◌≤◌, ◌<◌, ℕ, ◌==◌, if◌then◌else◌, length, Some, None, IfOk, IfSome};
+ghost use Rattle.std.specs.Option.{option_map};
 ghost use Rattle.session_slots.specs.Counting as specs;
-ghost use Rattle.session_slots.specs.Slots.{Call, Kept, Place, turn_of, begun, finished, results_of, BeginsByHistory, KeepsByHistory};
+ghost use Rattle.session_slots.specs.Slots.{Call, Kept, Place, number_of, turn_of, begun, finished, restored, results_of, BeginsBy, KeepsByHistory};
+ghost use Rattle.session_slots.specs.Views.{kept_of};
 
+use crate::limits::{MOST_AHEAD, WRITTEN_EVERY};
 use nfs_types::Status;
 use rpc_record::Caller;
 use std::alloc::{AllocError, Allocator, Global};
@@ -26,14 +29,36 @@ pub fn due(last: u32) -> u32
     last.wrapping_add(1)
 }
 
-/// Whether a call on an unused slot is new.
-fn first_turn(number: u32) -> Turn
-    ensures { result ≡ (if number == 1 then Turn.New else Turn.Refused Status.SeqMisordered) }
+/// Whether a new call may have this number, where the slot's last one is `last`, and the slot lags or not.
+fn is_next(lags: bool, last: u32, number: u32) -> bool
+    ensures { result ≡ specs.is_next lags last number }
 {
-    match number {
-        1 => Turn::New,
-        _ => Turn::Refused(Status::SeqMisordered),
+    if !lags {
+        return number == due(last);
     }
+    let ahead = number.wrapping_sub(last);
+    ahead >= 1 && ahead <= MOST_AHEAD
+}
+
+/// Whether a slot is written after a new call of this number: where the call changed anything that is kept over a restart, and where the
+/// number is a multiple of 2^20.
+pub fn is_written(number: u32, changes: bool) -> bool
+    ensures { result ≡ specs.is_written number changes }
+{
+    changes || number % WRITTEN_EVERY == 0
+}
+
+/// The last call of a slot, with its results, as it is kept over a restart.
+#[derive(Clone, Copy, Debug)]
+pub struct KeptCall<'a> {
+    /// The sequence ID.
+    pub number: u32,
+    /// The caller.
+    pub caller: &'a Caller,
+    /// The bytes after the call's header.
+    pub arguments: &'a [u8],
+    /// The results.
+    pub results: &'a [u8],
 }
 
 /// A slot: the last call that it accepted, with its results. The room for them is reserved at the slot's creation.
@@ -45,6 +70,8 @@ pub struct Slot<A: Allocator = Global> {
     results: Vec<u8, A>,
     most_arguments: usize,
     most_results: usize,
+    // the slot is of before a restart, and has accepted no call since
+    lags: bool,
 }
 
 impl<A: Allocator> Model for Slot<A> {
@@ -58,15 +85,21 @@ impl<A: Allocator> Model for Slot<A> {
       kept = option_map (λ last. record { call = record { number = last.0; caller = last.1; arguments = s.arguments.items }; results = s.results.items }) s.last;
       most_arguments = s.most_arguments;
       most_results = s.most_results;
+      lags = s.lags;
     } };
 
-    ghost invariant = { λ s. (s.most_arguments ≤ vec_capacity s.arguments) × (s.most_results ≤ vec_capacity s.results) × (vec_len s.results ≤ s.most_results) };
+    ghost invariant = { λ s. (s.most_arguments ≤ vec_capacity s.arguments) × (s.most_results ≤ vec_capacity s.results) × (vec_len s.arguments ≤ s.most_arguments) × (vec_len s.results ≤ s.most_results) };
 }
 
 impl<A: Allocator + Copy> Slot<A> {
-    /// A slot that has accepted no call. `Err`: there is no memory for its calls and their results.
-    pub fn new(alloc: A, most_arguments: usize, most_results: usize) -> Result<Self, AllocError>
-        ensures { IfOk result (λ slot. slot ≡ record { kept = None; most_arguments = most_arguments; most_results = most_results }) }
+    /// A slot that keeps no call, and lags or has accepted none. `Err`: there is no memory for its calls and their results.
+    pub fn new(
+        alloc: A,
+        lags: bool,
+        most_arguments: usize,
+        most_results: usize,
+    ) -> Result<Self, AllocError>
+        ensures { IfOk result (λ slot. slot ≡ record { kept = None; most_arguments = most_arguments; most_results = most_results; lags = lags }) }
     {
         Ok(Slot {
             last: None,
@@ -74,6 +107,7 @@ impl<A: Allocator + Copy> Slot<A> {
             results: Vec::with_capacity(alloc, most_results)?,
             most_arguments,
             most_results,
+            lags,
         })
     }
 
@@ -88,16 +122,26 @@ impl<A: Allocator + Copy> Slot<A> {
         }
     }
 
+    /// The sequence ID of the last call: 0 where none is kept.
+    fn last_number(&self) -> u32
+        ensures { result ≡ specs.last_number number_of self.now.kept }
+    {
+        match &self.last {
+            Some((last, _)) => *last,
+            None => 0,
+        }
+    }
+
     /// Whether a call is new, a repeat of the last one, or refused.
     fn turn(&self, number: u32, arguments: &[u8], caller: &Caller) -> Turn
-        ensures { result ≡ turn_of self.now.kept (record { number = number; caller = caller.now; arguments = arguments.now }) }
+        ensures { result ≡ turn_of self.now.lags self.now.kept (record { number = number; caller = caller.now; arguments = arguments.now }) }
     {
-        let Some((last, sender)) = &self.last else {
-            return first_turn(number);
-        };
-        if number == due(*last) {
+        if is_next(self.lags, self.last_number(), number) {
             return Turn::New;
         }
+        let Some((last, sender)) = &self.last else {
+            return Turn::Refused(Status::SeqMisordered);
+        };
         if number != *last {
             return Turn::Refused(Status::SeqMisordered);
         }
@@ -110,7 +154,7 @@ impl<A: Allocator + Copy> Slot<A> {
     /// Begins a call, as [`Slot::begin`] does.
     fn take(&mut self, number: u32, arguments: &[u8], caller: &Caller) -> Turn
         requires { length arguments.now ≤ self.old.most_arguments }
-        ensures turn { result ≡ turn_of self.old.kept (record { number = number; caller = caller.now; arguments = arguments.now }) }
+        ensures turn { result ≡ turn_of self.old.lags self.old.kept (record { number = number; caller = caller.now; arguments = arguments.now }) }
         ensures begun { self.new ≡ begun self.old (record { number = number; caller = caller.now; arguments = arguments.now }) }
     {
         let turn = self.turn(number, arguments, caller);
@@ -119,6 +163,7 @@ impl<A: Allocator + Copy> Slot<A> {
             self.arguments.clear();
             self.arguments.extend_from_slice(arguments).unwrap();
             self.results.clear();
+            self.lags = false;
         }
         turn
     }
@@ -126,13 +171,13 @@ impl<A: Allocator + Copy> Slot<A> {
     /// Begins a call: a new call is kept, with no results yet. It takes no memory.
     ///
     /// For every history of calls that the slot stood for, the call gets that history's result, and the slot stands for the history
-    /// with the call.
-    #[tactic(auto, using(crate::proofs::Histories::begins_by_history))]
+    /// with the call. Where the slot lags, it stands for those of these histories in which the call is next.
+    #[tactic(auto, using(crate::proofs::Lagging::begins_by))]
     pub fn begin(&mut self, number: u32, arguments: &[u8], caller: &Caller) -> Turn
         requires { length arguments.now ≤ self.old.most_arguments }
-        ensures turn { result ≡ turn_of self.old.kept (record { number = number; caller = caller.now; arguments = arguments.now }) }
+        ensures turn { result ≡ turn_of self.old.lags self.old.kept (record { number = number; caller = caller.now; arguments = arguments.now }) }
         ensures begun { self.new ≡ begun self.old (record { number = number; caller = caller.now; arguments = arguments.now }) }
-        ensures by_history { BeginsByHistory self.old.kept self.new.kept (record { number = number; caller = caller.now; arguments = arguments.now }) result }
+        ensures by_history { BeginsBy self.old.lags self.old.kept self.new (record { number = number; caller = caller.now; arguments = arguments.now }) result }
     {
         self.take(number, arguments, caller)
     }
@@ -154,5 +199,35 @@ impl<A: Allocator + Copy> Slot<A> {
         ensures by_history { KeepsByHistory self.old.kept self.new.kept results.now }
     {
         self.put(results);
+    }
+
+    /// The last call, with its results; `None`: no call is kept.
+    pub fn kept(&self) -> Option<KeptCall<'_>>
+        ensures kept { option_map kept_of result ≡ self.now.kept }
+        ensures few { IfSome result (λ k. (length k.arguments.now ≤ self.now.most_arguments) × (length k.results.now ≤ self.now.most_results)) }
+    {
+        match &self.last {
+            Some((number, caller)) => Some(KeptCall {
+                number: *number,
+                caller,
+                arguments: &self.arguments,
+                results: &self.results,
+            }),
+            None => None,
+        }
+    }
+
+    /// Keeps a call of before a restart as the last one. The slot lags. It takes no memory.
+    pub fn restore(&mut self, kept: KeptCall<'_>)
+        requires arguments { length kept.arguments.now ≤ self.old.most_arguments }
+        requires results { length kept.results.now ≤ self.old.most_results }
+        ensures { self.new ≡ restored (kept_of kept.entry) self.old }
+    {
+        self.last = Some((kept.number, *kept.caller));
+        self.arguments.clear();
+        self.arguments.extend_from_slice(kept.arguments).unwrap();
+        self.results.clear();
+        self.results.extend_from_slice(kept.results).unwrap();
+        self.lags = true;
     }
 }

@@ -3,6 +3,7 @@
 mod clients;
 mod memory;
 mod plain;
+mod restoring;
 mod sessions;
 mod slots;
 mod steps;

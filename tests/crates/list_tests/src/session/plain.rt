@@ -24,6 +24,7 @@ pub const ALICE: Exchange<'static> = Exchange {
     uid: 1001,
     flags: 0,
     has_opens: false,
+    now: 0,
 };
 
 /// A client of the owner `alice` and the user 1002.
@@ -35,6 +36,8 @@ pub fn creation(client: u64, sequence: u32) -> Create {
         client,
         sequence,
         uid: 1001,
+        persist: false,
+        lasting: false,
         fore: SMALL,
         back: SMALL,
     }

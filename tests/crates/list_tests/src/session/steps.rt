@@ -116,6 +116,8 @@ pub fn act<A: Allocator + Copy>(clients: &mut Clients<A>, step: Step<'_>) -> Out
                 client,
                 sequence,
                 uid,
+                persist: false,
+                lasting: false,
                 fore,
                 back,
             },

@@ -1,0 +1,91 @@
+-- What is kept over a restart, and how clients, sessions and slots are made of it again (RFC 8881, section 2.10.6.5).
+use Rattle.std.specs.Prelude.{◌≡◌, ℕ, ◌&&◌, ◌||◌, if◌then◌else◌, Bool, true, false, not, nat_lt, nat_le, List, [], map, length, Option, Some, None, is_some, is_none, find}
+use Rattle.std.specs.List.Sorted.{IsStrictlySortedBy}
+use Rattle.std.specs.Map.{keys_of}
+use Rattle.std.specs.Option.{option_and_then}
+use Rattle.std.specs.BTreeMap.{insert_entry}
+use Rattle.std.specs.Ordering.{nat_cmp}
+use Rattle.session_slots.specs.declared.session.Channel.{Channel}
+use Rattle.session_slots.specs.declared.session.Held.{Held}
+use Rattle.session_slots.specs.Limits.{MOST_CLIENTS, MOST_SESSIONS, MOST_SLOTS, MOST_BYTES, LEAST_REPLY, MOST_OPERATIONS, END}
+use Rattle.session_slots.specs.Slots.{Kept, restored}
+use Rattle.session_slots.specs.Orderly.{has_form}
+use Rattle.session_slots.specs.Registry.{Client, Session, Registry, client_at, session_at, place_at, confirmed_entry, kept_size, restored_session, with_session, with_place}
+
+-- nothing is restored yet: the next client and the next session get these numbers
+abbrev pub nothing_yet : ℕ → ℕ → Registry
+nothing_yet next_client next_session = record { clients = []; sessions = []; next_client = next_client; next_session = next_session }
+
+-- numbers that the next client and the next session may get
+abbrev pub numbers_fit : ℕ → ℕ → Bool
+numbers_fit next_client next_session = if nat_lt END next_client || nat_lt END next_session then false else true
+
+-- ---- a record
+
+-- a record may stand beside those that are there
+abbrev pub record_fits : Registry → Client → Bool
+record_fits r c =
+    nat_lt c.number r.next_client && (nat_lt (length r.clients) MOST_CLIENTS && (is_none (client_at r c.number) && (not (c.confirmed && is_some (confirmed_entry r c.owner)) && has_form c)))
+
+abbrev pub with_record : Registry → Client → Registry
+with_record r c = record r { clients = insert_entry nat_cmp r.clients c.number c }
+
+-- ---- a session
+
+-- no more is granted than may be
+abbrev pub is_within : Channel → Bool
+is_within g =
+    nat_le g.request_size MOST_BYTES && (nat_le LEAST_REPLY g.reply_size && (nat_le g.reply_size MOST_BYTES && (nat_le g.operations MOST_OPERATIONS && (nat_le g.slots MOST_SLOTS && nat_le 1 g.slots))))
+
+abbrev pub is_home : Option Client → Bool
+is_home None = false
+is_home (Some c) = c.confirmed
+
+-- a session may stand: it has a number that was given, and its client a confirmed record
+abbrev pub session_fits : Registry → ℕ → Held → Bool
+session_fits r number held =
+    nat_lt number r.next_session && (nat_lt (length r.sessions) MOST_SESSIONS && (is_none (session_at r number) && (is_home (client_at r held.client) && is_within held.granted)))
+
+abbrev pub with_restored : Registry → ℕ → Held → Registry
+with_restored r number held = record r { sessions = insert_entry nat_cmp r.sessions number (restored_session held.client held.granted) }
+
+-- ---- a slot
+
+-- a call may stand in a slot: the slot is there, and there is room
+abbrev pub slot_fits : Option Session → ℕ → Kept → Bool
+slot_fits None slot k = false
+slot_fits (Some s) slot k = nat_lt slot s.granted.slots && (nat_le (length k.call.arguments) s.granted.request_size && nat_le (length k.results) (kept_size s.granted))
+
+abbrev pub with_kept : Registry → ℕ → ℕ → Kept → Registry
+with_kept r session slot k = with_session session (with_place slot (restored k)) r
+
+-- ---- what is read out
+
+-- each number is below those after it
+abbrev pub IsRising : {X : Type 0} → List (ℕ × X) → Type 0
+IsRising es = IsStrictlySortedBy nat_cmp (keys_of es)
+
+-- the least number that is at least this one
+abbrev pub number_from : {X : Type 0} → ℕ → List (ℕ × X) → Option ℕ
+number_from number es = find (λ n. nat_le number n) (keys_of es)
+
+abbrev pub held_of : Session → Held
+held_of s = record { client = s.client; granted = s.granted }
+
+-- the call that a slot keeps
+abbrev pub kept_at : Registry → ℕ → ℕ → Option Kept
+kept_at r session slot = option_and_then (λ p. p.kept) (place_at r session slot)
+
+-- the sessions without their slots, by number
+abbrev pub headed : ℕ × Session → ℕ × Held
+headed e = (e.0, held_of e.1)
+
+abbrev pub heads : Registry → List (ℕ × Held)
+heads r = map headed r.sessions
+
+-- records, sessions and next numbers stay, whatever slots do
+pub record HeadsStay (old new : Registry) : Type 0 where
+  pub records : new.clients ≡ old.clients
+  pub sessions : heads new ≡ heads old
+  pub next_client : new.next_client ≡ old.next_client
+  pub next_session : new.next_session ≡ old.next_session

@@ -1,0 +1,4 @@
+pub mod Telling
+pub mod Following
+pub mod Noting
+pub mod Writing

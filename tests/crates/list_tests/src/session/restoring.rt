@@ -1,0 +1,343 @@
+//! Clients, sessions and slots of before a restart, and clients that are let go (RFC 8881, sections 2.10.6.5 and 8.3).
+
+use crate::session::plain::{ALICE, SMALL, create, creation, exchange};
+use nfs_types::Status;
+use rpc_record::Caller;
+use session_slots::{
+    Begin, CallForm, Channel, Clients, Create, Created, Creation, Exchange, Held, KeptCall, Record,
+    RecordForm, RestoreFault, Sequence, SessionForm, is_written, write_call,
+};
+use std::alloc::Global;
+use std::process::Abort;
+use std::test::Fail;
+use xdr_wire::{Reader, Spell, Wire, Writer};
+
+const TWO_SLOTS: Channel = Channel { slots: 2, ..SMALL };
+
+const HELD: Held = Held {
+    client: 5,
+    granted: TWO_SLOTS,
+};
+
+const RECORD: Record<'static> = Record {
+    number: 5,
+    owner: b"alice",
+    verifier: 7,
+    uid: 1001,
+    confirmed: true,
+    created: None,
+    reclaimed: true,
+};
+
+fn kept<'a>(number: u32, caller: &'a Caller) -> KeptCall<'a> {
+    KeptCall {
+        number,
+        caller,
+        arguments: b"args",
+        results: b"done",
+    }
+}
+
+/// Client 5, heard in second 100, with its session 9, whose slot 0 keeps this number.
+fn restored(rt: &impl Abort, alloc: Global, caller: &Caller, number: u32) -> Clients {
+    let Some(mut clients) = Clients::restoring(alloc, 6, 10) else {
+        return Clients::new(alloc);
+    };
+    assert_eq!(rt; clients.restore_session(9, HELD), Err(RestoreFault::Misfit));
+    assert_eq!(rt; clients.restore_record(RECORD, 100), Ok(()));
+    assert_eq!(rt;
+        clients.restore_record(RECORD, 100),
+        Err(RestoreFault::Misfit)
+    );
+    assert_eq!(rt; clients.restore_session(9, HELD), Ok(()));
+    assert_eq!(rt; clients.restore_slot(9, 0, kept(number, caller)), true);
+    assert_eq!(rt; clients.restore_slot(9, 2, kept(number, caller)), false);
+    clients
+}
+
+fn asked<'a>(slot: u32, number: u32, arguments: &'a [u8], caller: &'a Caller) -> Sequence<'a> {
+    Sequence {
+        slot,
+        number,
+        highest: 0,
+        count: 1,
+        record_len: 64,
+        arguments,
+        caller,
+    }
+}
+
+fn is_new(begin: Begin) -> bool {
+    match begin {
+        Begin::New(_) => true,
+        _ => false,
+    }
+}
+
+#[test]
+fn next_numbers_of_before_a_restart(rt: HostRuntime) {
+    assert_eq!(rt;
+        Clients::restoring(rt.alloc(), 1 << 63, 1 << 63).is_some(),
+        true
+    );
+    assert_eq!(rt;
+        Clients::restoring(rt.alloc(), (1 << 63) + 1, 1).is_none(),
+        true
+    );
+    assert_eq!(rt;
+        Clients::restoring(rt.alloc(), 1, (1 << 63) + 1).is_none(),
+        true
+    );
+}
+
+#[test]
+fn numbers_after_a_restart(rt: HostRuntime) {
+    let caller = Caller::new(1001, 100, &[]);
+    // the kept number, a number, and whether it is new
+    let table: [(u32, u32, bool); 12] = [
+        (7, 8, true),
+        (7, 9, true),
+        (7, 7, false),
+        (7, 6, false),
+        (7, 0, false),
+        (7, 1_048_583, true),
+        (7, 1_048_584, false),
+        (4_294_967_295, 0, true),
+        (4_294_967_295, 5, true),
+        (4_294_967_295, 1_048_575, true),
+        (4_294_967_295, 1_048_576, false),
+        (4_294_967_295, 4_294_967_294, false),
+    ];
+    for (last, number, new) in table {
+        let mut clients = restored(&rt, rt.alloc(), &caller, last);
+        assert_eq!(rt;
+            is_new(clients.begin(9, asked(0, number, b"args", &caller))),
+            new
+        );
+    }
+}
+
+#[test]
+fn a_kept_call_is_answered_again(rt: HostRuntime) {
+    let caller = Caller::new(1001, 100, &[]);
+    let other = Caller::new(1002, 100, &[]);
+    let mut clients = restored(&rt, rt.alloc(), &caller, 7);
+    assert_eq!(rt;
+        clients.begin(9, asked(0, 7, b"args", &caller)),
+        Begin::Repeat
+    );
+    assert_eq!(rt; clients.results(9, 0) == b"done".as_slice(), true);
+    assert_eq!(rt;
+        clients.begin(9, asked(0, 7, b"args", &other)),
+        Begin::Refused(Status::SeqFalseRetry)
+    );
+    assert_eq!(rt;
+        clients.begin(9, asked(0, 7, b"arg", &caller)),
+        Begin::Refused(Status::SeqFalseRetry)
+    );
+    // it lags no more once a new call has come
+    assert_eq!(rt;
+        is_new(clients.begin(9, asked(0, 12, b"args", &caller))),
+        true
+    );
+    clients.keep(9, 0, b"twelve");
+    assert_eq!(rt;
+        clients.begin(9, asked(0, 12, b"args", &caller)),
+        Begin::Repeat
+    );
+    assert_eq!(rt; clients.results(9, 0) == b"twelve".as_slice(), true);
+    assert_eq!(rt;
+        clients.begin(9, asked(0, 14, b"args", &caller)),
+        Begin::Refused(Status::SeqMisordered)
+    );
+    assert_eq!(rt;
+        is_new(clients.begin(9, asked(0, 13, b"args", &caller))),
+        true
+    );
+}
+
+#[test]
+fn a_slot_that_kept_no_call(rt: HostRuntime) {
+    let caller = Caller::new(1001, 100, &[]);
+    let mut clients = restored(&rt, rt.alloc(), &caller, 7);
+    assert_eq!(rt;
+        clients.begin(9, asked(1, 0, b"args", &caller)),
+        Begin::Refused(Status::SeqMisordered)
+    );
+    assert_eq!(rt;
+        is_new(clients.begin(9, asked(1, 41, b"args", &caller))),
+        true
+    );
+    assert_eq!(rt;
+        clients.begin(9, asked(1, 43, b"args", &caller)),
+        Begin::Refused(Status::SeqMisordered)
+    );
+}
+
+#[test]
+fn which_slots_are_written(rt: HostRuntime) {
+    assert_eq!(rt; is_written(1, true), true);
+    assert_eq!(rt; is_written(1, false), false);
+    assert_eq!(rt; is_written(0, false), true);
+    assert_eq!(rt; is_written(1_048_576, false), true);
+    assert_eq!(rt; is_written(1_048_577, false), false);
+}
+
+#[test]
+fn all_is_read_out_in_order(rt: HostRuntime) {
+    let caller = Caller::new(1001, 100, &[]);
+    let clients = restored(&rt, rt.alloc(), &caller, 7);
+    assert_eq!(rt; clients.counts(), (1, 1));
+    assert_eq!(rt; clients.next_numbers(), (6, 10));
+    assert_eq!(rt; clients.client_from(0), Some(5));
+    assert_eq!(rt; clients.client_from(5), Some(5));
+    assert_eq!(rt; clients.client_from(6), None);
+    assert_eq!(rt; clients.session_from(0), Some(9));
+    assert_eq!(rt; clients.session_from(10), None);
+    assert_eq!(rt; clients.held(9), Some(HELD));
+    assert_eq!(rt; clients.held(8), None);
+    assert_eq!(rt; clients.record(4).is_none(), true);
+    let (Some(record), Some(call)) = (clients.record(5), clients.kept(9, 0)) else {
+        assert_eq!(rt; true, false);
+        return;
+    };
+    assert_eq!(rt; record.owner == b"alice".as_slice(), true);
+    assert_eq!(rt;
+        (
+            record.verifier,
+            record.uid,
+            record.confirmed,
+            record.reclaimed
+        ),
+        (7, 1001, true, true)
+    );
+    assert_eq!(rt; call.number, 7);
+    assert_eq!(rt; *call.caller == caller, true);
+    assert_eq!(rt; call.arguments == b"args".as_slice(), true);
+    assert_eq!(rt; call.results == b"done".as_slice(), true);
+    assert_eq!(rt; clients.kept(9, 1).is_none(), true);
+}
+
+/// A record with a CREATE_SESSION that had this result.
+fn with_result(came_to: Result<Created, Status>) -> Record<'static> {
+    Record {
+        created: Some(Creation {
+            number: 3,
+            result: came_to,
+        }),
+        ..RECORD
+    }
+}
+
+const CREATED: Created = Created {
+    session: 9,
+    sequence: 3,
+    persist: true,
+    fore: TWO_SLOTS,
+    back: SMALL,
+};
+
+#[test]
+fn records_that_are_written_are_read_again(rt: HostRuntime) -> Result<(), Fail> {
+    for came_to in [
+        Ok(CREATED),
+        Err(Status::NoSpc),
+        Err(Status::TooSmall),
+        Err(Status::ClidInUse),
+    ] {
+        let mut writer = Writer::new(rt.alloc(), 1024)?;
+        let Some(form) = RecordForm::new(with_result(came_to)) else {
+            assert_eq!(rt; true, false);
+            return Ok(());
+        };
+        assert_eq!(rt; form.write(&mut writer).is_ok(), true);
+        let mut reader = Reader::new(writer.bytes());
+        let Ok(read) = RecordForm::read(&mut reader) else {
+            assert_eq!(rt; true, false);
+            return Ok(());
+        };
+        let record = read.record();
+        assert_eq!(rt; record.created, with_result(came_to).created);
+        assert_eq!(rt; record.owner == b"alice".as_slice(), true);
+        assert_eq!(rt; reader.is_empty(), true);
+    }
+    Ok(())
+}
+
+#[test]
+fn calls_and_sessions_that_are_written_are_read_again(rt: HostRuntime) -> Result<(), Fail> {
+    let caller = Caller::new(1001, 100, &[300, 20]);
+    let mut writer = Writer::new(rt.alloc(), 1024)?;
+    assert_eq!(rt;
+        write_call(9, 1, kept(7, &caller), &mut writer).is_ok(),
+        true
+    );
+    let session = SessionForm {
+        number: 9,
+        held: HELD,
+    };
+    assert_eq!(rt; session.write(&mut writer).is_ok(), true);
+    let mut reader = Reader::new(writer.bytes());
+    let (Ok(call), Ok(read)) = (CallForm::read(&mut reader), SessionForm::read(&mut reader)) else {
+        assert_eq!(rt; true, false);
+        return Ok(());
+    };
+    assert_eq!(rt; (call.session, call.slot, call.number), (9, 1, 7));
+    assert_eq!(rt; call.arguments.bytes == b"args".as_slice(), true);
+    assert_eq!(rt; call.results.bytes == b"done".as_slice(), true);
+    assert_eq!(rt; call.caller() == Some(caller), true);
+    assert_eq!(rt; read, session);
+    Ok(())
+}
+
+#[test]
+fn persist_is_granted_where_sessions_last(rt: HostRuntime) {
+    for (persist, lasting, granted) in [
+        (false, false, false),
+        (true, false, false),
+        (false, true, false),
+        (true, true, true),
+    ] {
+        let mut clients = Clients::new(rt.alloc());
+        let _ = exchange(&mut clients, ALICE);
+        let made = create(
+            &mut clients,
+            Create {
+                persist,
+                lasting,
+                ..creation(1, 1)
+            },
+        );
+        assert_eq!(rt; made.result.map(|created| created.persist), Ok(granted));
+    }
+}
+
+#[test]
+fn the_most_silent_client_is_let_go(rt: HostRuntime) {
+    let caller = Caller::new(1001, 100, &[]);
+    let mut clients = restored(&rt, rt.alloc(), &caller, 7);
+    // a restored record counts as heard in the second in which it was restored
+    assert_eq!(rt; clients.silent(190, 90), None);
+    assert_eq!(rt; clients.silent(191, 90), Some(5));
+    // and a new one in that of its EXCHANGE_ID
+    let bob = Exchange {
+        owner: b"bob",
+        now: 50,
+        ..ALICE
+    };
+    let _ = exchange(&mut clients, bob);
+    assert_eq!(rt; clients.silent(191, 90), Some(6));
+    clients.hear(6, 1000);
+    assert_eq!(rt; clients.silent(1000, 90), Some(5));
+    assert_eq!(rt; clients.let_go(5), true);
+    assert_eq!(rt; clients.let_go(5), false);
+    assert_eq!(rt; clients.counts(), (1, 0));
+    assert_eq!(rt; clients.silent(1000, 90), None);
+    assert_eq!(rt;
+        clients.begin(9, asked(0, 8, b"args", &caller)),
+        Begin::Refused(Status::BadSession)
+    );
+    assert_eq!(rt; clients.record(5).is_none(), true);
+    assert_eq!(rt; clients.record(6).is_some(), true);
+    assert_eq!(rt; clients.held(9), None);
+}
