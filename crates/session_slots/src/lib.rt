@@ -34,6 +34,6 @@ pub use limits::{
     MOST_RESULTS, MOST_SESSIONS, MOST_SLOTS, REPLY_HEADER, UPDATE_CONFIRMED, USE_NON_PNFS,
     WRITTEN_EVERY,
 };
-pub use restoring::RestoreFault;
+pub use restoring::{NextNumbers, RestoreFault};
 pub use session::{Begin, Channel, Held, NewCall, Sequence};
 pub use slot::{KeptCall, due, is_written};

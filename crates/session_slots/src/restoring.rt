@@ -24,6 +24,18 @@ use std::alloc::{AllocError, Allocator};
 use std::collections::BTreeMap;
 use thiserror::Error;
 
+/// The numbers that the next client, the next session and the next open file get. None is given twice, over any number
+/// of restarts.
+#[derive(Clone, Copy, Debug, PartialEq, Eq)]
+pub struct NextNumbers {
+    /// The number of the next client, from 1 on.
+    pub client: u64,
+    /// The number of the next session, from 1 on.
+    pub session: u64,
+    /// The number of the next open file, from 1 on.
+    pub open: u64,
+}
+
 /// Why a record or a session isn't restored.
 #[derive(Clone, Copy, Debug, PartialEq, Eq, Error)]
 pub enum RestoreFault {
