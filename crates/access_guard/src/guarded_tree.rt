@@ -8,6 +8,7 @@ ghost use Rattle.node_tree.specs.Changes.{made, with_new, with_link, unlinked, r
 ghost use Rattle.node_tree.specs.Refusals.{add_refusal, link_refusal, unlink_refusal, is_below, may_replace, may_move, write_refusal, resize_refusal};
 ghost use Rattle.node_tree.specs.Sound.{IsSound, IsTick, IsNextName, most_bytes};
 ghost use Rattle.node_tree.specs.Judged.{judged_of};
+ghost use Rattle.node_tree.specs.Notes.{begun_notes, cleared};
 ghost use Rattle.access_guard.specs.Lists.{granted_at};
 ghost use Rattle.access_guard.specs.Decisions.{decision, is_granted};
 ghost use Rattle.access_guard.specs.Lines.{lines, most_lines};
@@ -155,6 +156,24 @@ impl<A: Allocator + Copy> GuardedTree<A> {
         ensures { result ≡ member self.now.book caller.now }
     {
         self.book.member(caller)
+    }
+}
+
+// What is noted of the changes, for a store.
+impl<A: Allocator + Copy> GuardedTree<A> {
+    /// As [`Tree::begin_notes`].
+    pub fn begin_notes(&mut self, room: usize) -> Result<(), AllocError>
+        ensures ok { OnOk result (self.new ≡ record self.old { world = record self.old.world { notes = begun_notes room } }) }
+        ensures err { OnErr result (self.new ≡ self.old) }
+    {
+        self.tree.begin_notes(room)
+    }
+
+    /// As [`Tree::clear_notes`].
+    pub fn clear_notes(&mut self)
+        ensures { self.new ≡ record self.old { world = record self.old.world { notes = cleared self.old.world.notes } } }
+    {
+        self.tree.clear_notes();
     }
 }
 

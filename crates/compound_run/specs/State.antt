@@ -8,7 +8,10 @@ use Rattle.who_book.specs.Content.{Content}
 use Rattle.who_book.specs.Members.{member}
 use Rattle.nfs_types.specs.declared.moment.Moment.{Moment}
 use Rattle.nfs_types.specs.declared.status.Status.{Status}
+use Rattle.node_tree.specs.Notes.{Notes, no_notes}
 use Rattle.node_tree.specs.World.{World}
+use Rattle.session_slots.specs.Restoring.{nothing_yet}
+use Rattle.session_slots.specs.declared.restoring.NextNumbers.{NextNumbers}
 use Rattle.access_guard.specs.declared.line.Line.{Line}
 use Rattle.compound_run.specs.declared.server.RunEnd.{RunEnd}
 use Rattle.compound_run.specs.declared.server.RunEnd.TheVariants.{Replied, Garbage}
@@ -30,6 +33,28 @@ pub record State : Type 0 where
 -- a server that has run nothing yet
 abbrev pub fresh : World → Content → ℕ → State
 fresh w book capacity = record { realm = unopened w; trail = []; total = 0; settings = first_settings capacity book }
+
+-- A server that goes on over a world of before a restart: no client, no session and no open file of then is known, and none of their numbers
+-- is given again.
+abbrev pub restored : World → NextNumbers → Content → ℕ → State
+restored w next book capacity = record {
+  realm = record { world = w; opens = []; next_open = next.open_file; registry = nothing_yet next.client next.session };
+  trail = [];
+  total = 0;
+  settings = first_settings capacity book;
+}
+
+-- the numbers that the next client, session and open file get
+abbrev pub next_numbers : State → NextNumbers
+next_numbers s = record { client = s.realm.registry.next_client; session = s.realm.registry.next_session; open_file = s.realm.next_open }
+
+-- these are the notes of the world's changes from now on
+abbrev pub with_notes : Notes → State → State
+with_notes notes s = record s { realm = record s.realm { world = record s.realm.world { notes = notes } } }
+
+-- What outlives a restart: the world, but for the notes of its changes, and the next numbers.
+abbrev pub kept_of : State → World × NextNumbers
+kept_of s = (record s.realm.world { notes = no_notes }, next_numbers s)
 
 -- the beginning of a COMPOUND: no line is held, and there is no filehandle
 abbrev pub start : State → Point

@@ -1,11 +1,13 @@
 //! The server: a tree of objects, with its guard and a book of names, and the COMPOUNDs over it.
-ghost use Rattle.std.specs.Prelude.{◌≡◌, ◌≤◌, [], length, Err, IfOk, MatchOption, Ok, OnErr, OnOk};
+ghost use Rattle.std.specs.Prelude.{◌≡◌, ◌≤◌, [], length, true, false, Err, IfOk, MatchOption, Ok, OnErr, OnOk};
 ghost use Rattle.std.specs.NonZero.{non_zero_usize_get};
+ghost use Rattle.node_tree.specs.Notes.{begun_notes, cleared};
+ghost use Rattle.session_slots.specs.Restoring.{numbers_fit};
 ghost use Rattle.access_guard.specs.Epochs.{next_epoch};
 ghost use Rattle.access_guard.specs.Memory.{Agrees};
 ghost use Rattle.compound_run.specs.InSession.{AnswersInSession};
 ghost use Rattle.compound_run.specs.Limits as limits;
-ghost use Rattle.compound_run.specs.State.{fresh, with_book, Answers, RunsBare};
+ghost use Rattle.compound_run.specs.State.{fresh, next_numbers, restored, with_book, with_notes, Answers, RunsBare};
 ghost use Rattle.compound_run.specs.Views.{called, opens_view};
 
 use crate::compound::CompoundArgs;
@@ -18,7 +20,7 @@ use access_guard::{Guard, GuardedTree};
 use nfs_types::Moment;
 use node_tree::Tree;
 use rpc_record::Caller;
-use session_slots::Clients;
+use session_slots::{Clients, NextNumbers, RestoreFault};
 use std::alloc::{AllocError, Allocator, Global};
 use std::hash::RandomState;
 use std::marker::Model;
@@ -81,6 +83,36 @@ impl<A: Allocator + Copy> Server<A> {
                 opens: Vec::new(alloc),
                 next_open: 1,
                 clients: Clients::new(alloc),
+            },
+        })
+    }
+
+    /// A server over a tree of before a restart. No client, no session and no open file of then is known, and none of their numbers is
+    /// given again. Misfit: the number of the next client or session is above 2^63.
+    pub fn restored(
+        alloc: A,
+        tree: Tree<A>,
+        next: NextNumbers,
+        book: Book,
+        capacity: NonZeroUsize,
+        hasher: RandomState,
+    ) -> Result<Self, RestoreFault>
+        ensures fits { OnOk result (numbers_fit next.client next.session ≡ true) }
+        ensures misfit { result ≡ Err RestoreFault.Misfit → numbers_fit next.client next.session ≡ false }
+        ensures memory { result ≡ Err RestoreFault.Memory → numbers_fit next.client next.session ≡ true }
+        ensures ok { IfOk result (λ server. server ≡ restored tree next book (non_zero_usize_get capacity)) }
+    {
+        let Some(clients) = Clients::restoring(alloc, next.client, next.session) else {
+            return Err(RestoreFault::Misfit);
+        };
+        let guarded = GuardedTree::new(alloc, tree, book, capacity, hasher)?;
+        Ok(Server {
+            realm: Realm {
+                alloc,
+                tree: guarded,
+                opens: Vec::new(alloc),
+                next_open: next.open_file,
+                clients,
             },
         })
     }
@@ -160,6 +192,33 @@ impl<A: Allocator + Copy> Server<A> {
         ensures err { OnErr result (self.new ≡ self.old) }
     {
         self.realm.tree.reload(book)
+    }
+
+    /// Begins notes of the tree's changes, as [`Tree::begin_notes`] does.
+    pub fn begin_notes(&mut self, room: usize) -> Result<(), AllocError>
+        ensures ok { OnOk result (self.new ≡ with_notes (begun_notes room) self.old) }
+        ensures err { OnErr result (self.new ≡ self.old) }
+    {
+        self.realm.tree.begin_notes(room)
+    }
+
+    /// Forgets what was noted of the tree's changes, as [`Tree::clear_notes`] does.
+    pub fn clear_notes(&mut self)
+        ensures { self.new ≡ with_notes (cleared self.old.realm.world.notes) self.old }
+    {
+        self.realm.tree.clear_notes();
+    }
+
+    /// The numbers that the next client, the next session and the next open file get.
+    pub fn next_numbers(&self) -> NextNumbers
+        ensures { result ≡ next_numbers self.now }
+    {
+        let (client, session) = self.realm.clients.next_numbers();
+        NextNumbers {
+            client,
+            session,
+            open_file: self.realm.next_open,
+        }
     }
 
     /// The tree.

@@ -1,13 +1,17 @@
 //! The server and its connections.
-ghost use Rattle.std.specs.Prelude.{◌≡◌, ◌≢◌, ◌↔◌, ◌≤◌, ◌<◌, ◌^◌, ℕ, List, [], ◌∷◌, ◌++◌, min, length, take, drop, true, false, Some, None, Ok, Err, IfOk, IsErrOf, IsNone, MatchOption, IfSome, IsTrue, OnErr, option_map, is_err};
-ghost use Rattle.nfs_hub.specs.Answer.{Served, with_sessions, without_sessions};
-ghost use Rattle.nfs_hub.specs.Machine.{Event, Connect, Piece, Take, Close, Reload};
+ghost use Rattle.std.specs.Prelude.{◌≡◌, ◌≢◌, ◌↔◌, ◌≤◌, ◌<◌, ◌^◌, ℕ, List, [], ◌∷◌, ◌++◌, min, length, take, drop, true, false, Some, None, Ok, Err, IfOk, IsErrOf, IsNone, MatchOption, IfSome, IsTrue, OnOk, OnErr, option_map, is_err};
+ghost use Rattle.node_tree.specs.Notes.{begun_notes, cleared};
+ghost use Rattle.session_slots.specs.Restoring.{numbers_fit};
+ghost use Rattle.nfs_hub.specs.Answer.{Served, restored, with_sessions, without_sessions};
+ghost use Rattle.nfs_hub.specs.Machine.{Event, Connect, Piece, Take, Close, Reload, Note};
 
 use crate::connection::{Connection, ConnectionFault};
 use crate::fault::{HubFault, Unloaded};
 use crate::server::Service;
 use compound_run::Server;
 use nfs_types::Moment;
+use node_tree::Tree;
+use session_slots::{NextNumbers, RestoreFault};
 use std::alloc::{AllocError, Allocator, Global};
 use std::collections::BTreeMap;
 use std::hash::RandomState;
@@ -48,7 +52,7 @@ pub struct Hub<A: Allocator + Copy = Global> {
 impl<A: Allocator + Copy> Hub<A> {
     ghost use Rattle.nfs_hub.specs.Machine.{State};
     ghost use Rattle.nfs_hub.specs.Connection.{taken_of};
-    ghost use Rattle.nfs_hub.specs.Hub.{IsHub, LeadsTo, Goes, FrontGives, ConnectGives, ReloadGives, TakeGives, ConsumeGives, BreaksSo, broken_at, pending_at};
+    ghost use Rattle.nfs_hub.specs.Hub.{IsHub, IsUnchanged, LeadsTo, Goes, notes_of, FrontGives, ConnectGives, ReloadGives, TakeGives, ConsumeGives, BreaksSo, broken_at, pending_at};
 
     /// A hub of this server, with no connection open.
     fn over(alloc: A, service: Service<A>) -> Self
@@ -77,6 +81,41 @@ impl<A: Allocator + Copy> Hub<A> {
         ensures { IfOk result (λ hub. LeadsTo (with_sessions book) [] hub) }
     {
         Ok(Hub::over(alloc, Service::with_sessions(alloc, book, hasher)?))
+    }
+
+    /// A hub over a tree of before a restart, with sessions. No client, no session and no open file of then is known, and none of their
+    /// numbers is given again. The server's remembered summaries are found by `hasher`. Misfit: the number of the next client or session
+    /// is above 2^63.
+    pub fn restored(
+        alloc: A,
+        tree: Tree<A>,
+        next: NextNumbers,
+        book: Book,
+        hasher: RandomState,
+    ) -> Result<Self, RestoreFault>
+        ensures fits { OnOk result (numbers_fit next.client next.session ≡ true) }
+        ensures misfit { result ≡ Err RestoreFault.Misfit → numbers_fit next.client next.session ≡ false }
+        ensures ok { IfOk result (λ hub. LeadsTo (restored tree next book) [] hub) }
+    {
+        Ok(Hub::over(alloc, Service::restored(alloc, tree, next, book, hasher)?))
+    }
+
+    /// Begins notes of the tree's changes, for a store: from now on each is noted, in this many bytes, where there is room for it. `Err`:
+    /// there is no memory for them, and nothing changes.
+    pub fn begin_notes(&mut self, room: usize) -> Result<(), AllocError>
+        ensures leads { OnOk result ((first : Served) (events : List Event) → LeadsTo first events self.old → LeadsTo first (Note (begun_notes room) ∷ events) self.new) }
+        ensures goes { OnOk result (Goes (Note (begun_notes room)) self.old self.new) }
+        ensures err { OnErr result (IsUnchanged self.old self.new) }
+    {
+        self.service.begin_notes(room)
+    }
+
+    /// Forgets what was noted of the tree's changes, once it is stored.
+    pub fn clear_notes(&mut self)
+        ensures leads { (first : Served) (events : List Event) → LeadsTo first events self.old → LeadsTo first (Note (cleared (notes_of self.old)) ∷ events) self.new }
+        ensures goes { Goes (Note (cleared (notes_of self.old))) self.old self.new }
+    {
+        self.service.clear_notes();
     }
 
     /// The server behind the connections.

@@ -33,7 +33,7 @@ pub struct NextNumbers {
     /// The number of the next session, from 1 on.
     pub session: u64,
     /// The number of the next open file, from 1 on.
-    pub open: u64,
+    pub open_file: u64,
 }
 
 /// Why a record or a session isn't restored.
