@@ -4,7 +4,7 @@ ghost use Rattle.nfs_hub.specs.Answer.{Served as ServedState};
 ghost use Rattle.nfs_hub.specs.Machine.{Event};
 ghost use Rattle.nfs_hub.specs.Hub.{LeadsTo};
 ghost use Rattle.nfs_streams.specs.Seats.{taken};
-ghost use Rattle.nfs_streams.specs.Standing.{Listening, Loads, Moves, RunGives, turned_stage};
+ghost use Rattle.nfs_streams.specs.Standing.{Listening, Loads, Moves, RunGives, Settles, turned_stage};
 ghost use Rattle.nfs_streams.specs.All.{ServesAll};
 
 use crate::peer::Peer;
@@ -39,8 +39,19 @@ pub enum AllEnd {
     Wait = 3,
     /// The trail couldn't be kept. No bytes were written after that.
     Keep = 4,
+    /// What outlives a restart couldn't be stored. No bytes were written after that.
+    Store = 6,
     /// There was no memory for the places. Serving didn't begin, and the streams were asked nothing.
     Memory = 5,
+}
+
+/// Why no replies may be written, and serving ends.
+#[derive(Clone, Copy, Debug, PartialEq, Eq)]
+pub(crate) enum Halt {
+    /// The trail couldn't be kept.
+    Keep,
+    /// What outlives a restart couldn't be stored.
+    Store,
 }
 
 /// How long the next wait may take: none where something was done.
@@ -58,16 +69,30 @@ fn load_book<A: Allocator + Copy, S: Streams<A>>(hub: &mut Hub<A>, streams: &mut
     let _ = hub.reload(book);
 }
 
+/// Stores what outlives a restart, forgets what was noted of it, and keeps the trail, so that replies may be written.
+fn settle<A: Allocator + Copy, S: Streams<A>>(hub: &mut Hub<A>, streams: &mut S) -> Result<(), Halt>
+    ensures { Settles result hub.old hub.new (S.acts streams.old) (S.acts streams.new) }
+{
+    if !streams.store(hub.server()) {
+        return Err(Halt::Store);
+    }
+    hub.clear_notes();
+    if !streams.keep(hub.server()) {
+        return Err(Halt::Keep);
+    }
+    Ok(())
+}
+
 /// One turn: all places are read; a book that has come is loaded, and the trail is kept; what was read is given to the hub, and the trail is
-/// kept after each record; and then the waiting bytes of all places are written. How long the next wait may take; `None`: the trail couldn't be
-/// kept, and no bytes were given or written after that.
+/// kept after each record; what outlives a restart is stored; and then the waiting bytes of all places are written. How long the next wait may
+/// take; `Err`: the trail couldn't be kept, or it couldn't be stored, and no bytes were given or written after that.
 fn turn<A: Allocator + Copy, S: Streams<A>, C: Clock>(
     hub: &mut Hub<A>,
     streams: &mut S,
     clock: &C,
     places: &mut [Option<Peer<A>>],
     door: &mut Door<A>,
-) -> Option<Wait>
+) -> Result<Wait, Halt>
     requires { length places.old ≤ 16 }
     ensures moves { (n : ℕ) → Moves (Listening n) (turned_stage result n) door.old.limits hub.old places.old door.old.left hub.new places.new door.new.left (S.acts streams.old) (S.acts streams.new) }
     ensures most { door.new.limits ≡ door.old.limits }
@@ -75,14 +100,15 @@ fn turn<A: Allocator + Copy, S: Streams<A>, C: Clock>(
     let heard = listen_all(hub, streams, clock, places, door);
     load_book(hub, streams);
     if !streams.keep(hub.server()) {
-        return None;
+        return Err(Halt::Keep);
     }
     if !give_all(hub, streams, clock, places) {
-        return None;
+        return Err(Halt::Keep);
     }
+    settle(hub, streams)?;
     let told = answer_all(hub, streams, clock, places);
     let room = make_room(hub, streams, clock, places, door);
-    Some(pause(heard | told, room))
+    Ok(pause(heard | told, room))
 }
 
 /// So many turns, unless all connections are served earlier or something fails.
@@ -104,10 +130,11 @@ fn run<A: Allocator + Copy, S: Streams<A>, C: Clock>(
         if !streams.wait(how) {
             return AllEnd::Wait;
         }
-        let Some(next) = turn(hub, streams, clock, places, door) else {
-            return AllEnd::Keep;
-        };
-        how = next;
+        match turn(hub, streams, clock, places, door) {
+            Ok(next) => how = next,
+            Err(Halt::Keep) => return AllEnd::Keep,
+            Err(Halt::Store) => return AllEnd::Store,
+        }
     }
     AllEnd::Turns
 }
@@ -155,7 +182,8 @@ fn free_places<A: Allocator + Copy>(alloc: A) -> Result<Vec<Option<Peer<A>>, A>,
 /// come is loaded: so each call whose last byte is read after a book had come is judged by that book. What was read is given to the hub, in
 /// order, one record after the other, and **the lines of the trail are kept after each, before the next one runs**: so none is lost. It is
 /// given while no reply waits, and then as far as 4,096 bytes from where none did; the rest waits until the replies are written. So a peer that
-/// sends and doesn't read costs the replies to 4,096 bytes. Last the waiting bytes are written, at most 128 KiB of each connection, as far as
+/// sends and doesn't read costs the replies to 4,096 bytes. Then all that outlives a restart is stored, **before any byte of a reply to what ran is
+/// written**. Last the waiting bytes are written, at most 128 KiB of each connection, as far as
 /// the streams take them.
 ///
 /// A stream that ends or fails is let go at once and its connection closed, a stream whose connection is broken or has had its turns behind
