@@ -4,14 +4,14 @@ use Rattle.std.specs.Prelude.{MatchOption}
 use Rattle.std.proofs.lemmas.Bool.{cases_eq}
 use Rattle.node_tree.specs.Notes.{cleared}
 use Rattle.nfs_hub.specs.declared.hub.Hub.{Hub}
-use Rattle.nfs_hub.specs.Answer.{Served as ServedState, noting, reloaded}
-use Rattle.nfs_hub.specs.Machine.{Connected, State, Event, Connect, Piece, Take, Close, Reload, Note, Step, PieceOn, TakeOn, ChangesConnection, Leads, opening}
+use Rattle.nfs_hub.specs.Answer.{Served as ServedState, letting_go, noting, reloaded}
+use Rattle.nfs_hub.specs.Machine.{Connected, State, Event, Connect, Piece, Take, Close, Reload, Note, LetGo, Step, PieceOn, TakeOn, ChangesConnection, Leads, opening}
 use Rattle.nfs_hub.specs.Hub.{LeadsTo}
 use Rattle.nfs_streams.specs.declared.peer.Peer.{Peer}
 use Rattle.nfs_streams.specs.declared.serving.AllEnd.{AllEnd}
 use Rattle.nfs_streams.specs.declared.serving.AllEnd.TheVariants.{Served, Turns, Wait, Keep, Store, Memory}
 use Rattle.nfs_streams.specs.declared.serving.Limits.{Limits}
-use Rattle.nfs_streams.specs.Acts.{Act, Waited, Knocked, Admitted, Closed, Heard, Ended, Unread, Looked, Loaded, Begun, Given, Kept, Lost, Stored, Unstored, Told, Unwritten, Adds, of_streams}
+use Rattle.nfs_streams.specs.Acts.{Act, Waited, Knocked, Admitted, Closed, Heard, Ended, Unread, Looked, Loaded, Begun, Given, Kept, Lost, Stored, Unstored, Expired, Told, Unwritten, Adds, of_streams}
 use Rattle.nfs_streams.specs.Runs.{Runs, Ends, Does}
 use Rattle.nfs_streams.specs.Seats.{Stands, IsFresh, IsSeated, Seat, place_at, taken}
 use Rattle.nfs_streams.specs.Standing.{Origin, Listening, Stopped, Ending, Standing, Moves, LeavesSo, RunGives}
@@ -45,6 +45,7 @@ fresh_step (Close id) old new fresh step = λ k le.
       | inr ne ↦ step.2.others k ne ∙ fresh k (subst (λ (m : ℕ). m ≤ k) step.1 le)
     ]
 fresh_step (Reload book) old new fresh step = fresh_as (record old { served = reloaded book old.served }) new fresh step
+fresh_step (LetGo client) old new fresh step = fresh_as (record old { served = letting_go client old.served }) new fresh step.1
 fresh_step (Note notes) old new fresh step = fresh_as (record old { served = noting notes old.served }) new fresh step
 
 fresh_leads : (first : ServedState) (events : List Event) (s : State) → Leads first events s → IsFresh s
@@ -117,6 +118,7 @@ does_lead first events acts (Kept state) old new does leads = ([], subst (λ (s 
 does_lead first events acts Lost old new does leads = ([], subst (λ (s : State). Leads first events s) (sym does) leads)
 does_lead first events acts (Loaded book) old new does leads = (Reload book ∷ [], (old, leads, does))
 does_lead first events acts (Stored state) old new does leads = (Note (cleared state.realm.world.notes) ∷ [], (old, leads, does))
+does_lead first events acts (Expired client) old new does leads = (LetGo client ∷ [], (old, leads, does))
 does_lead first events acts Unstored old new does leads = ([], subst (λ (s : State). Leads first events s) (sym does) leads)
 
 runs_lead : (first : ServedState) (events : List Event) (most : Limits) (acts : List Act) (old new : State) → Runs most acts old new → Leads first events old → (later : List Event) × Leads first (later ++ events) new

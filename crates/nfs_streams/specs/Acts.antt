@@ -41,6 +41,8 @@ pub data Act : Type 0 where
   Stored : ServerState → Act
   -- storing failed
   Unstored : Act
+  -- a client, of which nothing was heard for longer than a lease, is let go
+  Expired : ℕ → Act
   -- these bytes were written to the stream of the place
   Told : ℕ → List ℕ → Act
   -- writing to the stream of the place failed
@@ -51,6 +53,7 @@ abbrev pub of_streams : List Act → List Act
 of_streams [] = []
 of_streams (Begun place ∷ acts) = of_streams acts
 of_streams (Given place bytes fault ∷ acts) = of_streams acts
+of_streams (Expired client ∷ acts) = of_streams acts
 of_streams (act ∷ acts) = act ∷ of_streams acts
 
 -- the known acts so far, the newest first, have these in front of them afterwards

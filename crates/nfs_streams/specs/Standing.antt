@@ -44,9 +44,7 @@ pub data Stage : Type 0 where
   Piecing : ℕ → ℕ → ℕ → Stage
   -- so, but bytes were given, and the trail isn't kept
   Unkept : ℕ → ℕ → ℕ → Stage
-  -- what outlives a restart is stored
-  Storing : ℕ → Stage
-  -- and the trail is kept, and replies are written
+  -- what outlives a restart is stored too, and replies are written
   Answering : ℕ → Stage
   -- serving has stopped for a reason
   Stopped : AllEnd → ℕ → Stage
@@ -71,7 +69,6 @@ Way (Unkept n place left) o acts s = Runs o.limits acts o.start s × (waits acts
 Way (Giving n) o acts s = Runs o.limits acts o.start s × (waits acts ≡ n) × IsSettled acts × IsKept acts s × IsLooked acts
 Way (Piecing n place left) o acts s = Runs o.limits acts o.start s × (waits acts ≡ n) × IsSettled acts × IsKept acts s × IsLooked acts × (left ≤ left_of_piece acts place)
 Way (Full n) o acts s = Runs o.limits acts o.start s × (waits acts ≡ n) × Just Knocked acts × (o.limits.makes_room ≡ true) × (most_open o.limits ≤ open_in acts)
-Way (Storing n) o acts s = Runs o.limits acts o.start s × (waits acts ≡ n) × IsSettled acts × IsStored acts s.served.state
 Way (Answering n) o acts s = Runs o.limits acts o.start s × (waits acts ≡ n) × IsSettled acts × IsKept acts s × IsStored acts s.served.state
 Way (Stopped end n) o acts s = Runs o.limits acts o.start s × (waits acts ≡ n) × StopsSo end acts
 Way (Ending served at) o acts s = (endings : List Act) × (acts ≡ endings ++ served) × Ends served endings at s
@@ -147,14 +144,14 @@ abbrev pub halted : Halt → AllEnd
 halted halt.Keep = Keep
 halted halt.Store = Store
 
--- the stage after what outlives a restart is stored and the trail is kept, or one of them couldn't be
-abbrev pub settled_stage : Result (Unit {0}) Halt → ℕ → Stage
-settled_stage (Ok done) n = Answering n
-settled_stage (Err why) n = Stopped (halted why) n
+-- the stage after what outlives a restart is stored, or couldn't be
+abbrev pub stored_stage : Bool → ℕ → Stage
+stored_stage true n = Answering n
+stored_stage false n = Stopped Store n
 
--- so, for any connections at the places
-abbrev pub Settles : {A : Type 0} → Result (Unit {0}) Halt → Hub A → Hub A → Option (List Act) → Option (List Act) → Type 0
-Settles {A} result old new before after = (n left : ℕ) (limits : Limits) (places : List (Option (Peer A))) → Moves (Giving n) (settled_stage result n) limits old places left new places left before after
+-- what outlives a restart is stored, or it couldn't be, for any connections at the places
+abbrev pub Stores : {A : Type 0} → Bool → Hub A → Hub A → Option (List Act) → Option (List Act) → Type 0
+Stores {A} result old new before after = (n left : ℕ) (limits : Limits) (places : List (Option (Peer A))) → Moves (Giving n) (stored_stage result n) limits old places left new places left before after
 
 -- the stage after a turn, by the length of the next wait, or by why no replies may be written
 abbrev pub turned_stage : Result Pause Halt → ℕ → Stage

@@ -1,10 +1,11 @@
 //! Serving all streams, one turn after another.
-ghost use Rattle.std.specs.Prelude.{◌≡◌, ◌≤◌, ℕ, List, length, IfOk};
+ghost use Rattle.std.specs.Prelude.{◌≡◌, ◌≤◌, ℕ, List, Option, length, IfOk};
 ghost use Rattle.nfs_hub.specs.Answer.{Served as ServedState};
 ghost use Rattle.nfs_hub.specs.Machine.{Event};
 ghost use Rattle.nfs_hub.specs.Hub.{LeadsTo};
+ghost use Rattle.nfs_streams.specs.Acts.{Act};
 ghost use Rattle.nfs_streams.specs.Seats.{taken};
-ghost use Rattle.nfs_streams.specs.Standing.{Listening, Loads, Moves, RunGives, Settles, turned_stage};
+ghost use Rattle.nfs_streams.specs.Standing.{Listening, Giving, Loads, Moves, RunGives, Stores, turned_stage};
 ghost use Rattle.nfs_streams.specs.All.{ServesAll};
 
 use crate::peer::Peer;
@@ -24,6 +25,8 @@ pub struct Limits {
     pub reads: u64,
     /// The number of waits in all.
     pub turns: u64,
+    /// Whether a client that was silent for longer than a lease is let go where many are known ([`Hub::let_go`]).
+    pub leases: bool,
     /// Whether a connection that is quiet is let go for another stream that knocks where as many are open as may be.
     pub makes_room: bool,
 }
@@ -69,22 +72,29 @@ fn load_book<A: Allocator + Copy, S: Streams<A>>(hub: &mut Hub<A>, streams: &mut
     let _ = hub.reload(book);
 }
 
-/// Stores what outlives a restart, forgets what was noted of it, and keeps the trail, so that replies may be written.
-fn settle<A: Allocator + Copy, S: Streams<A>>(hub: &mut Hub<A>, streams: &mut S) -> Result<(), Halt>
-    ensures { Settles result hub.old hub.new (S.acts streams.old) (S.acts streams.new) }
+/// Lets the most silent client go, if leases end and one is to go.
+fn expire<A: Allocator + Copy, C: Clock>(hub: &mut Hub<A>, clock: &C, limits: Limits)
+    ensures { (n left : ℕ) (places : List (Option (Peer A))) (now : Option (List Act)) → Moves (Giving n) (Giving n) limits hub.old places left hub.new places left now now }
+{
+    if !limits.leases {
+        return;
+    }
+    let _ = hub.let_go(clock.now());
+}
+
+/// Stores what outlives a restart, and forgets what was noted of it. Whether it could be stored.
+fn store<A: Allocator + Copy, S: Streams<A>>(hub: &mut Hub<A>, streams: &mut S) -> bool
+    ensures { Stores result hub.old hub.new (S.acts streams.old) (S.acts streams.new) }
 {
     if !streams.store(hub.server()) {
-        return Err(Halt::Store);
+        return false;
     }
     hub.clear_notes();
-    if !streams.keep(hub.server()) {
-        return Err(Halt::Keep);
-    }
-    Ok(())
+    true
 }
 
 /// One turn: all places are read; a book that has come is loaded, and the trail is kept; what was read is given to the hub, and the trail is
-/// kept after each record; what outlives a restart is stored; and then the waiting bytes of all places are written. How long the next wait may
+/// kept after each record; the most silent client is let go, where one is to go; what outlives a restart is stored; and then the waiting bytes of all places are written. How long the next wait may
 /// take; `Err`: the trail couldn't be kept, or it couldn't be stored, and no bytes were given or written after that.
 fn turn<A: Allocator + Copy, S: Streams<A>, C: Clock>(
     hub: &mut Hub<A>,
@@ -105,7 +115,10 @@ fn turn<A: Allocator + Copy, S: Streams<A>, C: Clock>(
     if !give_all(hub, streams, clock, places) {
         return Err(Halt::Keep);
     }
-    settle(hub, streams)?;
+    expire(hub, clock, door.limits);
+    if !store(hub, streams) {
+        return Err(Halt::Store);
+    }
     let told = answer_all(hub, streams, clock, places);
     let room = make_room(hub, streams, clock, places, door);
     Ok(pause(heard | told, room))
