@@ -12,6 +12,7 @@ const MOST: u32 = 64;
 
 /// NFS4_OK and NFS4ERR_NOSPC.
 const OK: u32 = 0;
+
 const NOSPC: u32 = 28;
 
 /// The place of a COMPOUND's status in the record of its reply.
@@ -32,7 +33,13 @@ fn exchange_id(alloc: Global, owner: u32) -> Result<Vec<u8>, AllocError> {
     let verifier = [0, 7];
     let last = [4, owner, 0, 0, 0];
     let mut record = Vec::new(alloc);
-    for words in [&call[..], &caller[..], &compound[..], &verifier[..], &last[..]] {
+    for words in [
+        &call[..],
+        &caller[..],
+        &compound[..],
+        &verifier[..],
+        &last[..],
+    ] {
         for word in words {
             record.extend_from_slice(&word.to_be_bytes())?;
         }
@@ -78,7 +85,10 @@ fn known(alloc: Global, hasher: RandomState, count: u32) -> Result<(Hub, ConnId)
 #[test]
 fn the_most_silent_one_is_let_go(rt: HostRuntime) -> Result<(), Fail> {
     let (mut hub, conn) = known(rt.alloc(), RandomState::new(&rt)?, MOST)?;
-    assert_eq!(rt; exchange(rt.alloc(), &mut hub, conn, 99, 1_090)?, Some(NOSPC));
+    assert_eq!(rt;
+        exchange(rt.alloc(), &mut hub, conn, 99, 1_090)?,
+        Some(NOSPC)
+    );
     assert_eq!(rt; hub.let_go(at(1_090)), None);
     assert_eq!(rt; hub.let_go(at(1_091)), Some(1));
     assert_eq!(rt; hub.let_go(at(1_091)), None);
