@@ -69,7 +69,6 @@ never_none : (x : Content) → None ≡ Some x → ⊥
 never_none x e = cc
 
 module _ (key generation : ℕ) (s : Slot) (content : Option Content) (history : List Act) (counts : Counts key generation s content history) where
-
   nothing_whole : (front : List Frame) (x : Content) → IsFront front [] → contents front ≡ Some x → Some x ≡ content
   nothing_whole front x it whole = absurd (never_none x (sym (ap contents (front_of_none front it)) ∙ whole))
 
