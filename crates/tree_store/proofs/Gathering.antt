@@ -1,5 +1,5 @@
 -- A checkpoint and records that are read piece by piece.
-use Rattle.std.proofs.Common.{◌≡◌, ℕ, ◌+◌, ◌<◌, ◌≤◌, true, false, List, [], ◌∷◌, length, map, drop, get_or, refl, sym, ◌∙◌, ap, subst, arith, add-one, drop-cons, length-drop, Ok, Some, None}
+use Rattle.std.proofs.Common.{◌≡◌, ℕ, ◌+◌, ◌<◌, ◌≤◌, true, false, List, [], ◌∷◌, length, map, drop, get_or, refl, sym, ◌∙◌, ap, subst, arith, Err, add-one, drop-cons, length-drop, Ok, Some, None}
 use Rattle.std.proofs.lemmas.List.{nil_from_length}
 use Rattle.std.specs.Prelude.{Option}
 use Rattle.xdr_wire.specs.Xdr.{Value}
@@ -13,7 +13,10 @@ use Rattle.journal.specs.Frames.{Bytes}
 use Rattle.journal.specs.Files.{Content}
 use Rattle.tree_store.specs.Kept.{Kept}
 use Rattle.tree_store.specs.Holds.{ReadsParts, Restores, Begins, LeadsOn, LeadsThrough, Holds}
-use Rattle.tree_store.specs.Reading.{TakesBytes, content_of}
+use Rattle.tree_store.specs.declared.fault.StoreFault.{StoreFault}
+use Rattle.tree_store.specs.declared.fault.StoreFault.TheVariants.{Failed, Version, Damaged, Memory}
+use Rattle.tree_store.specs.Keeping.{HoldsNothing, ReadsSo}
+use Rattle.tree_store.specs.Reading.{AnswersSo, TakesBytes, content_of}
 use Rattle.tree_store.proofs.One.{one_reading, takes_one, begins_one, leads_on_one}
 use Rattle.tree_store.proofs.Quiet.{IsQuiet, bare_is, replays_quiet, restores_quiet}
 
@@ -162,3 +165,20 @@ at_place view xs i d h = rw (add-one, drop-cons xs i d) refl
 
 pub at_last : {X : Type 0} (view : X → Bytes) (xs : List X) (i : ℕ) → length xs ≤ i → map view (drop i xs) ≡ []
 at_last view xs i h = ap (map view) (nil_from_length (drop i xs) (omega (arith, length-drop i xs)))
+
+-- ---- faults
+
+pub answers_fault : {X Y : Type 0} (so : X → Type 0) (also : Y → Type 0) (never never' : Type 0) (fault : StoreFault) → AnswersSo so never (Err fault) → (never → never') → AnswersSo also never' (Err fault)
+answers_fault so also never never' Failed it on = it
+answers_fault so also never never' Version it on = it
+answers_fault so also never never' Damaged it on = on it
+answers_fault so also never never' Memory it on = tt
+
+pub reads_fault : {A X : Type 0} (so : X → Type 0) (never : Type 0) (content : Content) (fault : StoreFault) → AnswersSo so never (Err fault) → (never → HoldsNothing content) → ReadsSo {A = A} content (Err fault)
+reads_fault so never content Failed it on = it
+reads_fault so never content Version it on = it
+reads_fault so never content Damaged it on = on it
+reads_fault so never content Memory it on = tt
+
+pub begins_not : (parts : List Bytes) (first : Bytes) (others : List Bytes) → parts ≡ first ∷ others → ((w : World) → Restores None others w → ⊥) → (k : Kept) → Begins parts k → ⊥
+begins_not parts first others is not k b = not k.0 (subst (λ (l : List Bytes). Begins l k) is b).1
