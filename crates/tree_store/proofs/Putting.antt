@@ -1,6 +1,6 @@
 -- Parts that are appended one after the other.
 use Rattle.std.proofs.Common.{◌≡◌, ◌⊎◌, inl, inr, ℕ, ◌≤◌, ◌<◌, ◌+◌, ◌^◌, Bool, true, false, cond, List, [], ◌∷◌, ◌++◌, length, map, refl, sym, ◌∙◌, ap, subst, arith, append_assoc, Ok, Err, Some, None}
-use Rattle.std.specs.Prelude.{Option, Result, IsSome, IfSome, slice_get, find, nat_lt}
+use Rattle.std.specs.Prelude.{Option, Result, IsSome, IfSome, OnOk, slice_get, find, nat_lt}
 use Rattle.std.specs.List.{AllByRecursion}
 use Rattle.std.specs.Option.{option_map}
 use Rattle.std.specs.Map.{lookup}
@@ -346,3 +346,7 @@ cookie_closer adds w at n c c' old new sound p some =
     let x = next_name p.left n (sym p.next ∙ some) in
     let below : n.cookie < w.next_cookie = rises_below (λ (m : Name). m.cookie) 3 w.next_cookie p.before n x.rest (subst (λ (l : List Name). Rises (λ m. m.cookie) 3 l w.next_cookie) (p.are ∙ ap (λ (l : List Name). p.before ++ l) x.is) sound.listed) in
     (later_cookie at w.names n some, (let most = sound.counted.cookies in omega (arith, below, most)))
+
+pub on_ok : {X : Type 0} (r : Result X StoreFault) (P Q : Type 0) → OnOk r P → (P → Q) → OnOk r Q
+on_ok (Ok x) P Q p on = on p
+on_ok (Err e) P Q p on = tt

@@ -1,14 +1,11 @@
-use Rattle.std.proofs.Common.{◌≡◌, ◌∙◌, Bor, List, ℕ, map, sym, ap, subst, Some, None, true, false}
-use Rattle.std.specs.Prelude.{Option, is_some}
-use Rattle.node_tree.specs.Restored.{Begun, is_whole}
-use Rattle.node_tree.specs.World.{World}
-use Rattle.tree_store.proofs.Gathering.{IsTaking, taking_begun, taking_more, taking_done, taking_none, taking_unwhole, taking_not, at_place, at_last, answers_fault}
+use Rattle.std.proofs.Common.{Bor, List, ℕ, map, sym}
+use Rattle.tree_store.proofs.Gathering.{taking_more, taking_done, taking_none, taking_unwhole, restored_fault, at_place, at_last}
 use Rattle.tree_store.proofs.reading.restored.Goals as goal
 
 pub returns-in-Err : goal.returns-in-Err
 returns-in-Err g c =
-    answers_fault _ _ _ _ c.in-Err.fault c.in-Err.ensures
-    (λ not w r. taking_not (map (λ (b : Bor (List ℕ)). b.now) c.args.parts.now) c.loop-bytes.so_far _ _ _ c.loop-bytes.invariant (at_place (λ (b : Bor (List ℕ)). b.now) c.args.parts.now c.loop-bytes.bytes-index _ c.loop-bytes-test.true) not w r)
+    restored_fault (map (λ (b : Bor (List ℕ)). b.now) c.args.parts.now) c.loop-bytes.so_far _ _ _ c.in-Err.fault c.loop-bytes.invariant
+    (at_place (λ (b : Bor (List ℕ)). b.now) c.args.parts.now c.loop-bytes.bytes-index _ c.loop-bytes-test.true) c.in-Err.ensures
 
 pub loop-bytes-preserved : goal.loop-bytes-preserved
 loop-bytes-preserved g c =
@@ -16,14 +13,14 @@ loop-bytes-preserved g c =
 
 pub returns-in_default : goal.returns-in_default
 returns-in_default g c =
-    taking_none (map (λ (b : Bor (List ℕ)). b.now) c.args.parts.now) _ (subst (λ (o : Option Begun). IsTaking _ o _) c.in_default.is c.loop-bytes.invariant) (at_last (λ (b : Bor (List ℕ)). b.now) c.args.parts.now c.loop-bytes.bytes-index c.loop-bytes-test.false)
+    taking_none (map (λ (b : Bor (List ℕ)). b.now) c.args.parts.now) c.loop-bytes.so_far _ c.in_default.is c.loop-bytes.invariant (at_last (λ (b : Bor (List ℕ)). b.now) c.args.parts.now c.loop-bytes.bytes-index c.loop-bytes-test.false)
 
 pub returns-in_default-finish : goal.returns-in_default-finish
 returns-in_default-finish g c =
-    taking_unwhole (map (λ (b : Bor (List ℕ)). b.now) c.args.parts.now) c.in-Some.restoring _ (subst (λ (o : Option Begun). IsTaking _ o _) c.in-Some.is c.loop-bytes.invariant) (at_last (λ (b : Bor (List ℕ)). b.now) c.args.parts.now c.loop-bytes.bytes-index c.loop-bytes-test.false)
+    taking_unwhole (map (λ (b : Bor (List ℕ)). b.now) c.args.parts.now) c.loop-bytes.so_far c.in-Some.restoring _ c.in-Some.is c.loop-bytes.invariant (at_last (λ (b : Bor (List ℕ)). b.now) c.args.parts.now c.loop-bytes.bytes-index c.loop-bytes-test.false)
     (sym c.in_default-finish.ensures.whole)
 
 pub returns : goal.returns
 returns g c =
-    taking_done (map (λ (b : Bor (List ℕ)). b.now) c.args.parts.now) c.in-Some.restoring _ (subst (λ (o : Option Begun). IsTaking _ o _) c.in-Some.is c.loop-bytes.invariant) (at_last (λ (b : Bor (List ℕ)). b.now) c.args.parts.now c.loop-bytes.bytes-index c.loop-bytes-test.false)
+    taking_done (map (λ (b : Bor (List ℕ)). b.now) c.args.parts.now) c.loop-bytes.so_far c.in-Some.restoring _ c.in-Some.is c.loop-bytes.invariant (at_last (λ (b : Bor (List ℕ)). b.now) c.args.parts.now c.loop-bytes.bytes-index c.loop-bytes-test.false)
     (sym c.in-Some-finish.ensures.whole) _ c.in-Some-finish.ensures.value

@@ -1,4 +1,4 @@
-use Rattle.std.proofs.Common.{◌≡◌, ◌∷◌, [], List, ℕ, map, sym, ◌∙◌, subst, arith, Ok, Err}
+use Rattle.std.proofs.Common.{◌≡◌, ◌∷◌, ◌++◌, [], List, ℕ, map, sym, ◌∙◌, subst, arith, Ok, Err}
 use Rattle.std.specs.List.{AllByRecursion}
 use Rattle.xdr_wire.specs.Xdr.{HasSpelling, spelling}
 use Rattle.xdr_wire.specs.Buffer as buffers
@@ -20,10 +20,29 @@ loop-number-smaller g c =
     omega (arith, closer.0, closer.1)
 
 pub returns-in_default-write_object-clause-appends : goal.returns-in_default-write_object-clause-appends
-returns-in_default-write_object-clause-appends g c = appends_stop g.D.Disk.adds c.args.self.now.checkpoint c.loop-number.self.checkpoint _ _ _ c.args.disk.now _ c.loop-number.invariant.put.appended
+returns-in_default-write_object-clause-appends g c =
+    let p = c.loop-number.invariant.put in
+    appends_stop g.D.Disk.adds c.args.self.now.checkpoint c.loop-number.self.checkpoint c.loop-number.self.checkpoint (map object_bytes p.before) (map object_bytes c.args.tree.now.objects) c.args.disk.now c.loop-number.disk p.appended
+
+pub returns-in-Err-clause-appends : goal.returns-in-Err-clause-appends
+returns-in-Err-clause-appends g c =
+    let p = c.loop-number.invariant.put in
+    let bytes = c.write_object.new.writer.bytes in
+    appends_fault g.D.Disk.adds c.args.self.now.checkpoint c.put.new.self.checkpoint c.put.new.self.checkpoint (map object_bytes p.before ++ bytes ∷ []) (map object_bytes c.args.tree.now.objects) c.in-Err.fault c.args.disk.now c.put.new.disk
+    (appends_then g.D.Disk.adds c.args.self.now.checkpoint c.loop-number.self.checkpoint c.put.new.self.checkpoint (map object_bytes p.before) (bytes ∷ []) (Err c.in-Err.fault) c.args.disk.now c.loop-number.disk c.put.new.disk p.appended c.in-Err.ensures.appends)
 
 pub loop-number-preserved : goal.loop-number-preserved
-loop-number-preserved g c = let h = c.in-Ok in let k = c.in-Ok-put in ?
+loop-number-preserved g c =
+    let number = c.in-Some.number in
+    let old = c.loop-number.self.writer in
+    let new = c.write_object.new.writer in
+    record {
+      empty = c.put.ensures.empty;
+      put = object_put g.D.Disk.adds c.args.tree.now c.loop-number.at number c.args.self.now.checkpoint c.loop-number.self.checkpoint c.put.new.self.checkpoint new.bytes c.args.disk.now c.loop-number.disk c.put.new.disk c.requires.sound c.loop-number.invariant.put (sym c.in-Some.ensures)
+          (both_some (λ (o : Object). buffers.Appends old new (spelling part (object_value number o))) (λ (o : Object). HasSpelling part (object_value number o)) (λ (o : Object). (new.bytes ≡ object_bytes (number, o)) × HasSpelling part (object_value number o)) (object c.args.tree.now number)
+          c.in-Ok.ensures.ok c.in-Ok.ensures.has_spelling (λ o appended has. (written_alone old new (object_bytes (number, o)) c.loop-number.invariant.empty appended, has)))
+          c.in-Ok-put.ensures.appends;
+    }
 
 pub returns-clause-appends : goal.returns-clause-appends
 returns-clause-appends g c =
