@@ -29,7 +29,7 @@ returns-in-Err-Memory g c content history counts =
     let w = c.args.tree.now in
     let aim = kept_with w c.args.next in
     checkpoint_unfinished g.D.Disk.adds c.args.key c.args.generation c.args.slot content history counts aim c.in-Ok-begin.checkpoint c.put_all.new.self.checkpoint (all_parts w c.args.next) c.args.disk.now c.begin.new.disk c.in-Ok-begin.ensures
-    c.put_all.new.disk c.in-Ok-put_all.ensures.appends (checkpoint_holds w c.args.next (taken_again w c.object.ensures.sound) c.in-Ok-put_all.ensures.has_spelling)
+    c.put_all.new.disk c.in-Ok-put_all.ensures.appends (checkpoint_holds w c.args.next (taken_again w c.object-root.ensures.sound) c.in-Ok-put_all.ensures.has_spelling)
     c.in-Err-Memory.field-0 c.finish.new.disk
     (subst (λ (r : Result Journal JournalFault). FinishGives g.D.Disk.adds c.put_all.new.self.checkpoint r c.put_all.new.disk c.finish.new.disk) c.in-Err-Memory.is c.finish.ensures)
 
@@ -38,7 +38,7 @@ returns-in-Err-finish g c content history counts =
     let w = c.args.tree.now in
     let aim = kept_with w c.args.next in
     checkpoint_unfinished g.D.Disk.adds c.args.key c.args.generation c.args.slot content history counts aim c.in-Ok-begin.checkpoint c.put_all.new.self.checkpoint (all_parts w c.args.next) c.args.disk.now c.begin.new.disk c.in-Ok-begin.ensures
-    c.put_all.new.disk c.in-Ok-put_all.ensures.appends (checkpoint_holds w c.args.next (taken_again w c.object.ensures.sound) c.in-Ok-put_all.ensures.has_spelling)
+    c.put_all.new.disk c.in-Ok-put_all.ensures.appends (checkpoint_holds w c.args.next (taken_again w c.object-root.ensures.sound) c.in-Ok-put_all.ensures.has_spelling)
     c.in-Err-finish.field-0 c.finish.new.disk c.in-Err-finish.ensures
 
 pub returns : goal.returns
@@ -46,5 +46,5 @@ returns g c content history counts =
     let w = c.args.tree.now in
     let aim = kept_with w c.args.next in
     checkpoint_done g.D.Disk.adds c.args.key c.args.generation c.args.slot content history counts aim c.in-Ok-begin.checkpoint c.put_all.new.self.checkpoint (all_parts w c.args.next) c.args.disk.now c.begin.new.disk c.in-Ok-begin.ensures
-    c.put_all.new.disk c.in-Ok-put_all.ensures.appends (checkpoint_holds w c.args.next (taken_again w c.object.ensures.sound) c.in-Ok-put_all.ensures.has_spelling)
+    c.put_all.new.disk c.in-Ok-put_all.ensures.appends (checkpoint_holds w c.args.next (taken_again w c.object-root.ensures.sound) c.in-Ok-put_all.ensures.has_spelling)
     c.in-Ok-finish.journal _ c.finish.new.disk c.in-Ok-finish.ensures refl refl

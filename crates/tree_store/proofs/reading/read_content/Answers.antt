@@ -8,7 +8,7 @@ loop-bytes-init g c = reading_begun (map (λ (b : Bor (List ℕ)). b.now) c.args
 
 pub returns-in-Err-lead_on : goal.returns-in-Err-lead_on
 returns-in-Err-lead_on g c =
-    content_fault _ (map (λ (b : Bor (List ℕ)). b.now) c.args.parts.now) (map (λ (b : Bor (List ℕ)). b.now) c.args.records.now) (found_kept c.loop-bytes.found) (found_kept c.lead_on.new.found) _ _ _ c.in-Err-lead_on.fault c.loop-bytes.invariant
+    content_fault g.row.A.Denot (map (λ (b : Bor (List ℕ)). b.now) c.args.parts.now) (map (λ (b : Bor (List ℕ)). b.now) c.args.records.now) (found_kept c.loop-bytes.found) (found_kept c.lead_on.new.found) _ _ _ c.in-Err-lead_on.fault c.loop-bytes.invariant
     (at_place (λ (b : Bor (List ℕ)). b.now) c.args.records.now c.loop-bytes.bytes-index _ c.loop-bytes-test.true) c.in-Err-lead_on.ensures
 
 pub loop-bytes-preserved : goal.loop-bytes-preserved

@@ -16,7 +16,7 @@ write_name-requires g c =
 pub loop-name-smaller : goal.loop-name-smaller
 loop-name-smaller g c =
     let closer = cookie_closer g.D.Disk.adds c.args.tree.now c.loop-name.at c.in-Some.name.now c.args.self.now.checkpoint c.loop-name.self.checkpoint c.args.disk.now c.loop-name.disk c.requires.sound c.loop-name.invariant.put (sym c.in-Some.ensures) in
-    omega (arith, closer.0, closer.1, c.cookie.ensures)
+    omega (arith, closer.0, closer.1, c.cookie-at.ensures)
 
 pub returns-in_default-write_name-clause-appends : goal.returns-in_default-write_name-clause-appends
 returns-in_default-write_name-clause-appends g c =
@@ -37,7 +37,7 @@ loop-name-preserved g c =
     let new = c.write_name.new.writer in
     record {
       empty = c.put.ensures.empty;
-      put = subst (λ (k : ℕ). NamesPut g.D.Disk.adds c.args.tree.now k c.args.self.now.checkpoint c.put.new.self.checkpoint c.args.disk.now c.put.new.disk) (sym c.cookie.ensures)
+      put = subst (λ (k : ℕ). NamesPut g.D.Disk.adds c.args.tree.now k c.args.self.now.checkpoint c.put.new.self.checkpoint c.args.disk.now c.put.new.disk) (sym c.cookie-at.ensures)
           (name_put g.D.Disk.adds c.args.tree.now c.loop-name.at n c.args.self.now.checkpoint c.loop-name.self.checkpoint c.put.new.self.checkpoint new.bytes c.args.disk.now c.loop-name.disk c.put.new.disk c.requires.sound c.loop-name.invariant.put (sym c.in-Some.ensures)
           (written_alone old new (name_bytes n) c.loop-name.invariant.empty c.in-Ok.ensures.puts) c.in-Ok.ensures.has_spelling c.in-Ok-put.ensures.appends);
     }
