@@ -1,0 +1,1 @@
+use Rattle.nfs_streams.proofs.serving.keep_tree.Goals as goal
