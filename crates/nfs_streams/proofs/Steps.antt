@@ -101,14 +101,14 @@ begins {n = n} {o = o} {hub = hub} {left = left} {now = now} ps i p lt most none
 begins {o = o} {left = left} ps i p lt most none (inr new) st =
     let run : Runs o.limits (Begun i ∷ st.acts) o.start st.machine = (st.machine, st.way.0, (st.way.2, can_hear ps i p lt st.stands new.1 none), refl) in
     record {
-  acts = Begun i ∷ st.acts;
-  machine = st.machine;
-  way = (run, st.way.1, tt, still_kept st.way.3, st.way.4, omega (arith, new.0, left_begun st.acts i));
-  keeping = goes_as o.store left.store o (Begun i) st.acts st.machine run tt (refl, λ state stored. stored) refl st.keeping;
-  stands = stands_as (Begun i ∷ st.acts) (λ j. refl) (λ j. (refl, refl, refl)) refl st.stands;
-  adds = st.adds;
-  fewer = st.fewer;
-}
+      acts = Begun i ∷ st.acts;
+      machine = st.machine;
+      way = (run, st.way.1, tt, still_kept st.way.3, st.way.4, omega (arith, new.0, left_begun st.acts i));
+      keeping = goes_as o.store left.store o (Begun i) st.acts st.machine run tt (refl, λ state stored. stored) refl st.keeping;
+      stands = stands_as (Begun i ∷ st.acts) (λ j. refl) (λ j. (refl, refl, refl)) refl st.stands;
+      adds = st.adds;
+      fewer = st.fewer;
+    }
 
 -- the fault of the hub
 abbrev pub fault_of : Result ℕ HubFault → Option HubFault
@@ -182,7 +182,7 @@ module _ {A : Type 0} {n most : ℕ} {o : Origin} {hub : Hub A} {left : Left} {n
       let acts' = Given i bytes (fault_of r) ∷ st.acts in
       let front_of : bytes ≡ take (length bytes) (ahead st.acts i) =
       ap (λ (l : List ℕ). take k l) is_front ∙ take_shorter k most p.ahead (omega (arith, few, ap (λ (l : List ℕ). length l) is_front)) ∙ ap (λ (m : ℕ). take m p.ahead) (sym len) ∙ ap (λ (l : List ℕ). take (length bytes) l) (sym h.knows.0) in
-      let run : Runs o.limits acts' o.start g.0 = ( s, st.way.0, (st.way.2, st.way.4, st.way.3, (id, c, h.conn, h.opened, whole), omega (arith, len, few, within, st.way.5), front_of), (moment, (id, h.conn, g.1), (id, c, h.conn, h.opened, answers_one r c.rest front s g.0 c.pending d.pending takes), fault_is r st.acts i id front moment s g.0 c d h.conn h.opened u.changed is_broken came)) in
+      let run : Runs o.limits acts' o.start g.0 = (s, st.way.0, (st.way.2, st.way.4, st.way.3, (id, c, h.conn, h.opened, whole), omega (arith, len, few, within, st.way.5), front_of), (moment, (id, h.conn, g.1), (id, c, h.conn, h.opened, answers_one r c.rest front s g.0 c.pending d.pending takes), fault_is r st.acts i id front moment s g.0 c d h.conn h.opened u.changed is_broken came)) in
       record {
         acts = acts';
         machine = g.0;
@@ -377,7 +377,7 @@ failed {o = o} {left = left} {before = before} ps i p lt st bytes waiting some h
     let over = Unwritten i ∷ st.acts in
     let x = shut ps i p end.Write (stands_as over (λ j. refl) (λ j. (refl, refl, refl)) refl st.stands) lt hub' goes in
     let inner : Runs o.limits over o.start st.machine = (st.machine, st.way.0, (st.way.2, st.way.3, is_waiting ps i p st.stands lt bytes waiting some, st.way.4), refl) in
-      let run : Runs o.limits (Closed i end.Write ∷ over) o.start x.machine = (st.machine, inner, refl, x.step) in
+    let run : Runs o.limits (Closed i end.Write ∷ over) o.start x.machine = (st.machine, inner, refl, x.step) in
     record {
       acts = Closed i end.Write ∷ over;
       machine = x.machine;
@@ -469,27 +469,27 @@ module _ {A : Type 0} {n : ℕ} {o : Origin} {hub : Hub A} {places : List (Optio
   knocks =
       let run : Runs o.limits (Knocked ∷ st.acts) o.start st.machine = (st.machine, st.way.0, st.way.2, refl) in
       record {
-    acts = Knocked ∷ st.acts;
-    machine = st.machine;
-    way = (run, st.way.1, refl);
-    keeping = goes_as o.store left.store o Knocked st.acts st.machine run tt (refl, λ state stored. stored) refl st.keeping;
-    stands = stands_as (Knocked ∷ st.acts) (λ j. refl) (λ j. (refl, refl, refl)) refl st.stands;
-    adds = adds_on o.first before after (of_streams st.acts) (Knocked ∷ []) st.adds said;
-    fewer = st.fewer;
-  }
+        acts = Knocked ∷ st.acts;
+        machine = st.machine;
+        way = (run, st.way.1, refl);
+        keeping = goes_as o.store left.store o Knocked st.acts st.machine run tt (refl, λ state stored. stored) refl st.keeping;
+        stands = stands_as (Knocked ∷ st.acts) (λ j. refl) (λ j. (refl, refl, refl)) refl st.stands;
+        adds = adds_on o.first before after (of_streams st.acts) (Knocked ∷ []) st.adds said;
+        fewer = st.fewer;
+      }
 
   pub knocks_full : o.limits.makes_room ≡ true → most_open o.limits ≤ taken places → Standing (Full n) o hub places left after
   knocks_full makes many =
       let run : Runs o.limits (Knocked ∷ st.acts) o.start st.machine = (st.machine, st.way.0, st.way.2, refl) in
       record {
-    acts = Knocked ∷ st.acts;
-    machine = st.machine;
-    way = (run, st.way.1, refl, makes, omega (arith, many, st.stands.count));
-    keeping = goes_as o.store left.store o Knocked st.acts st.machine run tt (refl, λ state stored. stored) refl st.keeping;
-    stands = stands_as (Knocked ∷ st.acts) (λ j. refl) (λ j. (refl, refl, refl)) refl st.stands;
-    adds = adds_on o.first before after (of_streams st.acts) (Knocked ∷ []) st.adds said;
-    fewer = st.fewer;
-  }
+        acts = Knocked ∷ st.acts;
+        machine = st.machine;
+        way = (run, st.way.1, refl, makes, omega (arith, many, st.stands.count));
+        keeping = goes_as o.store left.store o Knocked st.acts st.machine run tt (refl, λ state stored. stored) refl st.keeping;
+        stands = stands_as (Knocked ∷ st.acts) (λ j. refl) (λ j. (refl, refl, refl)) refl st.stands;
+        adds = adds_on o.first before after (of_streams st.acts) (Knocked ∷ []) st.adds said;
+        fewer = st.fewer;
+      }
 
 -- the stream isn't admitted
 pub put_off : {A : Type 0} {n : ℕ} {o : Origin} {hub : Hub A} {places : List (Option (Peer A))} {left : Left} {now : Option (List Act)} → Standing (Knocking n) o hub places left now → Standing (Listening n) o hub places left now
@@ -588,14 +588,14 @@ module _ {A : Type 0} {n : ℕ} {o : Origin} {hub : Hub A} {places : List (Optio
   looks said =
       let run : Runs o.limits (Looked ∷ st.acts) o.start st.machine = (st.machine, st.way.0, st.way.2, refl) in
       record {
-    acts = Looked ∷ st.acts;
-    machine = st.machine;
-    way = (run, st.way.1, tt, tt);
-    keeping = goes_as o.store left.store o Looked st.acts st.machine run tt (refl, λ state stored. stored) refl st.keeping;
-    stands = stands_as (Looked ∷ st.acts) (λ j. refl) (λ j. (refl, refl, refl)) refl st.stands;
-    adds = adds_on o.first before after (of_streams st.acts) (Looked ∷ []) st.adds said;
-    fewer = st.fewer;
-  }
+        acts = Looked ∷ st.acts;
+        machine = st.machine;
+        way = (run, st.way.1, tt, tt);
+        keeping = goes_as o.store left.store o Looked st.acts st.machine run tt (refl, λ state stored. stored) refl st.keeping;
+        stands = stands_as (Looked ∷ st.acts) (λ j. refl) (λ j. (refl, refl, refl)) refl st.stands;
+        adds = adds_on o.first before after (of_streams st.acts) (Looked ∷ []) st.adds said;
+        fewer = st.fewer;
+      }
 
   pub loads : (hub' : Hub A) (book : Content) → Goes (Reload book) hub hub' → Adds before after (Loaded book ∷ []) → Standing (Looking n) o hub' places left after
   loads hub' book goes said =
@@ -628,27 +628,27 @@ module _ {A : Type 0} {n : ℕ} {o : Origin} {hub : Hub A} {places : List (Optio
   waited said =
       let run : Runs o.limits (Waited true ∷ st.acts) o.start st.machine = (st.machine, st.way.0, st.way.2, refl) in
       record {
-    acts = Waited true ∷ st.acts;
-    machine = st.machine;
-    way = (run, ap (λ (k : ℕ). k + 1) st.way.1, tt);
-    keeping = goes_as o.store left.store o (Waited true) st.acts st.machine run tt (refl, λ state stored. stored) refl st.keeping;
-    stands = stands_as (Waited true ∷ st.acts) (λ j. refl) (λ j. (refl, refl, refl)) refl st.stands;
-    adds = adds_on o.first before after (of_streams st.acts) (Waited true ∷ []) st.adds said;
-    fewer = st.fewer;
-  }
+        acts = Waited true ∷ st.acts;
+        machine = st.machine;
+        way = (run, ap (λ (k : ℕ). k + 1) st.way.1, tt);
+        keeping = goes_as o.store left.store o (Waited true) st.acts st.machine run tt (refl, λ state stored. stored) refl st.keeping;
+        stands = stands_as (Waited true ∷ st.acts) (λ j. refl) (λ j. (refl, refl, refl)) refl st.stands;
+        adds = adds_on o.first before after (of_streams st.acts) (Waited true ∷ []) st.adds said;
+        fewer = st.fewer;
+      }
 
   pub unwaited : Adds before after (Waited false ∷ []) → Standing (Stopped Wait (n + 1)) o hub places left after
   unwaited said =
       let run : Runs o.limits (Waited false ∷ st.acts) o.start st.machine = (st.machine, st.way.0, st.way.2, refl) in
       record {
-    acts = Waited false ∷ st.acts;
-    machine = st.machine;
-    way = (run, ap (λ (k : ℕ). k + 1) st.way.1, refl);
-    keeping = stops_by o.store left.store o (Waited false) st.acts st.machine run tt refl st.keeping;
-    stands = stands_as (Waited false ∷ st.acts) (λ j. refl) (λ j. (refl, refl, refl)) refl st.stands;
-    adds = adds_on o.first before after (of_streams st.acts) (Waited false ∷ []) st.adds said;
-    fewer = st.fewer;
-  }
+        acts = Waited false ∷ st.acts;
+        machine = st.machine;
+        way = (run, ap (λ (k : ℕ). k + 1) st.way.1, refl);
+        keeping = stops_by o.store left.store o (Waited false) st.acts st.machine run tt refl st.keeping;
+        stands = stands_as (Waited false ∷ st.acts) (λ j. refl) (λ j. (refl, refl, refl)) refl st.stands;
+        adds = adds_on o.first before after (of_streams st.acts) (Waited false ∷ []) st.adds said;
+        fewer = st.fewer;
+      }
 
 module _ {A : Type 0} {n : ℕ} {o : Origin} {hub : Hub A} {places : List (Option (Peer A))} {left : Left} {before : Option (List Act)} (st : Standing (Looking n) o hub places left before) (after : Option (List Act)) where
   pub keeps : (state : ServerState) → ((t : State) → IsHub hub t → t.served.state ≡ state) → Adds before after (Kept state ∷ []) → Standing (Giving n) o hub places left after
@@ -669,14 +669,14 @@ module _ {A : Type 0} {n : ℕ} {o : Origin} {hub : Hub A} {places : List (Optio
   loses said =
       let run : Runs o.limits (Lost ∷ st.acts) o.start st.machine = (st.machine, st.way.0, st.way.2, refl) in
       record {
-    acts = Lost ∷ st.acts;
-    machine = st.machine;
-    way = (run, st.way.1, refl);
-    keeping = stops_by o.store left.store o Lost st.acts st.machine run tt refl st.keeping;
-    stands = stands_as (Lost ∷ st.acts) (λ j. refl) (λ j. (refl, refl, refl)) refl st.stands;
-    adds = adds_on o.first before after (of_streams st.acts) (Lost ∷ []) st.adds said;
-    fewer = st.fewer;
-  }
+        acts = Lost ∷ st.acts;
+        machine = st.machine;
+        way = (run, st.way.1, refl);
+        keeping = stops_by o.store left.store o Lost st.acts st.machine run tt refl st.keeping;
+        stands = stands_as (Lost ∷ st.acts) (λ j. refl) (λ j. (refl, refl, refl)) refl st.stands;
+        adds = adds_on o.first before after (of_streams st.acts) (Lost ∷ []) st.adds said;
+        fewer = st.fewer;
+      }
 
 module _ {A : Type 0} {n i m : ℕ} {o : Origin} {hub : Hub A} {places : List (Option (Peer A))} {left : Left} {before : Option (List Act)} (st : Standing (Unkept n i m) o hub places left before) (after : Option (List Act)) where
   pub keeps_given : (state : ServerState) → ((t : State) → IsHub hub t → t.served.state ≡ state) → Adds before after (Kept state ∷ []) → Standing (Piecing n i m) o hub places left after
@@ -697,14 +697,14 @@ module _ {A : Type 0} {n i m : ℕ} {o : Origin} {hub : Hub A} {places : List (O
   loses_given said =
       let run : Runs o.limits (Lost ∷ st.acts) o.start st.machine = (st.machine, st.way.0, st.way.2, refl) in
       record {
-    acts = Lost ∷ st.acts;
-    machine = st.machine;
-    way = (run, st.way.1, refl);
-    keeping = stops_by o.store left.store o Lost st.acts st.machine run tt refl st.keeping;
-    stands = stands_as (Lost ∷ st.acts) (λ j. refl) (λ j. (refl, refl, refl)) refl st.stands;
-    adds = adds_on o.first before after (of_streams st.acts) (Lost ∷ []) st.adds said;
-    fewer = st.fewer;
-  }
+        acts = Lost ∷ st.acts;
+        machine = st.machine;
+        way = (run, st.way.1, refl);
+        keeping = stops_by o.store left.store o Lost st.acts st.machine run tt refl st.keeping;
+        stands = stands_as (Lost ∷ st.acts) (λ j. refl) (λ j. (refl, refl, refl)) refl st.stands;
+        adds = adds_on o.first before after (of_streams st.acts) (Lost ∷ []) st.adds said;
+        fewer = st.fewer;
+      }
 
 -- ---- a client is let go
 

@@ -71,9 +71,9 @@ module _ {A D : Type 0} (acts_of : D → Option (List Act)) (adds : Adding D) (l
         from_aim = inr (tt, g.from_aim);
         always = (
           subst (λ (d : List DiskAct). Leaves key d (HoldsShown o.limits acts' o.start machine run)) (sym files)
-          (leaves_also key (act ∷ done ++ history) (IsHeldOr kept aim) (HoldsShown o.limits acts' o.start machine run)
-          (λ c. ⊎_elim (λ (h : IsHeld kept c). (h.0, kept, h.1, h.2, inr (tt, g.from_kept))) (λ (h : IsHeld aim c). (h.0, aim, h.1, h.2, inr (tt, g.from_aim))))
-          leaves.0),
+              (leaves_also key (act ∷ done ++ history) (IsHeldOr kept aim) (HoldsShown o.limits acts' o.start machine run)
+              (λ c. ⊎_elim (λ (h : IsHeld kept c). (h.0, kept, h.1, h.2, inr (tt, g.from_kept))) (λ (h : IsHeld aim c). (h.0, aim, h.1, h.2, inr (tt, g.from_aim))))
+              leaves.0),
           g.always,
         );
       }
