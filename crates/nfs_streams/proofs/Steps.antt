@@ -2,7 +2,7 @@
 use Rattle.std.proofs.Common.{◌≡◌, ◌≢◌, ◌≤◌, ◌<◌, ℕ, ◌+◌, ◌-◌, Bool, true, false, List, [], ◌∷◌, ◌++◌, length, take, Option, Some, None, refl, sym, ap, subst, ◌∙◌, option_map, inl, inr, arith}
 use Rattle.std.specs.Ordering.{nat_cmp}
 use Rattle.std.specs.BTreeMap.{get}
-use Rattle.std.specs.Prelude.{ℤ, Result, ◌⊎◌, MatchOption, IfSome, IfOk, Err, Ok, min, set, drop, is_some, is_err}
+use Rattle.std.specs.Prelude.{ℤ, Result, ◌⊎◌, MatchOption, IfSome, IsNone, IfOk, Err, Ok, min, set, drop, is_some, is_err}
 use Rattle.std.proofs.lemmas.List.{set-set, length-append, length-take-le, take-append-le, take-append-drop}
 use Rattle.std.proofs.Math.Seq.{take-length}
 use Rattle.std.proofs.lemmas.Bool.{cases_eq}
@@ -709,7 +709,7 @@ module _ {A : Type 0} {n i m : ℕ} {o : Origin} {hub : Hub A} {places : List (O
 -- ---- a client is let go
 
 module _ {A : Type 0} {n : ℕ} {o : Origin} {hub : Hub A} {places : List (Option (Peer A))} {left : Left} {now : Option (List Act)} (st : Standing (Giving n) o hub places left now) where
-  pub expires : (hub' : Hub A) (client : ℕ) → o.limits.leases ≡ true → Goes (LetGo client) hub hub' → Standing (Giving n) o hub' places left now
+  expires : (hub' : Hub A) (client : ℕ) → o.limits.leases ≡ true → Goes (LetGo client) hub hub' → Standing (Giving n) o hub' places left now
   expires hub' client leases goes =
       let was = st.stands in
       let g = goes st.machine was.is in
@@ -733,7 +733,7 @@ module _ {A : Type 0} {n : ℕ} {o : Origin} {hub : Hub A} {places : List (Optio
         fewer = st.fewer;
       }
 
-  pub unexpired : (hub' : Hub A) → IsUnchanged hub hub' → Standing (Giving n) o hub' places left now
+  unexpired : (hub' : Hub A) → IsUnchanged hub hub' → Standing (Giving n) o hub' places left now
   unexpired hub' same = record {
     acts = st.acts;
     machine = st.machine;
@@ -743,6 +743,10 @@ module _ {A : Type 0} {n : ℕ} {o : Origin} {hub : Hub A} {places : List (Optio
     adds = st.adds;
     fewer = st.fewer;
   }
+
+  pub lets_go : (hub' : Hub A) (result : Option ℕ) → o.limits.leases ≡ true → IfSome result (λ client. Goes (LetGo client) hub hub') → (IsNone result → IsUnchanged hub hub') → Standing (Giving n) o hub' places left now
+  lets_go hub' None leases goes nothing = unexpired hub' (nothing refl)
+  lets_go hub' (Some client) leases goes nothing = expires hub' client leases goes
 
 -- ---- from one stage to the next without an act
 

@@ -10,10 +10,12 @@ use Rattle.tree_store.specs.Kept.{Kept, Covers}
 use Rattle.tree_store.specs.Holds.{Holds, IsHeld, IsHeldOr}
 use Rattle.tree_store.specs.Leaving.{Chain, Leaves, AlwaysLeaves, Does}
 use Rattle.tree_store.specs.Standing.{Stands as StandsFor}
-use Rattle.tree_store.specs.Keeping.{KeptSo}
+use Rattle.tree_store.specs.Keeping.{KeptSo, Keeps}
+use Rattle.node_tree.specs.World.{World}
 use Rattle.node_tree.specs.Notes.{Notes, cleared}
 use Rattle.tree_changes.proofs.Noting.{noted_cleared}
-use Rattle.compound_run.specs.State.{kept_of}
+use Rattle.session_slots.specs.declared.restoring.NextNumbers.{NextNumbers}
+use Rattle.compound_run.specs.State.{State as ServerState, kept_of, next_numbers}
 use Rattle.hub_laws.specs.Notes.{world_of}
 use Rattle.nfs_hub.specs.declared.hub.Hub.{Hub}
 use Rattle.nfs_hub.specs.Answer.{Served as ServedState, noting}
@@ -33,6 +35,15 @@ use Rattle.nfs_streams.proofs.Keeping.{still_kept, leaves_also, now_shown, alway
 -- the acts of the disk are acts of the streams
 abbrev pub DiskLaw : {D : Type 0} → (D → Option (List Act)) → Adding D → Type 0
 DiskLaw {D} acts_of adds = (old new : D) (act : DiskAct) → adds old act new → Adds (acts_of old) (acts_of new) (OnDisk act ∷ [])
+
+-- the server of the hub is asked for its tree and its numbers
+pub kept_tree : {A D : Type 0} (adds : Adding D) (hub : Hub A) (was : Option TreeStore) (store store' : TreeStore) (result : Bool) (old new : D) (server : ServerState) (w : World) (next : NextNumbers) (done : Result (Unit {0}) StoreFault) → was ≡ Some store → ((s : State) → IsHub hub s → s.served.state ≡ server)
+    → w ≡ server.realm.world → next ≡ next_numbers server → result ≡ is_ok done → Keeps adds store w next done store' old new → KeepsTree adds hub was result (Some store') old new
+kept_tree adds hub was store store' result old new server w next done is serves world_is next_is well keeps =
+    let of_server : Keeps adds store server.realm.world (next_numbers server) done store' old new =
+    subst (λ (n : NextNumbers). Keeps adds store server.realm.world n done store' old new) next_is (subst (λ (v : World). Keeps adds store v next done store' old new) world_is keeps) in
+    subst (λ (o : Option TreeStore). KeepsTree adds hub o result (Some store') old new) (sym is)
+    (λ s is_hub. (done, well, subst (λ (v : ServerState). Keeps adds store v.realm.world (next_numbers v) done store' old new) (sym (serves s is_hub)) of_server))
 
 -- Some acts of the disk were done over what was kept, to keep what is aimed at.
 record Wrote {A : Type 0} (n : ℕ) (o : Origin) (hub : Hub A) (places : List (Option (Peer A))) (more : ℕ) (key : ℕ) (history : List DiskAct) (kept aim : Kept) (machine : State) (done : List DiskAct) (now : Option (List Act)) : Type 0 where

@@ -19,9 +19,9 @@ returns-clause-moves g c = λ n o same st.
     let left = left_of c.listen_all-heard.new.door in
     let looked = c.load_book.ensures n left o.limits c.listen_all-heard.new.places o refl (c.listen_all-heard.ensures.moves n o same st) in
     let gave = c.if-not-give_all.ensures.moves n left o.limits o refl (keeps looked _ c.server.result.now c.server.ensures c.if-not-keep.ensures) in
-    let expired = c.expire.ensures n left c.if-not-give_all.new.places _ o (same ∙ sym c.listen_all-heard.ensures.most) gave in
-    let stored = c.if-not-store.ensures.stores n o.limits c.if-not-give_all.new.places o refl expired in
-    let left' = left_of c.if-not-store.new.door in
+    let expired = c.expire.ensures n left c.give_all.new.places _ o (same ∙ sym c.listen_all-heard.ensures.most) gave in
+    let stored = c.if-not-store.ensures.stores n o.limits c.give_all.new.places o refl expired in
+    let left' = left_of c.store.new.door in
     c.make_room-room.ensures n left' o (same ∙ sym (c.if-not-store.ensures.most ∙ c.listen_all-heard.ensures.most)) (answered (c.answer_all-told.ensures n left' o.limits o refl stored))
 
 pub returns-then-not-store-clause-moves : goal.returns-then-not-store-clause-moves
@@ -29,5 +29,5 @@ returns-then-not-store-clause-moves g c = λ n o same st.
     let left = left_of c.listen_all-heard.new.door in
     let looked = c.load_book.ensures n left o.limits c.listen_all-heard.new.places o refl (c.listen_all-heard.ensures.moves n o same st) in
     let gave = c.if-not-give_all.ensures.moves n left o.limits o refl (keeps looked _ c.server.result.now c.server.ensures c.if-not-keep.ensures) in
-    let expired = c.expire.ensures n left c.if-not-give_all.new.places _ o (same ∙ sym c.listen_all-heard.ensures.most) gave in
-    c.if-not-store.ensures.stores n o.limits c.if-not-give_all.new.places o refl expired
+    let expired = c.expire.ensures n left c.give_all.new.places _ o (same ∙ sym c.listen_all-heard.ensures.most) gave in
+    c.if-not-store.ensures.stores n o.limits c.give_all.new.places o refl expired
