@@ -745,8 +745,8 @@ module _ {A : Type 0} {n : ℕ} {o : Origin} {hub : Hub A} {places : List (Optio
   }
 
   pub lets_go : (hub' : Hub A) (result : Option ℕ) → o.limits.leases ≡ true → IfSome result (λ client. Goes (LetGo client) hub hub') → (IsNone result → IsUnchanged hub hub') → Standing (Giving n) o hub' places left now
-  lets_go hub' None leases goes nothing = unexpired hub' (nothing refl)
-  lets_go hub' (Some client) leases goes nothing = expires hub' client leases goes
+  lets_go hub' None leases goes none = unexpired hub' (none refl)
+  lets_go hub' (Some client) leases goes none = expires hub' client leases goes
 
 -- ---- from one stage to the next without an act
 

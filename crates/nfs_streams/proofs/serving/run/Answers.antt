@@ -13,7 +13,7 @@ returns-in-Err-Keep g c = (
   c.loop-turn._turn + 1,
   omega (arith, c.loop-turn-test.true),
   tt,
-  λ o same st. c.in-Err-Keep.ensures.moves (c.loop-turn._turn + 1) o (same ∙ sym c.loop-turn.invariant.most) (waited (c.loop-turn.invariant.moves o same st) _ c.if-not-wait.ensures),
+  λ o same st. rw c.in-Err-Keep.field-0-is at (c.in-Err-Keep.ensures.moves (c.loop-turn._turn + 1) o (same ∙ sym c.loop-turn.invariant.most) (waited (c.loop-turn.invariant.moves o same st) _ c.if-not-wait.ensures)),
 )
 
 pub returns-in-Err-Store : goal.returns-in-Err-Store
@@ -21,7 +21,7 @@ returns-in-Err-Store g c = (
   c.loop-turn._turn + 1,
   omega (arith, c.loop-turn-test.true),
   tt,
-  λ o same st. c.in-Err-Store.ensures.moves (c.loop-turn._turn + 1) o (same ∙ sym c.loop-turn.invariant.most) (waited (c.loop-turn.invariant.moves o same st) _ c.if-not-wait.ensures),
+  λ o same st. rw c.in-Err-Store.field-0-is at (c.in-Err-Store.ensures.moves (c.loop-turn._turn + 1) o (same ∙ sym c.loop-turn.invariant.most) (waited (c.loop-turn.invariant.moves o same st) _ c.if-not-wait.ensures)),
 )
 
 pub loop-turn-preserved : goal.loop-turn-preserved
