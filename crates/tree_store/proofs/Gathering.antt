@@ -1,5 +1,6 @@
 -- A checkpoint and records that are read piece by piece.
-use Rattle.std.proofs.Common.{◌≡◌, ℕ, true, false, List, [], ◌∷◌, refl, sym, ◌∙◌, ap, subst, Ok, Some, None}
+use Rattle.std.proofs.Common.{◌≡◌, ℕ, ◌+◌, ◌<◌, ◌≤◌, true, false, List, [], ◌∷◌, length, map, drop, get_or, refl, sym, ◌∙◌, ap, subst, arith, add-one, drop-cons, length-drop, Ok, Some, None}
+use Rattle.std.proofs.lemmas.List.{nil_from_length}
 use Rattle.std.specs.Prelude.{Option}
 use Rattle.xdr_wire.specs.Xdr.{Value}
 use Rattle.xdr_wire.specs.Reading.{read_at}
@@ -134,3 +135,30 @@ led_not parts records base found all bytes left begins led is not k h =
     let through : LeadsThrough base records k = subst (λ (b : Kept). LeadsThrough b records k) (begins_one parts h.base base h.begins begins) h.through in
     let q : LeadsThrough found (bytes ∷ left) k = subst (λ (r : List Bytes). LeadsThrough found r k) is (led.rest k through) in
     not q.0 q.1
+
+-- the checkpoint was read, and some records after it
+pub record IsReadingOn (parts records : List Bytes) (found : Kept) (left : List Bytes) : Type 0 where
+  pub base : Kept
+  pub begins : Begins parts base
+  pub led : IsLed base records found left
+
+pub reading_begun : (parts records left : List Bytes) (base : Kept) → Begins parts base → left ≡ records → IsReadingOn parts records base left
+reading_begun [] records left base begins same = elim begins [ ]
+reading_begun (first ∷ parts) records left base begins same = record { base = base; begins = begins; led = led_begun base records left same (restores_quiet parts base.0 begins.1) }
+
+pub reading_more : (parts records : List Bytes) (found : Kept) (all : List Bytes) (bytes : Bytes) (left : List Bytes) (next : Kept) → IsReadingOn parts records found all → all ≡ bytes ∷ left → LeadsOn found bytes next → IsReadingOn parts records next left
+reading_more parts records found all bytes left next r is on = record { base = r.base; begins = r.begins; led = led_more r.base records found all bytes left next r.led is on }
+
+pub reading_done : (parts records : List Bytes) (found : Kept) (left : List Bytes) → IsReadingOn parts records found left → left ≡ [] → Holds (content_of parts records) (bare found.0, found.1)
+reading_done parts records found left r none = led_done parts records r.base found left r.begins r.led none
+
+pub reading_not : (parts records : List Bytes) (found : Kept) (all : List Bytes) (bytes : Bytes) (left : List Bytes) → IsReadingOn parts records found all → all ≡ bytes ∷ left → ((k : Kept) → LeadsOn found bytes k → ⊥) → (k : Kept) → Holds (content_of parts records) k → ⊥
+reading_not parts records found all bytes left r is not k h = led_not parts records r.base found all bytes left r.begins r.led is not k h
+
+-- ---- pieces by their places
+
+pub at_place : {X : Type 0} (view : X → Bytes) (xs : List X) (i : ℕ) (d : X) → i < length xs → map view (drop i xs) ≡ view (get_or xs i d) ∷ map view (drop (i + 1) xs)
+at_place view xs i d h = rw (add-one, drop-cons xs i d) refl
+
+pub at_last : {X : Type 0} (view : X → Bytes) (xs : List X) (i : ℕ) → length xs ≤ i → map view (drop i xs) ≡ []
+at_last view xs i h = ap (map view) (nil_from_length (drop i xs) (omega (arith, length-drop i xs)))
