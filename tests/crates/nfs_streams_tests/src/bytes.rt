@@ -54,7 +54,8 @@ const REMOVE: &str =
     "80000060 x 0 2 186a3 4 1 1 18 0 0 3ea 64 1 64 0 0 0 1 2 18 1c 5 6e6f7465 73000000";
 
 /// PUTROOTFH, LOOKUP of `pub` and CREATE of a directory `made`, by the same user, who has the right to that.
-const MAKE: &str = "80000074 x 0 2 186a3 4 1 1 18 0 0 3ea 64 1 64 0 0 0 1 3 18 f 3 70756200 6 2 4 6d616465 0 0";
+const MAKE: &str =
+    "80000074 x 0 2 186a3 4 1 1 18 0 0 3ea 64 1 64 0 0 0 1 3 18 f 3 70756200 6 2 4 6d616465 0 0";
 
 /// The reply where the caller has the right to read, and where it has none.
 const REPLY: &str = "80000044 x 1 0 0 0 0 0 0 3 18 0 f 0 3 0 2d 1";

@@ -77,14 +77,7 @@ pub fn serve_stored(
     begin_notes(&mut hub)?;
     streams.files.calls = 0;
     streams.files.fails = fails;
-    Ok(serve(
-        alloc,
-        &mut hub,
-        streams,
-        time,
-        Some(store),
-        AMPLE,
-    ))
+    Ok(serve(alloc, &mut hub, streams, time, Some(store), AMPLE))
 }
 
 /// The book of a text.

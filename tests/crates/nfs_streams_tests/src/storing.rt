@@ -23,12 +23,7 @@ struct Told {
 }
 
 /// Serves the peers of these words; the call of the files of this number fails.
-fn serve(
-    alloc: Global,
-    hasher: RandomState,
-    words: &str,
-    fails: u64,
-) -> Result<Told, StoreFault> {
+fn serve(alloc: Global, hasher: RandomState, words: &str, fails: u64) -> Result<Told, StoreFault> {
     let time = Time::new();
     let mut streams = Memory::new(alloc, &time);
     streams.add_all(words);
