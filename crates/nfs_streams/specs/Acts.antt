@@ -1,4 +1,5 @@
--- What serving asks of the streams and of the disk of the store, and what it gives to the hub, each act at its place in one list.
+-- What serving asks of the streams and of the disk of the store, and what it gives to the hub, each act at its place in
+-- one list.
 use Rattle.std.specs.Prelude.{◌≡◌, ◌≤◌, ◌⊎◌, ◌+◌, ◌-◌, ◌==◌, ℕ, Bool, true, false, List, [], ◌∷◌, ◌++◌, length, Option, Some, None, take, drop, if◌then◌else◌}
 use Rattle.who_book.specs.Content.{Content}
 use Rattle.journal.specs.Disk.{Act as DiskAct}
@@ -180,7 +181,8 @@ IsLooked (Loaded book ∷ acts) = Unit {0}
 IsLooked (Heard at bytes ∷ acts) = ⊥
 IsLooked (act ∷ acts) = IsLooked acts
 
--- All that outlives a restart of a server in this state was stored, if there is a store: what was stored last is all that outlives one.
+-- All that outlives a restart of a server in this state was stored, if there is a store: what was stored last is all that
+-- outlives one.
 abbrev pub IsStored : List Act → ServerState → Type 0
 IsStored [] s = ⊥
 IsStored (Stored state ∷ acts) s = kept_of state ≡ kept_of s

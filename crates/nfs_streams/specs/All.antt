@@ -29,8 +29,8 @@ EndsSo Memory limits start acts s = acts ≡ []
 
 -- Behind events that lead to the hub, acts lead the machine on, each of them allowed at its turn, with at most so many
 -- waits and connections; then the streams still at places are let go, and none of the connections that came is open. Those of these acts
--- that are asked of the streams and of the disk, and no others, are the acts of the streams; and they lead to the state of the hub. Where there is a
--- store, a crash after each of the acts leaves all of which a reply was written.
+-- that are asked of the streams and of the disk, and no others, are the acts of the streams; and they lead to the state of
+-- the hub. Where there is a store, a crash after each of the acts leaves all of which a reply was written.
 pub record ServesAll {A : Type 0} (first : ServedState) (events : List Event) (store : Option TreeStore) (history : List DiskAct) (end : AllEnd) (limits : Limits) (new : Hub A) (before after : Option (List Act)) : Type 0 where
   pub start : State
   pub leads : Leads first events start

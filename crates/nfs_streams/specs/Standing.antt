@@ -29,7 +29,7 @@ use Rattle.nfs_streams.specs.Runs.{Runs, Ends, IsKept, most_open}
 use Rattle.nfs_streams.specs.Seats.{Stands, taken}
 use Rattle.nfs_streams.specs.Keeping.{disk_of, IsShown, AlwaysSurvives, SurvivesIn}
 
--- the beginning of serving: its state, the acts known then, its limits, its store, and what was done with the files of that before
+-- the beginning of serving: its state, the acts known then, its limits, its store, and the history of the store's files
 pub record Origin : Type 0 where
   pub start : State
   pub first : Option (List Act)
@@ -90,8 +90,8 @@ Way (Answering n) o acts s = Runs o.limits acts o.start s × (waits acts ≡ n) 
 Way (Stopped end n) o acts s = Runs o.limits acts o.start s × (waits acts ≡ n) × StopsSo end acts
 Way (Ending served at) o acts s = (endings : List Act) × (acts ≡ endings ++ served) × Ends served endings at s
 
--- After a run the store stands for what is kept: that has all of which a reply was written, it covers the state that was stored last, and the
--- notes of the world lead on from it. And a crash at any moment so far left such a thing.
+-- After a run the store stands for what is kept: that has all of which a reply was written, it covers the state that was
+-- stored last, and the notes of the world lead on from it. And a crash at any moment so far left such a thing.
 pub record Storing (key : ℕ) (store : TreeStore) (o : Origin) (acts : List Act) (machine : State) (run : Runs o.limits acts o.start machine) : Type 0 where
   pub kept : Kept
   pub stands : StandsFor key (disk_of acts ++ o.history) store kept

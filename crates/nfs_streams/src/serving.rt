@@ -119,10 +119,11 @@ fn store<A: Allocator + Copy, S: Streams<A>>(
     true
 }
 
-/// One turn: all places are read; a book that has come is loaded, and the trail is kept; what was read is given to the hub, and the trail is
-/// kept after each record; the most silent client is let go, where one is to go; what outlives a restart is stored, if there is a store; and
-/// then the waiting bytes of all places are written. How long the next wait may take; `Err`: the trail couldn't be kept, or what outlives a
-/// restart couldn't be stored, and no bytes were given or written after that.
+/// One turn: all places are read; a book that has come is loaded, and the trail is kept; what was read is given to the
+/// hub, and the trail is kept after each record; the most silent client is let go, where one is to go; what outlives a
+/// restart is stored, if there is a store; and then the waiting bytes of all places are written. How long the next wait
+/// may take; `Err`: the trail couldn't be kept, or what outlives a restart couldn't be stored, and no bytes were given or
+/// written after that.
 fn turn<A: Allocator + Copy, S: Streams<A>, C: Clock>(
     hub: &mut Hub<A>,
     streams: &mut S,
@@ -216,13 +217,13 @@ fn free_places<A: Allocator + Copy>(alloc: A) -> Result<Vec<Option<Peer<A>>, A>,
 /// come is loaded: so each call whose last byte is read after a book had come is judged by that book. What was read is given to the hub, in
 /// order, one record after the other, and **the lines of the trail are kept after each, before the next one runs**: so none is lost. It is
 /// given while no reply waits, and then as far as 4,096 bytes from where none did; the rest waits until the replies are written. So a peer that
-/// sends and doesn't read costs the replies to 4,096 bytes. Then all that outlives a restart of the server is kept in the store, if there is
-/// one, **before any byte of a reply to what ran is written**: a crash at any moment leaves all of which a reply was written. What was noted of
-/// the tree's changes is forgotten then. Last the waiting bytes are written, at most 128 KiB of each connection, as far as the streams take
-/// them.
+/// sends and doesn't read costs the replies to 4,096 bytes. Then all that outlives a restart of the server is kept in the
+/// store, if there is one, **before any byte of a reply to what ran is written**: a crash at any moment leaves all of
+/// which a reply was written. What was noted of the tree's changes is forgotten then. Last the waiting bytes are written,
+/// at most 128 KiB of each connection, as far as the streams take them.
 ///
-/// The store is one that was begun over the files of `streams` with the tree and the numbers that the server has, in which notes were begun
-/// then, or where nothing has changed since.
+/// The store is one over the files of `streams` that was begun with the tree and the numbers that the server has, and the
+/// server has noted the changes of its tree since then.
 ///
 /// A stream that ends or fails is let go at once and its connection closed, a stream whose connection is broken or has had its turns behind
 /// its replies, and the others go on; `close` says how each ended. Where the limit of open connections is reached, another stream has come, and

@@ -67,9 +67,10 @@ pub enum StreamEnd {
     Stopped = 10,
 }
 
-/// The streams of a server over the allocator `A`, each at a place, whose number is below 16; the file or the like in which its trail is
-/// kept; the two files of its store, if it has one (`Disk`); and the source of other books of names. A place has one stream at a time, from
-/// `admit` to `close`, and a place without a stream is asked nothing else. No call but `wait` waits, but those of the disk wait for it.
+/// The streams of a server over the allocator `A`, each at a place, whose number is below 16; the file or the like in
+/// which its trail is kept; the two files of its store, if it has one (`Disk`); and the source of other books of names. A
+/// place has one stream at a time, from `admit` to `close`, and a place without a stream is asked nothing else. No call
+/// but `wait` waits for a peer.
 pub trait Streams<A: Allocator + Copy>: Disk {
     // The requests so far and their answers, the newest first, where they are known. Those of the disk are among them.
     ghost acts: { Self → Option (List Act) } = { λ _. None };
