@@ -13,6 +13,7 @@ use Rattle.tree_changes.proofs.Noting.{notes_replay}
 use Rattle.journal.specs.declared.disk.Slot.{Slot}
 use Rattle.journal.specs.Disk.{Act}
 use Rattle.journal.specs.Frames.{Bytes}
+use Rattle.journal.specs.Files.{Content}
 use Rattle.journal.specs.Opening.{Chooses}
 use Rattle.journal.specs.Keeping.{Adding, BothFound}
 use Rattle.tree_store.specs.declared.fault.StoreFault.{StoreFault}
@@ -24,7 +25,7 @@ use Rattle.tree_store.specs.Kept.{Kept, kept_with, Covers, Follows}
 use Rattle.tree_store.specs.Holds.{IsFoundOr, IsHeldOr}
 use Rattle.tree_store.specs.Leaving.{Does}
 use Rattle.tree_store.specs.Standing.{Stands}
-use Rattle.tree_store.specs.Keeping.{OpensSo, Opens, both_found, BegunSo, Starts, KeptSo}
+use Rattle.tree_store.specs.Keeping.{ReadsSo, OpensSo, Opens, both_found, BegunSo, Starts, KeptSo}
 use Rattle.tree_store.specs.Writing.{IfDone, Checkpoints, GoesOn, IsIdle}
 use Rattle.tree_store.proofs.Doing.{does_also}
 use Rattle.tree_store.proofs.GoingOn.{nothing_done}
@@ -39,6 +40,13 @@ opens adds key a b (Err Failed) old new found so = elim so [ ]
 opens adds key a b (Err Version) old new found so = (a, b, found, so)
 opens adds key a b (Err Damaged) old new found so = (a, b, found, so)
 opens adds key a b (Err Memory) old new found so = inr (a, b, found, tt)
+
+-- what was chosen is read as nothing, or there is no memory
+pub opened_fault : (A : Type 0) (key : ℕ) (a b : Bytes) (slot : Slot) (generation : ℕ) (content : Content) (fault : StoreFault) → Chooses key a b slot generation (Some content) → ReadsSo {A = A} content (Err fault) → OpensSo {A = A} key a b (Err fault)
+opened_fault A key a b slot generation content Failed chosen it = it
+opened_fault A key a b slot generation content Version chosen it = elim it [ ]
+opened_fault A key a b slot generation content Damaged chosen it = inr (slot, generation, content, chosen, it)
+opened_fault A key a b slot generation content Memory chosen it = tt
 
 -- ---- starting
 

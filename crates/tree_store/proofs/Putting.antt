@@ -1,11 +1,12 @@
 -- Parts that are appended one after the other.
-use Rattle.std.proofs.Common.{◌≡◌, ◌⊎◌, inl, inr, ℕ, ◌≤◌, ◌<◌, ◌+◌, Bool, true, false, cond, List, [], ◌∷◌, ◌++◌, length, map, refl, sym, ◌∙◌, ap, subst, arith, append_assoc, Ok, Err, Some, None}
-use Rattle.std.specs.Prelude.{Option, Result, IsSome, IfSome, slice_get, find, nat_lt}
+use Rattle.std.proofs.Common.{◌≡◌, ◌⊎◌, inl, inr, ℕ, ◌≤◌, ◌<◌, ◌+◌, ◌^◌, Bool, true, false, cond, List, [], ◌∷◌, ◌++◌, length, map, refl, sym, ◌∙◌, ap, subst, arith, append_assoc, Ok, Err, Some, None}
+use Rattle.std.specs.Prelude.{Option, Result, IsSome, IfSome, OnOk, slice_get, find, nat_lt}
 use Rattle.std.specs.List.{AllByRecursion}
 use Rattle.std.specs.Option.{option_map}
 use Rattle.std.specs.Map.{lookup}
 use Rattle.std.specs.BTreeMap.{is_at}
 use Rattle.std.specs.Ordering.{nat_cmp}
+use Rattle.std.proofs.lemmas.Bool.Decides.{nat_tests}
 use Rattle.std.proofs.lemmas.List.{append-nil}
 use Rattle.xdr_wire.specs.Xdr.{Value, HasSpelling, spelling}
 use Rattle.xdr_wire.specs.Reading.{read_at}
@@ -66,7 +67,7 @@ still_fault so also Memory it = tt
 -- after a fault nothing more is appended
 pub appends_fault : {D : Type 0} (adds : Adding D) (c c' c'' : Checkpoint) (first all : List Bytes) (fault : StoreFault) (old new : D) → Appends adds c first (Err fault) c' old new → Appends adds c all (Err fault) c'' old new
 appends_fault adds c c' c'' first all fault old new one key generation s content so_far history b =
-    does_also adds key history (λ o. o ≡ content) (λ o. o ≡ content) (λ acts. IfDone (λ done. IsBegun key generation s content c' (so_far ++ first) acts) (Err fault)) (λ acts. IfDone (λ done. IsBegun key generation s content c'' (so_far ++ all) acts) (Err fault)) old new
+    does_also adds key history (λ o. o ≡ content) (λ o. o ≡ content) (λ acts. IfDone {X = Unit {0}} (λ done. IsBegun key generation s content c' (so_far ++ first) acts) (Err fault)) (λ acts. IfDone {X = Unit {0}} (λ done. IsBegun key generation s content c'' (so_far ++ all) acts) (Err fault)) old new
     (λ o is. is) (λ acts it. still_fault (λ done. IsBegun key generation s content c' (so_far ++ first) acts) (λ done. IsBegun key generation s content c'' (so_far ++ all) acts) fault it)
     (one key generation s content so_far history b)
 
@@ -221,4 +222,131 @@ objects_done adds w at c c' old new p none =
 pub there_is : {D : Type 0} (adds : Adding D) (w : World) (at number : ℕ) (c c' : Checkpoint) (old new : D) → IsSound w → ObjectsPut adds w at c c' old new → number_after w at ≡ Some number → IsSome (object w number)
 there_is adds w at number c c' old new sound p some =
     let n = next_object w p.before p.left number sound p.are (sym p.next ∙ some) in
-    subst IsSome (sym n.found) tt
+    subst IsSome (sym n.found) refl
+
+rises_from : {X : Type 0} (key : X → ℕ) (low high : ℕ) (xs : List X) → Rises key low xs high → low ≤ high
+rises_from key low high [] rises = rises
+rises_from key low high (x ∷ xs) rises = let a : low ≤ key x = rises.0 in let b : key x + 1 ≤ high = rises_from key (key x + 1) high xs rises.1 in omega arith
+
+rises_below : {X : Type 0} (key : X → ℕ) (low high : ℕ) (front : List X) (x : X) (back : List X) → Rises key low (front ++ x ∷ back) high → key x < high
+rises_below key low high [] x back rises = let b : key x + 1 ≤ high = rises_from key (key x + 1) high back rises.1 in omega arith
+rises_below key low high (y ∷ front) x back rises = rises_below key (key y + 1) high front x back rises.1
+
+later_number : (at : ℕ) (es : List (ℕ × Object)) (number : ℕ) → option_map (λ e. e.0) (find (λ e. nat_lt at e.0) es) ≡ Some number → at < number
+later_number at [] number is = absurd (never is)
+  where
+    never : None ≡ Some number → ⊥
+    never e = cc
+later_number at (e ∷ es) number is =
+    elim (nat_lt at e.0) as (λ b. nat_lt at e.0 ≡ b → option_map (λ e. e.0) (cond b (Some e) (find (λ e. nat_lt at e.0) es)) ≡ Some number → at < number) [
+      | true ↦ λ test some.
+          let less : at < e.0 = grind (arith, nat_tests, test) in
+          let same : e.0 ≡ number = cc in
+          omega (arith, less, same)
+      | false ↦ λ test some. later_number at es number some
+    ] refl is
+
+-- the next number is closer to the last
+pub number_closer : {D : Type 0} (adds : Adding D) (w : World) (at number : ℕ) (c c' : Checkpoint) (old new : D) → IsSound w → ObjectsPut adds w at c c' old new → number_after w at ≡ Some number → (at < number) × (number < 2 ^ 63)
+number_closer adds w at number c c' old new sound p some =
+    let n = next_object w p.before p.left number sound p.are (sym p.next ∙ some) in
+    let below : number < w.next_number = rises_below (λ (e : ℕ × Object). e.0) 1 w.next_number p.before (number, n.o) n.rest (subst (λ (l : List (ℕ × Object)). Rises (λ e. e.0) 1 l w.next_number) (p.are ∙ ap (λ (l : List (ℕ × Object)). p.before ++ l) n.is) sound.numbered) in
+    (later_number at w.objects number some, (let most = sound.counted.numbers in omega (arith, below, most)))
+
+-- after a part that isn't written nothing more is appended
+pub appends_stop : {D : Type 0} (adds : Adding D) (c c' c'' : Checkpoint) (first all : List Bytes) (old new : D) → Appends adds c first (Ok tt) c' old new → Appends adds c all (Err Memory) c'' old new
+appends_stop adds c c' c'' first all old new one key generation s content so_far history b =
+    does_also adds key history (λ o. o ≡ content) (λ o. o ≡ content) (λ acts. IsBegun key generation s content c' (so_far ++ first) acts) (λ acts. Unit {0}) old new (λ o is. is) (λ acts it. tt)
+    (one key generation s content so_far history b)
+
+pub both_some : {X : Type 0} (P Q R : X → Type 0) (o : Option X) → IfSome o P → IfSome o Q → ((x : X) → P x → Q x → R x) → IfSome o R
+both_some P Q R None p q both = tt
+both_some P Q R (Some x) p q both = both x p q
+
+-- ---- names, by rising cookie
+
+-- the names before a place were appended
+pub record NamesPut {D : Type 0} (adds : Adding D) (w : World) (at : ℕ) (c c' : Checkpoint) (old new : D) : Type 0 where
+  pub before : List Name
+  pub left : List Name
+  pub are : w.names ≡ before ++ left
+  pub next : any_after w at ≡ slice_get left 0
+  pub have : AllByRecursion HasNameSpelling before
+  pub appended : Appends adds c (map name_bytes before) (Ok tt) c' old new
+
+pub names_begun : {D : Type 0} (adds : Adding D) (w : World) (c : Checkpoint) (d : D) → IsSound w → NamesPut adds w 0 c c d d
+names_begun adds w c d sound = record { before = []; left = w.names; are = refl; next = (read_in_order w sound).first_name; have = tt; appended = appends_none adds c d }
+
+-- the name that comes next
+pub record NextName (left : List Name) (n : Name) : Type 0 where
+  pub rest : List Name
+  pub is : left ≡ n ∷ rest
+
+pub next_name : (left : List Name) (n : Name) → slice_get left 0 ≡ Some n → NextName left n
+next_name [] n some = absurd (never some)
+  where
+    never : None ≡ Some n → ⊥
+    never e = cc
+next_name (m ∷ rest) n some =
+    let same : m ≡ n = cc in
+    record { rest = rest; is = ap (λ (x : Name). x ∷ rest) same }
+
+in_middle : (front : List Name) (n : Name) (back : List Name) → IsIn n (front ++ n ∷ back)
+in_middle [] n back = inl refl
+in_middle (m ∷ front) n back = inr (in_middle front n back)
+
+-- a name that is found is one of the tree
+pub name_in : {D : Type 0} (adds : Adding D) (w : World) (at : ℕ) (n : Name) (c c' : Checkpoint) (old new : D) → NamesPut adds w at c c' old new → any_after w at ≡ Some n → IsIn n w.names
+name_in adds w at n c c' old new p some =
+    let x = next_name p.left n (sym p.next ∙ some) in
+    subst (IsIn n) (sym (p.are ∙ ap (λ (l : List Name). p.before ++ l) x.is)) (in_middle p.before n x.rest)
+
+-- one name more
+pub name_put : {D : Type 0} (adds : Adding D) (w : World) (at : ℕ) (n : Name) (c c' c'' : Checkpoint) (bytes : Bytes) (old mid new : D) → IsSound w → NamesPut adds w at c c' old mid → any_after w at ≡ Some n → bytes ≡ name_bytes n → HasNameSpelling n → Appends adds c' (bytes ∷ []) (Ok tt) c'' mid new → NamesPut adds w n.cookie c c'' old new
+name_put adds w at n c c' c'' bytes old mid new sound so_far some is has one =
+    let x = next_name so_far.left n (sym so_far.next ∙ some) in
+    let are : w.names ≡ so_far.before ++ n ∷ x.rest = so_far.are ∙ ap (λ (l : List Name). so_far.before ++ l) x.is in
+    record {
+      before = so_far.before ++ n ∷ [];
+      left = x.rest;
+      are = are ∙ sym (append_assoc so_far.before (n ∷ []) x.rest);
+      next = (read_in_order w sound).next_name so_far.before x.rest n are;
+      have = all_push HasNameSpelling so_far.before n so_far.have has;
+      appended = subst (λ (l : List Bytes). Appends adds c l (Ok tt) c'' old new) (sym (map_push name_bytes so_far.before n))
+          (appends_then adds c c' c'' (map name_bytes so_far.before) (name_bytes n ∷ []) (Ok tt) old mid new so_far.appended (subst (λ (b : Bytes). Appends adds c' (b ∷ []) (Ok tt) c'' mid new) is one));
+    }
+
+no_name_left : (names : List Name) → slice_get names 0 ≡ None → names ≡ []
+no_name_left [] is = refl
+no_name_left (n ∷ names) is = absurd (never is)
+  where
+    never : Some n ≡ None → ⊥
+    never e = cc
+
+pub names_done : {D : Type 0} (adds : Adding D) (w : World) (at : ℕ) (c c' : Checkpoint) (old new : D) → (p : NamesPut adds w at c c' old new) → any_after w at ≡ None → p.before ≡ w.names
+names_done adds w at c c' old new p none =
+    sym (p.are ∙ ap (λ (l : List Name). p.before ++ l) (no_name_left p.left (sym p.next ∙ none)) ∙ append-nil p.before)
+
+later_cookie : (at : ℕ) (names : List Name) (n : Name) → find (λ n. nat_lt at n.cookie) names ≡ Some n → at < n.cookie
+later_cookie at [] n is = absurd (never is)
+  where
+    never : None ≡ Some n → ⊥
+    never e = cc
+later_cookie at (m ∷ names) n is =
+    elim (nat_lt at m.cookie) as (λ b. nat_lt at m.cookie ≡ b → cond b (Some m) (find (λ n. nat_lt at n.cookie) names) ≡ Some n → at < n.cookie) [
+      | true ↦ λ test some.
+          let less : at < m.cookie = grind (arith, nat_tests, test) in
+          let same : m ≡ n = cc in
+          subst (λ (x : Name). at < x.cookie) same less
+      | false ↦ λ test some. later_cookie at names n some
+    ] refl is
+
+pub cookie_closer : {D : Type 0} (adds : Adding D) (w : World) (at : ℕ) (n : Name) (c c' : Checkpoint) (old new : D) → IsSound w → NamesPut adds w at c c' old new → any_after w at ≡ Some n → (at < n.cookie) × (n.cookie < 2 ^ 63)
+cookie_closer adds w at n c c' old new sound p some =
+    let x = next_name p.left n (sym p.next ∙ some) in
+    let below : n.cookie < w.next_cookie = rises_below (λ (m : Name). m.cookie) 3 w.next_cookie p.before n x.rest (subst (λ (l : List Name). Rises (λ m. m.cookie) 3 l w.next_cookie) (p.are ∙ ap (λ (l : List Name). p.before ++ l) x.is) sound.listed) in
+    (later_cookie at w.names n some, (let most = sound.counted.cookies in omega (arith, below, most)))
+
+pub on_ok : {X : Type 0} (r : Result X StoreFault) (P Q : Type 0) → OnOk r P → (P → Q) → OnOk r Q
+on_ok (Ok x) P Q p on = on p
+on_ok (Err e) P Q p on = tt

@@ -100,8 +100,10 @@ impl<A: Allocator + Copy> Parts<A> {
             let Ok(()) = write_object(tree, alloc, number, &mut self.writer) else {
                 return Err(StoreFault::Memory);
             };
-            self.put(disk, alloc)?;
-            at = number;
+            match self.put(disk, alloc) {
+                Ok(()) => at = number,
+                Err(fault) => return Err(fault),
+            }
         }
         Ok(())
     }
@@ -123,8 +125,10 @@ impl<A: Allocator + Copy> Parts<A> {
             let Ok(()) = write_name(name, &mut self.writer) else {
                 return Err(StoreFault::Memory);
             };
-            self.put(disk, alloc)?;
-            at = name.cookie();
+            match self.put(disk, alloc) {
+                Ok(()) => at = name.cookie(),
+                Err(fault) => return Err(fault),
+            }
         }
         Ok(())
     }
@@ -142,9 +146,18 @@ impl<A: Allocator + Copy> Parts<A> {
         ensures appends { Appends D.adds self.old.checkpoint (all_parts tree.now next) result self.new.checkpoint disk.old disk.new }
         ensures has_spelling { OnOk result (HaveSpelling tree.now next) }
     {
-        self.put_numbers(disk, alloc, next)?;
-        self.put_counters(disk, alloc, tree)?;
-        self.put_objects(disk, alloc, tree)?;
+        match self.put_numbers(disk, alloc, next) {
+            Ok(()) => {}
+            Err(fault) => return Err(fault),
+        }
+        match self.put_counters(disk, alloc, tree) {
+            Ok(()) => {}
+            Err(fault) => return Err(fault),
+        }
+        match self.put_objects(disk, alloc, tree) {
+            Ok(()) => {}
+            Err(fault) => return Err(fault),
+        }
         self.put_names(disk, alloc, tree)
     }
 }
