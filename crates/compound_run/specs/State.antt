@@ -10,6 +10,7 @@ use Rattle.nfs_types.specs.declared.moment.Moment.{Moment}
 use Rattle.nfs_types.specs.declared.status.Status.{Status}
 use Rattle.node_tree.specs.Notes.{Notes, no_notes}
 use Rattle.node_tree.specs.World.{World}
+use Rattle.session_slots.specs.Letting.{let_go}
 use Rattle.session_slots.specs.Restoring.{nothing_yet}
 use Rattle.session_slots.specs.declared.restoring.NextNumbers.{NextNumbers}
 use Rattle.access_guard.specs.declared.line.Line.{Line}
@@ -18,6 +19,7 @@ use Rattle.compound_run.specs.declared.server.RunEnd.TheVariants.{Replied, Garba
 use Rattle.compound_run.specs.Limits.{MAX_OPERATIONS, MAX_REPLY, MAX_RESULTS}
 use Rattle.compound_run.specs.Realm.{Realm, unopened}
 use Rattle.compound_run.specs.Context.{Context, no_handles}
+use Rattle.compound_run.specs.Sessions.{opens_without}
 use Rattle.compound_run.specs.Settings.{Settings, first_settings, reloaded_settings}
 use Rattle.compound_run.specs.Runs.{Point, Given, Runs}
 use Rattle.compound_run.specs.Compound.{args_form, args_in, head, first_room, together, opening_fault}
@@ -67,6 +69,10 @@ left s p = record s { realm = p.realm; trail = p.log.trail; total = p.log.total;
 -- The book is another from now on. The world, the open files, the clients with their sessions, and the trail stay.
 abbrev pub with_book : Content → State → State
 with_book book s = record s { settings = reloaded_settings book s.settings }
+
+-- A client is let go: its record goes with its sessions, and its open files are closed (RFC 8881, section 8.3).
+abbrev pub without_client : ℕ → State → State
+without_client client s = record s { realm = record s.realm { registry = let_go client s.realm.registry; opens = opens_without (Some client) s.realm.opens } }
 
 -- ---- a call
 

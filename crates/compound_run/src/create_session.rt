@@ -14,9 +14,9 @@ ghost use Rattle.compound_run.specs.Views.{opens_view, realm_of};
 
 use crate::operation_results::put_result;
 use crate::realm::Realm;
-use crate::sessions::session_id;
+use crate::sessions::{second, session_id};
 use nfs_ops::{CreateSessionArgs, CreateSessionResult, OpResult};
-use nfs_types::Status;
+use nfs_types::{Moment, Status};
 use rpc_record::Caller;
 use session_slots::{Channel, Create, Created, Made};
 use std::alloc::Allocator;
@@ -73,8 +73,8 @@ fn put_created<A: Allocator>(created: Created, out: &mut Writer<A>)
 }
 
 impl<A: Allocator + Copy> Realm<A> {
-    /// Asks for a session. The opens of a client whose record goes are closed.
-    fn make_session(&mut self, caller: &Caller, args: &CreateSessionArgs<'_>) -> Made
+    /// Asks for a session; the client counts as heard at this moment. The opens of a client whose record goes are closed.
+    fn make_session(&mut self, caller: &Caller, now: Moment, args: &CreateSessionArgs<'_>) -> Made
         ensures creates { Creates self.old.clients (create_of caller.now (create_session_args_value args.now)) result self.new.clients }
         ensures opens { opens_view self.new.opens.items ≡ opens_without result.gone (opens_view self.old.opens.items) }
         ensures others { IsOfClients self.old self.new }
@@ -88,6 +88,7 @@ impl<A: Allocator + Copy> Realm<A> {
             fore: channel_of(&args.fore),
             back: channel_of(&args.back),
         });
+        self.clients.hear(args.client, second(now));
         self.end_opens_of(made.gone);
         made
     }
@@ -97,6 +98,7 @@ impl<A: Allocator + Copy> Realm<A> {
     pub fn create_session(
         &mut self,
         caller: &Caller,
+        now: Moment,
         args: &CreateSessionArgs<'_>,
         out: &mut Writer<A>,
     ) -> Result<(), Status>
@@ -104,7 +106,7 @@ impl<A: Allocator + Copy> Realm<A> {
         ensures gives { ActGives caller.now (Known kinds.CreateSession (create_session_args_value args.now)) (realm_of self.old) out.old result (realm_of self.new) out.new }
         ensures others { IsOfClients self.old self.new }
     {
-        let created = self.make_session(caller, args).result?;
+        let created = self.make_session(caller, now, args).result?;
         put_created(created, out);
         Ok(())
     }

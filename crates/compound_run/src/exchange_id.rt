@@ -13,6 +13,7 @@ ghost use Rattle.compound_run.specs.Views.{realm_of};
 
 use crate::operation_results::put_result;
 use crate::realm::Realm;
+use crate::sessions::second;
 use nfs_ops::{ExchangeIdArgs, ExchangeIdResult, OpResult};
 use nfs_types::{Moment, Status};
 use rpc_record::Caller;
@@ -59,7 +60,7 @@ impl<A: Allocator + Copy> Realm<A> {
             uid: caller.uid(),
             flags: args.flags,
             has_opens,
-            now: now.seconds.max(0) as u64,
+            now: second(now),
         })
     }
 

@@ -16,7 +16,7 @@ use crate::first_operation::{Beginning, begin};
 use crate::realm::Realm;
 use crate::result_heads::{put_ended, put_kept, put_refused};
 use crate::server::Args;
-use crate::sessions::session_of;
+use crate::sessions::{second, session_of};
 use nfs_ops::{OP_SEQUENCE, SequenceArgs, SequenceResult};
 use nfs_types::Moment;
 use rpc_record::Caller;
@@ -123,6 +123,7 @@ impl<A: Allocator + Copy> Realm<A> {
             record_len: call.args.record_len,
             arguments: call.args.bytes,
             caller: call.caller,
+            now: second(call.now),
         };
         match self.clients.begin(session, asked) {
             Begin::New(new) => self.answer_new(call, args, new, operations, out),

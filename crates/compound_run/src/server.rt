@@ -1,13 +1,14 @@
 //! The server: a tree of objects, with its guard and a book of names, and the COMPOUNDs over it.
-ghost use Rattle.std.specs.Prelude.{◌≡◌, ◌≤◌, [], length, true, false, Err, IfOk, MatchOption, Ok, OnErr, OnOk};
+ghost use Rattle.std.specs.Prelude.{◌≡◌, ◌≤◌, [], length, true, false, if◌then◌else◌, is_some, Err, IfOk, IfSome, IsSome, MatchOption, Ok, OnErr, OnOk};
 ghost use Rattle.std.specs.NonZero.{non_zero_usize_get};
 ghost use Rattle.node_tree.specs.Notes.{begun_notes, cleared};
+ghost use Rattle.session_slots.specs.Registry.{client_at};
 ghost use Rattle.session_slots.specs.Restoring.{numbers_fit};
 ghost use Rattle.access_guard.specs.Epochs.{next_epoch};
 ghost use Rattle.access_guard.specs.Memory.{Agrees};
 ghost use Rattle.compound_run.specs.InSession.{AnswersInSession};
 ghost use Rattle.compound_run.specs.Limits as limits;
-ghost use Rattle.compound_run.specs.State.{fresh, next_numbers, restored, with_book, with_notes, Answers, RunsBare};
+ghost use Rattle.compound_run.specs.State.{fresh, next_numbers, restored, with_book, with_notes, without_client, Answers, RunsBare};
 ghost use Rattle.compound_run.specs.Views.{called, opens_view};
 
 use crate::compound::CompoundArgs;
@@ -16,6 +17,7 @@ use crate::in_session::Coming;
 use crate::limits::{MAX_RESULTS, REFUSAL_ROOM};
 use crate::opens::Open;
 use crate::realm::Realm;
+use crate::sessions::second;
 use access_guard::{Guard, GuardedTree};
 use nfs_types::Moment;
 use node_tree::Tree;
@@ -27,6 +29,18 @@ use std::marker::Model;
 use std::num::NonZeroUsize;
 use who_book::Book;
 use xdr_wire::Writer;
+
+/// The seconds of a lease: a client of which nothing was heard for longer may be let go.
+const LEASE: u64 = 90;
+
+/// A silent client may be let go where more records of clients than this are there.
+const MANY_CLIENTS: usize = 32;
+
+/// So where more sessions than this are there.
+const MANY_SESSIONS: usize = 32;
+
+/// So where more files than this are open.
+const MANY_OPENS: usize = 2_048;
 
 /// The arguments of a COMPOUND.
 #[derive(Clone, Copy, Debug)]
@@ -179,6 +193,34 @@ impl<A: Allocator + Copy> Server<A> {
         };
         self.realm.answer_in_session(call, out);
         RunEnd::Replied
+    }
+
+    /// The client to let go at this moment, if one is to go: more than 32 records, 32 sessions or 2,048 open files are there, and nothing was
+    /// heard of the client for more than 90 seconds. Of several it is the most silent one.
+    pub fn silent(&self, now: Moment) -> Option<u64>
+        ensures { IfSome result (λ client. IsSome (client_at self.now.realm.registry client)) }
+    {
+        let (records, sessions) = self.realm.clients.counts();
+        if records <= MANY_CLIENTS
+            && sessions <= MANY_SESSIONS
+            && self.realm.opens.len() <= MANY_OPENS
+        {
+            return None;
+        }
+        self.realm.clients.silent(second(now), LEASE)
+    }
+
+    /// Lets a client go: its record goes with its sessions, and its open files are closed; all else stays (RFC 8881, section 8.3). `false`:
+    /// it has no record, and nothing changes. It takes no memory.
+    pub fn let_go(&mut self, client: u64) -> bool
+        ensures live { result ≡ is_some (client_at self.old.realm.registry client) }
+        ensures gone { self.new ≡ (if result then without_client client self.old else self.old) }
+    {
+        if !self.realm.clients.let_go(client) {
+            return false;
+        }
+        self.realm.end_opens_of(Some(client));
+        true
     }
 
     /// Loads another book, and gives back the one before. From the next call on the lists decide for each caller by the new one,

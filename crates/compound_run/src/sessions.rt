@@ -7,6 +7,7 @@ ghost use Rattle.compound_run.specs.Views.{opens_view, realm_of};
 
 use crate::opens::Open;
 use crate::realm::Realm;
+use nfs_types::Moment;
 use std::alloc::Allocator;
 
 /// Whether these bytes are all zero.
@@ -37,6 +38,11 @@ pub(crate) fn session_id(number: u64) -> [u8; 16]
     let mut id = [0; 16];
     id[8..].copy_from_slice(&number.to_be_bytes());
     id
+}
+
+/// The whole seconds of a moment since the epoch, 0 before it.
+pub(crate) fn second(now: Moment) -> u64 {
+    now.seconds.max(0) as u64
 }
 
 /// Whether one of these opens is of the client.

@@ -3,7 +3,7 @@ ghost use Rattle.std.specs.Prelude.{◌≡◌, ◌≢◌, ◌↔◌, ◌≤◌, 
 ghost use Rattle.node_tree.specs.Notes.{begun_notes, cleared};
 ghost use Rattle.session_slots.specs.Restoring.{numbers_fit};
 ghost use Rattle.nfs_hub.specs.Answer.{Served, restored, with_sessions, without_sessions};
-ghost use Rattle.nfs_hub.specs.Machine.{Event, Connect, Piece, Take, Close, Reload, Note};
+ghost use Rattle.nfs_hub.specs.Machine.{Event, Connect, Piece, Take, Close, Reload, Note, LetGo};
 
 use crate::connection::{Connection, ConnectionFault};
 use crate::fault::{HubFault, Unloaded};
@@ -98,6 +98,20 @@ impl<A: Allocator + Copy> Hub<A> {
         ensures ok { IfOk result (λ hub. LeadsTo (restored tree next book) [] hub) }
     {
         Ok(Hub::over(alloc, Service::restored(alloc, tree, next, book, hasher)?))
+    }
+
+    /// Lets the most silent client go, if one is to go at this moment: its record goes with its sessions, and its open files are closed; all
+    /// else stays (RFC 8881, section 8.3). Which one is [`Server::silent`]'s to say. `None`: none is to go, and nothing changes.
+    pub fn let_go(&mut self, now: Moment) -> Option<u64>
+        ensures leads { MatchOption result ((first : Served) (events : List Event) → LeadsTo first events self.old → LeadsTo first events self.new) (λ client. (first : Served) (events : List Event) → LeadsTo first events self.old → LeadsTo first (LetGo client ∷ events) self.new) }
+        ensures goes { IfSome result (λ client. Goes (LetGo client) self.old self.new) }
+        ensures nothing { IsNone result → IsUnchanged self.old self.new }
+    {
+        let client = self.service.silent(now)?;
+        if !self.service.let_go(client) {
+            return None;
+        }
+        Some(client)
     }
 
     /// Begins notes of the tree's changes, for a store: from now on each is noted, in this many bytes, where there is room for it. `Err`:

@@ -7,29 +7,40 @@ use Rattle.std.proofs.lemmas.List.{set-set, length-append, length-take-le, take-
 use Rattle.std.proofs.Math.Seq.{take-length}
 use Rattle.std.proofs.lemmas.Bool.{cases_eq}
 use Rattle.who_book.specs.Content.{Content}
-use Rattle.compound_run.specs.State.{State as ServerState}
+use Rattle.access_guard.specs.declared.line.Line.{Line}
+use Rattle.node_tree.specs.Notes.{Notes, cleared}
+use Rattle.compound_run.specs.State.{State as ServerState, kept_of}
 use Rattle.nfs_types.specs.declared.moment.Moment.{Moment}
 use Rattle.nfs_hub.specs.declared.connection.Connection.{Connection}
 use Rattle.nfs_hub.specs.declared.hub.Hub.{Hub}
 use Rattle.nfs_hub.specs.declared.fault.HubFault.{HubFault}
 use Rattle.nfs_hub.specs.declared.fault.HubFault.TheVariants as fault
-use Rattle.nfs_hub.specs.Answer.{Served as ServedState, reloaded}
+use Rattle.nfs_hub.specs.Answer.{Served as ServedState, letting_go, noting, reloaded}
 use Rattle.nfs_hub.specs.Connection.{TakesFront, taken_of}
-use Rattle.nfs_hub.specs.Machine.{Connected, State, Connect, Piece, Take, Close, Reload, Step, PieceOn, TakeOn, ChangesConnection, CameToBreak, fresh}
-use Rattle.nfs_hub.specs.Hub.{IsHub, Goes, FrontGives, BreaksSo, ConnectGives, ConsumeGives, IsUnchanged, SameConnection, pending_at, broken_at}
+use Rattle.nfs_hub.specs.Machine.{Connected, State, Connect, Piece, Take, Close, Reload, Note, LetGo, Step, PieceOn, TakeOn, ChangesConnection, CameToBreak, fresh}
+use Rattle.nfs_hub.specs.Hub.{IsHub, Goes, FrontGives, BreaksSo, ConnectGives, ConsumeGives, IsUnchanged, SameConnection, notes_of, pending_at, broken_at}
 use Rattle.nfs_streams.specs.declared.peer.Peer.{Peer}
 use Rattle.nfs_streams.specs.declared.streams.Moved.{Moved}
 use Rattle.nfs_streams.specs.declared.streams.Moved.TheVariants as moved
 use Rattle.nfs_streams.specs.declared.streams.StreamEnd.{StreamEnd}
 use Rattle.nfs_streams.specs.declared.streams.StreamEnd.TheVariants as end
-use Rattle.nfs_streams.specs.declared.serving.AllEnd.TheVariants.{Served, Turns, Wait, Keep}
-use Rattle.nfs_streams.specs.Acts.{Act, Just, IsSettled, Waited, Knocked, Admitted, Closed, Heard, Ended, Unread, Looked, Loaded, Begun, Given, Kept, Lost, Told, Unwritten, Adds, Has, conn_at, ahead, fault_at, of_streams, went}
-use Rattle.nfs_streams.specs.Runs.{On, StepAt, AnswersOne, FaultIs, CanHear, IsSpent, IsWaiting, MayHear, MayClose, most_open}
+use Rattle.nfs_streams.specs.declared.serving.AllEnd.TheVariants.{Served, Turns, Wait, Keep, Store}
+use Rattle.nfs_streams.specs.Acts.{Act, Just, IsSettled, IsStored, Waited, Knocked, Admitted, Closed, Heard, Ended, Unread, Looked, Loaded, Begun, Given, Kept, Lost, Stored, Unstored, Expired, Told, Unwritten, Adds, Has, conn_at, ahead, fault_at, of_streams, went}
+use Rattle.nfs_streams.specs.Runs.{HasKept, On, StepAt, AnswersOne, FaultIs, CanHear, IsSpent, IsWaiting, MayHear, MayClose, most_open}
 use Rattle.nfs_streams.specs.Seats.{Stands, AreWaiting, Knows, IsSeated, IsFresh, place_at, taken}
 use Rattle.nfs_streams.specs.Standing.{Origin, Stage, Listening, Knocking, Full, Looking, Giving, Piecing, Unkept, Answering, Stopped, Ending, Way, Standing, StreamEnds, IsClosing, ends_at, broken_end, closed_stage}
 use Rattle.nfs_streams.proofs.Lists.{none_some, set_here, set_there, set_back, taken_swap, adds_on, closed_here, closed_there, admitted_here, admitted_there, ahead_heard, turns_heard, ahead_heard_there, turns_heard_there, ahead_given, fault_given, left_given, ahead_given_there, fault_given_there, left_begun, ahead_admitted, turns_admitted, fault_admitted, ahead_admitted_there, turns_admitted_there, fault_admitted_there}
 use Rattle.nfs_streams.proofs.Hubs.{pending_of, broken_of, stepped}
 use Rattle.nfs_streams.proofs.Changing.{Here, changed, some_peer, here_at, one_place, stays_at, stands_as, stands_in}
+
+-- ---- the trail is kept
+
+-- another act comes, and the trail stays as it was kept
+still_kept : {lines : List Line} {total : ℕ} {act : Act} {acts : List Act} → HasKept lines total acts → HasKept lines total (act ∷ acts)
+still_kept k = record { state = k.state; kept = inr k.kept; lines_are = k.lines_are; total_is = k.total_is }
+
+now_kept : (acts : List Act) (state now : ServerState) → state ≡ now → HasKept now.trail now.total (Kept state ∷ acts)
+now_kept acts state now is = record { state = state; kept = inl refl; lines_are = ap (λ (x : ServerState). x.trail) is; total_is = ap (λ (x : ServerState). x.total) is }
 
 -- ---- a stream is read
 
@@ -100,7 +111,7 @@ begins ps i p lt most none (inr new) st = record {
     (st.machine, st.way.0, (st.way.2, can_hear ps i p lt st.stands new.1 none), refl),
     st.way.1,
     tt,
-    inr st.way.3,
+    still_kept st.way.3,
     st.way.4,
     omega (arith, new.0, left_begun st.acts i),
   );
@@ -242,10 +253,11 @@ module _ {A : Type 0} {n : ℕ} {o : Origin} {hub : Hub A} {left : ℕ} {before 
         acts = acts';
         machine = g.0;
         way = (
-          (st.machine, st.way.0, (st.way.2, few, st.way.3, is_waiting ps i p st.stands lt bytes waiting some), ((p.conn, c, h.conn, h.opened, is_front), (p.conn, h.conn, g.1))),
+          (st.machine, st.way.0, (st.way.2, few, st.way.3, is_waiting ps i p st.stands lt bytes waiting some, st.way.4), ((p.conn, c, h.conn, h.opened, is_front), (p.conn, h.conn, g.1))),
           st.way.1,
           tt,
-          inr (subst (λ (w : ServedState). Has (Kept w.state) st.acts) (sym u.does.0) st.way.3),
+          still_kept (subst (λ (w : ServedState). HasKept w.state.trail w.state.total st.acts) (sym u.does.0) st.way.3),
+          subst (λ (w : ServedState). IsStored st.acts w.state) (sym u.does.0) st.way.4,
         );
         stands = stays_at ps i p (record p { since = z }) st.stands lt refl hub' acts' g.0 g.2 u.others u.next
             (inl (record { peer = record p { since = z }; connected = u.after; here = refl; numbered = refl; opened = u.changed; sound = ap (λ (d : Connected). d.broken) u.does.2 ∙ h.sound })) (λ j. refl) refl
@@ -380,10 +392,11 @@ failed {o = o} {before = before} ps i p lt st bytes waiting some hub' mid after 
       acts = Closed i end.Write ∷ over;
       machine = x.machine;
       way = (
-        (st.machine, (st.machine, st.way.0, (st.way.2, st.way.3, is_waiting ps i p st.stands lt bytes waiting some), refl), refl, x.step),
+        (st.machine, (st.machine, st.way.0, (st.way.2, st.way.3, is_waiting ps i p st.stands lt bytes waiting some, st.way.4), refl), refl, x.step),
         st.way.1,
         tt,
-        inr (inr (subst (λ (w : ServedState). Has (Kept w.state) st.acts) (sym x.served) st.way.3)),
+        still_kept (still_kept (subst (λ (w : ServedState). HasKept w.state.trail w.state.total st.acts) (sym x.served) st.way.3)),
+        subst (λ (w : ServedState). IsStored st.acts w.state) (sym x.served) st.way.4,
       );
       stands = x.stands;
       adds = adds_on o.first mid after (of_streams over) (Closed i end.Write ∷ []) (adds_on o.first before mid (of_streams st.acts) (Unwritten i ∷ []) st.adds said) closed;
@@ -623,7 +636,7 @@ module _ {A : Type 0} {n : ℕ} {o : Origin} {hub : Hub A} {places : List (Optio
       record {
         acts = Kept state ∷ st.acts;
         machine = st.machine;
-        way = ((st.machine, st.way.0, (st.way.2, sym is), refl), st.way.1, tt, inl (ap (λ (x : ServerState). Kept x) (sym is)), st.way.3);
+        way = ((st.machine, st.way.0, (st.way.2, sym is), refl), st.way.1, tt, now_kept st.acts state st.machine.served.state (sym is), st.way.3);
         stands = stands_as (Kept state ∷ st.acts) (λ j. refl) (λ j. (refl, refl, refl)) refl st.stands;
         adds = adds_on o.first before after (of_streams st.acts) (Kept state ∷ []) st.adds said;
         fewer = st.fewer;
@@ -646,7 +659,7 @@ module _ {A : Type 0} {n i m : ℕ} {o : Origin} {hub : Hub A} {places : List (O
       record {
         acts = Kept state ∷ st.acts;
         machine = st.machine;
-        way = ((st.machine, st.way.0, (st.way.2, sym is), refl), st.way.1, tt, inl (ap (λ (x : ServerState). Kept x) (sym is)), st.way.3, st.way.4);
+        way = ((st.machine, st.way.0, (st.way.2, sym is), refl), st.way.1, tt, now_kept st.acts state st.machine.served.state (sym is), st.way.3, st.way.4);
         stands = stands_as (Kept state ∷ st.acts) (λ j. refl) (λ j. (refl, refl, refl)) refl st.stands;
         adds = adds_on o.first before after (of_streams st.acts) (Kept state ∷ []) st.adds said;
         fewer = st.fewer;
@@ -662,6 +675,84 @@ module _ {A : Type 0} {n i m : ℕ} {o : Origin} {hub : Hub A} {places : List (O
     fewer = st.fewer;
   }
 
+-- ---- a client is let go
+
+module _ {A : Type 0} {n : ℕ} {o : Origin} {hub : Hub A} {places : List (Option (Peer A))} {left : ℕ} {now : Option (List Act)} (st : Standing (Giving n) o hub places left now) where
+  pub expires : (hub' : Hub A) (client : ℕ) → o.limits.leases ≡ true → Goes (LetGo client) hub hub' → Standing (Giving n) o hub' places left now
+  expires hub' client leases goes =
+      let was = st.stands in
+      let g = goes st.machine was.is in
+      let s' : State = record st.machine { served = letting_go client st.machine.served } in
+      let after : Stands o.start.next hub' places st.acts s' = record {
+        is = subst (λ (w : State). IsHub hub' w) g.1.1 g.2;
+        fresh = was.fresh;
+        owner = was.owner;
+        each = was.each;
+        seated = was.seated;
+        count = was.count;
+      } in
+      record {
+        acts = Expired client ∷ st.acts;
+        machine = s';
+        way = ((st.machine, st.way.0, (st.way.2, leases), (g.1.0, refl)), st.way.1, tt, still_kept st.way.3, st.way.4);
+        stands = stands_as (Expired client ∷ st.acts) (λ j. refl) (λ j. (refl, refl, refl)) refl after;
+        adds = st.adds;
+        fewer = st.fewer;
+      }
+
+  pub unexpired : (hub' : Hub A) → IsUnchanged hub hub' → Standing (Giving n) o hub' places left now
+  unexpired hub' same = record {
+    acts = st.acts;
+    machine = st.machine;
+    way = st.way;
+    stands = stands_in hub' same st.stands;
+    adds = st.adds;
+    fewer = st.fewer;
+  }
+
+-- ---- what outlives a restart is stored
+
+module _ {A : Type 0} {n : ℕ} {o : Origin} {hub : Hub A} {places : List (Option (Peer A))} {left : ℕ} {before : Option (List Act)} (st : Standing (Giving n) o hub places left before) (after : Option (List Act)) where
+  pub stores : (hub' : Hub A) (state : ServerState) → ((t : State) → IsHub hub t → t.served.state ≡ state) → Goes (Note (cleared (notes_of hub))) hub hub' → Adds before after (Stored state ∷ []) → Standing (Answering n) o hub' places left after
+  stores hub' state serves goes said =
+      let was = st.stands in
+      let is : st.machine.served.state ≡ state = serves st.machine was.is in
+      let noted : notes_of hub ≡ state.realm.world.notes = ap (λ (w : ServedState). w.state.realm.world.notes) (sym was.is.served) ∙ ap (λ (x : ServerState). x.realm.world.notes) is in
+      let g = goes st.machine was.is in
+      let s' : State = record st.machine { served = noting (cleared (notes_of hub)) st.machine.served } in
+      let now : Stands o.start.next hub' places st.acts s' = record {
+        is = subst (λ (w : State). IsHub hub' w) g.1 g.2;
+        fresh = was.fresh;
+        owner = was.owner;
+        each = was.each;
+        seated = was.seated;
+        count = was.count;
+      } in
+      record {
+        acts = Stored state ∷ st.acts;
+        machine = s';
+        way = (
+          (st.machine, st.way.0, (st.way.2, sym is), ap (λ (m : Notes). record st.machine { served = noting (cleared m) st.machine.served }) noted),
+          st.way.1,
+          tt,
+          still_kept st.way.3,
+          ap kept_of (sym is),
+        );
+        stands = stands_as (Stored state ∷ st.acts) (λ j. refl) (λ j. (refl, refl, refl)) refl now;
+        adds = adds_on o.first before after (of_streams st.acts) (Stored state ∷ []) st.adds said;
+        fewer = st.fewer;
+      }
+
+  pub unstored : Adds before after (Unstored ∷ []) → Standing (Stopped Store n) o hub places left after
+  unstored said = record {
+    acts = Unstored ∷ st.acts;
+    machine = st.machine;
+    way = ((st.machine, st.way.0, st.way.2, refl), st.way.1, refl);
+    stands = stands_as (Unstored ∷ st.acts) (λ j. refl) (λ j. (refl, refl, refl)) refl st.stands;
+    adds = adds_on o.first before after (of_streams st.acts) (Unstored ∷ []) st.adds said;
+    fewer = st.fewer;
+  }
+
 -- ---- from one stage to the next without an act
 
 module _ {A : Type 0} {n : ℕ} {o : Origin} {hub : Hub A} {places : List (Option (Peer A))} {left : ℕ} {now : Option (List Act)} where
@@ -670,9 +761,6 @@ module _ {A : Type 0} {n : ℕ} {o : Origin} {hub : Hub A} {places : List (Optio
 
   pub given : (i m : ℕ) → Standing (Piecing n i m) o hub places left now → Standing (Giving n) o hub places left now
   given i m st = record { acts = st.acts; machine = st.machine; way = (st.way.0, st.way.1, st.way.2, st.way.3, st.way.4); stands = st.stands; adds = st.adds; fewer = st.fewer }
-
-  pub answers : Standing (Giving n) o hub places left now → Standing (Answering n) o hub places left now
-  answers st = record { acts = st.acts; machine = st.machine; way = (st.way.0, st.way.1, st.way.2, st.way.3); stands = st.stands; adds = st.adds; fewer = st.fewer }
 
   pub answered : Standing (Answering n) o hub places left now → Standing (Listening n) o hub places left now
   answered st = record { acts = st.acts; machine = st.machine; way = (st.way.0, st.way.1, st.way.2); stands = st.stands; adds = st.adds; fewer = st.fewer }

@@ -2,15 +2,16 @@
 use Rattle.std.proofs.Common.{◌≡◌, ◌≢◌, ◌≤◌, ℕ, List, [], ◌∷◌, ◌++◌, length, Option, Some, None, refl, sym, ap, subst, ◌∙◌, inl, inr, append_assoc, arith}
 use Rattle.std.specs.Prelude.{MatchOption}
 use Rattle.std.proofs.lemmas.Bool.{cases_eq}
+use Rattle.node_tree.specs.Notes.{cleared}
 use Rattle.nfs_hub.specs.declared.hub.Hub.{Hub}
-use Rattle.nfs_hub.specs.Answer.{Served as ServedState, reloaded}
-use Rattle.nfs_hub.specs.Machine.{Connected, State, Event, Connect, Piece, Take, Close, Reload, Step, PieceOn, TakeOn, ChangesConnection, Leads, opening}
+use Rattle.nfs_hub.specs.Answer.{Served as ServedState, letting_go, noting, reloaded}
+use Rattle.nfs_hub.specs.Machine.{Connected, State, Event, Connect, Piece, Take, Close, Reload, Note, LetGo, Step, PieceOn, TakeOn, ChangesConnection, Leads, opening}
 use Rattle.nfs_hub.specs.Hub.{LeadsTo}
 use Rattle.nfs_streams.specs.declared.peer.Peer.{Peer}
 use Rattle.nfs_streams.specs.declared.serving.AllEnd.{AllEnd}
-use Rattle.nfs_streams.specs.declared.serving.AllEnd.TheVariants.{Served, Turns, Wait, Keep, Memory}
+use Rattle.nfs_streams.specs.declared.serving.AllEnd.TheVariants.{Served, Turns, Wait, Keep, Store, Memory}
 use Rattle.nfs_streams.specs.declared.serving.Limits.{Limits}
-use Rattle.nfs_streams.specs.Acts.{Act, Waited, Knocked, Admitted, Closed, Heard, Ended, Unread, Looked, Loaded, Begun, Given, Kept, Lost, Told, Unwritten, Adds, of_streams}
+use Rattle.nfs_streams.specs.Acts.{Act, Waited, Knocked, Admitted, Closed, Heard, Ended, Unread, Looked, Loaded, Begun, Given, Kept, Lost, Stored, Unstored, Expired, Told, Unwritten, Adds, of_streams}
 use Rattle.nfs_streams.specs.Runs.{Runs, Ends, Does}
 use Rattle.nfs_streams.specs.Seats.{Stands, IsFresh, IsSeated, Seat, place_at, taken}
 use Rattle.nfs_streams.specs.Standing.{Origin, Listening, Stopped, Ending, Standing, Moves, LeavesSo, RunGives}
@@ -44,6 +45,8 @@ fresh_step (Close id) old new fresh step = λ k le.
       | inr ne ↦ step.2.others k ne ∙ fresh k (subst (λ (m : ℕ). m ≤ k) step.1 le)
     ]
 fresh_step (Reload book) old new fresh step = fresh_as (record old { served = reloaded book old.served }) new fresh step
+fresh_step (LetGo client) old new fresh step = fresh_as (record old { served = letting_go client old.served }) new fresh step.1
+fresh_step (Note notes) old new fresh step = fresh_as (record old { served = noting notes old.served }) new fresh step
 
 fresh_leads : (first : ServedState) (events : List Event) (s : State) → Leads first events s → IsFresh s
 fresh_leads first [] s leads = fresh_as (opening first) s (λ k le. refl) leads
@@ -93,6 +96,7 @@ ends_so Served limits {places = places} st same leaves = (omega (arith, ap (λ (
 ends_so Turns limits st same leaves = st.way.1 ∙ leaves
 ends_so Wait limits st same leaves = st.way.2
 ends_so Keep limits st same leaves = st.way.2
+ends_so Store limits st same leaves = st.way.2
 ends_so Memory limits st same leaves = absurd leaves
 
 -- ---- acts as events
@@ -113,6 +117,9 @@ does_lead first events acts (Unwritten place) old new does leads = ([], subst (�
 does_lead first events acts (Kept state) old new does leads = ([], subst (λ (s : State). Leads first events s) (sym does) leads)
 does_lead first events acts Lost old new does leads = ([], subst (λ (s : State). Leads first events s) (sym does) leads)
 does_lead first events acts (Loaded book) old new does leads = (Reload book ∷ [], (old, leads, does))
+does_lead first events acts (Stored state) old new does leads = (Note (cleared state.realm.world.notes) ∷ [], (old, leads, does))
+does_lead first events acts (Expired client) old new does leads = (LetGo client ∷ [], (old, leads, does))
+does_lead first events acts Unstored old new does leads = ([], subst (λ (s : State). Leads first events s) (sym does) leads)
 
 runs_lead : (first : ServedState) (events : List Event) (most : Limits) (acts : List Act) (old new : State) → Runs most acts old new → Leads first events old → (later : List Event) × Leads first (later ++ events) new
 runs_lead first events most [] old new run leads = ([], subst (λ (s : State). Leads first events s) (sym run) leads)

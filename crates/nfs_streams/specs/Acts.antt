@@ -1,7 +1,7 @@
 -- What serving asks of the streams and gives to the hub, each act at its place in one list.
 use Rattle.std.specs.Prelude.{◌≡◌, ◌≤◌, ◌⊎◌, ◌+◌, ◌-◌, ◌==◌, ℕ, Bool, true, false, List, [], ◌∷◌, ◌++◌, length, Option, Some, None, take, drop, if◌then◌else◌}
 use Rattle.who_book.specs.Content.{Content}
-use Rattle.compound_run.specs.State.{State as ServerState}
+use Rattle.compound_run.specs.State.{State as ServerState, kept_of}
 use Rattle.nfs_hub.specs.declared.fault.HubFault.{HubFault}
 use Rattle.nfs_streams.specs.declared.streams.Moved.{Moved}
 use Rattle.nfs_streams.specs.declared.streams.Moved.TheVariants as moved
@@ -37,6 +37,12 @@ pub data Act : Type 0 where
   Kept : ServerState → Act
   -- keeping the trail failed
   Lost : Act
+  -- what outlives a restart of a server in this state is stored
+  Stored : ServerState → Act
+  -- storing failed
+  Unstored : Act
+  -- a client, of which nothing was heard for longer than a lease, is let go
+  Expired : ℕ → Act
   -- these bytes were written to the stream of the place
   Told : ℕ → List ℕ → Act
   -- writing to the stream of the place failed
@@ -47,6 +53,7 @@ abbrev pub of_streams : List Act → List Act
 of_streams [] = []
 of_streams (Begun place ∷ acts) = of_streams acts
 of_streams (Given place bytes fault ∷ acts) = of_streams acts
+of_streams (Expired client ∷ acts) = of_streams acts
 of_streams (act ∷ acts) = act ∷ of_streams acts
 
 -- the known acts so far, the newest first, have these in front of them afterwards
@@ -63,6 +70,10 @@ knocked knock.Waiting = []
 abbrev pub kept : Bool → ServerState → List Act
 kept true state = Kept state ∷ []
 kept false state = Lost ∷ []
+
+abbrev pub stored : Bool → ServerState → List Act
+stored true state = Stored state ∷ []
+stored false state = Unstored ∷ []
 
 abbrev pub looked : Option Content → List Act
 looked (Some book) = Loaded book ∷ []
@@ -168,6 +179,12 @@ IsLooked (Loaded book ∷ acts) = Unit {0}
 IsLooked (Heard at bytes ∷ acts) = ⊥
 IsLooked (act ∷ acts) = IsLooked acts
 
+-- All that outlives a restart of a server in this state is stored: what was stored last is all that outlives one.
+abbrev pub IsStored : List Act → ServerState → Type 0
+IsStored [] s = ⊥
+IsStored (Stored state ∷ acts) s = kept_of state ≡ kept_of s
+IsStored (act ∷ acts) s = IsStored acts s
+
 -- nothing has just ended or failed
 abbrev pub IsSettled : List Act → Type 0
 IsSettled [] = Unit {0}
@@ -176,4 +193,5 @@ IsSettled (Ended at ∷ acts) = ⊥
 IsSettled (Unread at ∷ acts) = ⊥
 IsSettled (Unwritten at ∷ acts) = ⊥
 IsSettled (Lost ∷ acts) = ⊥
+IsSettled (Unstored ∷ acts) = ⊥
 IsSettled (act ∷ acts) = Unit {0}

@@ -5,9 +5,9 @@ use Rattle.nfs_hub.specs.Answer.{Served as ServedState}
 use Rattle.nfs_hub.specs.Machine.{State, Event, Leads}
 use Rattle.nfs_hub.specs.Hub.{IsHub}
 use Rattle.nfs_streams.specs.declared.serving.AllEnd.{AllEnd}
-use Rattle.nfs_streams.specs.declared.serving.AllEnd.TheVariants.{Served, Turns, Wait, Keep, Memory}
+use Rattle.nfs_streams.specs.declared.serving.AllEnd.TheVariants.{Served, Turns, Wait, Keep, Store, Memory}
 use Rattle.nfs_streams.specs.declared.serving.Limits.{Limits}
-use Rattle.nfs_streams.specs.Acts.{Act, Waited, Lost, Adds, Just, of_streams, waits, admitted}
+use Rattle.nfs_streams.specs.Acts.{Act, Waited, Lost, Unstored, Adds, Just, of_streams, waits, admitted}
 use Rattle.nfs_streams.specs.Runs.{Runs, Ends}
 
 -- no connection of this number or a later one is open
@@ -15,12 +15,13 @@ abbrev pub AreClosed : ℕ → State → Type 0
 AreClosed start s = (id : ℕ) → start ≤ id → s.connection id ≡ None
 
 -- Why serving ends: the limit of connections has been admitted, and all of them are closed; all turns are used up; the last wait failed;
--- the trail couldn't be kept; or there was no memory for the places, and nothing was done.
+-- the trail couldn't be kept; what outlives a restart couldn't be stored; or there was no memory for the places, and nothing was done.
 abbrev pub EndsSo : AllEnd → Limits → State → List Act → State → Type 0
 EndsSo Served limits start acts s = (admitted acts ≡ limits.connections) × AreClosed start.next s
 EndsSo Turns limits start acts s = waits acts ≡ limits.turns
 EndsSo Wait limits start acts s = Just (Waited false) acts
 EndsSo Keep limits start acts s = Just Lost acts
+EndsSo Store limits start acts s = Just Unstored acts
 EndsSo Memory limits start acts s = acts ≡ []
 
 -- Behind events that lead to the hub, acts lead the machine on, each of them allowed at its turn, with at most so many

@@ -2,13 +2,16 @@
 use Rattle.std.specs.Prelude.{◌≡◌, ◌≢◌, ◌⊎◌, ◌≤◌, ◌<◌, ℕ, true, false, List, [], ◌∷◌, ◌++◌, length, take, Option, Some, None, min}
 use Rattle.nfs_types.specs.declared.moment.Moment.{Moment}
 use Rattle.rpc_record.specs.Records.{IsRecord}
+use Rattle.access_guard.specs.declared.line.Line.{Line}
+use Rattle.compound_run.specs.State.{State as ServerState}
+use Rattle.node_tree.specs.Notes.{cleared}
 use Rattle.nfs_hub.specs.declared.fault.HubFault.{HubFault}
 use Rattle.nfs_hub.specs.declared.fault.HubFault.TheVariants as fault
-use Rattle.nfs_hub.specs.Machine.{Connected, State, Event, Connect, Piece, Take, Close, Reload, Step, CameToBreak, fresh}
+use Rattle.nfs_hub.specs.Machine.{Connected, State, Event, Connect, Piece, Take, Close, Reload, Note, LetGo, Step, CameToBreak, fresh}
 use Rattle.nfs_streams.specs.declared.streams.StreamEnd.{StreamEnd}
 use Rattle.nfs_streams.specs.declared.streams.StreamEnd.TheVariants as end
 use Rattle.nfs_streams.specs.declared.serving.Limits.{Limits}
-use Rattle.nfs_streams.specs.Acts.{Act, Knocked, Admitted, Closed, Heard, Ended, Unread, Loaded, Begun, Given, Kept, Told, Unwritten, Has, Just, IsLooked, IsSettled, conn_at, open_in, ahead, left_of_piece, turns_at, fault_at}
+use Rattle.nfs_streams.specs.Acts.{Act, Knocked, Admitted, Closed, Heard, Ended, Unread, Loaded, Begun, Given, Kept, Stored, Expired, Told, Unwritten, Has, Just, IsLooked, IsSettled, IsStored, conn_at, open_in, ahead, left_of_piece, turns_at, fault_at}
 
 -- the most bytes of one read
 abbrev pub MAX_READ : ℕ
@@ -55,7 +58,8 @@ Gives earlier place bytes fault old new =
 -- The step of the machine by an act behind earlier acts: a stream that is admitted is the connection of the next number, which is open
 -- then; the bytes that are given are a piece of the connection at their place; the bytes that are written are taken from the
 -- front of its pending bytes; the connection of a stream that is let go is closed; and a book that has come is loaded, which changes
--- nothing where no epoch is left for the book. All other acts change nothing.
+-- nothing where no epoch is left for the book; what was noted of the changes is forgotten where it is stored;
+-- and a client whose lease is over is let go. All other acts change nothing.
 abbrev pub Does : List Act → Act → State → State → Type 0
 Does earlier (Admitted place id) old new = (id ≡ old.next) × Step Connect old new × (new.connection id ≡ Some fresh)
 Does earlier (Closed place end) old new = StepAt earlier place Close old new
@@ -63,6 +67,8 @@ Does earlier (Given place bytes fault) old new = Gives earlier place bytes fault
 Does earlier (Told place bytes) old new =
     On earlier place old (λ c. bytes ≡ take (length bytes) c.pending) × StepAt earlier place (λ id. Take id (length bytes)) old new
 Does earlier (Loaded book) old new = Step (Reload book) old new
+Does earlier (Expired client) old new = Step (LetGo client) old new
+Does earlier (Stored state) old new = Step (Note (cleared state.realm.world.notes)) old new
 Does earlier act old new = new ≡ old
 
 -- a connection is whole
@@ -107,18 +113,26 @@ MayClose limits earlier place end.Stopped s = ⊥
 abbrev pub MayHear : List Act → ℕ → State → Type 0
 MayHear earlier place s = IsSettled earlier × (ahead earlier place ≡ []) × On earlier place s CanHear
 
--- the trail of the server in its present state has been kept: no line of an earlier record waits to be kept
+-- these lines were kept, as those of a server in some state
+pub record HasKept (lines : List Line) (total : ℕ) (earlier : List Act) : Type 0 where
+  pub state : ServerState
+  pub kept : Has (Kept state) earlier
+  pub lines_are : state.trail ≡ lines
+  pub total_is : state.total ≡ total
+
+-- the trail of the server has been kept as it is now: no line of an earlier record waits to be kept
 abbrev pub IsKept : List Act → State → Type 0
-IsKept earlier s = Has (Kept s.served.state) earlier
+IsKept earlier s = HasKept s.served.state.trail s.served.state.total earlier
 
 -- The acts that may come behind earlier acts. Behind an end or a failure of a stream only
--- its closing comes, and nothing behind a wait that failed or a trail that couldn't be kept. A stream is admitted only just after a stream
+-- its closing comes, and nothing behind a wait that failed, a trail that couldn't be kept, or a store that failed. A stream is admitted only just after a stream
 -- has knocked, at a free place below 16, while fewer connections are open than may be. At most 65,536 bytes are read at once, where all that
 -- was read before of that stream is given, no bytes are pending on its connection, and its turns aren't used up. A piece begins only where
 -- no bytes are pending on its connection. Bytes are given only to a connection that is whole, of what was read of it, in that order, and no
 -- more than the piece has left; where it was asked for another book since the last read; and where the trail of the server, as it is then,
 -- has been kept. At most 131,072 bytes are written at once; writing is tried only where
--- bytes are pending on the connection, and the trail of the server in its present state has been kept: behind a book too.
+-- bytes are pending on the connection, the trail of the server in its present state has been kept, behind a book too, and all that outlives a
+-- restart of the server in its present state is stored.
 abbrev pub Allowed : Limits → List Act → Act → State → Type 0
 Allowed limits earlier (Admitted place id) s = Just Knocked earlier × (conn_at earlier place ≡ None) × (open_in earlier < most_open limits) × (place < MOST_PLACES)
 Allowed limits earlier (Closed place end) s = MayClose limits earlier place end s
@@ -129,9 +143,11 @@ Allowed limits earlier (Begun place) s = IsSettled earlier × On earlier place s
 Allowed limits earlier (Given place bytes fault) s =
     IsSettled earlier × IsLooked earlier × IsKept earlier s × On earlier place s IsWhole
     × (length bytes ≤ left_of_piece earlier place) × (bytes ≡ take (length bytes) (ahead earlier place))
-Allowed limits earlier (Told place bytes) s = IsSettled earlier × (length bytes ≤ MAX_WRITTEN) × IsKept earlier s × On earlier place s IsWaiting
-Allowed limits earlier (Unwritten place) s = IsSettled earlier × IsKept earlier s × On earlier place s IsWaiting
+Allowed limits earlier (Told place bytes) s = IsSettled earlier × (length bytes ≤ MAX_WRITTEN) × IsKept earlier s × On earlier place s IsWaiting × IsStored earlier s.served.state
+Allowed limits earlier (Unwritten place) s = IsSettled earlier × IsKept earlier s × On earlier place s IsWaiting × IsStored earlier s.served.state
+Allowed limits earlier (Expired client) s = IsSettled earlier × (limits.leases ≡ true)
 Allowed limits earlier (Kept state) s = IsSettled earlier × (state ≡ s.served.state)
+Allowed limits earlier (Stored state) s = IsSettled earlier × (state ≡ s.served.state)
 Allowed limits earlier act s = IsSettled earlier
 
 -- Acts, the newest first, each of them allowed at its turn, lead from one state to another.

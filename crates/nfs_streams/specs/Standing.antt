@@ -1,5 +1,5 @@
 -- The stages of serving, and the parts of serving as steps between them.
-use Rattle.std.specs.Prelude.{◌≡◌, ◌≢◌, ◌≤◌, ◌<◌, ◌+◌, ℕ, Bool, true, false, List, [], ◌∷◌, ◌++◌, length, Option, Some, None, set}
+use Rattle.std.specs.Prelude.{◌≡◌, ◌≢◌, ◌≤◌, ◌<◌, ◌+◌, ℕ, Bool, true, false, List, [], ◌∷◌, ◌++◌, length, Option, Some, None, Result, Ok, Err, set}
 use Rattle.nfs_hub.specs.declared.hub.Hub.{Hub}
 use Rattle.nfs_hub.specs.declared.fault.HubFault.{HubFault}
 use Rattle.nfs_hub.specs.declared.fault.HubFault.TheVariants as fault
@@ -14,9 +14,11 @@ use Rattle.nfs_streams.specs.declared.streams.StreamEnd.{StreamEnd}
 use Rattle.nfs_streams.specs.declared.streams.StreamEnd.TheVariants as end
 use Rattle.nfs_streams.specs.declared.serving.Limits.{Limits}
 use Rattle.nfs_streams.specs.declared.serving.AllEnd.{AllEnd}
-use Rattle.nfs_streams.specs.declared.serving.AllEnd.TheVariants.{Served, Turns, Wait, Keep, Memory}
+use Rattle.nfs_streams.specs.declared.serving.Halt.{Halt}
+use Rattle.nfs_streams.specs.declared.serving.Halt.TheVariants as halt
+use Rattle.nfs_streams.specs.declared.serving.AllEnd.TheVariants.{Served, Turns, Wait, Keep, Store, Memory}
 use Rattle.nfs_streams.specs.declared.streams.Wait.{Wait as Pause}
-use Rattle.nfs_streams.specs.Acts.{Act, Waited, Knocked, Heard, Ended, Unread, Lost, Adds, Just, IsLooked, IsSettled, of_streams, open_in, waits, admitted, left_of_piece}
+use Rattle.nfs_streams.specs.Acts.{Act, Waited, Knocked, Heard, Ended, Unread, Lost, Unstored, Adds, Just, IsLooked, IsSettled, IsStored, of_streams, open_in, waits, admitted, left_of_piece}
 use Rattle.nfs_streams.specs.Runs.{Runs, Ends, IsKept, most_open}
 use Rattle.nfs_streams.specs.Seats.{Stands, taken}
 
@@ -42,7 +44,7 @@ pub data Stage : Type 0 where
   Piecing : ℕ → ℕ → ℕ → Stage
   -- so, but bytes were given, and the trail isn't kept
   Unkept : ℕ → ℕ → ℕ → Stage
-  -- the trail is kept, and replies are written
+  -- what outlives a restart is stored too, and replies are written
   Answering : ℕ → Stage
   -- serving has stopped for a reason
   Stopped : AllEnd → ℕ → Stage
@@ -55,6 +57,7 @@ StopsSo Served acts = Unit {0}
 StopsSo Turns acts = Unit {0}
 StopsSo Wait acts = Just (Waited false) acts
 StopsSo Keep acts = Just Lost acts
+StopsSo Store acts = Just Unstored acts
 StopsSo Memory acts = ⊥
 
 -- acts lead the machine to this stage
@@ -66,7 +69,7 @@ Way (Unkept n place left) o acts s = Runs o.limits acts o.start s × (waits acts
 Way (Giving n) o acts s = Runs o.limits acts o.start s × (waits acts ≡ n) × IsSettled acts × IsKept acts s × IsLooked acts
 Way (Piecing n place left) o acts s = Runs o.limits acts o.start s × (waits acts ≡ n) × IsSettled acts × IsKept acts s × IsLooked acts × (left ≤ left_of_piece acts place)
 Way (Full n) o acts s = Runs o.limits acts o.start s × (waits acts ≡ n) × Just Knocked acts × (o.limits.makes_room ≡ true) × (most_open o.limits ≤ open_in acts)
-Way (Answering n) o acts s = Runs o.limits acts o.start s × (waits acts ≡ n) × IsSettled acts × IsKept acts s
+Way (Answering n) o acts s = Runs o.limits acts o.start s × (waits acts ≡ n) × IsSettled acts × IsKept acts s × IsStored acts s.served.state
 Way (Stopped end n) o acts s = Runs o.limits acts o.start s × (waits acts ≡ n) × StopsSo end acts
 Way (Ending served at) o acts s = (endings : List Act) × (acts ≡ endings ++ served) × Ends served endings at s
 
@@ -136,10 +139,24 @@ abbrev pub closed_stage : Stage → Stage
 closed_stage (Full n) = Listening n
 closed_stage stage = stage
 
--- the stage behind a turn, by the length of the next wait, or by a trail that couldn't be kept
-abbrev pub turned_stage : Option Pause → ℕ → Stage
-turned_stage (Some pause) n = Listening n
-turned_stage None n = Stopped Keep n
+-- the end of serving where no replies may be written
+abbrev pub halted : Halt → AllEnd
+halted halt.Keep = Keep
+halted halt.Store = Store
+
+-- the stage after what outlives a restart is stored, or couldn't be
+abbrev pub stored_stage : Bool → ℕ → Stage
+stored_stage true n = Answering n
+stored_stage false n = Stopped Store n
+
+-- what outlives a restart is stored, or it couldn't be, for any connections at the places
+abbrev pub Stores : {A : Type 0} → Bool → Hub A → Hub A → Option (List Act) → Option (List Act) → Type 0
+Stores {A} result old new before after = (n left : ℕ) (limits : Limits) (places : List (Option (Peer A))) → Moves (Giving n) (stored_stage result n) limits old places left new places left before after
+
+-- the stage after a turn, by the length of the next wait, or by why no replies may be written
+abbrev pub turned_stage : Result Pause Halt → ℕ → Stage
+turned_stage (Ok pause) n = Listening n
+turned_stage (Err why) n = Stopped (halted why) n
 
 -- the stage behind bytes of a place that were given, by what is left of the piece, or by a trail that couldn't be kept
 abbrev pub given_stage : Option ℕ → ℕ → ℕ → Stage
@@ -152,6 +169,7 @@ LeavesSo Served turns n left places = (left ≡ 0) × (taken places ≡ 0)
 LeavesSo Turns turns n left places = n ≡ turns
 LeavesSo Wait turns n left places = Unit {0}
 LeavesSo Keep turns n left places = Unit {0}
+LeavesSo Store turns n left places = Unit {0}
 LeavesSo Memory turns n left places = ⊥
 
 -- from the beginning behind so many turns at most

@@ -1,10 +1,11 @@
 //! Serving all streams, one turn after another.
-ghost use Rattle.std.specs.Prelude.{◌≡◌, ◌≤◌, ℕ, List, length, IfOk};
+ghost use Rattle.std.specs.Prelude.{◌≡◌, ◌≤◌, ℕ, List, Option, length, IfOk};
 ghost use Rattle.nfs_hub.specs.Answer.{Served as ServedState};
 ghost use Rattle.nfs_hub.specs.Machine.{Event};
 ghost use Rattle.nfs_hub.specs.Hub.{LeadsTo};
+ghost use Rattle.nfs_streams.specs.Acts.{Act};
 ghost use Rattle.nfs_streams.specs.Seats.{taken};
-ghost use Rattle.nfs_streams.specs.Standing.{Listening, Loads, Moves, RunGives, turned_stage};
+ghost use Rattle.nfs_streams.specs.Standing.{Listening, Giving, Loads, Moves, RunGives, Stores, turned_stage};
 ghost use Rattle.nfs_streams.specs.All.{ServesAll};
 
 use crate::peer::Peer;
@@ -24,6 +25,8 @@ pub struct Limits {
     pub reads: u64,
     /// The number of waits in all.
     pub turns: u64,
+    /// Whether a client that was silent for longer than a lease is let go where many are known ([`Hub::let_go`]).
+    pub leases: bool,
     /// Whether a connection that is quiet is let go for another stream that knocks where as many are open as may be.
     pub makes_room: bool,
 }
@@ -39,8 +42,19 @@ pub enum AllEnd {
     Wait = 3,
     /// The trail couldn't be kept. No bytes were written after that.
     Keep = 4,
+    /// What outlives a restart couldn't be stored. No bytes were written after that.
+    Store = 6,
     /// There was no memory for the places. Serving didn't begin, and the streams were asked nothing.
     Memory = 5,
+}
+
+/// Why no replies may be written, and serving ends.
+#[derive(Clone, Copy, Debug, PartialEq, Eq)]
+pub(crate) enum Halt {
+    /// The trail couldn't be kept.
+    Keep,
+    /// What outlives a restart couldn't be stored.
+    Store,
 }
 
 /// How long the next wait may take: none where something was done.
@@ -58,16 +72,37 @@ fn load_book<A: Allocator + Copy, S: Streams<A>>(hub: &mut Hub<A>, streams: &mut
     let _ = hub.reload(book);
 }
 
+/// Lets the most silent client go, if leases end and one is to go.
+fn expire<A: Allocator + Copy, C: Clock>(hub: &mut Hub<A>, clock: &C, limits: Limits)
+    ensures { (n left : ℕ) (places : List (Option (Peer A))) (now : Option (List Act)) → Moves (Giving n) (Giving n) limits hub.old places left hub.new places left now now }
+{
+    if !limits.leases {
+        return;
+    }
+    let _ = hub.let_go(clock.now());
+}
+
+/// Stores what outlives a restart, and forgets what was noted of it. Whether it could be stored.
+fn store<A: Allocator + Copy, S: Streams<A>>(hub: &mut Hub<A>, streams: &mut S) -> bool
+    ensures { Stores result hub.old hub.new (S.acts streams.old) (S.acts streams.new) }
+{
+    if !streams.store(hub.server()) {
+        return false;
+    }
+    hub.clear_notes();
+    true
+}
+
 /// One turn: all places are read; a book that has come is loaded, and the trail is kept; what was read is given to the hub, and the trail is
-/// kept after each record; and then the waiting bytes of all places are written. How long the next wait may take; `None`: the trail couldn't be
-/// kept, and no bytes were given or written after that.
+/// kept after each record; the most silent client is let go, where one is to go; what outlives a restart is stored; and then the waiting bytes of all places are written. How long the next wait may
+/// take; `Err`: the trail couldn't be kept, or it couldn't be stored, and no bytes were given or written after that.
 fn turn<A: Allocator + Copy, S: Streams<A>, C: Clock>(
     hub: &mut Hub<A>,
     streams: &mut S,
     clock: &C,
     places: &mut [Option<Peer<A>>],
     door: &mut Door<A>,
-) -> Option<Wait>
+) -> Result<Wait, Halt>
     requires { length places.old ≤ 16 }
     ensures moves { (n : ℕ) → Moves (Listening n) (turned_stage result n) door.old.limits hub.old places.old door.old.left hub.new places.new door.new.left (S.acts streams.old) (S.acts streams.new) }
     ensures most { door.new.limits ≡ door.old.limits }
@@ -75,14 +110,18 @@ fn turn<A: Allocator + Copy, S: Streams<A>, C: Clock>(
     let heard = listen_all(hub, streams, clock, places, door);
     load_book(hub, streams);
     if !streams.keep(hub.server()) {
-        return None;
+        return Err(Halt::Keep);
     }
     if !give_all(hub, streams, clock, places) {
-        return None;
+        return Err(Halt::Keep);
+    }
+    expire(hub, clock, door.limits);
+    if !store(hub, streams) {
+        return Err(Halt::Store);
     }
     let told = answer_all(hub, streams, clock, places);
     let room = make_room(hub, streams, clock, places, door);
-    Some(pause(heard | told, room))
+    Ok(pause(heard | told, room))
 }
 
 /// So many turns, unless all connections are served earlier or something fails.
@@ -104,10 +143,11 @@ fn run<A: Allocator + Copy, S: Streams<A>, C: Clock>(
         if !streams.wait(how) {
             return AllEnd::Wait;
         }
-        let Some(next) = turn(hub, streams, clock, places, door) else {
-            return AllEnd::Keep;
-        };
-        how = next;
+        match turn(hub, streams, clock, places, door) {
+            Ok(next) => how = next,
+            Err(Halt::Keep) => return AllEnd::Keep,
+            Err(Halt::Store) => return AllEnd::Store,
+        }
     }
     AllEnd::Turns
 }
@@ -155,7 +195,8 @@ fn free_places<A: Allocator + Copy>(alloc: A) -> Result<Vec<Option<Peer<A>>, A>,
 /// come is loaded: so each call whose last byte is read after a book had come is judged by that book. What was read is given to the hub, in
 /// order, one record after the other, and **the lines of the trail are kept after each, before the next one runs**: so none is lost. It is
 /// given while no reply waits, and then as far as 4,096 bytes from where none did; the rest waits until the replies are written. So a peer that
-/// sends and doesn't read costs the replies to 4,096 bytes. Last the waiting bytes are written, at most 128 KiB of each connection, as far as
+/// sends and doesn't read costs the replies to 4,096 bytes. Then all that outlives a restart is stored, **before any byte of a reply to what ran is
+/// written**. Last the waiting bytes are written, at most 128 KiB of each connection, as far as
 /// the streams take them.
 ///
 /// A stream that ends or fails is let go at once and its connection closed, a stream whose connection is broken or has had its turns behind

@@ -25,7 +25,7 @@ pub struct Exchange<'a> {
     pub flags: u32,
     /// Whether the owner's confirmed record has opens.
     pub has_opens: bool,
-    /// The second of the server's clock, in which a new record counts as heard.
+    /// The second of the server's clock, in which the client counts as heard.
     pub now: u64,
 }
 
@@ -149,6 +149,7 @@ impl<A: Allocator + Copy> Registry<A> {
             Standing::Refuses(status) => Err(status),
             Standing::Knows(known) => {
                 remove_unconfirmed(&mut self.clients, asked.owner);
+                self.hear(known.client, asked.now);
                 Ok(known)
             }
             Standing::Makes(gone) => self.make_client(asked, gone),

@@ -9,7 +9,7 @@ ghost use Rattle.session_slots.specs.Registry.{nobody, session_at, results_at, k
 ghost use Rattle.session_slots.specs.Sequencing.{sequence_begin, sequence_begun};
 ghost use Rattle.session_slots.specs.Views.{asked_of};
 
-use crate::changes::confirmed_in;
+use crate::changes::{confirmed_in, hear};
 use crate::client::Client;
 use crate::session::{Begin, Sequence, Session};
 use nfs_types::Status;
@@ -57,7 +57,7 @@ impl<A: Allocator + Copy> Registry<A> {
     }
 
     /// Begins a call on a slot of a session.
-    pub fn begin(&mut self, session: u64, asked: Sequence<'_>) -> Begin
+    fn begin_on_slot(&mut self, session: u64, asked: Sequence<'_>) -> Begin
         requires { length asked.arguments.now ≤ asked.record_len }
         ensures answer { result ≡ sequence_begin self.old session (asked_of asked.entry) }
         ensures begun { self.new ≡ sequence_begun self.old session (asked_of asked.entry) }
@@ -66,6 +66,31 @@ impl<A: Allocator + Copy> Registry<A> {
             Some(session) => session.begin(asked),
             None => Begin::Refused(Status::BadSession),
         }
+    }
+
+    /// The client of a session was heard in this second.
+    #[tactic(auto, using(crate::proofs::Restored::changed_by_nothing))]
+    fn hear_of(&mut self, session: u64, now: u64)
+        ensures { self.new ≡ self.old }
+    {
+        if let Some(session) = self.sessions.get(&session) {
+            let client = session.client();
+            hear(&mut self.clients, client, now);
+        }
+    }
+
+    /// Begins a call on a slot of a session. Where it is new or a repeat, its client counts as heard.
+    pub fn begin(&mut self, session: u64, asked: Sequence<'_>) -> Begin
+        requires { length asked.arguments.now ≤ asked.record_len }
+        ensures answer { result ≡ sequence_begin self.old session (asked_of asked.entry) }
+        ensures begun { self.new ≡ sequence_begun self.old session (asked_of asked.entry) }
+    {
+        let now = asked.now;
+        let begun = self.begin_on_slot(session, asked);
+        if !matches!(begun, Begin::Refused(_)) {
+            self.hear_of(session, now);
+        }
+        begun
     }
 
     /// The results that a slot keeps.

@@ -48,6 +48,8 @@ pub struct Sequence<'a> {
     pub arguments: &'a [u8],
     /// The caller.
     pub caller: &'a Caller,
+    /// The second of the server's clock, in which the client counts as heard where the call is new or a repeat.
+    pub now: u64,
 }
 
 /// A new call on a slot.

@@ -54,6 +54,14 @@ pub struct Memory<'a> {
     pub keeps: u64,
     /// Keeping fails at this number; 0: never.
     pub fails_keep: u64,
+    /// How often what outlives a restart was stored.
+    pub stores: u64,
+    /// Storing fails at this number; 0: never.
+    pub fails_store: u64,
+    /// How many waits there were, and how often the trail was kept, when it was stored last.
+    since: (u64, u64),
+    /// Bytes were written in a turn before it was stored, or after a record that ran later.
+    pub late: bool,
     /// How many lines the trail had where it was kept last.
     pub lines: u64,
     /// The most lines that were new where the trail was kept.
@@ -88,6 +96,10 @@ impl<'a> Memory<'a> {
             seconds: 0,
             keeps: 0,
             fails_keep: 0,
+            stores: 0,
+            fails_store: 0,
+            since: (0, 0),
+            late: false,
             lines: 0,
             most_new: 0,
             stuck: 0,
@@ -209,6 +221,7 @@ impl<A: Allocator + Copy> Streams<A> for Memory<'_> {
 
     fn write(&mut self, place: usize, bytes: &[u8]) -> Moved {
         let waits = self.waits;
+        self.late = self.late || self.since != (waits, self.keeps);
         match self.at(place) {
             Some(stream) => stream.take(waits, bytes),
             None => Moved::Failed,
@@ -224,5 +237,11 @@ impl<A: Allocator + Copy> Streams<A> for Memory<'_> {
         self.most_new = self.most_new.max(lines.saturating_sub(self.lines));
         self.lines = lines;
         true
+    }
+
+    fn store(&mut self, _server: &Server<A>) -> bool {
+        self.stores = self.stores.saturating_add(1);
+        self.since = (self.waits, self.keeps);
+        self.stores != self.fails_store
     }
 }

@@ -51,5 +51,6 @@ pub const AMPLE: Limits = Limits {
     connections: u64::MAX,
     reads: u64::MAX,
     turns: 400,
+    leases: false,
     makes_room: true,
 };

@@ -19,6 +19,8 @@ struct Stop {
     fails_wait: u64,
     /// The keeping that fails; 0: none.
     fails_keep: u64,
+    /// The storing that fails; 0: none.
+    fails_store: u64,
     end: AllEnd,
     waits: u64,
     admitted: usize,
@@ -26,13 +28,14 @@ struct Stop {
     told: usize,
 }
 
-static STOPS: [Stop; 9] = [
+static STOPS: [Stop; 11] = [
     Stop {
         name: "all are served",
         connections: 2,
         turns: 400,
         fails_wait: 0,
         fails_keep: 0,
+        fails_store: 0,
         end: AllEnd::Served,
         waits: 3,
         admitted: 2,
@@ -44,6 +47,7 @@ static STOPS: [Stop; 9] = [
         turns: 400,
         fails_wait: 0,
         fails_keep: 0,
+        fails_store: 0,
         end: AllEnd::Served,
         waits: 3,
         admitted: 1,
@@ -55,6 +59,7 @@ static STOPS: [Stop; 9] = [
         turns: 400,
         fails_wait: 0,
         fails_keep: 0,
+        fails_store: 0,
         end: AllEnd::Served,
         waits: 0,
         admitted: 0,
@@ -66,6 +71,7 @@ static STOPS: [Stop; 9] = [
         turns: 2,
         fails_wait: 0,
         fails_keep: 0,
+        fails_store: 0,
         end: AllEnd::Turns,
         waits: 2,
         admitted: 2,
@@ -77,6 +83,7 @@ static STOPS: [Stop; 9] = [
         turns: 0,
         fails_wait: 0,
         fails_keep: 0,
+        fails_store: 0,
         end: AllEnd::Turns,
         waits: 0,
         admitted: 0,
@@ -88,6 +95,7 @@ static STOPS: [Stop; 9] = [
         turns: 400,
         fails_wait: 2,
         fails_keep: 0,
+        fails_store: 0,
         end: AllEnd::Wait,
         waits: 2,
         admitted: 2,
@@ -99,6 +107,7 @@ static STOPS: [Stop; 9] = [
         turns: 400,
         fails_wait: 0,
         fails_keep: 2,
+        fails_store: 0,
         end: AllEnd::Keep,
         waits: 2,
         admitted: 2,
@@ -110,10 +119,35 @@ static STOPS: [Stop; 9] = [
         turns: 400,
         fails_wait: 0,
         fails_keep: 4,
+        fails_store: 0,
         end: AllEnd::Keep,
         waits: 2,
         admitted: 2,
         told: 0,
+    },
+    Stop {
+        name: "nothing can be stored when there are replies to write",
+        connections: 9,
+        turns: 400,
+        fails_wait: 0,
+        fails_keep: 0,
+        fails_store: 2,
+        end: AllEnd::Store,
+        waits: 2,
+        admitted: 2,
+        told: 0,
+    },
+    Stop {
+        name: "nothing can be stored after the first replies",
+        connections: 9,
+        turns: 400,
+        fails_wait: 0,
+        fails_keep: 0,
+        fails_store: 3,
+        end: AllEnd::Store,
+        waits: 3,
+        admitted: 2,
+        told: 4,
     },
     Stop {
         name: "the trail can't be kept at first",
@@ -121,6 +155,7 @@ static STOPS: [Stop; 9] = [
         turns: 400,
         fails_wait: 0,
         fails_keep: 1,
+        fails_store: 0,
         end: AllEnd::Keep,
         waits: 1,
         admitted: 2,
@@ -156,6 +191,7 @@ fn serve_stop(alloc: Global, hasher: RandomState, stop: &Stop) -> Result<Told, A
     streams.add_all("u u");
     streams.fails_wait = stop.fails_wait;
     streams.fails_keep = stop.fails_keep;
+    streams.fails_store = stop.fails_store;
     let limits = Limits {
         connections: stop.connections,
         turns: stop.turns,

@@ -1,5 +1,5 @@
 use Rattle.std.proofs.Common.{◌∙◌, refl, sym}
-use Rattle.nfs_streams.proofs.Steps.{keeps, loses, answers, answered}
+use Rattle.nfs_streams.proofs.Steps.{keeps, loses, answered}
 use Rattle.nfs_streams.proofs.serving.turn.Goals as goal
 
 pub returns-then-not-keep-clause-moves : goal.returns-then-not-keep-clause-moves
@@ -18,4 +18,14 @@ returns-clause-moves g c = λ n o same st.
     let left = c.listen_all-heard.new.door.left in
     let looked = c.load_book.ensures n left o.limits c.listen_all-heard.new.places o refl (c.listen_all-heard.ensures.moves n o same st) in
     let gave = c.if-not-give_all.ensures.moves n left o.limits o refl (keeps looked _ c.server.result.now c.server.ensures c.if-not-keep.ensures) in
-    c.make_room-room.ensures n left o (same ∙ sym c.listen_all-heard.ensures.most) (answered (c.answer_all-told.ensures n left o.limits o refl (answers gave)))
+    let expired = c.expire.ensures n left c.if-not-give_all.new.places _ o (same ∙ sym c.listen_all-heard.ensures.most) gave in
+    let stored = c.if-not-store.ensures n left o.limits c.if-not-give_all.new.places o refl expired in
+    c.make_room-room.ensures n left o (same ∙ sym c.listen_all-heard.ensures.most) (answered (c.answer_all-told.ensures n left o.limits o refl stored))
+
+pub returns-then-not-store-clause-moves : goal.returns-then-not-store-clause-moves
+returns-then-not-store-clause-moves g c = λ n o same st.
+    let left = c.listen_all-heard.new.door.left in
+    let looked = c.load_book.ensures n left o.limits c.listen_all-heard.new.places o refl (c.listen_all-heard.ensures.moves n o same st) in
+    let gave = c.if-not-give_all.ensures.moves n left o.limits o refl (keeps looked _ c.server.result.now c.server.ensures c.if-not-keep.ensures) in
+    let expired = c.expire.ensures n left c.if-not-give_all.new.places _ o (same ∙ sym c.listen_all-heard.ensures.most) gave in
+    c.if-not-store.ensures n left o.limits c.if-not-give_all.new.places o refl expired

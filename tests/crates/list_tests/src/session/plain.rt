@@ -150,6 +150,7 @@ pub fn run<A: Allocator + Copy>(
         record_len: call.record_len,
         arguments: call.arguments,
         caller: &caller,
+        now: 0,
     };
     begin(clients, session, asked, results)
 }

@@ -64,6 +64,7 @@ fn asked<'a>(slot: u32, number: u32, arguments: &'a [u8], caller: &'a Caller) ->
         record_len: 64,
         arguments,
         caller,
+        now: 0,
     }
 }
 
