@@ -1,0 +1,71 @@
+-- What a journal holds: a checkpoint, from which its records lead on.
+use Rattle.std.specs.Prelude.{ℕ, ◌≡◌, ◌⊎◌, true, List, [], ◌∷◌, Option, Some, None, Ok}
+use Rattle.xdr_wire.specs.Xdr.{Value}
+use Rattle.xdr_wire.specs.Reading.{read_at}
+use Rattle.node_tree.specs.World.{World}
+use Rattle.node_tree.specs.Restored.{Begun, is_whole}
+use Rattle.session_slots.specs.declared.restoring.NextNumbers.{NextNumbers}
+use Rattle.tree_changes.specs.Parts.{part}
+use Rattle.tree_changes.specs.Taken.{TakesAll}
+use Rattle.tree_changes.specs.Replays.{Replays}
+use Rattle.journal.specs.Frames.{Bytes}
+use Rattle.journal.specs.Files.{Content}
+use Rattle.tree_store.specs.Kept.{Kept}
+use Rattle.tree_store.specs.Forms.{numbers, numbers_value}
+
+-- these bytes are the numbers, and no more
+abbrev pub ReadsNumbers : Bytes → NextNumbers → Type 0
+ReadsNumbers bytes next = read_at numbers bytes ≡ Ok (numbers_value next, [])
+
+-- each of the bytes is a part of a tree, and no more
+abbrev pub ReadsParts : List Bytes → List (Value part) → Type 0
+ReadsParts [] [] = Unit {0}
+ReadsParts [] (v ∷ values) = ⊥
+ReadsParts (bytes ∷ parts) [] = ⊥
+ReadsParts (bytes ∷ parts) (v ∷ values) = (read_at part bytes ≡ Ok (v, [])) × ReadsParts parts values
+
+-- these parts, after those that were taken so far, are those of a tree
+pub record Restores (so_far : Option Begun) (parts : List Bytes) (w : World) : Type 0 where
+  pub values : List (Value part)
+  pub read : ReadsParts parts values
+  pub begun : Begun
+  pub taken : TakesAll so_far values (Some begun)
+  pub whole : is_whole begun.world ≡ true
+  pub world_is : w ≡ begun.world
+
+-- a checkpoint: the first part is the numbers, and the others are those of a tree
+abbrev pub Begins : List Bytes → Kept → Type 0
+Begins [] kept = ⊥
+Begins (first ∷ parts) kept = ReadsNumbers first kept.1 × Restores None parts kept.0
+
+-- a record: the numbers, and after them changes that lead from one tree to the next
+pub record LeadsOn (old : Kept) (bytes : Bytes) (new : Kept) : Type 0 where
+  pub rest : Bytes
+  pub numbers_are : read_at numbers bytes ≡ Ok (numbers_value new.1, rest)
+  pub replays : Replays old.0 rest new.0
+
+-- records that lead on, one after the other
+abbrev pub LeadsThrough : Kept → List Bytes → Kept → Type 0
+LeadsThrough old [] new = new ≡ old
+LeadsThrough old (bytes ∷ records) new = (mid : Kept) × LeadsOn old bytes mid × LeadsThrough mid records new
+
+pub record Holds (content : Content) (kept : Kept) : Type 0 where
+  pub base : Kept
+  pub begins : Begins content.parts base
+  pub through : LeadsThrough base content.records kept
+
+-- a journal holds one thing
+abbrev pub HoldsOneLaw : Type 0
+HoldsOneLaw = (content : Content) (j k : Kept) → Holds content j → Holds content k → j ≡ k
+
+-- a content that holds this
+abbrev pub IsHeld : Kept → Option Content → Type 0
+IsHeld kept content = (c : Content) × (content ≡ Some c) × Holds c kept
+
+-- what was found at the start is found again, or what was to be kept
+abbrev pub IsFoundOr : Option Content → Kept → Option Content → Type 0
+IsFoundOr found aim content = (content ≡ found) ⊎ IsHeld aim content
+
+-- what was kept is found, or what was to be kept
+abbrev pub IsHeldOr : Kept → Kept → Option Content → Type 0
+IsHeldOr kept aim content = IsHeld kept content ⊎ IsHeld aim content

@@ -1,0 +1,96 @@
+-- What the calls of a store do.
+use Rattle.std.specs.Prelude.{ℕ, ◌≡◌, ◌⊎◌, true, false, List, [], ◌∷◌, ◌++◌, Option, Some, None, Result, Ok, Err}
+use Rattle.journal.specs.declared.disk.Slot.{Slot}
+use Rattle.journal.specs.declared.disk.Slot.TheVariants.{A, B}
+use Rattle.journal.specs.Disk.{Act, Found as WasFound}
+use Rattle.journal.specs.Frames.{Bytes}
+use Rattle.journal.specs.Files.{Content}
+use Rattle.journal.specs.Opening.{Chooses, Refuses}
+use Rattle.journal.specs.Keeping.{Adding, BothFound, NotBoth}
+use Rattle.node_tree.specs.World.{World}
+use Rattle.session_slots.specs.declared.restoring.NextNumbers.{NextNumbers}
+use Rattle.tree_store.specs.declared.fault.StoreFault.{StoreFault}
+use Rattle.tree_store.specs.declared.fault.StoreFault.TheVariants.{Failed, Version, Damaged, Memory}
+use Rattle.tree_store.specs.declared.opening.Base.{Base}
+use Rattle.tree_store.specs.declared.opening.Found.{Found}
+use Rattle.tree_store.specs.declared.store.Store.{Store}
+use Rattle.tree_store.specs.Kept.{Kept, kept_with, Covers, Follows}
+use Rattle.tree_store.specs.Holds.{Holds, IsFoundOr, IsHeldOr}
+use Rattle.tree_store.specs.Leaving.{Does}
+use Rattle.tree_store.specs.Standing.{Stands}
+
+-- ---- opening
+
+-- a content that holds nothing
+abbrev pub HoldsNothing : Content → Type 0
+HoldsNothing content = (kept : Kept) → Holds content kept → ⊥
+
+-- what a content was read as, or why it wasn't
+abbrev pub ReadsSo : {A : Type 0} → Content → Result (Found A) StoreFault → Type 0
+ReadsSo content (Ok found) = Holds content (kept_with found.tree found.next)
+ReadsSo content (Err Failed) = ⊥
+ReadsSo content (Err Version) = ⊥
+ReadsSo content (Err Damaged) = HoldsNothing content
+ReadsSo content (Err Memory) = Unit {0}
+
+-- What two files have: a new journal has nothing; and what one holds is found, or there is no memory for it.
+abbrev pub OpensSo : {A : Type 0} → ℕ → Bytes → Bytes → Result (Base × Option (Found A)) StoreFault → Type 0
+OpensSo key a b (Ok (base, None)) = (base.key ≡ key) × Chooses key a b base.slot base.generation None
+OpensSo key a b (Ok (base, Some found)) =
+    (base.key ≡ key) × ((content : Content) × Chooses key a b base.slot base.generation (Some content)
+    × Holds content (kept_with found.tree found.next))
+OpensSo key a b (Err Failed) = ⊥
+OpensSo key a b (Err Version) = Refuses key a b true
+OpensSo key a b (Err Damaged) =
+    Refuses key a b false ⊎ ((slot : Slot) × (generation : ℕ) × (content : Content)
+    × Chooses key a b slot generation (Some content) × HoldsNothing content)
+OpensSo key a b (Err Memory) = Unit {0}
+
+abbrev pub BothFoundAnd : {D : Type 0} → Adding D → (Bytes → Bytes → Type 0) → D → D → Type 0
+BothFoundAnd adds so old new = (a : Bytes) × (b : Bytes) × BothFound adds a b old new × so a b
+
+-- Both files were found, and this is what they have; or one of them wasn't.
+abbrev pub Opens : {A D : Type 0} → Adding D → ℕ → Result (Base × Option (Found A)) StoreFault → D → D → Type 0
+Opens adds key (Err Failed) old new = NotBoth adds old new
+Opens adds key (Err Memory) old new = NotBoth adds old new ⊎ BothFoundAnd adds (λ a b. Unit {0}) old new
+Opens adds key (Err Version) old new = BothFoundAnd adds (λ a b. OpensSo key a b (Err Version)) old new
+Opens adds key (Err Damaged) old new = BothFoundAnd adds (λ a b. OpensSo key a b (Err Damaged)) old new
+Opens adds key (Ok found) old new = BothFoundAnd adds (λ a b. OpensSo key a b (Ok found)) old new
+
+-- ---- starting
+
+-- the acts of a start, after which both files are as they were found
+abbrev pub both_found : Bytes → Bytes → List Act
+both_found a b = WasFound B b ∷ WasFound A a ∷ []
+
+-- a store that was begun stands for this
+abbrev pub BegunSo : ℕ → List Act → Result Store StoreFault → Kept → Type 0
+BegunSo key history (Ok store) aim = Stands key history store aim
+BegunSo key history (Err Failed) aim = Unit {0}
+BegunSo key history (Err Version) aim = ⊥
+BegunSo key history (Err Damaged) aim = ⊥
+BegunSo key history (Err Memory) aim = Unit {0}
+
+-- Over two files of which one was chosen: a crash at any moment leaves what was chosen, or what was to be kept; and at
+-- the end the store stands for that.
+abbrev pub Starts : {D : Type 0} → Adding D → Base → Kept → Result Store StoreFault → D → D → Type 0
+Starts adds base aim result old new =
+    (a b : Bytes) (content : Option Content) → Chooses base.key a b base.slot base.generation content
+    → Does adds base.key (both_found a b) (IsFoundOr content aim) (λ acts. BegunSo base.key acts result aim) old new
+
+-- ---- keeping
+
+-- a store that has kept this stands for it, but for open files that were given since; after a fault it isn't called again
+abbrev pub KeptSo : ℕ → List Act → Result (Unit {0}) StoreFault → Store → Kept → Type 0
+KeptSo key history (Ok done) store aim = (kept : Kept) × Stands key history store kept × Covers aim kept
+KeptSo key history (Err Failed) store aim = store.journal.has_failed ≡ true
+KeptSo key history (Err Version) store aim = ⊥
+KeptSo key history (Err Damaged) store aim = ⊥
+KeptSo key history (Err Memory) store aim = store.journal.has_failed ≡ true
+
+-- Of a store that stands for what is kept, from where the notes of the world lead: a crash at any moment leaves that, or
+-- what was to be kept; and at the end the store stands for the latter.
+abbrev pub Keeps : {D : Type 0} → Adding D → Store → World → NextNumbers → Result (Unit {0}) StoreFault → Store → D → D → Type 0
+Keeps adds store w next result store' old new =
+    (history : List Act) (kept : Kept) → Stands store.journal.key history store kept → Follows kept w
+    → Does adds store.journal.key history (IsHeldOr kept (kept_with w next)) (λ acts. KeptSo store.journal.key acts result store' (kept_with w next)) old new

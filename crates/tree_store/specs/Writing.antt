@@ -1,0 +1,106 @@
+-- What the steps of writing a record and a checkpoint do.
+use Rattle.std.specs.Prelude.{ℕ, ◌≡◌, ◌⊎◌, ◌+◌, ◌^◌, ◌<◌, ◌≤◌, Bool, true, false, List, [], ◌∷◌, ◌++◌, length, map, Option, Some, Result, Ok, Err}
+use Rattle.xdr_wire.specs.Xdr.{spelling}
+use Rattle.journal.specs.declared.disk.Slot.{Slot}
+use Rattle.journal.specs.declared.journal.Checkpoint.{Checkpoint}
+use Rattle.journal.specs.declared.journal.Journal.{Journal}
+use Rattle.journal.specs.Disk.{Act, Appended, Tore, Synced, Unsynced, other, settled, on_disk}
+use Rattle.journal.specs.Frames.{Bytes, Frame, PART, RECORD, MAX_BODY, framed, all_framed, frame_with, IsFit}
+use Rattle.journal.specs.Files.{Content}
+use Rattle.journal.specs.Replacing.{IsBase, IsReplaced}
+use Rattle.journal.specs.Keeping.{Adding, Twice}
+use Rattle.node_tree.specs.World.{World}
+use Rattle.session_slots.specs.declared.restoring.NextNumbers.{NextNumbers}
+use Rattle.tree_changes.specs.Parts.{part, parts}
+use Rattle.tree_store.specs.declared.fault.StoreFault.{StoreFault}
+use Rattle.tree_store.specs.declared.fault.StoreFault.TheVariants.{Failed, Version, Damaged, Memory}
+use Rattle.tree_store.specs.declared.store.Store.{Store}
+use Rattle.tree_store.specs.Kept.{Kept}
+use Rattle.tree_store.specs.Forms.{numbers, numbers_value}
+use Rattle.tree_store.specs.Holds.{IsFoundOr, IsHeldOr}
+use Rattle.tree_store.specs.Leaving.{Does, Leaves, written_since}
+use Rattle.tree_store.specs.Standing.{Stands}
+
+-- ---- a record
+
+abbrev pub frame_of : Journal → Bytes → Frame
+frame_of j bytes = frame_with RECORD j.safe bytes
+
+abbrev pub framed_of : Journal → Bytes → Bytes
+framed_of j bytes = framed j.key j.generation j.number (frame_of j bytes)
+
+-- A record was appended and then synced, or the disk has failed, or nothing was done: there is no memory, or the disk had
+-- failed before, or the record is too long or no number is left.
+abbrev pub RecordGives : {D : Type 0} → Adding D → Journal → Bytes → Result (Unit {0}) StoreFault → Journal → D → D → Type 0
+RecordGives adds j bytes (Ok done) j' old new =
+    Twice adds (Appended j.slot (framed_of j bytes)) (Synced j.slot) old new × IsFit j.key j.generation j.number (frame_of j bytes)
+    × (j' ≡ record j { number = j.number + 1; safe = j.number + 1; has_failed = false })
+RecordGives adds j bytes (Err Failed) j' old new =
+    ((new ≡ old) × ((j.has_failed ≡ true) ⊎ ((MAX_BODY < length bytes) ⊎ (j.number ≡ 18446744073709551615))))
+    ⊎ ((adds old (Tore j.slot (framed_of j bytes)) new ⊎ Twice adds (Appended j.slot (framed_of j bytes)) (Unsynced j.slot) old new)
+    × IsFit j.key j.generation j.number (frame_of j bytes))
+RecordGives adds j bytes (Err Version) j' old new = ⊥
+RecordGives adds j bytes (Err Damaged) j' old new = ⊥
+RecordGives adds j bytes (Err Memory) j' old new = new ≡ old
+
+-- ---- a checkpoint
+
+abbrev pub part_frames : List Bytes → List Frame
+part_frames parts = map (frame_with PART 0) parts
+
+-- A checkpoint is being written into the other file than this one, which counts with its generation and content: these
+-- parts were appended.
+pub record IsBegun (key generation : ℕ) (s : Slot) (content : Option Content) (c : Checkpoint) (parts : List Bytes) (history : List Act) : Type 0 where
+  pub replaced : IsReplaced key generation s content (part_frames parts) true history
+  pub written : written_since (other s) history ≡ all_framed key (generation + 1) 0 (part_frames parts)
+  pub checkpoint_is : c ≡ record { key = key; slot = other s; generation = generation + 1; number = length parts; has_failed = false }
+
+-- what stands after a step, where it has succeeded
+abbrev pub IfDone : {X : Type 0} → (X → Type 0) → Result X StoreFault → Type 0
+IfDone so (Ok x) = so x
+IfDone so (Err Failed) = Unit {0}
+IfDone so (Err Version) = ⊥
+IfDone so (Err Damaged) = ⊥
+IfDone so (Err Memory) = Unit {0}
+
+-- Of a checkpoint that is being written: more parts are appended, and a crash at any moment leaves what the old file has.
+abbrev pub Appends : {D : Type 0} → Adding D → Checkpoint → List Bytes → Result (Unit {0}) StoreFault → Checkpoint → D → D → Type 0
+Appends adds c more result c' old new =
+    (key generation : ℕ) (s : Slot) (content : Option Content) (parts : List Bytes) (history : List Act)
+    → IsBegun key generation s content c parts history
+    → Does adds key history (λ o. o ≡ content) (λ acts. IfDone (λ done. IsBegun key generation s content c' (parts ++ more) acts) result) old new
+
+-- the parts of a checkpoint
+abbrev pub all_parts : World → NextNumbers → List Bytes
+all_parts w next = spelling numbers (numbers_value next) ∷ map (spelling part) (parts w)
+
+-- after these acts this file counts, with its generation and content, and all of it is synced
+pub record Counts (key generation : ℕ) (s : Slot) (content : Option Content) (history : List Act) : Type 0 where
+  pub bytes : Bytes
+  pub at_rest : on_disk s history ≡ settled bytes
+  pub base : IsBase key generation s content bytes
+  pub leaves : Leaves key history (λ o. o ≡ content)
+
+-- Over a file that counts: a crash at any moment leaves what it has, or what was to be kept; and at the end a store stands
+-- for that.
+abbrev pub Checkpoints : {D : Type 0} → Adding D → ℕ → Slot → ℕ → Kept → Result Store StoreFault → D → D → Type 0
+Checkpoints adds key s generation aim result old new =
+    (content : Option Content) (history : List Act) → Counts key generation s content history
+    → Does adds key history (IsFoundOr content aim) (λ acts. IfDone (λ store. Stands key acts store aim) result) old new
+
+-- ---- a store that goes on
+
+-- Of a store that stands for what is kept: a crash at any moment leaves that, or what was to be kept; and at the end the
+-- store stands for the latter, or it has failed.
+abbrev pub GoesOn : {D : Type 0} → Adding D → Store → Kept → Kept → Result (Unit {0}) StoreFault → Store → D → D → Type 0
+GoesOn adds store kept aim result store' old new =
+    (history : List Act) → Stands store.journal.key history store kept
+    → Does adds store.journal.key history (IsHeldOr kept aim) (λ acts. IfDone (λ done. Stands store.journal.key acts store' aim) result) old new
+
+-- nothing was noted, and the numbers are those that are kept, but for open files, of which fewer than 2 ^ 31 were given
+pub record IsIdle (store : Store) (bytes : Bytes) (next : NextNumbers) : Type 0 where
+  pub none : bytes ≡ []
+  pub client_is : store.next.client ≡ next.client
+  pub session_is : store.next.session ≡ next.session
+  pub no_later : store.next.open_file ≤ next.open_file
+  pub near : next.open_file < store.next.open_file + 2 ^ 31

@@ -1,0 +1,17 @@
+//! A store of a tree: a checkpoint of it, and a record of each turn's changes after that, in the two files of a journal.
+#![tactic(auto)]
+
+mod checkpoint;
+mod fault;
+mod laws;
+mod numbers;
+mod opening;
+mod reading;
+mod record;
+mod store;
+
+pub use fault::StoreFault;
+pub use laws::what_a_store_holds_is_one;
+pub use numbers::after_start;
+pub use opening::{Base, Found, open};
+pub use store::{NOTES_ROOM, Store};

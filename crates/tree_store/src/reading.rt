@@ -1,0 +1,120 @@
+//! A checkpoint and records, read as what was kept.
+ghost use Rattle.std.specs.Prelude.{map};
+ghost use Rattle.tree_store.specs.Keeping.{ReadsSo};
+ghost use Rattle.tree_store.specs.Reading.{NumbersSo, TakesSo, RestoresSo, BeginsSo, LeadsSo, content_of, found_kept};
+
+use crate::fault::StoreFault;
+use crate::numbers::read_numbers;
+use crate::opening::Found;
+use node_tree::{RestoreFault, Restoring, Tree};
+use session_slots::NextNumbers;
+use std::alloc::Allocator;
+use tree_changes::{ReplayFault, SaidPart, replay, take};
+use xdr_wire::{Reader, Wire};
+
+/// Takes the part that these bytes are, whole.
+fn take_part<A: Allocator + Copy>(
+    alloc: A,
+    so_far: Option<Restoring<A>>,
+    bytes: &[u8],
+) -> Result<Restoring<A>, StoreFault>
+    ensures { TakesSo so_far bytes.now result }
+{
+    let mut reader = Reader::new(bytes);
+    let Ok(part) = SaidPart::read(&mut reader) else {
+        return Err(StoreFault::Damaged);
+    };
+    if !reader.is_empty() {
+        return Err(StoreFault::Damaged);
+    }
+    match take(alloc, so_far, part) {
+        Ok(more) => Ok(more),
+        Err(RestoreFault::Unsound) => Err(StoreFault::Damaged),
+        Err(RestoreFault::Memory) => Err(StoreFault::Memory),
+    }
+}
+
+/// The tree of these parts.
+fn restored<A: Allocator + Copy>(alloc: A, parts: &[&[u8]]) -> Result<Tree<A>, StoreFault>
+    ensures { RestoresSo (map (λ b. b.now) parts.now) result }
+{
+    let mut so_far = None;
+    let mut left = parts;
+    while let Some((bytes, others)) = left.split_first() {
+        so_far = Some(take_part(alloc, so_far, bytes)?);
+        left = others;
+    }
+    let Some(restoring) = so_far else {
+        return Err(StoreFault::Damaged);
+    };
+    let Some(tree) = restoring.finish() else {
+        return Err(StoreFault::Damaged);
+    };
+    Ok(tree)
+}
+
+/// The numbers that these bytes are, whole.
+fn whole_numbers(bytes: &[u8]) -> Option<NextNumbers>
+    ensures { NumbersSo bytes.now result }
+{
+    let mut reader = Reader::new(bytes);
+    let Ok(next) = read_numbers(&mut reader) else {
+        return None;
+    };
+    if !reader.is_empty() {
+        return None;
+    }
+    Some(next)
+}
+
+/// What a checkpoint of these parts has.
+fn begun<A: Allocator + Copy>(alloc: A, parts: &[&[u8]]) -> Result<Found<A>, StoreFault>
+    ensures { BeginsSo (map (λ b. b.now) parts.now) result }
+{
+    let Some((first, others)) = parts.split_first() else {
+        return Err(StoreFault::Damaged);
+    };
+    let Some(next) = whole_numbers(first) else {
+        return Err(StoreFault::Damaged);
+    };
+    let tree = restored(alloc, others)?;
+    Ok(Found { tree, next })
+}
+
+/// Leads on by a record. After a fault what was found isn't one to go on with.
+fn lead_on<A: Allocator + Copy>(
+    alloc: A,
+    found: &mut Found<A>,
+    bytes: &[u8],
+) -> Result<(), StoreFault>
+    ensures { LeadsSo (found_kept found.old) bytes.now result (found_kept found.new) }
+{
+    let mut reader = Reader::new(bytes);
+    let Ok(next) = read_numbers(&mut reader) else {
+        return Err(StoreFault::Damaged);
+    };
+    match replay(&mut found.tree, alloc, reader.rest()) {
+        Ok(()) => {}
+        Err(ReplayFault::Unfit) => return Err(StoreFault::Damaged),
+        Err(ReplayFault::Memory) => return Err(StoreFault::Memory),
+    }
+    found.next = next;
+    Ok(())
+}
+
+/// What a checkpoint and records hold. `Damaged`: they hold nothing. `Memory`.
+pub(crate) fn read_content<A: Allocator + Copy>(
+    alloc: A,
+    parts: &[&[u8]],
+    records: &[&[u8]],
+) -> Result<Found<A>, StoreFault>
+    ensures { ReadsSo (content_of (map (λ b. b.now) parts.now) (map (λ b. b.now) records.now)) result }
+{
+    let mut found = begun(alloc, parts)?;
+    let mut left = records;
+    while let Some((bytes, others)) = left.split_first() {
+        lead_on(alloc, &mut found, bytes)?;
+        left = others;
+    }
+    Ok(found)
+}
