@@ -1,6 +1,7 @@
 //! Listening on 127.0.0.1, and serving by the options.
 use crate::book_file::BookFile;
 use crate::sockets::Sockets;
+use crate::stored::Stored;
 use crate::streams::Served;
 use crate::trail_file::TrailFile;
 use crate::{Fault, TURNS, ended};
@@ -26,16 +27,17 @@ fn trail<'a, R: Files + Alloc + SystemTimes>(
     }
 }
 
-/// What is served by the options: sockets that listen, the file of the trail, and the file of the book.
+/// What is served by the options: sockets that listen, the store, the file of the trail, and the file of the book.
 fn served<'a, R: Net + Files + Alloc + Eprint + SystemTimes>(
     rt: &'a R,
     alloc: Global,
     options: &Options<'a>,
     book: BookFile<'a, R>,
+    stored: Option<Stored>,
 ) -> Result<Served<'a, R>, Fault> {
     let trail = trail(rt, options)?;
     match Sockets::listen(rt, alloc, options.port, options.privileged_ports) {
-        Ok(sockets) => Ok(Served::new(rt, sockets, trail, book)),
+        Ok(sockets) => Ok(Served::new(rt, sockets, stored, trail, book)),
         Err(error) => Err(Fault::Socket(Some(error.kind()))),
     }
 }
@@ -53,6 +55,7 @@ fn limits(options: &Options<'_>) -> Limits {
         reads: TURNS,
         turns: u64::MAX,
         makes_room: options.concurrent,
+        leases: false,
     }
 }
 
@@ -70,6 +73,7 @@ fn serve_connections<R: Files + Alloc + Eprint + SystemTimes, C: Clock>(
         AllEnd::Turns => Ok(ended(rt, ServeEnd::Turns)),
         AllEnd::Wait => Err(Fault::Socket(None)),
         AllEnd::Keep => Err(Fault::Trail),
+        AllEnd::Store => Err(Fault::Store(served.store_stop())),
         AllEnd::Memory => Err(Fault::Hub(HubFault::Memory as u8)),
     }
 }
@@ -83,8 +87,9 @@ pub(crate) fn serve_options<R: Net + Files + Alloc + Print + Eprint + SystemTime
     clock: &C,
     options: &Options<'_>,
     book: BookFile<'_, R>,
+    stored: Option<Stored>,
 ) -> io::Result<Result<bool, Fault>> {
-    let mut served = match served(rt, alloc, options, book) {
+    let mut served = match served(rt, alloc, options, book, stored) {
         Ok(served) => served,
         Err(fault) => return Ok(Err(fault)),
     };

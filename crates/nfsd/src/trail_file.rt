@@ -1,7 +1,6 @@
 //! The file in which the trail is kept.
 use crate::book_file::id_of;
 use crate::book_rule::FileId;
-use crate::bounded::{Bounded, file_limit};
 use crate::clock::second;
 use access_guard::Guard;
 use std::fs::{OpenFile, OpenOptions};
@@ -9,6 +8,7 @@ use std::io::{Read, Seek, SeekFrom};
 use std::os::unix::fs::MetadataExt;
 use std::rt::{Clock, Files};
 use std::{fs, io};
+use store_files::{Bounded, file_limit};
 use trail_keeper::{TrailKeeper, moment_text};
 
 /// The file that a name leads to, opened to append to, and which file it is.

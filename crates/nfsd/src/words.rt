@@ -43,7 +43,7 @@ pub(crate) fn say_no_book<R: Files + Alloc + Eprint>(
                 "{path}: members: the key is missing, which the book before has; members = {{}} says nobody"
             );
         }
-        Fault::Hub(_) | Fault::Trail | Fault::Socket(_) => {}
+        Fault::Hub(_) | Fault::Store(_) | Fault::Trail | Fault::Socket(_) => {}
     }
 }
 
@@ -84,6 +84,11 @@ pub(crate) fn say<R: Files + Alloc + Eprint>(
         }
         Fault::Hub(_) => {
             let _ = eprintln!(rt; "there is no memory to begin with");
+        }
+        Fault::Store(stop) => {
+            if let Some(path) = options.store {
+                let _ = eprintln!(rt; "{path}{stop}");
+            }
         }
         Fault::Trail => {
             if let Some(path) = options.trail {
