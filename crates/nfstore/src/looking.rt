@@ -1,0 +1,67 @@
+//! Looking at a store.
+use journal::{OpenFault, Slot, choose, load};
+use std::alloc::Global;
+use std::fs::File;
+use std::rt::Files;
+use store_files::{Standing, StoreFolder, StoreStop, what_stands};
+use tree_store::{Found, StoreFault, open};
+
+/// What a store has.
+#[derive(Drop)]
+pub(crate) struct Looked {
+    /// The file that counts, and what stands in it; `None`, where nothing is kept yet.
+    pub(crate) counts: Option<Counting>,
+    pub(crate) found: Option<Found<Global>>,
+}
+
+/// The file that counts.
+#[derive(Clone, Copy)]
+pub(crate) struct Counting {
+    pub(crate) slot: Slot,
+    pub(crate) standing: Standing,
+    pub(crate) records: usize,
+}
+
+/// The file that counts, if one does. `Err`: there is no memory, or what was found has changed.
+fn counting(alloc: Global, folder: &mut StoreFolder) -> Result<Option<Counting>, OpenFault> {
+    let key = folder.key();
+    let (a, b) = load(folder, alloc)?;
+    let chosen = choose(alloc, key, &a, &b)?;
+    if !chosen.is_whole {
+        return Ok(None);
+    }
+    let bytes = match chosen.slot {
+        Slot::A => &a,
+        Slot::B => &b,
+    };
+    Ok(Some(Counting {
+        slot: chosen.slot,
+        standing: what_stands(key, bytes),
+        records: chosen.records.len(),
+    }))
+}
+
+/// Looks at the store of a folder.
+pub(crate) fn look<R: Files<File = File> + Alloc>(
+    rt: &R,
+    alloc: Global,
+    path: &str,
+) -> Result<Looked, StoreStop> {
+    let mut folder = match StoreFolder::open_to_read(rt, path) {
+        Ok(folder) => folder,
+        Err(fault) => return Err(StoreStop::from(fault)),
+    };
+    let key = folder.key();
+    let found = match open(&mut folder, alloc, key) {
+        Ok((_, found)) => found,
+        Err(StoreFault::Failed) => return Err(StoreStop::failed(&mut folder)),
+        Err(StoreFault::Version) => return Err(StoreStop::version(alloc, &mut folder)),
+        Err(StoreFault::Damaged) => return Err(StoreStop::damaged(alloc, &mut folder)),
+        Err(StoreFault::Memory) => return Err(StoreStop::Memory),
+    };
+    match counting(alloc, &mut folder) {
+        Ok(counts) => Ok(Looked { counts, found }),
+        Err(OpenFault::Failed) => Err(StoreStop::failed(&mut folder)),
+        Err(_) => Err(StoreStop::Memory),
+    }
+}
