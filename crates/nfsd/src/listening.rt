@@ -3,7 +3,7 @@ use crate::book_file::BookFile;
 use crate::sockets::Sockets;
 use crate::stored::Stored;
 use crate::streams::Served;
-use crate::trail_file::TrailFile;
+use crate::trail_file::{TrailFile, is_of_store};
 use crate::{Fault, TURNS, ended};
 use nfs_hub::{Clock, Hub, HubFault, MAX_CONNECTIONS, ServeEnd};
 use nfs_streams::{AllEnd, Limits, serve_all};
@@ -13,7 +13,7 @@ use std::io;
 use std::net::Net;
 use std::rt::{Clock as SystemTimes, Files};
 
-/// The file of the trail, where the options name one.
+/// The file of the trail, where the options name one. It is none of the store's.
 fn trail<'a, R: Files + Alloc + SystemTimes>(
     rt: &'a R,
     options: &Options<'a>,
@@ -21,6 +21,12 @@ fn trail<'a, R: Files + Alloc + SystemTimes>(
     let Some(path) = options.trail else {
         return Ok(None);
     };
+    if options
+        .store
+        .is_some_and(|folder| is_of_store(rt, path, folder))
+    {
+        return Err(Fault::Trail);
+    }
     match TrailFile::start(rt, path, options.book, options.stamped) {
         Some(trail) => Ok(Some(trail)),
         None => Err(Fault::Trail),
