@@ -4,3 +4,4 @@ pub mod Remembering
 pub mod Calls
 pub mod Hits
 pub mod Hashing
+pub mod Noting

@@ -1,6 +1,6 @@
 //! EXCHANGE_ID (RFC 8881, section 18.35).
 ghost use Rattle.std.specs.Prelude.{◌≡◌, ◌<◌, ◌^◌, Ok, Err, Some, None};
-ghost use Rattle.session_slots.specs.Exchanging.{known, answered_flags, standing_new, standing, MakesClient, Exchanges};
+ghost use Rattle.session_slots.specs.Exchanging.{known, answered_flags, standing_new, standing, without_unconfirmed, MakesClient, Exchanges};
 ghost use Rattle.session_slots.specs.Views.{exchanging_of};
 
 use crate::changes::{
@@ -141,6 +141,14 @@ impl<A: Allocator + Copy> Registry<A> {
         })
     }
 
+    /// A client is known: the owner's unconfirmed record goes, and the client counts as heard.
+    fn meet(&mut self, owner: &[u8], client: u64, now: u64)
+        ensures { self.new ≡ without_unconfirmed owner.now self.old }
+    {
+        remove_unconfirmed(&mut self.clients, owner);
+        self.hear(client, now);
+    }
+
     /// EXCHANGE_ID.
     pub fn exchange(&mut self, asked: Exchange<'_>) -> Result<Exchanged, Status>
         ensures { Exchanges self.old (exchanging_of asked.entry) result self.new }
@@ -148,8 +156,7 @@ impl<A: Allocator + Copy> Registry<A> {
         match self.judge_exchange(asked) {
             Standing::Refuses(status) => Err(status),
             Standing::Knows(known) => {
-                remove_unconfirmed(&mut self.clients, asked.owner);
-                self.hear(known.client, asked.now);
+                self.meet(asked.owner, known.client, asked.now);
                 Ok(known)
             }
             Standing::Makes(gone) => self.make_client(asked, gone),

@@ -48,7 +48,12 @@ fn change_all<A: Allocator + Copy>(alloc: A, tree: &mut Tree<A>) -> Result<(), T
     let directory = tree.add(ROOT, b"d", new_object(alloc, Kind::Directory, b""), when)?;
     let file = tree.add(directory, b"f", new_object(alloc, Kind::File, b"abc"), when)?;
     let when = at(tree);
-    tree.add(directory, b"l", new_object(alloc, Kind::Link, b"../f"), when)?;
+    tree.add(
+        directory,
+        b"l",
+        new_object(alloc, Kind::Link, b"../f"),
+        when,
+    )?;
     tree.link(ROOT, b"further", file, when)?;
     let when = at(tree);
     tree.write(file, 5, b"xyz", when)?;
@@ -85,7 +90,11 @@ fn what_is_noted_gives_the_tree_again(rt: HostRuntime) {
         panic!(rt; "no notes");
     };
     // an object of a directory, a name of a byte, two entries and no bytes
-    assert!(rt; notes[..4] == [0, 0, 0, 0] && notes[4..12] == [0, 0, 0, 0, 0, 0, 0, 1] && notes[12..20] == [0, 0, 0, 1, 100, 0, 0, 0]);
+    assert!(rt;
+        notes[..4] == [0, 0, 0, 0]
+            && notes[4..12] == [0, 0, 0, 0, 0, 0, 0, 1]
+            && notes[12..20] == [0, 0, 0, 1, 100, 0, 0, 0]
+    );
     assert!(rt; replay(&mut other, a, notes).is_ok() && same(&tree, &other));
 }
 
@@ -106,7 +115,10 @@ fn a_record_of_another_tree_is_refused(rt: HostRuntime) {
         panic!(rt; "no memory");
     };
     assert!(rt; replay(&mut third, a, &notes[..notes.len() - 4]) == Err(ReplayFault::Unfit));
-    assert!(rt; replay(&mut third, a, &[0]) == Err(ReplayFault::Unfit) && replay(&mut third, a, &[]) == Ok(()));
+    assert!(rt;
+        replay(&mut third, a, &[0]) == Err(ReplayFault::Unfit)
+            && replay(&mut third, a, &[]) == Ok(())
+    );
 }
 
 #[test]
@@ -117,7 +129,11 @@ fn a_change_without_room_is_lost(rt: HostRuntime) {
     };
     // the removal of `notes`: 4, 8, 4 + 8, 8, 8 and 4 bytes
     let when = at(&tree);
-    assert!(rt; tree.begin_notes(43).is_ok() && tree.unlink(ROOT, b"notes", when).is_ok() && tree.notes().is_none());
+    assert!(rt;
+        tree.begin_notes(43).is_ok()
+            && tree.unlink(ROOT, b"notes", when).is_ok()
+            && tree.notes().is_none()
+    );
     tree.clear_notes();
     assert!(rt; tree.notes() == Some(&[][..]));
     let Ok(mut tree) = Tree::sample(a) else {

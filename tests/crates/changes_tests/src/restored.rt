@@ -64,15 +64,25 @@ fn outcome<A: Allocator + Copy>(
 }
 
 const D: Kind = Kind::Directory;
+
 const F: Kind = Kind::File;
 
 #[test]
 fn a_tree_whose_parents_have_later_numbers_and_cookies(rt: HostRuntime) {
-    let tree = restore(rt.alloc(), &[(ROOT, D), (4, D), (9, D), (11, F)], &[(3, 4, 11), (8, 9, 4), (9, ROOT, 9), (30, ROOT, 11)]);
+    let tree = restore(
+        rt.alloc(),
+        &[(ROOT, D), (4, D), (9, D), (11, F)],
+        &[(3, 4, 11), (8, 9, 4), (9, ROOT, 9), (30, ROOT, 11)],
+    );
     let Ok(Some(tree)) = tree else {
         panic!(rt; "no tree");
     };
-    assert!(rt; tree.find(ROOT, &[9]) == Some(9) && tree.find(9, &[8]) == Some(4) && tree.links(11) == 2 && tree.parent(4) == Some(9));
+    assert!(rt;
+        tree.find(ROOT, &[9]) == Some(9)
+            && tree.find(9, &[8]) == Some(4)
+            && tree.links(11) == 2
+            && tree.parent(4) == Some(9)
+    );
     assert!(rt; tree.next_tick() == 10 && tree.next_stamp() == 30);
 }
 

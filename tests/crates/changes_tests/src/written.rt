@@ -43,18 +43,21 @@ fn the_parts_of_the_sample(rt: HostRuntime) {
     assert!(rt; counters == (4, (4, (4, 5))));
     for wanted in 1..4u64 {
         let Ok(SaidPart::Object(number, (_, (bytes, (owner, _))), (change, (_, (_, stamp))))) =
-            SaidPart::read(&mut reader)
-        else {
+            SaidPart::read(&mut reader) else {
             panic!(rt; "no object");
         };
         assert!(rt; number == wanted && change == wanted && stamp == wanted);
-        assert!(rt; (bytes.bytes == b"hi".as_slice()) == (number == 2) && (owner == 1001) == (number == 2));
+        assert!(rt;
+            (bytes.bytes == b"hi".as_slice()) == (number == 2) && (owner == 1001) == (number == 2)
+        );
     }
     for (wanted, text) in [(3u64, &b"notes"[..]), (4, &b"pub"[..])] {
         let Ok(SaidPart::Name(cookie, directory, name, child)) = SaidPart::read(&mut reader) else {
             panic!(rt; "no name");
         };
-        assert!(rt; cookie == wanted && directory == 1 && name.bytes == text && child == wanted - 1);
+        assert!(rt;
+            cookie == wanted && directory == 1 && name.bytes == text && child == wanted - 1
+        );
     }
     assert!(rt; reader.is_empty());
 }
