@@ -71,8 +71,9 @@ FinishGives adds c (Err Memory) old new = new ≡ old
 FinishGives adds c (Err Full) old new = (c.number ≡ 18446744073709551615) × (new ≡ old)
 FinishGives adds c (Err Failed) old new =
     ((c.has_failed ≡ true) × (new ≡ old))
-    ⊎ (adds old (Tore c.slot (framed c.key c.generation c.number end_frame)) new
+    ⊎ ((adds old (Tore c.slot (framed c.key c.generation c.number end_frame)) new
     ⊎ Twice adds (Appended c.slot (framed c.key c.generation c.number end_frame)) (Unsynced c.slot) old new)
+    × IsFit c.key c.generation c.number end_frame)
 
 -- both files were found, the first one first
 abbrev pub BothFound : {D : Type 0} → Adding D → List ℕ → List ℕ → D → D → Type 0

@@ -1,0 +1,9 @@
+pub mod Doing
+pub mod Crashes
+pub mod Records
+pub mod Parts
+pub mod One
+pub mod Quiet
+pub mod Gathering
+pub mod GoingOn
+pub mod Writing

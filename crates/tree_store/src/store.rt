@@ -105,7 +105,7 @@ impl Store {
     }
 
     /// Keeps a record of changes.
-    fn note<D: Disk, A: Allocator>(
+    fn note<D: Disk, A: Allocator + Copy>(
         &mut self,
         disk: &mut D,
         alloc: A,

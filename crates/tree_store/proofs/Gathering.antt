@@ -1,0 +1,139 @@
+-- A checkpoint and records that are read piece by piece.
+use Rattle.std.proofs.Common.{◌≡◌, ℕ, true, false, List, [], ◌∷◌, refl, sym, ◌∙◌, ap, subst, Ok, Some, None}
+use Rattle.std.specs.Prelude.{Option}
+use Rattle.xdr_wire.specs.Xdr.{Value}
+use Rattle.xdr_wire.specs.Reading.{read_at}
+use Rattle.node_tree.specs.World.{World}
+use Rattle.node_tree.specs.Restored.{Begun, is_whole}
+use Rattle.tree_changes.specs.Noting.{bare}
+use Rattle.tree_changes.specs.Parts.{part}
+use Rattle.tree_changes.specs.Taken.{Takes, TakesAll}
+use Rattle.journal.specs.Frames.{Bytes}
+use Rattle.journal.specs.Files.{Content}
+use Rattle.tree_store.specs.Kept.{Kept}
+use Rattle.tree_store.specs.Holds.{ReadsParts, Restores, Begins, LeadsOn, LeadsThrough, Holds}
+use Rattle.tree_store.specs.Reading.{TakesBytes, content_of}
+use Rattle.tree_store.proofs.One.{one_reading, takes_one, begins_one, leads_on_one}
+use Rattle.tree_store.proofs.Quiet.{IsQuiet, bare_is, replays_quiet, restores_quiet}
+
+-- ---- parts
+
+-- what is left of the parts restores what all of them do
+pub record IsTaking (parts : List Bytes) (so_far : Option Begun) (left : List Bytes) : Type 0 where
+  pub whole : (w : World) → Restores so_far left w → Restores None parts w
+  pub rest : (w : World) → Restores None parts w → Restores so_far left w
+
+pub taking_begun : (parts left : List Bytes) → left ≡ parts → IsTaking parts None left
+taking_begun parts left same = record {
+  whole = λ w r. subst (λ (l : List Bytes). Restores None l w) same r;
+  rest = λ w r. subst (λ (l : List Bytes). Restores None l w) (sym same) r;
+}
+
+module _ (so_far : Option Begun) (bytes : Bytes) (left : List Bytes) (more : Begun) (takes : TakesBytes so_far bytes more) where
+  onward : (values : List (Value part)) (begun : Begun) → ReadsParts (bytes ∷ left) values → TakesAll so_far values (Some begun) → (w : World) → is_whole begun.world ≡ true → w ≡ begun.world → Restores (Some more) left w
+  onward [] begun read taken w whole is = elim read [ ]
+  onward (v ∷ values) begun read (next, first, others) w whole is =
+      let value : v ≡ takes.0 = (one_reading (read_at part bytes) v takes.0 [] [] read.0 takes.1).0 in
+      let same : next ≡ more = takes_one so_far takes.0 next more (subst (λ (u : Value part). Takes so_far u next) value first) takes.2 in
+      record {
+        values = values;
+        read = read.1;
+        begun = begun;
+        taken = subst (λ (m : Begun). TakesAll (Some m) values (Some begun)) same others;
+        whole = whole;
+        world_is = is;
+      }
+
+pub taking_more : (parts : List Bytes) (so_far : Option Begun) (all : List Bytes) (bytes : Bytes) (left : List Bytes) (more : Begun) → IsTaking parts so_far all → all ≡ bytes ∷ left → TakesBytes so_far bytes more → IsTaking parts (Some more) left
+taking_more parts so_far all bytes left more old is takes = record {
+  whole = λ w r. old.whole w (subst (λ (l : List Bytes). Restores so_far l w) (sym is) (record {
+    values = takes.0 ∷ r.values;
+    read = (takes.1, r.read);
+    begun = r.begun;
+    taken = (more, takes.2, r.taken);
+    whole = r.whole;
+    world_is = r.world_is;
+  }));
+  rest = λ w r.
+      let q : Restores so_far (bytes ∷ left) w = subst (λ (l : List Bytes). Restores so_far l w) is (old.rest w r) in
+      onward so_far bytes left more takes q.values q.begun q.read q.taken w q.whole q.world_is;
+}
+
+pub taking_done : (parts : List Bytes) (b : Begun) (left : List Bytes) → IsTaking parts (Some b) left → left ≡ [] → is_whole b.world ≡ true → (w : World) → w ≡ b.world → Restores None parts w
+taking_done parts b left t none whole w is = t.whole w (subst (λ (l : List Bytes). Restores (Some b) l w) (sym none) (record { values = []; read = tt; begun = b; taken = refl; whole = whole; world_is = is }))
+
+-- where nothing is left, all were taken
+ended : (so_far : Option Begun) (values : List (Value part)) (begun : Begun) → ReadsParts [] values → TakesAll so_far values (Some begun) → so_far ≡ Some begun
+ended so_far [] begun read taken = taken
+ended so_far (v ∷ values) begun read taken = elim read [ ]
+
+at_end : (so_far : Option Begun) (left : List Bytes) (w : World) → left ≡ [] → (r : Restores so_far left w) → so_far ≡ Some r.begun
+at_end so_far left w none r = ended so_far r.values r.begun (subst (λ (l : List Bytes). ReadsParts l r.values) none r.read) r.taken
+
+pub taking_none : (parts left : List Bytes) → IsTaking parts None left → left ≡ [] → (w : World) → Restores None parts w → ⊥
+taking_none parts left t none w r = never (at_end None left w none (t.rest w r))
+  where
+    never : {b : Begun} → None ≡ Some b → ⊥
+    never e = cc
+
+pub taking_unwhole : (parts : List Bytes) (b : Begun) (left : List Bytes) → IsTaking parts (Some b) left → left ≡ [] → is_whole b.world ≡ false → (w : World) → Restores None parts w → ⊥
+taking_unwhole parts b left t none unwhole w r =
+    let q = t.rest w r in
+    let same : b ≡ q.begun = some_one b q.begun (at_end (Some b) left w none q) in
+    never (sym unwhole ∙ ap (λ (c : Begun). is_whole c.world) same ∙ q.whole)
+  where
+    some_one : (b c : Begun) → Some b ≡ Some c → b ≡ c
+    some_one b c e = cc
+
+    never : false ≡ true → ⊥
+    never e = cc
+
+untaken : (so_far : Option Begun) (bytes : Bytes) (left : List Bytes) → ((more : Begun) → TakesBytes so_far bytes more → ⊥) → (values : List (Value part)) (begun : Begun) → ReadsParts (bytes ∷ left) values → TakesAll so_far values (Some begun) → ⊥
+untaken so_far bytes left not [] begun read taken = elim read [ ]
+untaken so_far bytes left not (v ∷ values) begun read (next, first, others) = not next (v, read.0, first)
+
+pub taking_not : (parts : List Bytes) (so_far : Option Begun) (all : List Bytes) (bytes : Bytes) (left : List Bytes) → IsTaking parts so_far all → all ≡ bytes ∷ left → ((more : Begun) → TakesBytes so_far bytes more → ⊥) → (w : World) → Restores None parts w → ⊥
+taking_not parts so_far all bytes left t is not w r =
+    let q : Restores so_far (bytes ∷ left) w = subst (λ (l : List Bytes). Restores so_far l w) is (t.rest w r) in
+    untaken so_far bytes left not q.values q.begun q.read q.taken
+
+-- ---- records
+
+-- what is left of the records leads to where all of them lead
+pub record IsLed (base : Kept) (records : List Bytes) (found : Kept) (left : List Bytes) : Type 0 where
+  pub whole : (k : Kept) → LeadsThrough found left k → LeadsThrough base records k
+  pub rest : (k : Kept) → LeadsThrough base records k → LeadsThrough found left k
+  pub quiet : IsQuiet found.0
+
+pub led_begun : (base : Kept) (records left : List Bytes) → left ≡ records → IsQuiet base.0 → IsLed base records base left
+led_begun base records left same quiet = record {
+  whole = λ k l. subst (λ (r : List Bytes). LeadsThrough base r k) same l;
+  rest = λ k l. subst (λ (r : List Bytes). LeadsThrough base r k) (sym same) l;
+  quiet = quiet;
+}
+
+pub led_more : (base : Kept) (records : List Bytes) (found : Kept) (all : List Bytes) (bytes : Bytes) (left : List Bytes) (next : Kept) → IsLed base records found all → all ≡ bytes ∷ left → LeadsOn found bytes next → IsLed base records next left
+led_more base records found all bytes left next led is on = record {
+  whole = λ k l. led.whole k (subst (λ (r : List Bytes). LeadsThrough found r k) (sym is) (next, on, l));
+  rest = λ k l.
+      let q : LeadsThrough found (bytes ∷ left) k = subst (λ (r : List Bytes). LeadsThrough found r k) is (led.rest k l) in
+      subst (λ (m : Kept). LeadsThrough m left k) (leads_on_one found bytes q.0 next q.1 on) q.2;
+  quiet = replays_quiet found.0 on.rest next.0 on.replays led.quiet;
+}
+
+
+
+
+abbrev both : World → Kept → Kept
+both w k = (w, k.1)
+
+pub led_done : (parts records : List Bytes) (base found : Kept) (left : List Bytes) → Begins parts base → IsLed base records found left → left ≡ [] → Holds (content_of parts records) (bare found.0, found.1)
+led_done parts records base found left begins led none =
+    subst (λ (k : Kept). Holds (content_of parts records) k) (ap (λ (w : World). both w found) (sym (bare_is found.0 led.quiet)))
+    (record { base = base; begins = begins; through = led.whole found (subst (λ (r : List Bytes). LeadsThrough found r found) (sym none) refl) })
+
+pub led_not : (parts records : List Bytes) (base found : Kept) (all : List Bytes) (bytes : Bytes) (left : List Bytes) → Begins parts base → IsLed base records found all → all ≡ bytes ∷ left → ((k : Kept) → LeadsOn found bytes k → ⊥) → (k : Kept) → Holds (content_of parts records) k → ⊥
+led_not parts records base found all bytes left begins led is not k h =
+    let through : LeadsThrough base records k = subst (λ (b : Kept). LeadsThrough b records k) (begins_one parts h.base base h.begins begins) h.through in
+    let q : LeadsThrough found (bytes ∷ left) k = subst (λ (r : List Bytes). LeadsThrough found r k) is (led.rest k through) in
+    not q.0 q.1

@@ -1,0 +1,155 @@
+-- What a record that is appended and synced makes of the file that counts.
+use Rattle.std.proofs.Common.{◌≡◌, ℕ, ◌≤◌, ◌+◌, Bool, true, false, List, [], ◌∷◌, ◌++◌, length, Option, Some, None, refl, sym, ◌∙◌, ap, subst, arith, length-append}
+use Rattle.std.specs.Bool.{if◌then◌else◌}
+use Rattle.std.specs.Prelude.{◌==◌}
+use Rattle.std.proofs.lemmas.List.{append-nil, nil_from_length}
+use Rattle.journal.specs.declared.disk.Slot.{Slot}
+use Rattle.journal.specs.declared.disk.Slot.TheVariants.{A, B}
+use Rattle.journal.specs.Disk.{Act, Found, Unfound, Appended, Tore, Synced, Unsynced, Emptied, Unemptied, Disk, other, settled, on_disk, if_same, after_sync, after_emptying, with_bytes, with_torn}
+use Rattle.journal.specs.Frames.{Bytes, Frame, END, framed, IsFit, all_framed}
+use Rattle.journal.specs.Files.{Content, contents, with_part, bodies}
+use Rattle.journal.specs.Crash.{IsFront, IsWritten}
+use Rattle.journal.specs.Living.{IsLive}
+use Rattle.journal.proofs.Steps.{on_itself, append_law, sync_law}
+use Rattle.tree_store.specs.Leaving.{written_since, if_same_bytes}
+
+-- ---- files apart
+
+pub off_this : (s : Slot) (f : Disk → Disk) (d : Disk) → if_same (other s) s f d ≡ d
+off_this A f d = refl
+off_this B f d = refl
+
+pub off_other : (s : Slot) (f : Disk → Disk) (d : Disk) → if_same s (other s) f d ≡ d
+off_other A f d = refl
+off_other B f d = refl
+
+pub bytes_on_itself : (s : Slot) (f : Bytes → Bytes) (b : Bytes) → if_same_bytes s s f b ≡ f b
+bytes_on_itself A f b = refl
+bytes_on_itself B f b = refl
+
+-- ---- what is written is loose
+
+loose_in : (s t : Slot) (f : Bytes → Bytes) (g : Disk → Disk) (b : Bytes) (d : Disk) → length b ≤ d.loose → (length b ≤ d.loose → length (f b) ≤ (g d).loose) → length (if_same_bytes s t f b) ≤ (if_same s t g d).loose
+loose_in A A f g b d few more = more few
+loose_in A B f g b d few more = few
+loose_in B A f g b d few more = few
+loose_in B B f g b d few more = more few
+
+few_written : (s : Slot) (acts : List Act) → length (written_since s acts) ≤ (on_disk s acts).loose
+few_written s [] = omega arith
+few_written s (Found t bytes ∷ acts) = loose_in s t (λ b. []) (λ d. settled bytes) (written_since s acts) (on_disk s acts) (few_written s acts) (λ few. omega arith)
+few_written s (Unfound t ∷ acts) = few_written s acts
+few_written s (Appended t bytes ∷ acts) = loose_in s t (λ b. b ++ bytes) (with_bytes bytes) (written_since s acts) (on_disk s acts) (few_written s acts) (λ few. omega (arith, few, length-append (written_since s acts) bytes))
+few_written s (Tore t bytes ∷ acts) = loose_in s t (λ b. b ++ bytes) (with_torn bytes) (written_since s acts) (on_disk s acts) (few_written s acts) (λ few. omega (arith, few, length-append (written_since s acts) bytes))
+few_written s (Synced t ∷ acts) = loose_in s t (λ b. []) after_sync (written_since s acts) (on_disk s acts) (few_written s acts) (λ few. omega arith)
+few_written s (Unsynced t ∷ acts) = few_written s acts
+few_written s (Emptied t ∷ acts) = loose_in s t (λ b. []) after_emptying (written_since s acts) (on_disk s acts) (few_written s acts) (λ few. omega arith)
+few_written s (Unemptied t ∷ acts) = loose_in s t (λ b. []) after_emptying (written_since s acts) (on_disk s acts) (few_written s acts) (λ few. omega arith)
+
+-- where nothing is loose nothing was written
+pub none_written : (s : Slot) (acts : List Act) → (on_disk s acts).loose ≡ 0 → written_since s acts ≡ []
+none_written s acts none = nil_from_length (written_since s acts) (let few = few_written s acts in omega (arith, few, none))
+
+pub front_of_none : (front : List Frame) → IsFront front [] → front ≡ []
+front_of_none [] f = refl
+front_of_none (x ∷ front) f = absurd (never f.is)
+  where
+    never : [] ≡ x ∷ (front ++ f.more) → ⊥
+    never e = cc
+
+-- a front of one frame is none, or it
+pub front_of_one : (P : List Frame → Type 0) (f : Frame) (front : List Frame) → IsFront front (f ∷ []) → P [] → P (f ∷ []) → P front
+front_of_one P f [] front none one = none
+front_of_one P f (g ∷ front) it none one = subst P (sym (ap (λ (h : Frame). h ∷ front) (first it.is) ∙ ap (λ (l : List Frame). f ∷ l) (front_of_none front (record { more = it.more; is = rest it.is })))) one
+  where
+    first : f ∷ [] ≡ g ∷ (front ++ it.more) → g ≡ f
+    first e = cc
+
+    rest : f ∷ [] ≡ g ∷ (front ++ it.more) → [] ≡ front ++ it.more
+    rest e = cc
+
+-- ---- records more
+
+bodies_append : (xs ys : List Frame) → bodies (xs ++ ys) ≡ bodies xs ++ bodies ys
+bodies_append [] ys = refl
+bodies_append (x ∷ xs) ys = ap (λ (l : List Bytes). x.body ∷ l) (bodies_append xs ys)
+
+
+
+
+content_with : List Bytes → List Bytes → Content
+content_with parts records = record { parts = parts; records = records }
+
+-- frames more are records more
+pub more_contents : (kept more : List Frame) (c : Content) → contents kept ≡ Some c → contents (kept ++ more) ≡ Some (record { parts = c.parts; records = c.records ++ bodies more })
+unfolding content_with
+more_contents [] more c is = absurd (apart is)
+  where
+    apart : None ≡ Some c → ⊥
+    apart e = cc
+more_contents (f ∷ kept) more c is = by_test (f.kind == END) (contents kept) (contents (kept ++ more)) is (λ d e. more_contents kept more d e)
+  where
+    by_test : (t : Bool) (x y : Option Content) → (if t then Some (record { parts = []; records = bodies kept }) else with_part f.body x) ≡ Some c → ((d : Content) → x ≡ Some d → y ≡ Some (record { parts = d.parts; records = d.records ++ bodies more })) → (if t then Some (record { parts = []; records = bodies (kept ++ more) }) else with_part f.body y) ≡ Some (record { parts = c.parts; records = c.records ++ bodies more })
+    by_test true x y this on =
+        let whole : record { parts = []; records = bodies kept } ≡ c = cc in
+        ap (λ (l : List Bytes). Some (content_with [] l)) (bodies_append kept more) ∙ ap (λ (d : Content). Some (content_with d.parts (d.records ++ bodies more))) whole
+    by_test false None y this on = absurd (apart this)
+      where
+        apart : None ≡ Some c → ⊥
+        apart e = cc
+    by_test false (Some d) y this on =
+        let whole : record { parts = f.body ∷ d.parts; records = d.records } ≡ c = cc in
+        ap (with_part f.body) (on d refl) ∙ ap (λ (e : Content). Some (content_with e.parts (e.records ++ bodies more))) whole
+
+-- ---- the acts of a record
+
+module _ (key generation : ℕ) (s : Slot) (kept : List Frame) (content : Content) (acts : List Act) (live : IsLive key generation s kept [] true content acts) (none : (on_disk s acts).loose ≡ 0) (number : ℕ) (place : number ≡ length kept) (f : Frame) (fit : IsFit key generation number f) (marked : f.safe ≤ length kept) where
+  abbrev bytes : Bytes
+  bytes = framed key generation number f
+
+  place_there : length (kept ++ []) ≡ number
+  place_there = ap length (append-nil kept) ∙ sym place
+
+  written : IsWritten key generation kept (f ∷ []) true (on_disk s (Appended s bytes ∷ acts)) × IsWritten key generation kept (f ∷ []) false (on_disk s (Tore s bytes ∷ acts))
+  written = subst (λ (n : ℕ). IsWritten key generation kept (f ∷ []) true (on_disk s (Appended s (framed key generation n f) ∷ acts)) × IsWritten key generation kept (f ∷ []) false (on_disk s (Tore s (framed key generation n f) ∷ acts))) place_there
+      (append_law key generation kept [] s acts f live.written (subst (λ (n : ℕ). IsFit key generation n f) (sym place_there) fit) marked)
+
+  rest_there : on_disk (other s) (Appended s bytes ∷ acts) ≡ settled live.old
+  rest_there = off_this s (with_bytes bytes) (on_disk (other s) acts) ∙ live.at_rest
+
+  pub record_appended : IsLive key generation s kept (f ∷ []) true content (Appended s bytes ∷ acts)
+  record_appended = record { written = written.0; whole = live.whole; some = live.some; old = live.old; at_rest = rest_there; passed = live.passed }
+
+  pub record_torn : IsLive key generation s kept (f ∷ []) false content (Tore s bytes ∷ acts)
+  record_torn = record { written = written.1; whole = live.whole; some = live.some; old = live.old; at_rest = off_this s (with_torn bytes) (on_disk (other s) acts) ∙ live.at_rest; passed = live.passed }
+
+  pub record_unsynced : IsLive key generation s kept (f ∷ []) false content (Unsynced s ∷ Appended s bytes ∷ acts)
+  record_unsynced = record { written = (sync_law key generation kept (f ∷ []) s (Appended s bytes ∷ acts) written.0).1; whole = live.whole; some = live.some; old = live.old; at_rest = rest_there; passed = live.passed }
+
+  pub record_synced : IsLive key generation s (kept ++ f ∷ []) [] true (record { parts = content.parts; records = content.records ++ f.body ∷ [] }) (Synced s ∷ Appended s bytes ∷ acts)
+  record_synced = record {
+    written = (sync_law key generation kept (f ∷ []) s (Appended s bytes ∷ acts) written.0).0;
+    whole = more_contents kept (f ∷ []) content live.whole;
+    some = live.some;
+    old = live.old;
+    at_rest = off_this s after_sync (on_disk (other s) (Appended s bytes ∷ acts)) ∙ rest_there;
+    passed = live.passed;
+  }
+
+  now_written : (b : Bytes) → b ≡ [] → b ++ bytes ≡ all_framed key generation (length kept) (f ∷ [])
+  now_written b is = ap (λ (l : Bytes). l ++ bytes) is ∙ ap (λ (n : ℕ). framed key generation n f) place ∙ sym (append-nil (framed key generation (length kept) f))
+
+  pub written_appended : written_since s (Appended s bytes ∷ acts) ≡ all_framed key generation (length kept) (f ∷ [])
+  written_appended = bytes_on_itself s (λ (b : Bytes). b ++ bytes) (written_since s acts) ∙ now_written (written_since s acts) (none_written s acts none)
+
+  pub written_torn : written_since s (Tore s bytes ∷ acts) ≡ all_framed key generation (length kept) (f ∷ [])
+  written_torn = bytes_on_itself s (λ (b : Bytes). b ++ bytes) (written_since s acts) ∙ now_written (written_since s acts) (none_written s acts none)
+
+  pub written_unsynced : written_since s (Unsynced s ∷ Appended s bytes ∷ acts) ≡ all_framed key generation (length kept) (f ∷ [])
+  written_unsynced = written_appended
+
+  pub written_synced : written_since s (Synced s ∷ Appended s bytes ∷ acts) ≡ []
+  written_synced = bytes_on_itself s (λ (b : Bytes). []) (written_since s (Appended s bytes ∷ acts))
+
+  pub none_loose_synced : (on_disk s (Synced s ∷ Appended s bytes ∷ acts)).loose ≡ 0
+  none_loose_synced = ap (λ (d : Disk). d.loose) (on_itself s after_sync (on_disk s (Appended s bytes ∷ acts)))

@@ -1,0 +1,250 @@
+-- What the parts of a checkpoint make of two files, of which one counts.
+use Rattle.std.proofs.Common.{◌≡◌, ◌⊎◌, inl, inr, ℕ, ◌≤◌, ◌+◌, Bool, true, false, List, [], ◌∷◌, ◌++◌, length, refl, sym, ◌∙◌, ap, subst, arith, length-append, append_assoc, Ok, Err, Some, None}
+use Rattle.std.specs.Prelude.{Option, Result}
+use Rattle.std.proofs.lemmas.List.{append-nil}
+use Rattle.journal.specs.declared.disk.Slot.{Slot}
+use Rattle.journal.specs.declared.journal.Checkpoint.{Checkpoint}
+use Rattle.journal.specs.declared.journal.Journal.{Journal}
+use Rattle.journal.specs.declared.journal.JournalFault.{JournalFault}
+use Rattle.journal.specs.declared.journal.JournalFault.TheVariants as faults
+use Rattle.journal.specs.Disk.{Act, Appended, Tore, Synced, Unsynced, Emptied, Unemptied, Found, other, settled, on_disk, after_sync, after_emptying}
+use Rattle.journal.specs.declared.disk.Slot.TheVariants.{A, B}
+use Rattle.journal.specs.Frames.{Bytes, Frame, PART, framed, frame_with, IsFit, all_framed}
+use Rattle.journal.specs.Files.{Content, contents, bodies}
+use Rattle.journal.specs.Opening.{Chooses}
+use Rattle.journal.specs.Crash.{IsFront}
+use Rattle.journal.specs.Living.{IsLive}
+use Rattle.journal.specs.Replacing.{IsBase, IsReplaced}
+use Rattle.journal.specs.Keeping.{Adding, Twice, FrameGives, BeginGives, FinishGives, end_frame}
+use Rattle.journal.proofs.Replacing.{start_law, renew_law}
+use Rattle.tree_store.specs.declared.fault.StoreFault.{StoreFault}
+use Rattle.tree_store.specs.declared.fault.StoreFault.TheVariants.{Failed, Version, Damaged, Memory}
+use Rattle.tree_store.specs.declared.store.Store.{Store}
+use Rattle.tree_store.specs.Kept.{Kept}
+use Rattle.tree_store.specs.Holds.{Holds, IsHeld, IsFoundOr}
+use Rattle.tree_store.specs.Leaving.{Leaves, Does, written_since}
+use Rattle.tree_store.specs.Standing.{Stands}
+use Rattle.tree_store.specs.Keeping.{both_found}
+use Rattle.tree_store.specs.Reading.{content_of}
+use Rattle.tree_store.specs.Writing.{part_frames, IsBegun, IfDone, Appends, Counts}
+use Rattle.tree_store.proofs.Doing.{does_nothing, does_one, does_two, does_then, leaves_also}
+use Rattle.tree_store.proofs.Crashes.{leaves_found, leaves_live, leaves_replaced}
+use Rattle.tree_store.proofs.Records.{off_other, front_of_none, none_written}
+use Rattle.tree_store.proofs.Parts as steps
+use Rattle.tree_store.proofs.Parts.{frames_push, frames_count, none_whole, all_whole, one_whole}
+use Rattle.tree_store.proofs.GoingOn.{same_content, stands_of}
+
+-- ---- a file that counts
+
+-- a file that was chosen counts
+pub chosen_counts : (key : ℕ) (a b : Bytes) (s : Slot) (generation : ℕ) (content : Option Content) → Chooses key a b s generation content → Counts key generation s content (both_found a b)
+chosen_counts key a b s generation content c =
+    let r = start_law key a b s generation content c in
+    record {
+      bytes = r.old;
+      at_rest = sym (twice s (both_found a b)) ∙ r.at_rest;
+      base = r.counts;
+      leaves = leaves_found key a b s generation content c;
+    }
+  where
+    twice : (s : Slot) (acts : List Act) → on_disk s (Synced (other s) ∷ Emptied (other s) ∷ acts) ≡ on_disk s acts
+    twice s acts = off_other s after_sync (on_disk s (Emptied (other s) ∷ acts)) ∙ off_other s after_emptying (on_disk s acts)
+
+-- and so does that of a store that stands
+pub standing_counts : (key : ℕ) (history : List Act) (store : Store) (kept : Kept) (s : Stands key history store kept) → Counts key store.journal.generation store.journal.slot (Some s.content) history
+standing_counts key history store kept s =
+    let slot = store.journal.slot in
+    let r = renew_law key store.journal.generation slot s.frames s.content s.content history s.live s.none_loose s.live.whole in
+    record {
+      bytes = r.old;
+      at_rest = sym (off_other slot after_sync (on_disk slot (Emptied (other slot) ∷ history)) ∙ off_other slot after_emptying (on_disk slot history)) ∙ r.at_rest;
+      base = r.counts;
+      leaves = leaves_live key store.journal.generation slot s.frames [] true s.content history (λ o. o ≡ Some s.content) s.live (none_written slot history s.none_loose)
+          (λ front it. ap (λ (c : Content). Some c) (sym (same_content s.content front it)));
+    }
+
+-- ---- the beginning
+
+never_none : (x : Content) → None ≡ Some x → ⊥
+never_none x e = cc
+
+module _ (key generation : ℕ) (s : Slot) (content : Option Content) (history : List Act) (counts : Counts key generation s content history) where
+
+  nothing_whole : (front : List Frame) (x : Content) → IsFront front [] → contents front ≡ Some x → Some x ≡ content
+  nothing_whole front x it whole = absurd (never_none x (sym (ap contents (front_of_none front it)) ∙ whole))
+
+  emptied : Leaves key (Emptied (other s) ∷ history) (λ o. o ≡ content)
+  emptied = leaves_replaced key generation s content [] true (Emptied (other s) ∷ history) (λ o. o ≡ content) (steps.begun_emptied key generation s content history counts.bytes counts.at_rest counts.base)
+      (steps.written_emptied key generation s content history counts.bytes counts.at_rest counts.base) refl nothing_whole
+
+  unemptied : Leaves key (Unemptied (other s) ∷ history) (λ o. o ≡ content)
+  unemptied = leaves_replaced key generation s content [] true (Unemptied (other s) ∷ history) (λ o. o ≡ content) (steps.begun_unemptied key generation s content history counts.bytes counts.at_rest counts.base)
+      (steps.written_unemptied key generation s content history counts.bytes counts.at_rest counts.base) refl nothing_whole
+
+  unsynced : Leaves key (Unsynced (other s) ∷ Emptied (other s) ∷ history) (λ o. o ≡ content)
+  unsynced = leaves_replaced key generation s content [] false (Unsynced (other s) ∷ Emptied (other s) ∷ history) (λ o. o ≡ content) (steps.begun_unsynced key generation s content history counts.bytes counts.at_rest counts.base)
+      (steps.written_unsynced key generation s content history counts.bytes counts.at_rest counts.base) refl nothing_whole
+
+  synced : Leaves key (Synced (other s) ∷ Emptied (other s) ∷ history) (λ o. o ≡ content)
+  synced = leaves_replaced key generation s content [] true (Synced (other s) ∷ Emptied (other s) ∷ history) (λ o. o ≡ content) (steps.begun_synced key generation s content history counts.bytes counts.at_rest counts.base)
+      (steps.written_synced key generation s content history counts.bytes counts.at_rest counts.base) refl nothing_whole
+
+  pub begin_goes : {D : Type 0} (adds : Adding D) (c : Checkpoint) (old new : D) → BeginGives adds key s generation (Ok c) old new → Does adds key history (λ o. o ≡ content) (IsBegun key generation s content c []) old new
+  begin_goes adds c old new (twice, same) =
+      does_two adds key history (λ o. o ≡ content) (IsBegun key generation s content c []) old twice.mid new (Emptied (other s)) (Synced (other s)) counts.leaves twice.one emptied twice.two synced
+      (record {
+        replaced = steps.begun_synced key generation s content history counts.bytes counts.at_rest counts.base;
+        written = steps.written_synced key generation s content history counts.bytes counts.at_rest counts.base;
+        checkpoint_is = same;
+      })
+
+  pub begin_fails : {D : Type 0} (adds : Adding D) (fault : JournalFault) (old new : D) → BeginGives adds key s generation (Err fault) old new → Does adds key history (λ o. o ≡ content) (λ acts. Unit {0}) old new
+  begin_fails adds faults.TooLong old new gives = elim gives [ ]
+  begin_fails adds faults.Memory old new gives = elim gives [ ]
+  begin_fails adds faults.Full old new gives = does_nothing adds key history (λ o. o ≡ content) (λ acts. Unit {0}) old new counts.leaves gives.1 tt
+  begin_fails adds faults.Failed old new (inl it) = does_one adds key history (λ o. o ≡ content) (λ acts. Unit {0}) old new (Unemptied (other s)) counts.leaves it unemptied tt
+  begin_fails adds faults.Failed old new (inr twice) =
+      does_two adds key history (λ o. o ≡ content) (λ acts. Unit {0}) old twice.mid new (Emptied (other s)) (Unsynced (other s)) counts.leaves twice.one emptied twice.two unsynced tt
+
+-- ---- one part more
+
+-- while parts are appended, a crash leaves the old file as it was
+pub begun_leaves : (key generation : ℕ) (s : Slot) (content : Option Content) (c : Checkpoint) (parts : List Bytes) (history : List Act) → IsBegun key generation s content c parts history → Leaves key history (λ o. o ≡ content)
+begun_leaves key generation s content c parts history b =
+    leaves_replaced key generation s content (part_frames parts) true history (λ o. o ≡ content) b.replaced b.written refl
+    (λ front x it whole. absurd (never_none x (sym (none_whole parts front it) ∙ whole)))
+
+checkpoint_of : ℕ → Slot → ℕ → ℕ → Bool → Checkpoint
+checkpoint_of key slot generation number failed = record { key = key; slot = slot; generation = generation; number = number; has_failed = failed }
+
+same_checkpoint : (c : Checkpoint) (key : ℕ) (slot : Slot) (generation number : ℕ) (failed : Bool) → c.key ≡ key → c.slot ≡ slot → c.generation ≡ generation → c.number ≡ number → c.has_failed ≡ failed → c ≡ record { key = key; slot = slot; generation = generation; number = number; has_failed = failed }
+unfolding checkpoint_of
+same_checkpoint c key slot generation number failed e1 e2 e3 e4 e5 =
+    ap (λ (k : ℕ). checkpoint_of k c.slot c.generation c.number c.has_failed) e1
+    ∙ ap (λ (t : Slot). checkpoint_of key t c.generation c.number c.has_failed) e2
+    ∙ ap (λ (g : ℕ). checkpoint_of key slot g c.number c.has_failed) e3
+    ∙ ap (λ (n : ℕ). checkpoint_of key slot generation n c.has_failed) e4
+    ∙ ap (checkpoint_of key slot generation number) e5
+
+module _ {D : Type 0} (adds : Adding D) (c c' : Checkpoint) (bytes : Bytes) (key_is : c'.key ≡ c.key) (slot_is : c'.slot ≡ c.slot) (generation_is : c'.generation ≡ c.generation) (key generation : ℕ) (s : Slot) (content : Option Content) (parts : List Bytes) (history : List Act) (b : IsBegun key generation s content c parts history) where
+  abbrev f : Frame
+  f = frame_with PART 0 bytes
+
+  place : length parts ≡ length (part_frames parts)
+  place = sym (frames_count parts)
+
+  gives_at : {r : Result (Unit {0}) JournalFault} (old new : D) → FrameGives adds c.slot c.key c.generation c.number f c.has_failed c'.number c'.has_failed r old new → FrameGives adds (other s) key (generation + 1) (length parts) f false c'.number c'.has_failed r old new
+  gives_at {r} old new gives = subst (λ (d : Checkpoint). FrameGives adds d.slot d.key d.generation d.number f d.has_failed c'.number c'.has_failed r old new) b.checkpoint_is gives
+
+  ahead : List Frame
+  ahead = part_frames parts ++ f ∷ []
+
+  module _ (fit : IsFit key (generation + 1) (length parts) f) where
+    begun : c'.number ≡ length parts + 1 → c'.has_failed ≡ false → IsBegun key generation s content c' (parts ++ bytes ∷ []) (Appended (other s) (framed key (generation + 1) (length parts) f) ∷ history)
+    begun number failed = record {
+      replaced = subst (λ (l : List Frame). IsReplaced key generation s content l true (Appended (other s) (framed key (generation + 1) (length parts) f) ∷ history)) (sym (frames_push parts bytes))
+          (steps.part_appended key generation s content (part_frames parts) history b.replaced b.written (length parts) place f fit refl);
+      written = steps.written_appended key generation s content (part_frames parts) history b.replaced b.written (length parts) place f fit refl
+          ∙ ap (λ (l : List Frame). all_framed key (generation + 1) 0 l) (sym (frames_push parts bytes));
+      checkpoint_is = same_checkpoint c' key (other s) (generation + 1) (length (parts ++ bytes ∷ [])) false
+          (key_is ∙ ap (λ (d : Checkpoint). d.key) b.checkpoint_is) (slot_is ∙ ap (λ (d : Checkpoint). d.slot) b.checkpoint_is) (generation_is ∙ ap (λ (d : Checkpoint). d.generation) b.checkpoint_is)
+          (omega (arith, number, length-append parts (bytes ∷ []))) failed;
+    }
+
+    torn : Leaves key (Tore (other s) (framed key (generation + 1) (length parts) f) ∷ history) (λ o. o ≡ content)
+    torn = leaves_replaced key generation s content (part_frames parts ++ f ∷ []) false (Tore (other s) (framed key (generation + 1) (length parts) f) ∷ history) (λ o. o ≡ content)
+        (steps.part_torn key generation s content (part_frames parts) history b.replaced b.written (length parts) place f fit refl)
+        (steps.written_torn key generation s content (part_frames parts) history b.replaced b.written (length parts) place f fit refl)
+        refl
+        (λ front x it whole. absurd (never_none x (sym (none_whole (parts ++ bytes ∷ []) front (subst (λ (l : List Frame). IsFront front l) (sym (frames_push parts bytes)) it)) ∙ whole)))
+
+  first : Leaves key history (λ o. o ≡ content)
+  first = begun_leaves key generation s content c parts history b
+
+  pub part_goes : (old new : D) → FrameGives adds c.slot c.key c.generation c.number f c.has_failed c'.number c'.has_failed (Ok tt) old new → Does adds key history (λ o. o ≡ content) (λ acts. IsBegun key generation s content c' (parts ++ bytes ∷ []) acts) old new
+  part_goes old new gives =
+      let g = gives_at {r = Ok tt} old new gives in
+      let next = begun g.1 g.3 g.4 in
+      does_one adds key history (λ o. o ≡ content) (λ acts. IsBegun key generation s content c' (parts ++ bytes ∷ []) acts) old new (Appended (other s) (framed key (generation + 1) (length parts) f)) first g.0
+      (begun_leaves key generation s content c' (parts ++ bytes ∷ []) (Appended (other s) (framed key (generation + 1) (length parts) f) ∷ history) next) next
+
+  pub part_fails : (fault : JournalFault) (old new : D) → FrameGives adds c.slot c.key c.generation c.number f c.has_failed c'.number c'.has_failed (Err fault) old new → Does adds key history (λ o. o ≡ content) (λ acts. Unit {0}) old new
+  part_fails fault old new gives = failing fault (gives_at {r = Err fault} old new gives)
+    where
+      failing : (fault : JournalFault) → FrameGives adds (other s) key (generation + 1) (length parts) f false c'.number c'.has_failed (Err fault) old new → Does adds key history (λ o. o ≡ content) (λ acts. Unit {0}) old new
+      failing faults.TooLong g = does_nothing adds key history (λ o. o ≡ content) (λ acts. Unit {0}) old new first g.1 tt
+      failing faults.Memory g = does_nothing adds key history (λ o. o ≡ content) (λ acts. Unit {0}) old new first g.0 tt
+      failing faults.Full g = does_nothing adds key history (λ o. o ≡ content) (λ acts. Unit {0}) old new first g.1 tt
+      failing faults.Failed (inl g) = does_nothing adds key history (λ o. o ≡ content) (λ acts. Unit {0}) old new first g.1 tt
+      failing faults.Failed (inr g) = does_one adds key history (λ o. o ≡ content) (λ acts. Unit {0}) old new (Tore (other s) (framed key (generation + 1) (length parts) f)) first g.0 (torn g.1) tt
+
+-- ---- the end
+
+module _ {D : Type 0} (adds : Adding D) (c : Checkpoint) (key generation : ℕ) (s : Slot) (content : Option Content) (parts : List Bytes) (aim : Kept) (holds : Holds (content_of parts []) aim) (history : List Act) (b : IsBegun key generation s content c parts history) where
+  abbrev end_bytes : Bytes
+  end_bytes = framed key (generation + 1) (length parts) end_frame
+
+  end_place : length parts ≡ length (part_frames parts)
+  end_place = sym (frames_count parts)
+
+  end_gives : {r : Result Journal JournalFault} (old new : D) → FinishGives adds c r old new → FinishGives adds (record { key = key; slot = other s; generation = generation + 1; number = length parts; has_failed = false }) r old new
+  end_gives {r} old new gives = subst (λ (d : Checkpoint). FinishGives adds d r old new) b.checkpoint_is gives
+
+  held : (front : List Frame) (x : Content) → IsFront front (part_frames parts ++ end_frame ∷ []) → contents front ≡ Some x → IsFoundOr content aim (Some x)
+  held front x it whole = inr (x, refl, subst (λ (d : Content). Holds d aim) (sym (one_whole parts front x it whole)) holds)
+
+  before : Leaves key history (IsFoundOr content aim)
+  before = leaves_also key history (λ o. o ≡ content) (IsFoundOr content aim) (λ o is. inl is) (begun_leaves key generation s content c parts history b)
+
+  module _ (fit : IsFit key (generation + 1) (length parts) end_frame) where
+    end_appended : Leaves key (Appended (other s) end_bytes ∷ history) (IsFoundOr content aim)
+    end_appended = leaves_replaced key generation s content (part_frames parts ++ end_frame ∷ []) true (Appended (other s) end_bytes ∷ history) (IsFoundOr content aim)
+        (steps.part_appended key generation s content (part_frames parts) history b.replaced b.written (length parts) end_place end_frame fit refl)
+        (steps.written_appended key generation s content (part_frames parts) history b.replaced b.written (length parts) end_place end_frame fit refl) (inl refl) held
+
+    end_torn : Leaves key (Tore (other s) end_bytes ∷ history) (IsFoundOr content aim)
+    end_torn = leaves_replaced key generation s content (part_frames parts ++ end_frame ∷ []) false (Tore (other s) end_bytes ∷ history) (IsFoundOr content aim)
+        (steps.part_torn key generation s content (part_frames parts) history b.replaced b.written (length parts) end_place end_frame fit refl)
+        (steps.written_torn key generation s content (part_frames parts) history b.replaced b.written (length parts) end_place end_frame fit refl) (inl refl) held
+
+    end_unsynced : Leaves key (Unsynced (other s) ∷ Appended (other s) end_bytes ∷ history) (IsFoundOr content aim)
+    end_unsynced = leaves_replaced key generation s content (part_frames parts ++ end_frame ∷ []) false (Unsynced (other s) ∷ Appended (other s) end_bytes ∷ history) (IsFoundOr content aim)
+        (steps.part_unsynced key generation s content (part_frames parts) history b.replaced b.written (length parts) end_place end_frame fit refl)
+        (steps.written_part_unsynced key generation s content (part_frames parts) history b.replaced b.written (length parts) end_place end_frame fit refl) (inl refl) held
+
+    end_live : IsLive key (generation + 1) (other s) (part_frames parts ++ end_frame ∷ []) [] true (content_of parts []) (Synced (other s) ∷ Appended (other s) end_bytes ∷ history)
+    end_live = steps.end_synced key generation s content (part_frames parts) history b.replaced b.written (length parts) end_place end_frame fit refl (content_of parts []) (all_whole parts)
+
+    end_kept : Leaves key (Synced (other s) ∷ Appended (other s) end_bytes ∷ history) (IsFoundOr content aim)
+    end_kept = leaves_live key (generation + 1) (other s) (part_frames parts ++ end_frame ∷ []) [] true (content_of parts []) (Synced (other s) ∷ Appended (other s) end_bytes ∷ history) (IsFoundOr content aim) end_live
+        (steps.written_end_synced key generation s content (part_frames parts) history b.replaced b.written (length parts) end_place end_frame fit refl)
+        (λ front it. inr (content_of parts ([] ++ bodies front), refl, subst (λ (d : Content). Holds d aim) (same_content (content_of parts []) front it) holds))
+
+    end_stands : (store : Store) → store.journal ≡ record { key = key; slot = other s; generation = generation + 1; number = length parts + 1; safe = length parts + 1; has_failed = false } → store.next ≡ aim.1 → Stands key (Synced (other s) ∷ Appended (other s) end_bytes ∷ history) store aim
+    end_stands store is next =
+        let count : length parts + 1 ≡ length (part_frames parts ++ end_frame ∷ []) = omega (arith, end_place, length-append (part_frames parts) (end_frame ∷ [])) in
+        stands_of key (Synced (other s) ∷ Appended (other s) end_bytes ∷ history) store aim (record { key = key; slot = other s; generation = generation + 1; number = length parts + 1; safe = length parts + 1; has_failed = false })
+        (part_frames parts ++ end_frame ∷ []) (content_of parts []) is next end_live
+        (steps.none_loose_end key generation s content (part_frames parts) history b.replaced b.written (length parts) end_place end_frame fit refl)
+        holds refl count count refl
+
+  pub finish_goes : (j : Journal) (store : Store) (old new : D) → FinishGives adds c (Ok j) old new → store.journal ≡ j → store.next ≡ aim.1 → Does adds key history (IsFoundOr content aim) (λ acts. Stands key acts store aim) old new
+  finish_goes j store old new gives is next =
+      let g = end_gives {r = Ok j} old new gives in
+      does_two adds key history (IsFoundOr content aim) (λ acts. Stands key acts store aim) old g.0.mid new (Appended (other s) end_bytes) (Synced (other s)) before g.0.one (end_appended g.1) g.0.two (end_kept g.1)
+      (end_stands g.1 store (is ∙ g.3) next)
+
+  pub finish_fails : (fault : JournalFault) (old new : D) → FinishGives adds c (Err fault) old new → Does adds key history (IsFoundOr content aim) (λ acts. Unit {0}) old new
+  finish_fails fault old new gives = failing fault (end_gives {r = Err fault} old new gives)
+    where
+      nothing : new ≡ old → Does adds key history (IsFoundOr content aim) (λ acts. Unit {0}) old new
+      nothing same = does_nothing adds key history (IsFoundOr content aim) (λ acts. Unit {0}) old new before same tt
+
+      failing : (fault : JournalFault) → FinishGives adds (record { key = key; slot = other s; generation = generation + 1; number = length parts; has_failed = false }) (Err fault) old new → Does adds key history (IsFoundOr content aim) (λ acts. Unit {0}) old new
+      failing faults.TooLong g = elim g [ ]
+      failing faults.Memory g = nothing g
+      failing faults.Full g = nothing g.1
+      failing faults.Failed (inl g) = nothing g.1
+      failing faults.Failed (inr (inl it, fit)) = does_one adds key history (IsFoundOr content aim) (λ acts. Unit {0}) old new (Tore (other s) end_bytes) before it (end_torn fit) tt
+      failing faults.Failed (inr (inr twice, fit)) =
+          does_two adds key history (IsFoundOr content aim) (λ acts. Unit {0}) old twice.mid new (Appended (other s) end_bytes) (Unsynced (other s)) before twice.one (end_appended fit) twice.two (end_unsynced fit) tt

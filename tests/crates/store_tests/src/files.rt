@@ -1,0 +1,127 @@
+//! Files that hold no tree, and files of which bits are turned.
+
+use crate::memory::{Memory, left_of};
+use crate::script::{KEY, Turns, run};
+use journal::{Checkpoint, Journal, JournalFault, Slot};
+use std::alloc::{AllocError, Global};
+use std::process::Abort;
+use std::test::Fail;
+use tree_store::{StoreFault, open};
+
+/// A journal of these parts, and of a record where there is one.
+fn written(
+    alloc: Global,
+    disk: &mut Memory,
+    parts: &[&[u8]],
+    record: Option<&[u8]>,
+) -> Result<Journal, JournalFault> {
+    let mut checkpoint = Checkpoint::begin(disk, KEY, Slot::B, 0)?;
+    for part in parts {
+        checkpoint.part(disk, alloc, part)?;
+    }
+    let mut journal = checkpoint.finish(disk, alloc)?;
+    if let Some(record) = record {
+        journal.append(disk, alloc, record)?;
+    }
+    Ok(journal)
+}
+
+/// What is answered of such a journal: 0 that it is found, 1 that it is damaged, 2 anything else.
+fn outcome(alloc: Global, parts: &[&[u8]], record: Option<&[u8]>) -> u32 {
+    let mut disk = Memory::new(alloc, 1000);
+    if written(alloc, &mut disk, parts, record).is_err() {
+        return 2;
+    }
+    match open(&mut disk, alloc, KEY) {
+        Ok((_, Some(_))) => 0,
+        Err(StoreFault::Damaged) => 1,
+        _ => 2,
+    }
+}
+
+/// The numbers 1, 1 and 1.
+const NUMBERS: [u8; 24] = [0, 0, 0, 0, 0, 0, 0, 1, 0, 0, 0, 0, 0, 0, 0, 1, 0, 0, 0, 0, 0, 0, 0, 1];
+
+/// The counters of a root alone: 2, 2, 2 and 3.
+const COUNTERS: [u8; 36] = [
+    0, 0, 0, 0, 0, 0, 0, 0, 0, 0, 0, 2, 0, 0, 0, 0, 0, 0, 0, 2, 0, 0, 0, 0, 0, 0, 0, 2, 0, 0, 0, 0, 0,
+    0, 0, 3,
+];
+
+/// A root: the number 1, a directory without bytes, owner 0, group 0, an empty list, high bits 0, the change 1, two
+/// epochs and the stamp 1.
+const ROOT: [u8; 76] = [
+    0, 0, 0, 1, 0, 0, 0, 0, 0, 0, 0, 1, 0, 0, 0, 2, 0, 0, 0, 0, 0, 0, 0, 0, 0, 0, 0, 0, 0, 0, 0, 0,
+    0, 0, 0, 0, 0, 0, 0, 0, 0, 0, 0, 1, 0, 0, 0, 0, 0, 0, 0, 0, 0, 0, 0, 0, 0, 0, 0, 0, 0, 0, 0, 0,
+    0, 0, 0, 0, 0, 0, 0, 0, 0, 0, 0, 1,
+];
+
+/// The counters with a next tick of 1, which the root has already.
+const EARLY: [u8; 36] = [
+    0, 0, 0, 0, 0, 0, 0, 0, 0, 0, 0, 2, 0, 0, 0, 0, 0, 0, 0, 1, 0, 0, 0, 0, 0, 0, 0, 2, 0, 0, 0, 0, 0,
+    0, 0, 3,
+];
+
+#[test]
+fn files_that_hold_a_tree_or_none(rt: HostRuntime) {
+    let alloc = rt.alloc();
+    assert_eq!(rt; outcome(alloc, &[&NUMBERS, &COUNTERS, &ROOT], None), 0);
+    assert_eq!(rt; outcome(alloc, &[&NUMBERS, &COUNTERS, &ROOT], Some(&NUMBERS)), 0);
+    // no parts, no tree, no root, no numbers, and numbers of other lengths
+    assert_eq!(rt; outcome(alloc, &[], None), 1);
+    assert_eq!(rt; outcome(alloc, &[&NUMBERS], None), 1);
+    assert_eq!(rt; outcome(alloc, &[&NUMBERS, &COUNTERS], None), 1);
+    assert_eq!(rt; outcome(alloc, &[&COUNTERS, &ROOT], None), 1);
+    assert_eq!(rt; outcome(alloc, &[&NUMBERS[..23], &COUNTERS, &ROOT], None), 1);
+    assert_eq!(rt; outcome(alloc, &[&COUNTERS[..28], &COUNTERS, &ROOT], None), 1);
+    // a part that isn't whole, one that comes twice, and one that doesn't fit the counters
+    assert_eq!(rt; outcome(alloc, &[&NUMBERS, &COUNTERS, &ROOT[..72]], None), 1);
+    assert_eq!(rt; outcome(alloc, &[&NUMBERS, &COUNTERS, &COUNTERS, &ROOT], None), 1);
+    assert_eq!(rt; outcome(alloc, &[&NUMBERS, &COUNTERS, &ROOT, &ROOT], None), 1);
+    assert_eq!(rt; outcome(alloc, &[&NUMBERS, &EARLY, &ROOT], None), 1);
+    // a record without numbers, and one with changes that are none
+    assert_eq!(rt; outcome(alloc, &[&NUMBERS, &COUNTERS, &ROOT], Some(&NUMBERS[..20])), 1);
+    assert_eq!(rt; outcome(alloc, &[&NUMBERS, &COUNTERS, &ROOT], Some(&ROOT)), 1);
+}
+
+/// Whether files of which a bit is turned are refused, or hold what was to be kept after some turn.
+fn is_safe(alloc: Global, turns: &Turns, a: &[u8], b: &[u8]) -> Result<bool, AllocError> {
+    let mut disk = Memory::new(alloc, 1000);
+    disk.found(Slot::A, a)?;
+    disk.found(Slot::B, b)?;
+    match open(&mut disk, alloc, KEY) {
+        Ok((_, None)) => Ok(false),
+        Ok((_, Some(_))) => turns.fits(alloc, a, b, Some(0), 100),
+        Err(fault) => Ok(fault == StoreFault::Damaged || fault == StoreFault::Version),
+    }
+}
+
+#[test]
+fn a_bit_that_is_turned_makes_no_other_tree(rt: HostRuntime) -> Result<(), Fail> {
+    let alloc = rt.alloc();
+    let mut disk = Memory::new(alloc, 1000);
+    let mut turns = Turns::new(alloc);
+    assert!(rt; run(alloc, &mut disk, &mut turns).is_ok());
+    let a = left_of(alloc, &disk.events, Slot::A)?;
+    let b = left_of(alloc, &disk.events, Slot::B)?;
+    let mut bad = 0u32;
+    for place in 0..a.whole.len().max(b.whole.len()) {
+        let mut first = a.whole.clone()?;
+        let mut second = b.whole.clone()?;
+        let bit = 1u8 << (place % 8);
+        if let Some(byte) = first.get_mut(place) {
+            *byte ^= bit;
+        }
+        if !is_safe(alloc, &turns, &first, &b.whole)? {
+            bad += 1;
+        }
+        if let Some(byte) = second.get_mut(place) {
+            *byte ^= bit;
+        }
+        if !is_safe(alloc, &turns, &a.whole, &second)? {
+            bad += 1;
+        }
+    }
+    assert_eq!(rt; bad, 0);
+    Ok(())
+}
