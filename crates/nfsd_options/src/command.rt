@@ -36,7 +36,7 @@ hasn't changed for two seconds. Where it can't be read or isn't a book, or has n
 standard error says so, and the book before stays.
 
 Nobody overrides a list, root neither: an object whose list grants nobody to change it (WRITE_ACL) is locked, for its owner too, as long
-as the server runs. Sticky, setuid and setgid bits are kept and shown, and have no effect. A change of the mode cuts the entries of named
+as the server runs, and with '--store' for good. Sticky, setuid and setgid bits are kept and shown, and have no effect. A change of the mode cuts the entries of named
 users and groups: those that allow keep no right to read, write or execute that the group's bits lack.
 
 For example, two connections on port 12049:

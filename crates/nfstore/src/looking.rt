@@ -23,7 +23,7 @@ pub(crate) struct Counting {
 }
 
 /// The file that counts, if one does. `Err`: there is no memory, or what was found has changed.
-fn counting(alloc: Global, folder: &mut StoreFolder) -> Result<Option<Counting>, OpenFault> {
+fn what_counts(alloc: Global, folder: &mut StoreFolder) -> Result<Option<Counting>, OpenFault> {
     let key = folder.key();
     let (a, b) = load(folder, alloc)?;
     let chosen = choose(alloc, key, &a, &b)?;
@@ -59,7 +59,7 @@ pub(crate) fn look<R: Files<File = File> + Alloc>(
         Err(StoreFault::Damaged) => return Err(StoreStop::damaged(alloc, &mut folder)),
         Err(StoreFault::Memory) => return Err(StoreStop::Memory),
     };
-    match counting(alloc, &mut folder) {
+    match what_counts(alloc, &mut folder) {
         Ok(counts) => Ok(Looked { counts, found }),
         Err(OpenFault::Failed) => Err(StoreStop::failed(&mut folder)),
         Err(_) => Err(StoreStop::Memory),
