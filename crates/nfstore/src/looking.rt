@@ -41,6 +41,16 @@ fn what_counts(alloc: Global, folder: &mut StoreFolder) -> Result<Option<Countin
     }))
 }
 
+/// Why a store isn't gone on with, by what it says.
+pub(crate) fn stop_of(alloc: Global, folder: &mut StoreFolder, fault: StoreFault) -> StoreStop {
+    match fault {
+        StoreFault::Failed => StoreStop::failed(folder),
+        StoreFault::Version => StoreStop::version(alloc, folder),
+        StoreFault::Damaged => StoreStop::damaged(alloc, folder),
+        StoreFault::Memory => StoreStop::Memory,
+    }
+}
+
 /// Looks at the store of a folder.
 pub(crate) fn look<R: Files<File = File> + Alloc>(
     rt: &R,
@@ -54,10 +64,7 @@ pub(crate) fn look<R: Files<File = File> + Alloc>(
     let key = folder.key();
     let found = match open(&mut folder, alloc, key) {
         Ok((_, found)) => found,
-        Err(StoreFault::Failed) => return Err(StoreStop::failed(&mut folder)),
-        Err(StoreFault::Version) => return Err(StoreStop::version(alloc, &mut folder)),
-        Err(StoreFault::Damaged) => return Err(StoreStop::damaged(alloc, &mut folder)),
-        Err(StoreFault::Memory) => return Err(StoreStop::Memory),
+        Err(fault) => return Err(stop_of(alloc, &mut folder, fault)),
     };
     match what_counts(alloc, &mut folder) {
         Ok(counts) => Ok(Looked { counts, found }),
