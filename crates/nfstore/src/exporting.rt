@@ -218,7 +218,7 @@ fn write_objects<R: Files<File = File>>(
 }
 
 /// Writes a tree to a directory that is made: its objects below `tree` there, and its lists to `acl.txt`.
-pub(crate) fn export<R: Files<File = File>>(
+pub(crate) fn write_tree<R: Files<File = File>>(
     rt: &R,
     alloc: Global,
     tree: &Tree,

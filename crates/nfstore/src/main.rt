@@ -16,7 +16,7 @@ mod survey;
 mod walk;
 
 use anyhow::Result;
-use exporting::export;
+use exporting::write_tree;
 use fault::Stopped;
 use importing::{Unmade, import};
 use looking::{Looked, look};
@@ -49,7 +49,7 @@ fn write_out(
         let _ = eprintln!(rt; "nfstore: {folder}: nothing is kept yet");
         return ExitCode::FAILURE;
     };
-    match export(rt, alloc, &found.tree, directory) {
+    match write_tree(rt, alloc, &found.tree, directory) {
         Ok(()) => ExitCode::SUCCESS,
         Err(stopped) => say_stopped(rt, directory, &stopped),
     }
