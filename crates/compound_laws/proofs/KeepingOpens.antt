@@ -18,6 +18,7 @@ use Rattle.nfs_ops.specs.Results.{Outcome}
 use Rattle.nfs_ops.specs.declared.op_kind.OpKind.TheVariants as kinds
 use Rattle.session_slots.proofs.Members.{length_filter}
 use Rattle.node_tree.specs.declared.at.At.{At}
+use Rattle.node_tree.specs.Notes.{Notes}
 use Rattle.node_tree.specs.World.{World, Object, object, kind_of, child_named}
 use Rattle.node_tree.specs.Changes.{touched, retold, written, resized, with_write, with_size, with_list, with_owner}
 use Rattle.node_tree.proofs.Objects.{option_map-changed}
@@ -35,10 +36,14 @@ use Rattle.compound_run.specs.Operations.{meaning}
 use Rattle.compound_run.specs.Runs.{outcome}
 use Rattle.compound_run.specs.Exact.{ArePassedOrSuffice}
 use Rattle.compound_run.specs.ReclaimComplete.{reclaimed}
+use Rattle.compound_run.specs.Sessions.{opens_without}
+use Rattle.compound_run.specs.State.{State, with_notes}
 use Rattle.compound_run.specs.Stateids.{client_of}
 use Rattle.session_slots.specs.Destroying.{with_reclaimed}
+use Rattle.session_slots.specs.Registry.{Registry}
 use Rattle.compound_laws.specs.LiveOpens.{OpensHold}
 use Rattle.compound_run.proofs.Exactly.{passed}
+use Rattle.compound_laws.proofs.KeptByRuns.{Keeps}
 use Rattle.compound_laws.proofs.LivingOpens.{LiveIn, each_left, one_more, of_child, Same, same_again, same_then, hold_same, hold_linked, hold_new, kind_there, kept_new, live_new, hold_removed, hold_renamed, hold_registry}
 
 -- ---- WRITE and SETATTR
@@ -249,3 +254,21 @@ operations_keep c h (Known kinds.ReclaimComplete v) r o hold is = hold_reclaimed
 operations_keep c h (Unsupported n) r o hold is = hold
 operations_keep c h Illegal r o hold is = hold
 operations_keep c h (Bad n) r o hold is = hold
+
+-- ---- each call
+
+-- the opens of a client go
+hold_without : (r : Realm) (registry : Registry) (gone : Option ℕ) → OpensHold r → OpensHold (record r { registry = registry; opens = opens_without gone r.opens })
+hold_without r registry None hold = record { live = hold.live; few = hold.few; kept = hold.kept }
+hold_without r registry (Some client) hold = record {
+  live = each_left (LiveIn r.world) (LiveIn r.world) (λ o. not (o.client == client)) r.opens (λ o stays live. live) hold.live;
+  few = let less = length_filter (λ (o : Opened). not (o.client == client)) r.opens in let few = hold.few in omega (arith, less, few);
+  kept = hold.kept;
+}
+
+pub opens_keep : Keeps OpensHold
+opens_keep = record { operations = operations_keep; registry = hold_registry; without = hold_without }
+
+-- notes that are begun anew leave objects and names
+pub hold_notes : (notes : Notes) (old : State) → OpensHold old.realm → OpensHold (with_notes notes old).realm
+hold_notes notes old hold = record { live = hold.live; few = hold.few; kept = record { led = hold.kept.led; numbered = hold.kept.numbered } }

@@ -7,11 +7,11 @@ pub mod NamesSeen
 pub mod OpenSeen
 pub mod EntriesExactly
 pub mod LivingOpens
-pub mod LoadedOpens
+pub mod KeptByRuns
+pub mod KeptInSessions
 pub mod KeepingOpens
-pub mod RunningOpens
+pub mod ChangingBySteps
 pub mod Alike
-pub mod SessionOpens
 pub mod Disclosing
 pub mod RowsStand
 pub mod Telling

@@ -9,6 +9,8 @@ use Rattle.std.specs.BTreeMap.{is_at, insert_entry}
 use Rattle.std.specs.Cmp.Lexicographic.{pointwise}
 use Rattle.std.proofs.lemmas.Bool.Decides.{Decides-eqb}
 use Rattle.acl_list.specs.declared.entry.Kind.TheVariants.{File}
+use Rattle.who_book.specs.Content.{Content}
+use Rattle.session_slots.specs.declared.restoring.NextNumbers.{NextNumbers}
 use Rattle.session_slots.specs.Registry.{Registry}
 use Rattle.session_slots.proofs.Members.{length_filter}
 use Rattle.node_tree.specs.declared.at.At.{At}
@@ -20,6 +22,7 @@ use Rattle.node_tree.proofs.Rising.{number-below}
 use Rattle.node_tree.proofs.Unlinking.{after, after_elsewhere, after_was, after_stays, read_released}
 use Rattle.compound_run.specs.Realm.{Realm, Opened, unopened, opens_left, with_loss}
 use Rattle.compound_run.specs.Sessions.{with_registry}
+use Rattle.compound_run.specs.State.{restored}
 use Rattle.compound_laws.specs.LiveOpens.{IsKept, OpensHold}
 
 -- ---- facts of each element of a list
@@ -334,3 +337,6 @@ kept_sound w sound = record {
 
 pub hold_unopened : (w : World) → IsSound w → OpensHold (unopened w)
 hold_unopened w sound = record { live = tt; few = omega arith; kept = kept_sound w sound }
+
+pub hold_restored : (w : World) (next : NextNumbers) (book : Content) (capacity : ℕ) → IsSound w → OpensHold (restored w next book capacity).realm
+hold_restored w next book capacity sound = record { live = tt; few = omega arith; kept = kept_sound w sound }

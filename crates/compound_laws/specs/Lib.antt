@@ -1,6 +1,7 @@
 pub mod Disclosure
 pub mod EntriesExact
+pub mod Events
 pub mod LiveOpens
-pub mod Reloads
 pub mod RowsAsked
+pub mod Stepping
 pub mod WrongLookup

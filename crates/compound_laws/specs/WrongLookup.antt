@@ -6,6 +6,7 @@ use Rattle.nfs_ops.specs.Operations.{Known}
 use Rattle.nfs_ops.specs.declared.op_kind.OpKind.TheVariants as kinds
 use Rattle.node_tree.specs.World.{World, Object}
 use Rattle.node_tree.specs.Changes.{new_object, from_start}
+use Rattle.node_tree.specs.Notes.{no_notes}
 use Rattle.compound_run.specs.Context.{Context, Handles}
 use Rattle.compound_run.specs.Lookup.{lookup}
 use Rattle.compound_run.specs.Meaning.{Meaning, with_handle, here, is_no_link, is_directory, is_name, has_child}
@@ -36,6 +37,7 @@ with_name name = record {
   next_tick = 3;
   next_stamp = 3;
   next_cookie = 4;
+  notes = no_notes;
 }
 
 -- another name than this one

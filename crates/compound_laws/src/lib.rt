@@ -5,6 +5,7 @@
 
 mod disclosure;
 mod exactness;
+mod noted;
 mod opens;
 mod repeats;
 
@@ -14,6 +15,9 @@ pub use disclosure::{
 pub use exactness::{
     access_is_exact, each_row_is_asked, ok_is_exact, ok_is_granted, others_never_delay,
     readdir_gives_exactly, readdir_is_refused_exactly, refused_is_access, rows_decide,
+};
+pub use noted::{
+    calls_are_noted, calls_change_by_steps, operations_are_noted, operations_change_by_steps,
 };
 pub use opens::{calls_keep_opens, opens_hold_at_first, operations_keep_opens};
 pub use repeats::repeats_change_nothing;

@@ -3,32 +3,43 @@ ghost use Rattle.std.specs.Prelude.{◌≡◌, ℕ, List, Option, Ok};
 ghost use Rattle.who_book.specs.Content.{Content};
 ghost use Rattle.nfs_ops.specs.Operations.{Operation};
 ghost use Rattle.nfs_ops.specs.Results.{Outcome};
+ghost use Rattle.node_tree.specs.Notes.{Notes};
 ghost use Rattle.node_tree.specs.World.{World};
 ghost use Rattle.node_tree.specs.Sound.{IsSound};
+ghost use Rattle.session_slots.specs.declared.restoring.NextNumbers.{NextNumbers};
 ghost use Rattle.compound_run.specs.Realm.{Realm, unopened};
 ghost use Rattle.compound_run.specs.Context.{Context, Handles};
 ghost use Rattle.compound_run.specs.Operations.{meaning};
 ghost use Rattle.compound_run.specs.Runs.{outcome};
-ghost use Rattle.compound_run.specs.State.{State, Call, Answers};
+ghost use Rattle.compound_run.specs.State.{State, Call, Answers, restored, with_notes, without_client};
 ghost use Rattle.compound_run.specs.InSession.{Reply, AnswersInSession};
 ghost use Rattle.compound_laws.specs.LiveOpens.{OpensHold};
-ghost use Rattle.compound_laws.specs.Reloads.{loaded};
+ghost use Rattle.compound_laws.specs.Events.{loaded};
 
-/// A server that has run nothing has no opens: the law of open files holds.
+/// A server that has run nothing has no opens: the law of open files holds, in a new world (`fresh`) and in one of
+/// before a restart (`restarted`).
 pub fn opens_hold_at_first()
-    ensures { (w : World) → IsSound w → OpensHold (unopened w) }
+    ensures fresh { (w : World) → IsSound w → OpensHold (unopened w) }
+    ensures restarted { (w : World) (next : NextNumbers) (book : Content) (capacity : ℕ) →
+        IsSound w → OpensHold (restored w next book capacity).realm }
 {}
 
-/// Each operation that is OK keeps the law: each open is of a file that is there, and there are at most 4,096 of them. An
-/// operation that isn't OK leaves the realm.
+/// Each operation that is OK keeps the law: each open is of a file that is there, and there are at most 4,096 of them.
+/// An operation that isn't OK leaves the realm.
 pub fn operations_keep_opens()
-    ensures { (c : Context) (h : Handles) (op : Operation) (r : Realm) (o : Outcome) → OpensHold r → outcome (meaning c h op) r ≡ Ok o → OpensHold ((meaning c h op).effect r) }
+    ensures { (c : Context) (h : Handles) (op : Operation) (r : Realm) (o : Outcome) →
+        OpensHold r → outcome (meaning c h op) r ≡ Ok o → OpensHold ((meaning c h op).effect r) }
 {}
 
-/// So each call keeps the law, where no session is in use (`bare`) and where sessions are (`in_session`), however its operations
-/// end, and so does a book that is loaded (`book`): the law holds in every state that a server comes to.
+/// So each call keeps the law, where no session is in use (`bare`) and where sessions are (`in_session`), however its
+/// operations end. So do a book that is loaded (`book`), a client that is let go (`gone`), and notes that are begun
+/// anew (`notes`): the law holds in every state that a server comes to.
 pub fn calls_keep_opens()
-    ensures bare { (old : State) (call : Call) (results : Option (List ℕ)) (new : State) → OpensHold old.realm → Answers old call results new → OpensHold new.realm }
-    ensures in_session { (old : State) (call : Call) (reply : Reply) (new : State) → OpensHold old.realm → AnswersInSession old call reply new → OpensHold new.realm }
+    ensures bare { (old : State) (call : Call) (results : Option (List ℕ)) (new : State) →
+        OpensHold old.realm → Answers old call results new → OpensHold new.realm }
+    ensures in_session { (old : State) (call : Call) (reply : Reply) (new : State) →
+        OpensHold old.realm → AnswersInSession old call reply new → OpensHold new.realm }
     ensures book { (book : Content) (old : State) → OpensHold old.realm → OpensHold (loaded book old).realm }
+    ensures gone { (client : ℕ) (old : State) → OpensHold old.realm → OpensHold (without_client client old).realm }
+    ensures notes { (notes : Notes) (old : State) → OpensHold old.realm → OpensHold (with_notes notes old).realm }
 {}

@@ -29,7 +29,9 @@ impl<A: Allocator + Copy> Realm<A> {
         if !self.grants_first(step, &Op::LookupP) {
             return Err(Status::Access);
         }
-        let parent = self.tree.parent(directory).ok_or(Status::NoEnt)?;
+        let Some(parent) = self.tree.parent(directory) else {
+            return Err(Status::NoEnt);
+        };
         put_result(OpResult::LookupP, out);
         Ok(FileHandles {
             current: Some(parent),

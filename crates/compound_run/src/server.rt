@@ -195,16 +195,18 @@ impl<A: Allocator + Copy> Server<A> {
         RunEnd::Replied
     }
 
+    /// Whether so many clients, sessions or open files are there that a silent client may be let go.
+    fn is_crowded(&self) -> bool {
+        let (records, sessions) = self.realm.clients.counts();
+        records > MANY_CLIENTS || sessions > MANY_SESSIONS || self.realm.opens.len() > MANY_OPENS
+    }
+
     /// The client to let go at this moment, if one is to go: more than 32 records, 32 sessions or 2,048 open files are there, and nothing was
     /// heard of the client for more than 90 seconds. Of several it is the most silent one.
     pub fn silent(&self, now: Moment) -> Option<u64>
         ensures { IfSome result (λ client. IsSome (client_at self.now.realm.registry client)) }
     {
-        let (records, sessions) = self.realm.clients.counts();
-        if records <= MANY_CLIENTS
-            && sessions <= MANY_SESSIONS
-            && self.realm.opens.len() <= MANY_OPENS
-        {
+        if !self.is_crowded() {
             return None;
         }
         self.realm.clients.silent(second(now), LEASE)

@@ -1,11 +1,10 @@
 -- Changes that are read and applied, one after the other.
-use Rattle.std.proofs.Common.{◌≡◌, ℕ, ◌+◌, ◌<◌, ◌≤◌, Bool, true, false, List, [], ◌∷◌, ◌++◌, length, refl, ap, sym, ◌∙◌, subst, arith, Ok, Err, inl, inr}
+use Rattle.std.proofs.Common.{◌≡◌, ℕ, ◌+◌, ◌<◌, Bool, true, false, List, [], ◌∷◌, length, refl, ap, sym, ◌∙◌, subst, arith, Ok, Err}
 use Rattle.std.specs.Prelude.{Result, IsOkUnless}
 use Rattle.std.specs.List.{flat_map, AllByRecursion}
-use Rattle.xdr_wire.specs.Xdr.{Value, HasSpelling, spelling}
-use Rattle.xdr_wire.specs.Reading.{Read, read_at}
+use Rattle.xdr_wire.specs.Xdr.{Value}
+use Rattle.xdr_wire.specs.Reading.{read_at}
 use Rattle.xdr_wire.specs.declared.fault.XdrFault.{XdrFault}
-use Rattle.xdr_wire.specs.declared.fault.XdrFault.TheVariants.{Short}
 use Rattle.node_tree.specs.World.{World}
 use Rattle.node_tree.specs.Forms.{change, step_value, spelled}
 use Rattle.node_tree.specs.Ranges.{in_range}

@@ -1,13 +1,13 @@
 -- What is noted leads from the base to the world, change by change.
-use Rattle.std.proofs.Common.{◌≡◌, ℕ, ◌+◌, ◌-◌, ◌&&◌, Bool, true, false, cond, List, [], ◌∷◌, ◌++◌, length, refl, ap, sym, ◌∙◌, subst, inl, inr, Some, None}
-use Rattle.std.specs.Prelude.{Option, ◌⊎◌, nat_lt, ◌==◌}
+use Rattle.std.proofs.Common.{◌≡◌, ℕ, ◌-◌, ◌&&◌, true, false, cond, List, [], ◌∷◌, ◌++◌, length, refl, ap, sym, ◌∙◌, subst, inl, inr, Some, None}
+use Rattle.std.specs.Prelude.{◌⊎◌, nat_lt}
 use Rattle.std.specs.List.{flat_map, AllByRecursion}
 use Rattle.std.specs.Option.{option_map_or}
 use Rattle.std.proofs.lemmas.Bool.{and_parts}
 use Rattle.std.proofs.lemmas.List.Concat.{flat_map-append}
 use Rattle.node_tree.specs.World.{World, child_named, is_one}
-use Rattle.node_tree.specs.Changes.{new_object, with_new, with_link, without_name, unlinked, with_move, renamed, with_bytes, with_write, with_size, with_list, with_owner}
-use Rattle.node_tree.specs.Notes.{Notes, no_notes, begun_notes, cleared, note, lost}
+use Rattle.node_tree.specs.Changes.{new_object, with_new, with_link, without_name, with_move, with_bytes, with_size, with_list, with_owner}
+use Rattle.node_tree.specs.Notes.{Notes, no_notes, begun_notes, cleared, lost}
 use Rattle.node_tree.specs.Noted.{noted}
 use Rattle.node_tree.specs.Forms.{spelled}
 use Rattle.node_tree.specs.Ranges.{in_range}

@@ -18,13 +18,13 @@ use Rattle.tree_changes.specs.Heard.{at_in}
 
 -- ---- the parts of a value
 
-abbrev kind_in : Value forms.object_kind → Kind
+abbrev pub kind_in : Value forms.object_kind → Kind
 kind_in (inl file) = kinds.File
 kind_in (inr (inl directory)) = kinds.Directory
 kind_in (inr (inr (inl link))) = kinds.Link
 kind_in (inr (inr (inr more))) = elim more [ ]
 
-kind_again : (k : Kind) → kind_in (object_kind_value k) ≡ k
+pub kind_again : (k : Kind) → kind_in (object_kind_value k) ≡ k
 kind_again kinds.File = refl
 kind_again kinds.Directory = refl
 kind_again kinds.Link = refl
@@ -65,16 +65,16 @@ entry_again e =
     ap (λ (k : EntryKind). let f : Entry = record { kind = k; flags = e.flags; mask = e.mask; who = who_in (who_value e.who) } in f) (entry_kind_again e.kind)
     ∙ ap (λ (w : Who). let f : Entry = record { kind = e.kind; flags = e.flags; mask = e.mask; who = w } in f) (who_again e.who)
 
-abbrev list_in : List (Value forms.entry) → List Entry
+abbrev pub list_in : List (Value forms.entry) → List Entry
 list_in vs = map entry_in vs
 
-list_again : (es : List Entry) → list_in (list_value es) ≡ es
+pub list_again : (es : List Entry) → list_in (list_value es) ≡ es
 list_again [] = refl
 list_again (e ∷ es) = ap (λ f. f ∷ list_in (list_value es)) (entry_again e) ∙ ap (λ fs. e ∷ fs) (list_again es)
 
 -- ---- moments
 
-same_moment : (m n : Moment) → m.seconds ≡ n.seconds → m.nanoseconds ≡ n.nanoseconds → m ≡ n
+pub same_moment : (m n : Moment) → m.seconds ≡ n.seconds → m.nanoseconds ≡ n.nanoseconds → m ≡ n
 same_moment m n seconds nanoseconds =
     subst (λ (k : ℕ). (p : k < 1000000000) → m ≡ (let x : Moment = record { seconds = m.seconds; nanoseconds = k; is_fraction = p } in x)) nanoseconds
     (λ p. ap (λ (q : m.nanoseconds < 1000000000). let x : Moment = record { seconds = m.seconds; nanoseconds = m.nanoseconds; is_fraction = q } in x) (le_prop m.is_fraction p)) n.is_fraction

@@ -1,5 +1,5 @@
 -- The parts of a tree as they are written, and as they are taken again.
-use Rattle.std.proofs.Common.{◌≡◌, ℕ, ◌≤◌, ◌<◌, Bool, true, false, List, [], length, refl, ap, sym, ◌∙◌, subst, arith, Some, None, Ok, Err, inl, inr}
+use Rattle.std.proofs.Common.{◌≡◌, ℕ, ◌≤◌, true, false, List, [], length, refl, ap, sym, ◌∙◌, subst, arith, Some, Ok, Err, inl, inr}
 use Rattle.std.specs.Prelude.{Option, Result, IfSome, IfOk}
 use Rattle.std.specs.Option.{option_map_or}
 use Rattle.acl_list.specs.declared.entry.Kind.{Kind}
@@ -13,7 +13,7 @@ use Rattle.node_tree.specs.declared.restoring.RestoreFault.{RestoreFault}
 use Rattle.node_tree.specs.declared.restoring.RestoreFault.TheVariants.{Unsound}
 use Rattle.node_tree.specs.Forms as forms
 use Rattle.xdr_wire.specs.Xdr.{Value}
-use Rattle.tree_changes.specs.Parts.{part, object_value, name_value}
+use Rattle.tree_changes.specs.Parts.{object_value, name_value}
 use Rattle.tree_changes.specs.Taken.{Takes}
 
 most : (k : Kind) → most_bytes k ≤ 1048576

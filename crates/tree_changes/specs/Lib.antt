@@ -5,3 +5,4 @@ pub mod Parts
 pub mod Taken
 pub mod Replays
 pub mod Noting
+pub mod Again

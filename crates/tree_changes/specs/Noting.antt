@@ -1,5 +1,5 @@
 -- What a world has noted, and where it leads.
-use Rattle.std.specs.Prelude.{ℕ, ◌≡◌, Bool, true, false, List}
+use Rattle.std.specs.Prelude.{◌≡◌, true, false, List}
 use Rattle.std.specs.List.{flat_map, AllByRecursion}
 use Rattle.node_tree.specs.Notes.{no_notes}
 use Rattle.node_tree.specs.World.{World}

@@ -5,7 +5,7 @@ use Rattle.nfs_types.specs.Forms.{time}
 use Rattle.nfs_types.specs.MomentView.{moment_value}
 use Rattle.node_tree.specs.World.{World, Object, Name}
 use Rattle.node_tree.specs.Forms.{new_object, name, entry, object_kind_value, list_value}
-use Rattle.xdr_wire.specs.Xdr.{Xdr, Value, hyper, union, arm, no_more, fields, spelling}
+use Rattle.xdr_wire.specs.Xdr.{Xdr, Value, hyper, union, arm, no_more, fields}
 use Rattle.xdr_wire.specs.Wire.{array_values}
 use Rattle.tree_changes.specs.declared.part.SaidPart.{SaidPart}
 use Rattle.tree_changes.specs.declared.part.SaidPart.TheVariants as said

@@ -1,5 +1,5 @@
 -- The world after changes that are data.
-use Rattle.std.specs.Prelude.{ℕ, ◌≡◌, Bool, true, List, [], ◌∷◌}
+use Rattle.std.specs.Prelude.{◌≡◌, true, List, [], ◌∷◌}
 use Rattle.node_tree.specs.World.{World}
 use Rattle.node_tree.specs.Changes.{new_object, with_new, with_link, unlinked, renamed, with_write, with_size, with_list, with_owner}
 use Rattle.node_tree.specs.Steps.{Step, Add, Link, Unlink, Rename, Write, Resize, SetList, SetOwner, allows}

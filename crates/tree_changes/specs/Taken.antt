@@ -2,7 +2,7 @@
 use Rattle.std.specs.Prelude.{ℕ, ◌≡◌, true, List, [], ◌∷◌, Option, Some, None}
 use Rattle.std.proofs.Common.{inl, inr}
 use Rattle.xdr_wire.specs.Xdr.{Value}
-use Rattle.node_tree.specs.World.{World, Object, Name}
+use Rattle.node_tree.specs.World.{Object, Name}
 use Rattle.node_tree.specs.Restored.{Begun, begun, counters_fit, with_object, with_name, object_fits, name_fits}
 use Rattle.tree_changes.specs.Parts.{part, object_value, name_value}
 

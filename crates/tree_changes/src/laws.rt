@@ -1,7 +1,8 @@
-//! Laws on what is noted.
+//! Laws on what is noted, and on what is taken again.
 ghost use Rattle.std.specs.Prelude.{◌≡◌, ℕ, List, true, false};
 ghost use Rattle.std.specs.List.{flat_map, AllByRecursion};
 ghost use Rattle.node_tree.specs.World.{World};
+ghost use Rattle.node_tree.specs.Sound.{IsSound};
 ghost use Rattle.node_tree.specs.Notes.{begun_notes, cleared};
 ghost use Rattle.node_tree.specs.Forms.{spelled};
 ghost use Rattle.node_tree.specs.Ranges.{in_range};
@@ -9,6 +10,7 @@ ghost use Rattle.node_tree.specs.Steps.{Step};
 ghost use Rattle.tree_changes.specs.Stepped.{stepped};
 ghost use Rattle.tree_changes.specs.Replays.{ReadsAs, Replays};
 ghost use Rattle.tree_changes.specs.Noting.{bare, Noted};
+ghost use Rattle.tree_changes.specs.Again.{IsTakenAgain};
 
 /// The bytes of changes are read again as these changes.
 pub fn changes_are_read_again()
@@ -29,4 +31,9 @@ pub fn each_change_is_noted()
 /// Unless a change was lost, replaying the notes over the world where they begin gives the world where they end.
 pub fn notes_are_replayed()
     ensures { (base w : World) → Noted base w → w.notes.is_lost ≡ false → Replays (bare base) w.notes.bytes (bare w) }
+{}
+
+/// All parts of a sound world are taken, each where it comes, and they give that world, as a whole.
+pub fn a_tree_is_taken_again()
+    ensures { (w : World) → IsSound w → IsTakenAgain w }
 {}

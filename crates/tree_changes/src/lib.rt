@@ -12,7 +12,8 @@ mod taking;
 pub use applying::{ApplyFault, Change, apply};
 pub use hearing::hear;
 pub use laws::{
-    changes_are_read_again, each_change_is_noted, notes_are_replayed, notes_begin_anywhere,
+    a_tree_is_taken_again, changes_are_read_again, each_change_is_noted, notes_are_replayed,
+    notes_begin_anywhere,
 };
 pub use part::{PartFault, SaidMoment, SaidPart, write_counters, write_name, write_object};
 pub use replaying::{ReplayFault, replay};

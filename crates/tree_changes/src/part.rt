@@ -1,6 +1,6 @@
 //! The parts of a checkpoint as they stand in it.
 ghost use Rattle.std.specs.Prelude.{◌≡◌, ◌<◌, ◌≤◌, length, Err, OnOk, OnErr, IfOk, IfSome, IsSome};
-ghost use Rattle.xdr_wire.specs.Xdr.{spelling};
+ghost use Rattle.xdr_wire.specs.Xdr.{HasSpelling, spelling};
 ghost use Rattle.xdr_wire.specs.Buffer.{Appends, Puts};
 ghost use Rattle.node_tree.specs.World.{object, bytes_of};
 ghost use Rattle.tree_changes.specs.Parts as specs;
@@ -67,24 +67,27 @@ impl<'a> Wire<'a> for SaidPart<'a> {
     }
 }
 
-/// Writes the counters of a tree: `Full` exactly where there is no room for them, and then nothing is written.
+/// Writes the counters of a tree, so that they are read again: `Full` exactly where there is no room for them, and then
+/// nothing is written.
 pub fn write_counters<A: Allocator + Copy, B: Allocator>(
     tree: &Tree<A>,
     writer: &mut Writer<B>,
 ) -> Result<(), Full>
-    ensures { Puts writer.old writer.new (spelling specs.part (specs.counters_value tree.now)) result }
+    ensures puts { Puts writer.old writer.new (spelling specs.part (specs.counters_value tree.now)) result }
+    ensures has_spelling { OnOk result (HasSpelling specs.part (specs.counters_value tree.now)) }
 {
     let last = (tree.next_stamp(), tree.next_cookie());
     (0u32, (tree.next_number(), (tree.next_tick(), last))).write(writer)
 }
 
-/// Writes a name: `Full` exactly where there is no room for it, and then nothing is written.
+/// Writes a name, so that it is read again: `Full` exactly where there is no room for it, and then nothing is written.
 pub fn write_name<A: Allocator, B: Allocator>(
     name: &DirEntry<A>,
     writer: &mut Writer<B>,
 ) -> Result<(), Full>
     requires { length name.now.name ≤ 255 }
-    ensures { Puts writer.old writer.new (spelling specs.part (specs.name_value name.now)) result }
+    ensures puts { Puts writer.old writer.new (spelling specs.part (specs.name_value name.now)) result }
+    ensures has_spelling { OnOk result (HasSpelling specs.part (specs.name_value name.now)) }
 {
     let Some(bytes) = Opaque::<255>::new(name.name()) else {
         return Err(Full);
@@ -145,7 +148,8 @@ fn put_object<A: Allocator, B: Allocator>(
 ) -> Result<(), Full>
     requires bytes { length bytes.now ≤ 1048576 }
     requires list { length node.now.list ≤ 64 }
-    ensures { Puts writer.old writer.new (spelling specs.part (specs.object_value number (record node.now { bytes = bytes.now }))) result }
+    ensures puts { Puts writer.old writer.new (spelling specs.part (specs.object_value number (record node.now { bytes = bytes.now }))) result }
+    ensures has_spelling { OnOk result (HasSpelling specs.part (specs.object_value number (record node.now { bytes = bytes.now }))) }
 {
     let (Some(bytes), Some(list)) = (
         Opaque::<1_048_576>::new(bytes),
@@ -159,7 +163,8 @@ fn put_object<A: Allocator, B: Allocator>(
     (1u32, (number, (new, (node.change(), times)))).write(writer)
 }
 
-/// Writes the object of a number, which has one. `Full` only where there is no room for it. After a fault nothing is written.
+/// Writes the object of a number, which has one, so that it is read again. `Full` only where there is no room for it.
+/// After a fault nothing is written.
 pub fn write_object<A: Allocator + Copy, B: Allocator>(
     tree: &Tree<A>,
     alloc: A,
@@ -168,6 +173,7 @@ pub fn write_object<A: Allocator + Copy, B: Allocator>(
 ) -> Result<(), PartFault>
     requires { IsSome (object tree.now number) }
     ensures ok { OnOk result (IfSome (object tree.now number) (λ o. Appends writer.old writer.new (spelling specs.part (specs.object_value number o)))) }
+    ensures has_spelling { OnOk result (IfSome (object tree.now number) (λ o. HasSpelling specs.part (specs.object_value number o))) }
     ensures full { result ≡ Err PartFault.Full → IfSome (object tree.now number) (λ o. writer.old.room < length (spelling specs.part (specs.object_value number o))) }
     ensures err { OnErr result (writer.new ≡ writer.old) }
 {

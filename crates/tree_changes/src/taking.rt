@@ -1,6 +1,9 @@
 //! The parts of a checkpoint, taken one after the other.
-ghost use Rattle.std.specs.Prelude.{◌≡◌, Some, IfOk, IfSome};
+ghost use Rattle.std.specs.Prelude.{◌≡◌, ℕ, Some, Err, IfOk, IfSome, IfNone};
 ghost use Rattle.nfs_types.specs.MomentView.{moment_value};
+ghost use Rattle.nfs_types.specs.declared.moment.Moment.{Moment};
+ghost use Rattle.node_tree.specs.Restored.{Begun};
+ghost use Rattle.node_tree.specs.declared.restoring.RestoreFault.TheVariants.{Unsound};
 ghost use Rattle.tree_changes.specs.Parts.{said_part};
 ghost use Rattle.tree_changes.specs.Taken.{Takes};
 
@@ -12,7 +15,8 @@ use std::alloc::Allocator;
 
 /// The last change of an object with its two times, and its stamp.
 fn kept_of(said: (u64, (SaidMoment, (SaidMoment, u64)))) -> Option<Kept>
-    ensures { IfSome result (λ kept. (kept.change, (moment_value kept.time_modify, (moment_value kept.time_metadata, kept.stamp))) ≡ said) }
+    ensures value { IfSome result (λ kept. (kept.change, (moment_value kept.time_modify, (moment_value kept.time_metadata, kept.stamp))) ≡ said) }
+    ensures none { IfNone result ((change : ℕ) (modify metadata : Moment) (stamp : ℕ) → (change, (moment_value modify, (moment_value metadata, stamp))) ≡ said → ⊥) }
 {
     let (change, (modify, (metadata, stamp))) = said;
     Some(Kept {
@@ -31,7 +35,8 @@ fn take_object<A: Allocator + Copy>(
     new: SaidObject<'_>,
     last: (u64, (SaidMoment, (SaidMoment, u64))),
 ) -> Result<Restoring<A>, RestoreFault>
-    ensures { IfOk result (λ more. Takes (Some restoring) (said_part (SaidPart.Object number new.entry last)) more) }
+    ensures ok { IfOk result (λ more. Takes (Some restoring) (said_part (SaidPart.Object number new.entry last)) more) }
+    ensures unsound { result ≡ Err Unsound → (more : Begun) → Takes (Some restoring) (said_part (SaidPart.Object number new.entry last)) more → ⊥ }
 {
     let Some(kept) = kept_of(last) else {
         return Err(RestoreFault::Unsound);
@@ -47,7 +52,8 @@ pub fn take<A: Allocator + Copy>(
     so_far: Option<Restoring<A>>,
     part: SaidPart<'_>,
 ) -> Result<Restoring<A>, RestoreFault>
-    ensures { IfOk result (λ more. Takes so_far (said_part part.entry) more) }
+    ensures ok { IfOk result (λ more. Takes so_far (said_part part.entry) more) }
+    ensures unsound { result ≡ Err Unsound → (more : Begun) → Takes so_far (said_part part.entry) more → ⊥ }
 {
     match (so_far, part) {
         (None, SaidPart::Counters((number, (tick, (stamp, cookie))))) => {

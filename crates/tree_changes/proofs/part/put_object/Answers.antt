@@ -6,8 +6,8 @@ use Rattle.tree_changes.specs.Parts.{part, object_value}
 use Rattle.tree_changes.proofs.Writing.{same_object}
 use Rattle.tree_changes.proofs.part.put_object.Goals as goal
 
-pub returns : goal.returns
-returns g c =
+pub returns-clause-puts : goal.returns-clause-puts
+returns-clause-puts g c =
     let some = c.in-Some-Some in
     let written : Object = record {
       kind = c.kind.result;

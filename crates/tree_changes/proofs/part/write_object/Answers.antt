@@ -1,5 +1,5 @@
-use Rattle.std.proofs.Common.{◌≡◌, ◌<◌, ◌∙◌, length}
-use Rattle.xdr_wire.specs.Xdr.{spelling}
+use Rattle.std.proofs.Common.{◌<◌, ◌∙◌, length}
+use Rattle.xdr_wire.specs.Xdr.{HasSpelling, spelling}
 use Rattle.xdr_wire.specs.Buffer.{Appends}
 use Rattle.node_tree.specs.World.{Object}
 use Rattle.tree_changes.specs.Parts.{part, object_value}
@@ -12,9 +12,14 @@ put_object-requires-clause-bytes g c = few_bytes c.args.tree.now c.in-Some.ensur
 pub returns-in_err-put_object-clause-full : goal.returns-in_err-put_object-clause-full
 returns-in_err-put_object-clause-full g c = λ is.
     of_object c.args.tree.now c.args.number c.in-Some.node.now c.deref.result.now (λ (o : Object). c.args.writer.now.room < length (spelling part (object_value c.args.number o))) c.in-Some.ensures.value
-    (c.deref.ensures.value ∙ c.in_ok-bytes.ensures) c.in_err-put_object.ensures.0
+    (c.deref.ensures.value ∙ c.in_ok-bytes.ensures) c.in_err-put_object.ensures.puts.0
 
 pub returns-clause-ok : goal.returns-clause-ok
 returns-clause-ok g c =
     of_object c.args.tree.now c.args.number c.in-Some.node.now c.deref.result.now (λ (o : Object). Appends c.args.writer.now c.put_object.new.writer (spelling part (object_value c.args.number o))) c.in-Some.ensures.value
-    (c.deref.ensures.value ∙ c.in_ok-bytes.ensures) c.in_ok-put_object.ensures
+    (c.deref.ensures.value ∙ c.in_ok-bytes.ensures) c.in_ok-put_object.ensures.puts
+
+pub returns-clause-has_spelling : goal.returns-clause-has_spelling
+returns-clause-has_spelling g c =
+    of_object c.args.tree.now c.args.number c.in-Some.node.now c.deref.result.now (λ (o : Object). HasSpelling part (object_value c.args.number o)) c.in-Some.ensures.value (c.deref.ensures.value ∙ c.in_ok-bytes.ensures)
+    c.in_ok-put_object.ensures.has_spelling
