@@ -121,9 +121,6 @@ led_more base records found all bytes left next led is on = record {
   quiet = replays_quiet found.0 on.rest next.0 on.replays led.quiet;
 }
 
-
-
-
 abbrev both : World → Kept → Kept
 both w k = (w, k.1)
 

@@ -2,6 +2,11 @@
 use Rattle.std.proofs.Common.{◌≡◌, ◌⊎◌, inl, inr, ℕ, ◌≤◌, ◌+◌, true, false, List, [], ◌∷◌, ◌++◌, length, refl, sym, ◌∙◌, ap, subst, arith, length-append, Ok, Err, Some, None}
 use Rattle.std.specs.Prelude.{Option, Result}
 use Rattle.std.proofs.lemmas.List.{append-nil}
+use Rattle.xdr_wire.specs.Xdr.{HasSpelling, spelling}
+use Rattle.xdr_wire.specs.Reading.{read_at}
+use Rattle.xdr_wire.proofs.Spelling.{again, spelled}
+use Rattle.node_tree.specs.World.{World}
+use Rattle.tree_changes.specs.Replays.{Replays}
 use Rattle.journal.specs.declared.disk.Slot.{Slot}
 use Rattle.journal.specs.declared.journal.Journal.{Journal}
 use Rattle.journal.specs.Disk.{Act, Appended, Tore, Synced, Unsynced, on_disk}
@@ -15,6 +20,7 @@ use Rattle.tree_store.specs.declared.fault.StoreFault.{StoreFault}
 use Rattle.tree_store.specs.declared.fault.StoreFault.TheVariants.{Failed, Version, Damaged, Memory}
 use Rattle.tree_store.specs.declared.store.Store.{Store}
 use Rattle.tree_store.specs.Kept.{Kept}
+use Rattle.tree_store.specs.Forms.{numbers, numbers_value}
 use Rattle.tree_store.specs.Holds.{Holds, LeadsOn, LeadsThrough, IsHeldOr}
 use Rattle.tree_store.specs.Leaving.{Leaves, Does}
 use Rattle.tree_store.specs.Standing.{Stands}
@@ -134,3 +140,15 @@ module _ {D : Type 0} (adds : Adding D) (store store' : Store) (kept aim : Kept)
   goes_on (Err Version) j' old new gives stored = elim gives [ ]
   goes_on (Err Damaged) j' old new gives stored = elim gives [ ]
   goes_on (Err Memory) j' old new same stored = does_nothing adds key history is (After (Err Memory)) old new first same tt
+
+pub nothing_done : {D : Type 0} (adds : Adding D) (store : Store) (kept aim : Kept) (history : List Act) (s : Stands store.journal.key history store kept) (after : List Act → Type 0) (old new : D) → new ≡ old → after history → Does adds store.journal.key history (IsHeldOr kept aim) after old new
+nothing_done adds store kept aim history s after old new same so =
+    does_nothing adds store.journal.key history (IsHeldOr kept aim) after old new (stands_leaves store.journal.key history store kept (IsHeldOr kept aim) s (λ c h. inl (c, refl, h))) same so
+
+-- the bytes of a record lead on
+pub record_leads : (kept : Kept) (w : World) (next : NextNumbers) (notes bytes : Bytes) → bytes ≡ spelling numbers (numbers_value next) ++ notes → HasSpelling numbers (numbers_value next) → Replays kept.0 notes w → LeadsOn kept bytes (w, next)
+record_leads kept w next notes bytes is has replays = record {
+  rest = notes;
+  numbers_are = ap (read_at numbers) is ∙ again numbers (numbers_value next) (spelling numbers (numbers_value next)) notes (spelled numbers (numbers_value next) has);
+  replays = replays;
+}

@@ -62,23 +62,20 @@ said_name d (inr (inr (inr more))) = elim more [ ]
 -- parts of one value say one number and one object
 object_one : (j k : ℕ) (o p : Object) → object_value j o ≡ object_value k p → (j ≡ k) × (o ≡ p)
 object_one j k o p h = (
-  ap (λ v. (said d v).0) h,
+  ap (λ v. (said_object d v).0) h,
   same_object o p
-  (sym (kind_again o.kind) ∙ ap (λ v. kind_in (said d v).1.0.0) h ∙ kind_again p.kind)
-  (ap (λ v. (said d v).1.0.1.0) h)
-  (ap (λ v. (said d v).1.0.1.1.0) h)
-  (ap (λ v. (said d v).1.0.1.1.1.0) h)
-  (sym (list_again o.list) ∙ ap (λ v. list_in (said d v).1.0.1.1.1.1.0) h ∙ list_again p.list)
-  (ap (λ v. (said d v).1.0.1.1.1.1.1) h)
-  (ap (λ v. (said d v).1.1.0) h)
-  (same_moment o.time_modify p.time_modify (ap (λ v. (said d v).1.1.1.0.0) h) (ap (λ v. (said d v).1.1.1.0.1) h))
-  (same_moment o.time_metadata p.time_metadata (ap (λ v. (said d v).1.1.1.1.0.0) h) (ap (λ v. (said d v).1.1.1.1.0.1) h))
-  (ap (λ v. (said d v).1.1.1.1.1) h),
+      (sym (kind_again o.kind) ∙ ap (λ v. kind_in (said_object d v).1.0.0) h ∙ kind_again p.kind)
+      (ap (λ v. (said_object d v).1.0.1.0) h)
+      (ap (λ v. (said_object d v).1.0.1.1.0) h)
+      (ap (λ v. (said_object d v).1.0.1.1.1.0) h)
+      (sym (list_again o.list) ∙ ap (λ v. list_in (said_object d v).1.0.1.1.1.1.0) h ∙ list_again p.list)
+      (ap (λ v. (said_object d v).1.0.1.1.1.1.1) h)
+      (ap (λ v. (said_object d v).1.1.0) h)
+      (same_moment o.time_modify p.time_modify (ap (λ v. (said_object d v).1.1.1.0.0) h) (ap (λ v. (said_object d v).1.1.1.0.1) h))
+      (same_moment o.time_metadata p.time_metadata (ap (λ v. (said_object d v).1.1.1.1.0.0) h) (ap (λ v. (said_object d v).1.1.1.1.0.1) h))
+      (ap (λ v. (said_object d v).1.1.1.1.1) h),
 )
   where
-    abbrev said : Value parts_of.object → Value part → Value parts_of.object
-    said d v = said_object d v
-
     d : Value parts_of.object
     d = (j, ((forms.object_kind_value o.kind, (o.bytes, (o.owner, (o.group, (forms.list_value o.list, o.high))))), (o.change, (moment_value o.time_modify, (moment_value o.time_metadata, o.stamp)))))
 

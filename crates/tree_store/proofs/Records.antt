@@ -74,9 +74,6 @@ bodies_append : (xs ys : List Frame) → bodies (xs ++ ys) ≡ bodies xs ++ bodi
 bodies_append [] ys = refl
 bodies_append (x ∷ xs) ys = ap (λ (l : List Bytes). x.body ∷ l) (bodies_append xs ys)
 
-
-
-
 content_with : List Bytes → List Bytes → Content
 content_with parts records = record { parts = parts; records = records }
 

@@ -69,7 +69,6 @@ never_none : (x : Content) → None ≡ Some x → ⊥
 never_none x e = cc
 
 module _ (key generation : ℕ) (s : Slot) (content : Option Content) (history : List Act) (counts : Counts key generation s content history) where
-
   nothing_whole : (front : List Frame) (x : Content) → IsFront front [] → contents front ≡ Some x → Some x ≡ content
   nothing_whole front x it whole = absurd (never_none x (sym (ap contents (front_of_none front it)) ∙ whole))
 
@@ -133,8 +132,8 @@ module _ {D : Type 0} (adds : Adding D) (c c' : Checkpoint) (bytes : Bytes) (key
   place : length parts ≡ length (part_frames parts)
   place = sym (frames_count parts)
 
-  gives_at : {r : Result (Unit {0}) JournalFault} (old new : D) → FrameGives adds c.slot c.key c.generation c.number f c.has_failed c'.number c'.has_failed r old new → FrameGives adds (other s) key (generation + 1) (length parts) f false c'.number c'.has_failed r old new
-  gives_at {r} old new gives = subst (λ (d : Checkpoint). FrameGives adds d.slot d.key d.generation d.number f d.has_failed c'.number c'.has_failed r old new) b.checkpoint_is gives
+  gives_at : (r : Result (Unit {0}) JournalFault) (old new : D) → FrameGives adds c.slot c.key c.generation c.number f c.has_failed c'.number c'.has_failed r old new → FrameGives adds (other s) key (generation + 1) (length parts) f false c'.number c'.has_failed r old new
+  gives_at r old new gives = subst (λ (d : Checkpoint). FrameGives adds d.slot d.key d.generation d.number f d.has_failed c'.number c'.has_failed r old new) b.checkpoint_is gives
 
   ahead : List Frame
   ahead = part_frames parts ++ f ∷ []
@@ -163,13 +162,13 @@ module _ {D : Type 0} (adds : Adding D) (c c' : Checkpoint) (bytes : Bytes) (key
 
   pub part_goes : (old new : D) → FrameGives adds c.slot c.key c.generation c.number f c.has_failed c'.number c'.has_failed (Ok tt) old new → Does adds key history (λ o. o ≡ content) (λ acts. IsBegun key generation s content c' (parts ++ bytes ∷ []) acts) old new
   part_goes old new gives =
-      let g = gives_at {r = Ok tt} old new gives in
+      let g = gives_at (Ok tt) old new gives in
       let next = begun g.1 g.3 g.4 in
       does_one adds key history (λ o. o ≡ content) (λ acts. IsBegun key generation s content c' (parts ++ bytes ∷ []) acts) old new (Appended (other s) (framed key (generation + 1) (length parts) f)) first g.0
       (begun_leaves key generation s content c' (parts ++ bytes ∷ []) (Appended (other s) (framed key (generation + 1) (length parts) f) ∷ history) next) next
 
   pub part_fails : (fault : JournalFault) (old new : D) → FrameGives adds c.slot c.key c.generation c.number f c.has_failed c'.number c'.has_failed (Err fault) old new → Does adds key history (λ o. o ≡ content) (λ acts. Unit {0}) old new
-  part_fails fault old new gives = failing fault (gives_at {r = Err fault} old new gives)
+  part_fails fault old new gives = failing fault (gives_at (Err fault) old new gives)
     where
       failing : (fault : JournalFault) → FrameGives adds (other s) key (generation + 1) (length parts) f false c'.number c'.has_failed (Err fault) old new → Does adds key history (λ o. o ≡ content) (λ acts. Unit {0}) old new
       failing faults.TooLong g = does_nothing adds key history (λ o. o ≡ content) (λ acts. Unit {0}) old new first g.1 tt
@@ -187,8 +186,8 @@ module _ {D : Type 0} (adds : Adding D) (c : Checkpoint) (key generation : ℕ) 
   end_place : length parts ≡ length (part_frames parts)
   end_place = sym (frames_count parts)
 
-  end_gives : {r : Result Journal JournalFault} (old new : D) → FinishGives adds c r old new → FinishGives adds (record { key = key; slot = other s; generation = generation + 1; number = length parts; has_failed = false }) r old new
-  end_gives {r} old new gives = subst (λ (d : Checkpoint). FinishGives adds d r old new) b.checkpoint_is gives
+  end_gives : (r : Result Journal JournalFault) (old new : D) → FinishGives adds c r old new → FinishGives adds (record { key = key; slot = other s; generation = generation + 1; number = length parts; has_failed = false }) r old new
+  end_gives r old new gives = subst (λ (d : Checkpoint). FinishGives adds d r old new) b.checkpoint_is gives
 
   held : (front : List Frame) (x : Content) → IsFront front (part_frames parts ++ end_frame ∷ []) → contents front ≡ Some x → IsFoundOr content aim (Some x)
   held front x it whole = inr (x, refl, subst (λ (d : Content). Holds d aim) (sym (one_whole parts front x it whole)) holds)
@@ -230,12 +229,12 @@ module _ {D : Type 0} (adds : Adding D) (c : Checkpoint) (key generation : ℕ) 
 
   pub finish_goes : (j : Journal) (store : Store) (old new : D) → FinishGives adds c (Ok j) old new → store.journal ≡ j → store.next ≡ aim.1 → Does adds key history (IsFoundOr content aim) (λ acts. Stands key acts store aim) old new
   finish_goes j store old new gives is next =
-      let g = end_gives {r = Ok j} old new gives in
+      let g = end_gives (Ok j) old new gives in
       does_two adds key history (IsFoundOr content aim) (λ acts. Stands key acts store aim) old g.0.mid new (Appended (other s) end_bytes) (Synced (other s)) before g.0.one (end_appended g.1) g.0.two (end_kept g.1)
       (end_stands g.1 store (is ∙ g.3) next)
 
   pub finish_fails : (fault : JournalFault) (old new : D) → FinishGives adds c (Err fault) old new → Does adds key history (IsFoundOr content aim) (λ acts. Unit {0}) old new
-  finish_fails fault old new gives = failing fault (end_gives {r = Err fault} old new gives)
+  finish_fails fault old new gives = failing fault (end_gives (Err fault) old new gives)
     where
       nothing : new ≡ old → Does adds key history (IsFoundOr content aim) (λ acts. Unit {0}) old new
       nothing same = does_nothing adds key history (IsFoundOr content aim) (λ acts. Unit {0}) old new before same tt

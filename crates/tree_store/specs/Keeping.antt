@@ -33,6 +33,12 @@ ReadsSo content (Err Version) = ⊥
 ReadsSo content (Err Damaged) = HoldsNothing content
 ReadsSo content (Err Memory) = Unit {0}
 
+-- what was kept doesn't stand any more, or what stands holds nothing
+abbrev pub AreDamaged : ℕ → Bytes → Bytes → Type 0
+AreDamaged key a b =
+    Refuses key a b false ⊎ ((slot : Slot) × (generation : ℕ) × (content : Content)
+    × Chooses key a b slot generation (Some content) × HoldsNothing content)
+
 -- What two files have: a new journal has nothing; and what one holds is found, or there is no memory for it.
 abbrev pub OpensSo : {A : Type 0} → ℕ → Bytes → Bytes → Result (Base × Option (Found A)) StoreFault → Type 0
 OpensSo key a b (Ok (base, None)) = (base.key ≡ key) × Chooses key a b base.slot base.generation None
@@ -41,9 +47,7 @@ OpensSo key a b (Ok (base, Some found)) =
     × Holds content (kept_with found.tree found.next))
 OpensSo key a b (Err Failed) = ⊥
 OpensSo key a b (Err Version) = Refuses key a b true
-OpensSo key a b (Err Damaged) =
-    Refuses key a b false ⊎ ((slot : Slot) × (generation : ℕ) × (content : Content)
-    × Chooses key a b slot generation (Some content) × HoldsNothing content)
+OpensSo key a b (Err Damaged) = AreDamaged key a b
 OpensSo key a b (Err Memory) = Unit {0}
 
 abbrev pub BothFoundAnd : {D : Type 0} → Adding D → (Bytes → Bytes → Type 0) → D → D → Type 0
@@ -53,8 +57,8 @@ BothFoundAnd adds so old new = (a : Bytes) × (b : Bytes) × BothFound adds a b 
 abbrev pub Opens : {A D : Type 0} → Adding D → ℕ → Result (Base × Option (Found A)) StoreFault → D → D → Type 0
 Opens adds key (Err Failed) old new = NotBoth adds old new
 Opens adds key (Err Memory) old new = NotBoth adds old new ⊎ BothFoundAnd adds (λ a b. Unit {0}) old new
-Opens adds key (Err Version) old new = BothFoundAnd adds (λ a b. OpensSo key a b (Err Version)) old new
-Opens adds key (Err Damaged) old new = BothFoundAnd adds (λ a b. OpensSo key a b (Err Damaged)) old new
+Opens adds key (Err Version) old new = BothFoundAnd adds (λ a b. Refuses key a b true) old new
+Opens adds key (Err Damaged) old new = BothFoundAnd adds (AreDamaged key) old new
 Opens adds key (Ok found) old new = BothFoundAnd adds (λ a b. OpensSo key a b (Ok found)) old new
 
 -- ---- starting

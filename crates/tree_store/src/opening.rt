@@ -48,8 +48,10 @@ fn opened<A: Allocator + Copy>(
     if !chosen.is_whole {
         return Ok((base, None));
     }
-    let found = read_content(alloc, &chosen.parts, &chosen.records)?;
-    Ok((base, Some(found)))
+    match read_content(alloc, &chosen.parts, &chosen.records) {
+        Ok(found) => Ok((base, Some(found))),
+        Err(fault) => Err(fault),
+    }
 }
 
 /// Syncs and reads both files, the first one first, and answers which of them counts and what it holds; `None` where the

@@ -41,7 +41,10 @@ fn restored<A: Allocator + Copy>(alloc: A, parts: &[&[u8]]) -> Result<Tree<A>, S
     let mut so_far = None;
     let mut left = parts;
     while let Some((bytes, others)) = left.split_first() {
-        so_far = Some(take_part(alloc, so_far, bytes)?);
+        match take_part(alloc, so_far, bytes) {
+            Ok(more) => so_far = Some(more),
+            Err(fault) => return Err(fault),
+        }
         left = others;
     }
     let Some(restoring) = so_far else {
@@ -77,8 +80,10 @@ fn begun<A: Allocator + Copy>(alloc: A, parts: &[&[u8]]) -> Result<Found<A>, Sto
     let Some(next) = whole_numbers(first) else {
         return Err(StoreFault::Damaged);
     };
-    let tree = restored(alloc, others)?;
-    Ok(Found { tree, next })
+    match restored(alloc, others) {
+        Ok(tree) => Ok(Found { tree, next }),
+        Err(fault) => Err(fault),
+    }
 }
 
 /// Leads on by a record. After a fault what was found isn't one to go on with.
@@ -110,11 +115,16 @@ pub(crate) fn read_content<A: Allocator + Copy>(
 ) -> Result<Found<A>, StoreFault>
     ensures { ReadsSo (content_of (map (λ b. b.now) parts.now) (map (λ b. b.now) records.now)) result }
 {
-    let mut found = begun(alloc, parts)?;
+    let mut found = match begun(alloc, parts) {
+        Ok(found) => found,
+        Err(fault) => return Err(fault),
+    };
     let mut left = records;
     while let Some((bytes, others)) = left.split_first() {
-        lead_on(alloc, &mut found, bytes)?;
-        left = others;
+        match lead_on(alloc, &mut found, bytes) {
+            Ok(()) => left = others,
+            Err(fault) => return Err(fault),
+        }
     }
     Ok(found)
 }

@@ -92,7 +92,7 @@ impl Store {
     {
         let journal = self.journal;
         self.journal.has_failed = true;
-        *self = write_checkpoint(
+        match write_checkpoint(
             disk,
             alloc,
             journal.key,
@@ -100,7 +100,10 @@ impl Store {
             journal.generation,
             tree,
             next,
-        )?;
+        ) {
+            Ok(store) => *self = store,
+            Err(fault) => return Err(fault),
+        }
         Ok(())
     }
 
@@ -117,8 +120,13 @@ impl Store {
     {
         let mut journal = self.journal;
         self.journal.has_failed = true;
-        let bytes = record_of(alloc, next, notes)?;
-        keep_record(&mut journal, disk, alloc, &bytes)?;
+        let Ok(bytes) = record_of(alloc, next, notes) else {
+            return Err(StoreFault::Memory);
+        };
+        match keep_record(&mut journal, disk, alloc, &bytes) {
+            Ok(()) => {}
+            Err(fault) => return Err(fault),
+        }
         self.records = self.records.saturating_add(bytes.len() as u64);
         self.journal = journal;
         self.next = next;
