@@ -183,7 +183,10 @@ fn write_lists<R: Files<File = File>>(
         write_list(&mut out, alloc, &book, b"/", root.list())?;
     }
     let mut walk = Walk::new(alloc, tree)?;
-    while let Some(number) = walk.next(tree)? {
+    for _step in 0..u64::MAX {
+        let Some(number) = walk.next(tree)? else {
+            break;
+        };
         if let Some(node) = tree.object(number) {
             write_list(&mut out, alloc, &book, walk.path(), node.list())?;
         }
@@ -208,7 +211,10 @@ fn write_objects<R: Files<File = File>>(
     let top = export.path_of(b"")?;
     export.make(rt, tree.root(), top)?;
     let mut walk = Walk::new(alloc, tree)?;
-    while let Some(number) = walk.next(tree)? {
+    for _step in 0..u64::MAX {
+        let Some(number) = walk.next(tree)? else {
+            break;
+        };
         let path = export.path_of(walk.path())?;
         if let Err(fault) = export.make(rt, number, path) {
             return Err(Stopped::at(export.path_of(walk.path()).ok(), fault));

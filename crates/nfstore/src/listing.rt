@@ -41,7 +41,10 @@ fn write_line<W: Write>(out: &mut W, tree: &Tree, number: u64, path: &[u8]) -> i
 fn write_all<W: Write>(out: &mut W, alloc: Global, tree: &Tree) -> Result<()> {
     write_line(out, tree, tree.root(), b"/")?;
     let mut walk = Walk::new(alloc, tree)?;
-    while let Some(number) = walk.next(tree)? {
+    for _step in 0..u64::MAX {
+        let Some(number) = walk.next(tree)? else {
+            break;
+        };
         write_line(out, tree, number, walk.path())?;
     }
     Ok(())
