@@ -1,5 +1,4 @@
 -- The world of the machine, and its notes over events.
-use Rattle.std.specs.Prelude.{Unit, ⊥}
 use Rattle.node_tree.specs.World.{World}
 use Rattle.nfs_hub.specs.Machine.{Event, State, Connect, Piece, Take, Close, Reload, Note, LetGo}
 

@@ -3,6 +3,9 @@ use Rattle.std.proofs.Common.{◌≡◌, ◌≢◌, ◌≤◌, ℕ, List, [], �
 use Rattle.std.specs.Prelude.{MatchOption}
 use Rattle.std.proofs.lemmas.Bool.{cases_eq}
 use Rattle.node_tree.specs.Notes.{cleared}
+use Rattle.journal.specs.Disk.{Act as DiskAct}
+use Rattle.tree_store.specs.declared.store.Store.{Store as TreeStore}
+use Rattle.tree_store.specs.Kept.{Kept as KeptTree}
 use Rattle.nfs_hub.specs.declared.hub.Hub.{Hub}
 use Rattle.nfs_hub.specs.Answer.{Served as ServedState, letting_go, noting, reloaded}
 use Rattle.nfs_hub.specs.Machine.{Connected, State, Event, Connect, Piece, Take, Close, Reload, Note, LetGo, Step, PieceOn, TakeOn, ChangesConnection, Leads, opening}
@@ -11,13 +14,15 @@ use Rattle.nfs_streams.specs.declared.peer.Peer.{Peer}
 use Rattle.nfs_streams.specs.declared.serving.AllEnd.{AllEnd}
 use Rattle.nfs_streams.specs.declared.serving.AllEnd.TheVariants.{Served, Turns, Wait, Keep, Store, Memory}
 use Rattle.nfs_streams.specs.declared.serving.Limits.{Limits}
-use Rattle.nfs_streams.specs.Acts.{Act, Waited, Knocked, Admitted, Closed, Heard, Ended, Unread, Looked, Loaded, Begun, Given, Kept, Lost, Stored, Unstored, Expired, Told, Unwritten, Adds, of_streams}
+use Rattle.nfs_streams.specs.Acts.{Act, Waited, Knocked, Admitted, Closed, Heard, Ended, Unread, Looked, Loaded, Begun, Given, Kept, Lost, Stored, Unstored, OnDisk, Expired, Told, Unwritten, Adds, of_streams}
 use Rattle.nfs_streams.specs.Runs.{Runs, Ends, Does}
+use Rattle.nfs_streams.specs.Keeping.{IsOpen}
 use Rattle.nfs_streams.specs.Seats.{Stands, IsFresh, IsSeated, Seat, place_at, taken}
-use Rattle.nfs_streams.specs.Standing.{Origin, Listening, Stopped, Ending, Standing, Moves, LeavesSo, RunGives}
+use Rattle.nfs_streams.specs.Standing.{Origin, Left, Listening, Stopped, Ending, Standing, Moves, LeavesSo, RunGives}
 use Rattle.nfs_streams.specs.All.{EndsSo, AreClosed, ServesAll}
 use Rattle.nfs_streams.proofs.Lists.{none_some, none_at, adds_none}
 use Rattle.nfs_streams.proofs.Hubs.{fresh_on}
+use Rattle.nfs_streams.proofs.Keeping.{opens, stops}
 
 -- ---- no connection has a number still to come
 
@@ -57,15 +62,19 @@ fresh_leads first (event ∷ events) s leads = fresh_step event leads.0 s (fresh
 seat_nobody : {A : Type 0} (start id : ℕ) (at : Option (Peer A)) (o : Option Connected) → at ≡ None → (start ≤ id → o ≡ None) → Seat start id at o
 seat_nobody start id at o none closed = inr (record { not_here = λ p e. absurd (none_some p (sym none ∙ e)); closed = closed })
 
-begins : {A : Type 0} (first : ServedState) (events : List Event) (hub : Hub A) (places : List (Option (Peer A))) (limits : Limits) (before : Option (List Act)) (h : LeadsTo first events hub) → taken places ≡ 0
-    → Standing (Listening 0) (record { start = h.state; first = before; limits = limits }) hub places limits.connections before
-begins {A = A} first events hub places limits before h none =
+abbrev origin : {A : Type 0} (first : ServedState) (events : List Event) (hub : Hub A) (limits : Limits) (store : Option TreeStore) (history : List DiskAct) (before : Option (List Act)) (h : LeadsTo first events hub) → Origin
+origin first events hub limits store history before h = record { start = h.state; first = before; limits = limits; store = store; history = history }
+
+begins : {A : Type 0} (first : ServedState) (events : List Event) (hub : Hub A) (places : List (Option (Peer A))) (limits : Limits) (left : Left) (history : List DiskAct) (kept : KeptTree) (before : Option (List Act)) (h : LeadsTo first events hub) → IsOpen left.store history kept hub → taken places ≡ 0 → left.more ≡ limits.connections
+    → Standing (Listening 0) (origin first events hub limits left.store history before h) hub places left before
+begins {A = A} first events hub places limits left history kept before h is_open none all =
     let free = none_at places none in
     let is_fresh = fresh_leads first events h.state h.leads in
     record {
       acts = [];
       machine = h.state;
       way = (refl, refl, tt);
+      keeping = opens left.store (origin first events hub limits left.store history before h) hub kept h.is.served is_open;
       stands = record {
         is = h.is;
         fresh = is_fresh;
@@ -75,7 +84,7 @@ begins {A = A} first events hub places limits before h none =
         count = sym none;
       };
       adds = adds_none before;
-      fewer = omega arith;
+      fewer = omega (arith, all);
     }
   where
     nobody : (j : ℕ) (at : Option (Peer A)) → at ≡ None → IsSeated (λ id. 0) [] j at
@@ -91,7 +100,7 @@ all_closed st free id le =
       | inr other ↦ other.closed le
     ]
 
-ends_so : {A : Type 0} (end : AllEnd) (limits : Limits) {o : Origin} {hub : Hub A} {places : List (Option (Peer A))} {left n : ℕ} {now : Option (List Act)} (st : Standing (Stopped end n) o hub places left now) → o.limits ≡ limits → LeavesSo end limits.turns n left places → EndsSo end limits o.start st.acts st.machine
+ends_so : {A : Type 0} (end : AllEnd) (limits : Limits) {o : Origin} {hub : Hub A} {places : List (Option (Peer A))} {left : Left} {n : ℕ} {now : Option (List Act)} (st : Standing (Stopped end n) o hub places left now) → o.limits ≡ limits → LeavesSo end limits.turns n left places → EndsSo end limits o.start st.acts st.machine
 ends_so Served limits {places = places} st same leaves = (omega (arith, ap (λ (l : Limits). l.connections) same, st.fewer, leaves.0), all_closed st.stands (none_at places leaves.1))
 ends_so Turns limits st same leaves = st.way.1 ∙ leaves
 ends_so Wait limits st same leaves = st.way.2
@@ -119,6 +128,7 @@ does_lead first events acts Lost old new does leads = ([], subst (λ (s : State)
 does_lead first events acts (Loaded book) old new does leads = (Reload book ∷ [], (old, leads, does))
 does_lead first events acts (Stored state) old new does leads = (Note (cleared state.realm.world.notes) ∷ [], (old, leads, does))
 does_lead first events acts (Expired client) old new does leads = (LetGo client ∷ [], (old, leads, does))
+does_lead first events acts (OnDisk act) old new does leads = ([], subst (λ (s : State). Leads first events s) (sym does) leads)
 does_lead first events acts Unstored old new does leads = ([], subst (λ (s : State). Leads first events s) (sym does) leads)
 
 runs_lead : (first : ServedState) (events : List Event) (most : Limits) (acts : List Act) (old new : State) → Runs most acts old new → Leads first events old → (later : List Event) × Leads first (later ++ events) new
@@ -136,14 +146,14 @@ ends_lead first events acts (act ∷ endings) old new ends leads =
 
 -- ---- the whole
 
-pub serves : {A : Type 0} (first : ServedState) (events : List Event) (end : AllEnd) (limits : Limits) (hub ran new : Hub A) (places places' places'' : List (Option (Peer A))) (left : ℕ) (before mid after : Option (List Act)) → LeadsTo first events hub → taken places ≡ 0
-    → RunGives end limits hub places limits.connections ran places' left before mid
-    → ((acts : List Act) (s : State) (left : ℕ) (limits : Limits) → Moves (Ending acts s) (Ending acts s) limits ran places' left new places'' left mid after) → ((j : ℕ) → place_at places'' j ≡ None)
-    → ServesAll first events end limits new before after
-serves first events end limits hub ran new places places' places'' left before mid after h none run shuts free =
-    let o : Origin = record { start = h.state; first = before; limits = limits } in
-    let st = run.3 o refl (begins first events hub places limits before h none) in
-    let ending : Standing (Ending st.acts st.machine) o ran places' left mid = record { acts = st.acts; machine = st.machine; way = ([], refl, refl); stands = st.stands; adds = st.adds; fewer = st.fewer } in
+pub serves : {A : Type 0} (first : ServedState) (events : List Event) (from : Left) (history : List DiskAct) (kept : KeptTree) (end : AllEnd) (limits : Limits) (hub ran new : Hub A) (places places' places'' : List (Option (Peer A))) (left : Left) (before mid after : Option (List Act)) → LeadsTo first events hub → IsOpen from.store history kept hub → taken places ≡ 0 → from.more ≡ limits.connections
+    → RunGives end limits hub places from ran places' left before mid
+    → ((acts : List Act) (s : State) (left : Left) (limits : Limits) → Moves (Ending acts s) (Ending acts s) limits ran places' left new places'' left mid after) → ((j : ℕ) → place_at places'' j ≡ None)
+    → ServesAll first events from.store history end limits new before after
+serves first events from history kept end limits hub ran new places places' places'' left before mid after h is_open none all run shuts free =
+    let o = origin first events hub limits from.store history before h in
+    let st = run.3 o refl (begins first events hub places limits from history kept before h is_open none all) in
+    let ending : Standing (Ending st.acts st.machine) o ran places' left mid = record { acts = st.acts; machine = st.machine; way = ([], refl, refl); keeping = tt; stands = st.stands; adds = st.adds; fewer = st.fewer } in
     let last = shuts st.acts st.machine left limits o refl ending in
     let endings = last.way.0 in
     let same : last.acts ≡ endings ++ st.acts = last.way.1 in
@@ -155,6 +165,7 @@ serves first events end limits hub ran new places places' places'' left before m
       acts = st.acts;
       served = st.machine;
       run = st.way.0;
+      kept = st.keeping;
       few_turns = omega (arith, st.way.1, run.1);
       few_connections = omega (arith, st.fewer);
       ends = ends_so end limits st refl run.2;
@@ -169,13 +180,16 @@ serves first events end limits hub ran new places places' places'' left before m
     }
 
 -- there was no memory for the places
-pub serves_nothing : {A : Type 0} (first : ServedState) (events : List Event) (limits : Limits) (hub : Hub A) (before : Option (List Act)) → LeadsTo first events hub → ServesAll first events Memory limits hub before before
-serves_nothing first events limits hub before h = record {
+pub serves_nothing : {A : Type 0} (first : ServedState) (events : List Event) (store : Option TreeStore) (history : List DiskAct) (kept : KeptTree) (limits : Limits) (hub : Hub A) (before : Option (List Act)) → LeadsTo first events hub → IsOpen store history kept hub → ServesAll first events store history Memory limits hub before before
+serves_nothing first events store history kept limits hub before h is_open = record {
   start = h.state;
   leads = h.leads;
   acts = [];
   served = h.state;
   run = refl;
+  kept =
+      let o = origin first events hub limits store history before h in
+      stops store store o [] h.state refl (opens store o hub kept h.is.served is_open);
   few_turns = omega arith;
   few_connections = omega arith;
   ends = refl;

@@ -1,6 +1,8 @@
--- What serving asks of the streams and gives to the hub, each act at its place in one list.
+-- What serving asks of the streams and of the disk of the store, and what it gives to the hub, each act at its place in
+-- one list.
 use Rattle.std.specs.Prelude.{◌≡◌, ◌≤◌, ◌⊎◌, ◌+◌, ◌-◌, ◌==◌, ℕ, Bool, true, false, List, [], ◌∷◌, ◌++◌, length, Option, Some, None, take, drop, if◌then◌else◌}
 use Rattle.who_book.specs.Content.{Content}
+use Rattle.journal.specs.Disk.{Act as DiskAct}
 use Rattle.compound_run.specs.State.{State as ServerState, kept_of}
 use Rattle.nfs_hub.specs.declared.fault.HubFault.{HubFault}
 use Rattle.nfs_streams.specs.declared.streams.Moved.{Moved}
@@ -9,7 +11,7 @@ use Rattle.nfs_streams.specs.declared.streams.Knock.{Knock}
 use Rattle.nfs_streams.specs.declared.streams.Knock.TheVariants as knock
 use Rattle.nfs_streams.specs.declared.streams.StreamEnd.{StreamEnd}
 
--- one request of the streams and its answer, or bytes that are given to the hub
+-- one request of the streams or of the disk, with its answer, or what is done with the hub
 pub data Act : Type 0 where
   -- serving has waited, and whether that went well
   Waited : Bool → Act
@@ -37,7 +39,9 @@ pub data Act : Type 0 where
   Kept : ServerState → Act
   -- keeping the trail failed
   Lost : Act
-  -- what outlives a restart of a server in this state is stored
+  -- this act on a file of the store
+  OnDisk : DiskAct → Act
+  -- what outlives a restart of a server in this state is stored, if there is a store
   Stored : ServerState → Act
   -- storing failed
   Unstored : Act
@@ -48,11 +52,13 @@ pub data Act : Type 0 where
   -- writing to the stream of the place failed
   Unwritten : ℕ → Act
 
--- the acts that are asked of the streams
+-- the acts that are asked of the streams and of the disk
 abbrev pub of_streams : List Act → List Act
 of_streams [] = []
 of_streams (Begun place ∷ acts) = of_streams acts
 of_streams (Given place bytes fault ∷ acts) = of_streams acts
+of_streams (Stored state ∷ acts) = of_streams acts
+of_streams (Unstored ∷ acts) = of_streams acts
 of_streams (Expired client ∷ acts) = of_streams acts
 of_streams (act ∷ acts) = act ∷ of_streams acts
 
@@ -70,10 +76,6 @@ knocked knock.Waiting = []
 abbrev pub kept : Bool → ServerState → List Act
 kept true state = Kept state ∷ []
 kept false state = Lost ∷ []
-
-abbrev pub stored : Bool → ServerState → List Act
-stored true state = Stored state ∷ []
-stored false state = Unstored ∷ []
 
 abbrev pub looked : Option Content → List Act
 looked (Some book) = Loaded book ∷ []
@@ -179,7 +181,8 @@ IsLooked (Loaded book ∷ acts) = Unit {0}
 IsLooked (Heard at bytes ∷ acts) = ⊥
 IsLooked (act ∷ acts) = IsLooked acts
 
--- All that outlives a restart of a server in this state is stored: what was stored last is all that outlives one.
+-- All that outlives a restart of a server in this state was stored, if there is a store: what was stored last is all that
+-- outlives one.
 abbrev pub IsStored : List Act → ServerState → Type 0
 IsStored [] s = ⊥
 IsStored (Stored state ∷ acts) s = kept_of state ≡ kept_of s

@@ -1,5 +1,7 @@
 -- Serving all streams.
 use Rattle.std.specs.Prelude.{◌≡◌, ◌≤◌, ℕ, false, List, [], ◌++◌, Option, None}
+use Rattle.journal.specs.Disk.{Act as DiskAct}
+use Rattle.tree_store.specs.declared.store.Store.{Store as TreeStore}
 use Rattle.nfs_hub.specs.declared.hub.Hub.{Hub}
 use Rattle.nfs_hub.specs.Answer.{Served as ServedState}
 use Rattle.nfs_hub.specs.Machine.{State, Event, Leads}
@@ -9,6 +11,7 @@ use Rattle.nfs_streams.specs.declared.serving.AllEnd.TheVariants.{Served, Turns,
 use Rattle.nfs_streams.specs.declared.serving.Limits.{Limits}
 use Rattle.nfs_streams.specs.Acts.{Act, Waited, Lost, Unstored, Adds, Just, of_streams, waits, admitted}
 use Rattle.nfs_streams.specs.Runs.{Runs, Ends}
+use Rattle.nfs_streams.specs.Keeping.{SurvivesIn}
 
 -- no connection of this number or a later one is open
 abbrev pub AreClosed : ℕ → State → Type 0
@@ -26,13 +29,15 @@ EndsSo Memory limits start acts s = acts ≡ []
 
 -- Behind events that lead to the hub, acts lead the machine on, each of them allowed at its turn, with at most so many
 -- waits and connections; then the streams still at places are let go, and none of the connections that came is open. Those of these acts
--- that are asked of the streams, and no others, are the acts of the streams; and they lead to the state of the hub.
-pub record ServesAll {A : Type 0} (first : ServedState) (events : List Event) (end : AllEnd) (limits : Limits) (new : Hub A) (before after : Option (List Act)) : Type 0 where
+-- that are asked of the streams and of the disk, and no others, are the acts of the streams; and they lead to the state of
+-- the hub. Where there is a store, a crash after each of the acts leaves all of which a reply was written.
+pub record ServesAll {A : Type 0} (first : ServedState) (events : List Event) (store : Option TreeStore) (history : List DiskAct) (end : AllEnd) (limits : Limits) (new : Hub A) (before after : Option (List Act)) : Type 0 where
   pub start : State
   pub leads : Leads first events start
   pub acts : List Act
   pub served : State
   pub run : Runs limits acts start served
+  pub kept : SurvivesIn store history limits acts start served run
   pub few_turns : waits acts ≤ limits.turns
   pub few_connections : admitted acts ≤ limits.connections
   pub ends : EndsSo end limits start acts served

@@ -1,5 +1,10 @@
 -- The stages of serving, and the parts of serving as steps between them.
 use Rattle.std.specs.Prelude.{◌≡◌, ◌≢◌, ◌≤◌, ◌<◌, ◌+◌, ℕ, Bool, true, false, List, [], ◌∷◌, ◌++◌, length, Option, Some, None, Result, Ok, Err, set}
+use Rattle.journal.specs.Disk.{Act as DiskAct}
+use Rattle.tree_store.specs.declared.store.Store.{Store as TreeStore}
+use Rattle.tree_store.specs.Kept.{Kept, Covers, Follows}
+use Rattle.tree_store.specs.Standing.{Stands as StandsFor}
+use Rattle.compound_run.specs.State.{State as ServerState, kept_of}
 use Rattle.nfs_hub.specs.declared.hub.Hub.{Hub}
 use Rattle.nfs_hub.specs.declared.fault.HubFault.{HubFault}
 use Rattle.nfs_hub.specs.declared.fault.HubFault.TheVariants as fault
@@ -8,6 +13,7 @@ use Rattle.nfs_hub.specs.Hub.{IsHub}
 use Rattle.nfs_streams.specs.declared.streams.Moved.{Moved}
 use Rattle.nfs_streams.specs.declared.streams.Moved.TheVariants as moved
 use Rattle.nfs_streams.specs.declared.peer.Peer.{Peer}
+use Rattle.nfs_streams.specs.declared.places.Door.{Door}
 use Rattle.nfs_streams.specs.declared.peer.Turned.{Turned}
 use Rattle.nfs_streams.specs.declared.peer.Turned.TheVariants.{Idle, Busy, Gone}
 use Rattle.nfs_streams.specs.declared.streams.StreamEnd.{StreamEnd}
@@ -21,12 +27,23 @@ use Rattle.nfs_streams.specs.declared.streams.Wait.{Wait as Pause}
 use Rattle.nfs_streams.specs.Acts.{Act, Waited, Knocked, Heard, Ended, Unread, Lost, Unstored, Adds, Just, IsLooked, IsSettled, IsStored, of_streams, open_in, waits, admitted, left_of_piece}
 use Rattle.nfs_streams.specs.Runs.{Runs, Ends, IsKept, most_open}
 use Rattle.nfs_streams.specs.Seats.{Stands, taken}
+use Rattle.nfs_streams.specs.Keeping.{disk_of, IsShown, AlwaysSurvives, SurvivesIn}
 
--- the beginning of serving: its state, the acts known then, and its limits
+-- the beginning of serving: its state, the acts known then, its limits, its store, and the history of the store's files
 pub record Origin : Type 0 where
   pub start : State
   pub first : Option (List Act)
   pub limits : Limits
+  pub store : Option TreeStore
+  pub history : List DiskAct
+
+-- how many connections may still come, and the store
+pub record Left : Type 0 where
+  pub more : ℕ
+  pub store : Option TreeStore
+
+abbrev pub left_of : {A : Type 0} → Door A → Left
+left_of door = record { more = door.left; store = door.store }
 
 -- The stages of serving behind so many waits.
 pub data Stage : Type 0 where
@@ -73,23 +90,54 @@ Way (Answering n) o acts s = Runs o.limits acts o.start s × (waits acts ≡ n) 
 Way (Stopped end n) o acts s = Runs o.limits acts o.start s × (waits acts ≡ n) × StopsSo end acts
 Way (Ending served at) o acts s = (endings : List Act) × (acts ≡ endings ++ served) × Ends served endings at s
 
--- Acts have led to this stage, and to the present hub and places; so many connections may still come.
-pub record Standing {A : Type 0} (stage : Stage) (o : Origin) (hub : Hub A) (places : List (Option (Peer A))) (left : ℕ) (now : Option (List Act)) : Type 0 where
+-- After a run the store stands for what is kept: that has all of which a reply was written, it covers the state that was
+-- stored last, and the notes of the world lead on from it. And a crash at any moment so far left such a thing.
+pub record Storing (key : ℕ) (store : TreeStore) (o : Origin) (acts : List Act) (machine : State) (run : Runs o.limits acts o.start machine) : Type 0 where
+  pub kept : Kept
+  pub stands : StandsFor key (disk_of acts ++ o.history) store kept
+  pub follows : Follows kept machine.served.state.realm.world
+  pub shown : IsShown o.limits acts o.start machine run kept
+  pub last : (state : ServerState) → IsStored acts state → Covers (kept_of state) kept
+  pub always : AlwaysSurvives key o.history o.limits acts o.start machine run
+
+-- the store that serving began with goes on, if there was one
+abbrev pub StoringIn : Option TreeStore → Option TreeStore → (o : Origin) (acts : List Act) (machine : State) → Runs o.limits acts o.start machine → Type 0
+StoringIn None None o acts machine run = Unit {0}
+StoringIn None (Some store) o acts machine run = ⊥
+StoringIn (Some first) None o acts machine run = ⊥
+StoringIn (Some first) (Some store) o acts machine run = Storing first.journal.key store o acts machine run
+
+-- what is known of the store at a stage
+abbrev pub Keeping : (stage : Stage) (o : Origin) (acts : List Act) (machine : State) → Way stage o acts machine → Option TreeStore → Type 0
+Keeping (Listening n) o acts machine way store = StoringIn o.store store o acts machine way.0
+Keeping (Knocking n) o acts machine way store = StoringIn o.store store o acts machine way.0
+Keeping (Full n) o acts machine way store = StoringIn o.store store o acts machine way.0
+Keeping (Looking n) o acts machine way store = StoringIn o.store store o acts machine way.0
+Keeping (Giving n) o acts machine way store = StoringIn o.store store o acts machine way.0
+Keeping (Piecing n place left) o acts machine way store = StoringIn o.store store o acts machine way.0
+Keeping (Unkept n place left) o acts machine way store = StoringIn o.store store o acts machine way.0
+Keeping (Answering n) o acts machine way store = StoringIn o.store store o acts machine way.0
+Keeping (Stopped end n) o acts machine way store = SurvivesIn o.store o.history o.limits acts o.start machine way.0
+Keeping (Ending served at) o acts machine way store = Unit {0}
+
+-- Acts have led to this stage, and to the present hub, places and store; so many connections may still come.
+pub record Standing {A : Type 0} (stage : Stage) (o : Origin) (hub : Hub A) (places : List (Option (Peer A))) (left : Left) (now : Option (List Act)) : Type 0 where
   pub acts : List Act
   pub machine : State
   pub way : Way stage o acts machine
+  pub keeping : Keeping stage o acts machine way left.store
   pub stands : Stands o.start.next hub places acts machine
   pub adds : Adds o.first now (of_streams acts)
-  pub fewer : left + admitted acts ≡ o.limits.connections
+  pub fewer : left.more + admitted acts ≡ o.limits.connections
 
 -- from one stage to another, with these limits
-abbrev pub Moves : {A : Type 0} → Stage → Stage → Limits → Hub A → List (Option (Peer A)) → ℕ → Hub A → List (Option (Peer A)) → ℕ → Option (List Act) → Option (List Act) → Type 0
+abbrev pub Moves : {A : Type 0} → Stage → Stage → Limits → Hub A → List (Option (Peer A)) → Left → Hub A → List (Option (Peer A)) → Left → Option (List Act) → Option (List Act) → Type 0
 Moves stage stage' limits old places left new places' left' before after =
     (o : Origin) → o.limits ≡ limits → Standing stage o old places left before → Standing stage' o new places' left' after
 
 -- a book that has come is loaded, or none has come, for any connections at the places
 abbrev pub Loads : {A : Type 0} → Hub A → Hub A → Option (List Act) → Option (List Act) → Type 0
-Loads {A} old new before after = (n left : ℕ) (limits : Limits) (places : List (Option (Peer A))) → Moves (Listening n) (Looking n) limits old places left new places left before after
+Loads {A} old new before after = (n : ℕ) (left : Left) (limits : Limits) (places : List (Option (Peer A))) → Moves (Listening n) (Looking n) limits old places left new places left before after
 
 -- the stage behind the keeping of the trail: what was read may be given, or serving stops
 abbrev pub kept_stage : Bool → ℕ → Stage
@@ -99,7 +147,7 @@ kept_stage false n = Stopped Keep n
 -- whatever is at the other places, the connection of this place becomes another one, or goes
 abbrev pub Changes : {A : Type 0} → Stage → Stage → Limits → ℕ → Hub A → Option (Peer A) → Hub A → Option (Peer A) → Option (List Act) → Option (List Act) → Type 0
 Changes {A} stage stage' limits place old peer new peer' before after =
-    (o : Origin) (left : ℕ) (places : List (Option (Peer A))) → o.limits ≡ limits → place < length places
+    (o : Origin) (left : Left) (places : List (Option (Peer A))) → o.limits ≡ limits → place < length places
     → Standing stage o old (set places place peer) left before → Standing stage' o new (set places place peer') left after
 
 -- a read of the stream of a place, and what was read
@@ -150,8 +198,8 @@ stored_stage true n = Answering n
 stored_stage false n = Stopped Store n
 
 -- what outlives a restart is stored, or it couldn't be, for any connections at the places
-abbrev pub Stores : {A : Type 0} → Bool → Hub A → Hub A → Option (List Act) → Option (List Act) → Type 0
-Stores {A} result old new before after = (n left : ℕ) (limits : Limits) (places : List (Option (Peer A))) → Moves (Giving n) (stored_stage result n) limits old places left new places left before after
+abbrev pub Stores : {A : Type 0} → Bool → Hub A → Left → Hub A → Left → Option (List Act) → Option (List Act) → Type 0
+Stores {A} result old left new left' before after = (n : ℕ) (limits : Limits) (places : List (Option (Peer A))) → Moves (Giving n) (stored_stage result n) limits old places left new places left' before after
 
 -- the stage after a turn, by the length of the next wait, or by why no replies may be written
 abbrev pub turned_stage : Result Pause Halt → ℕ → Stage
@@ -164,8 +212,8 @@ given_stage (Some left) n place = Piecing n place left
 given_stage None n place = Stopped Keep n
 
 -- The end of serving behind so many waits: no connection is open or to come; or all turns are used up.
-abbrev pub LeavesSo : {A : Type 0} → AllEnd → ℕ → ℕ → ℕ → List (Option (Peer A)) → Type 0
-LeavesSo Served turns n left places = (left ≡ 0) × (taken places ≡ 0)
+abbrev pub LeavesSo : {A : Type 0} → AllEnd → ℕ → ℕ → Left → List (Option (Peer A)) → Type 0
+LeavesSo Served turns n left places = (left.more ≡ 0) × (taken places ≡ 0)
 LeavesSo Turns turns n left places = n ≡ turns
 LeavesSo Wait turns n left places = Unit {0}
 LeavesSo Keep turns n left places = Unit {0}
@@ -173,6 +221,6 @@ LeavesSo Store turns n left places = Unit {0}
 LeavesSo Memory turns n left places = ⊥
 
 -- from the beginning behind so many turns at most
-abbrev pub RunGives : {A : Type 0} → AllEnd → Limits → Hub A → List (Option (Peer A)) → ℕ → Hub A → List (Option (Peer A)) → ℕ → Option (List Act) → Option (List Act) → Type 0
+abbrev pub RunGives : {A : Type 0} → AllEnd → Limits → Hub A → List (Option (Peer A)) → Left → Hub A → List (Option (Peer A)) → Left → Option (List Act) → Option (List Act) → Type 0
 RunGives end limits old places left new places' left' before after =
     (n : ℕ) × (n ≤ limits.turns) × LeavesSo end limits.turns n left' places' × Moves (Listening 0) (Stopped end n) limits old places left new places' left' before after

@@ -1,11 +1,14 @@
 //! Serving all streams, one turn after another.
 ghost use Rattle.std.specs.Prelude.{◌≡◌, ◌≤◌, ℕ, List, Option, length, IfOk};
+ghost use Rattle.journal.specs.Disk.{Act as DiskAct};
+ghost use Rattle.tree_store.specs.Kept.{Kept};
 ghost use Rattle.nfs_hub.specs.Answer.{Served as ServedState};
 ghost use Rattle.nfs_hub.specs.Machine.{Event};
 ghost use Rattle.nfs_hub.specs.Hub.{LeadsTo};
 ghost use Rattle.nfs_streams.specs.Acts.{Act};
 ghost use Rattle.nfs_streams.specs.Seats.{taken};
-ghost use Rattle.nfs_streams.specs.Standing.{Listening, Giving, Loads, Moves, RunGives, Stores, turned_stage};
+ghost use Rattle.nfs_streams.specs.Keeping.{IsOpen, KeepsTree};
+ghost use Rattle.nfs_streams.specs.Standing.{Left, left_of, Listening, Giving, Loads, Moves, RunGives, Stores, turned_stage};
 ghost use Rattle.nfs_streams.specs.All.{ServesAll};
 
 use crate::peer::Peer;
@@ -13,6 +16,7 @@ use crate::places::{Door, answer_all, are_served, give_all, listen_all, make_roo
 use crate::streams::{Streams, Wait};
 use nfs_hub::{Clock, Hub, MAX_CONNECTIONS};
 use std::alloc::{AllocError, Allocator};
+use tree_store::Store;
 
 /// How far streams are served.
 #[derive(Clone, Copy, Debug)]
@@ -74,7 +78,7 @@ fn load_book<A: Allocator + Copy, S: Streams<A>>(hub: &mut Hub<A>, streams: &mut
 
 /// Lets the most silent client go, if leases end and one is to go.
 fn expire<A: Allocator + Copy, C: Clock>(hub: &mut Hub<A>, clock: &C, limits: Limits)
-    ensures { (n left : ℕ) (places : List (Option (Peer A))) (now : Option (List Act)) → Moves (Giving n) (Giving n) limits hub.old places left hub.new places left now now }
+    ensures { (n : ℕ) (left : Left) (places : List (Option (Peer A))) (now : Option (List Act)) → Moves (Giving n) (Giving n) limits hub.old places left hub.new places left now now }
 {
     if !limits.leases {
         return;
@@ -82,20 +86,44 @@ fn expire<A: Allocator + Copy, C: Clock>(hub: &mut Hub<A>, clock: &C, limits: Li
     let _ = hub.let_go(clock.now());
 }
 
-/// Stores what outlives a restart, and forgets what was noted of it. Whether it could be stored.
-fn store<A: Allocator + Copy, S: Streams<A>>(hub: &mut Hub<A>, streams: &mut S) -> bool
-    ensures { Stores result hub.old hub.new (S.acts streams.old) (S.acts streams.new) }
+/// Keeps the tree and the numbers that come next in the store, if there is one. Whether they are kept.
+fn keep_tree<A: Allocator + Copy, S: Streams<A>>(
+    hub: &Hub<A>,
+    streams: &mut S,
+    alloc: A,
+    store: &mut Option<Store>,
+) -> bool
+    ensures { KeepsTree S.adds hub.now store.old result store.new streams.old streams.new }
 {
-    if !streams.store(hub.server()) {
+    let Some(store) = store else {
+        return true;
+    };
+    let server = hub.server();
+    let done = store.keep(streams, alloc, server.tree(), server.next_numbers());
+    done.is_ok()
+}
+
+/// Stores what outlives a restart, if there is a store, and forgets what was noted of it. Whether it could be stored.
+fn store<A: Allocator + Copy, S: Streams<A>>(
+    hub: &mut Hub<A>,
+    streams: &mut S,
+    door: &mut Door<A>,
+) -> bool
+    ensures stores { Stores result hub.old (left_of door.old) hub.new (left_of door.new) (S.acts streams.old) (S.acts streams.new) }
+    ensures most { door.new.limits ≡ door.old.limits }
+{
+    if !keep_tree(hub, streams, door.alloc, &mut door.store) {
         return false;
     }
     hub.clear_notes();
     true
 }
 
-/// One turn: all places are read; a book that has come is loaded, and the trail is kept; what was read is given to the hub, and the trail is
-/// kept after each record; the most silent client is let go, where one is to go; what outlives a restart is stored; and then the waiting bytes of all places are written. How long the next wait may
-/// take; `Err`: the trail couldn't be kept, or it couldn't be stored, and no bytes were given or written after that.
+/// One turn: all places are read; a book that has come is loaded, and the trail is kept; what was read is given to the
+/// hub, and the trail is kept after each record; the most silent client is let go, where one is to go; what outlives a
+/// restart is stored, if there is a store; and then the waiting bytes of all places are written. How long the next wait
+/// may take; `Err`: the trail couldn't be kept, or what outlives a restart couldn't be stored, and no bytes were given or
+/// written after that.
 fn turn<A: Allocator + Copy, S: Streams<A>, C: Clock>(
     hub: &mut Hub<A>,
     streams: &mut S,
@@ -104,7 +132,7 @@ fn turn<A: Allocator + Copy, S: Streams<A>, C: Clock>(
     door: &mut Door<A>,
 ) -> Result<Wait, Halt>
     requires { length places.old ≤ 16 }
-    ensures moves { (n : ℕ) → Moves (Listening n) (turned_stage result n) door.old.limits hub.old places.old door.old.left hub.new places.new door.new.left (S.acts streams.old) (S.acts streams.new) }
+    ensures moves { (n : ℕ) → Moves (Listening n) (turned_stage result n) door.old.limits hub.old places.old (left_of door.old) hub.new places.new (left_of door.new) (S.acts streams.old) (S.acts streams.new) }
     ensures most { door.new.limits ≡ door.old.limits }
 {
     let heard = listen_all(hub, streams, clock, places, door);
@@ -116,7 +144,7 @@ fn turn<A: Allocator + Copy, S: Streams<A>, C: Clock>(
         return Err(Halt::Keep);
     }
     expire(hub, clock, door.limits);
-    if !store(hub, streams) {
+    if !store(hub, streams, door) {
         return Err(Halt::Store);
     }
     let told = answer_all(hub, streams, clock, places);
@@ -133,7 +161,7 @@ fn run<A: Allocator + Copy, S: Streams<A>, C: Clock>(
     door: &mut Door<A>,
 ) -> AllEnd
     requires { length places.old ≤ 16 }
-    ensures { RunGives result door.old.limits hub.old places.old door.old.left hub.new places.new door.new.left (S.acts streams.old) (S.acts streams.new) }
+    ensures { RunGives result door.old.limits hub.old places.old (left_of door.old) hub.new places.new (left_of door.new) (S.acts streams.old) (S.acts streams.new) }
 {
     let mut how = Wait::No;
     for _turn in 0..door.limits.turns {
@@ -154,23 +182,17 @@ fn run<A: Allocator + Copy, S: Streams<A>, C: Clock>(
 
 /// Serves streams at these places, none of which is taken, and then lets go all streams still open.
 fn serve_at<A: Allocator + Copy, S: Streams<A>, C: Clock>(
-    alloc: A,
     hub: &mut Hub<A>,
     streams: &mut S,
     clock: &C,
     places: &mut [Option<Peer<A>>],
-    limits: Limits,
+    mut door: Door<A>,
 ) -> AllEnd
     requires sixteen { length places.old ≤ 16 }
     requires free { taken places.old ≡ 0 }
-    ensures { (first : ServedState) (events : List Event) → LeadsTo first events hub.old → ServesAll first events result limits hub.new (S.acts streams.old) (S.acts streams.new) }
+    requires all { door.left ≡ door.limits.connections }
+    ensures { (first : ServedState) (events : List Event) → LeadsTo first events hub.old → (history : List DiskAct) (kept : Kept) → IsOpen door.store history kept hub.old → ServesAll first events door.store history result door.limits hub.new (S.acts streams.old) (S.acts streams.new) }
 {
-    let mut door = Door {
-        alloc,
-        limits,
-        left: limits.connections,
-        refused: false,
-    };
     let end = run(hub, streams, clock, places, &mut door);
     shut_all(hub, streams, places);
     end
@@ -195,9 +217,13 @@ fn free_places<A: Allocator + Copy>(alloc: A) -> Result<Vec<Option<Peer<A>>, A>,
 /// come is loaded: so each call whose last byte is read after a book had come is judged by that book. What was read is given to the hub, in
 /// order, one record after the other, and **the lines of the trail are kept after each, before the next one runs**: so none is lost. It is
 /// given while no reply waits, and then as far as 4,096 bytes from where none did; the rest waits until the replies are written. So a peer that
-/// sends and doesn't read costs the replies to 4,096 bytes. Then all that outlives a restart is stored, **before any byte of a reply to what ran is
-/// written**. Last the waiting bytes are written, at most 128 KiB of each connection, as far as
-/// the streams take them.
+/// sends and doesn't read costs the replies to 4,096 bytes. Then all that outlives a restart of the server is kept in the
+/// store, if there is one, **before any byte of a reply to what ran is written**: a crash at any moment leaves all of
+/// which a reply was written. What was noted of the tree's changes is forgotten then. Last the waiting bytes are written,
+/// at most 128 KiB of each connection, as far as the streams take them.
+///
+/// The store is one over the files of `streams` that was begun with the tree and the numbers that the server has, and the
+/// server has noted the changes of its tree since then.
 ///
 /// A stream that ends or fails is let go at once and its connection closed, a stream whose connection is broken or has had its turns behind
 /// its replies, and the others go on; `close` says how each ended. Where the limit of open connections is reached, another stream has come, and
@@ -209,12 +235,20 @@ pub fn serve_all<A: Allocator + Copy, S: Streams<A>, C: Clock>(
     hub: &mut Hub<A>,
     streams: &mut S,
     clock: &C,
+    store: Option<Store>,
     limits: Limits,
 ) -> AllEnd
-    ensures { (first : ServedState) (events : List Event) → LeadsTo first events hub.old → ServesAll first events result limits hub.new (S.acts streams.old) (S.acts streams.new) }
+    ensures { (first : ServedState) (events : List Event) → LeadsTo first events hub.old → (history : List DiskAct) (kept : Kept) → IsOpen store history kept hub.old → ServesAll first events store history result limits hub.new (S.acts streams.old) (S.acts streams.new) }
 {
     let Ok(mut places) = free_places(alloc) else {
         return AllEnd::Memory;
     };
-    serve_at(alloc, hub, streams, clock, &mut places[..], limits)
+    let door = Door {
+        alloc,
+        limits,
+        left: limits.connections,
+        refused: false,
+        store,
+    };
+    serve_at(hub, streams, clock, &mut places[..], door)
 }

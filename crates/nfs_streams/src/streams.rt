@@ -1,8 +1,10 @@
 //! The streams of connections, as serving sees them.
 ghost use Rattle.std.specs.Prelude.{◌≡◌, List, [], ◌∷◌, Option, None, length};
-ghost use Rattle.nfs_streams.specs.Acts.{Act, Adds, Waited, Admitted, Closed, knocked, kept, stored, looked, came, went, IsWithin};
+ghost use Rattle.journal.specs.Disk.{Act as DiskAct};
+ghost use Rattle.nfs_streams.specs.Acts.{Act, Adds, OnDisk, Waited, Admitted, Closed, knocked, kept, looked, came, went, IsWithin};
 
 use compound_run::Server;
+use journal::Disk;
 use nfs_hub::ConnId;
 use std::alloc::Allocator;
 use who_book::Book;
@@ -65,11 +67,12 @@ pub enum StreamEnd {
     Stopped = 10,
 }
 
-/// The streams of a server over the allocator `A`, each at a place, whose number is below 16; the file or the like in which its trail is
-/// kept; the store of what outlives a restart; and the source of other books of names. A place has one stream at a time, from `admit` to `close`, and a place without a stream
-/// is asked nothing else. No call but `wait` waits.
-pub trait Streams<A: Allocator + Copy> {
-    // The requests so far and their answers, the newest first, where they are known.
+/// The streams of a server over the allocator `A`, each at a place, whose number is below 16; the file or the like in
+/// which its trail is kept; the two files of its store, if it has one (`Disk`); and the source of other books of names. A
+/// place has one stream at a time, from `admit` to `close`, and a place without a stream is asked nothing else. No call
+/// but `wait` waits for a peer.
+pub trait Streams<A: Allocator + Copy>: Disk {
+    // The requests so far and their answers, the newest first, where they are known. Those of the disk are among them.
     ghost acts: { Self → Option (List Act) } = { λ _. None };
 
     /// Sees which streams may go on, and whether another stream knocks. `false`: the wait failed, and only `close` is called from then on.
@@ -111,10 +114,6 @@ pub trait Streams<A: Allocator + Copy> {
     fn keep(&mut self, server: &Server<A>) -> bool
         ensures { Adds (acts self.old) (acts self.new) (kept result server.now) };
 
-    /// Stores all that outlives a restart of the server: its tree and the numbers that it gives next. What was noted of the tree's changes is
-    /// what has come since the last call; it is forgotten after this. `store` is called once in a turn, after all records of the turn have
-    /// run, and bytes are written only after that. Where nothing outlives a restart it has nothing to do. `false`: it couldn't be stored, and
-    /// only `close` is called from then on.
-    fn store(&mut self, server: &Server<A>) -> bool
-        ensures { Adds (acts self.old) (acts self.new) (stored result server.now) };
+    // an act of the disk is one of the acts
+    ghost disk_acts: { (old new : Self) (act : DiskAct) → Self.adds old act new → Adds (acts old) (acts new) (OnDisk act ∷ []) };
 }

@@ -1,5 +1,6 @@
 -- A checkpoint and records that are read piece by piece.
-use Rattle.std.proofs.Common.{◌≡◌, ℕ, true, false, List, [], ◌∷◌, refl, sym, ◌∙◌, ap, subst, Ok, Some, None}
+use Rattle.std.proofs.Common.{◌≡◌, ℕ, ◌+◌, ◌<◌, ◌≤◌, true, false, List, [], ◌∷◌, length, map, drop, get_or, refl, sym, ◌∙◌, ap, subst, arith, Err, add-one, drop-cons, length-drop, Ok, Some, None}
+use Rattle.std.proofs.lemmas.List.{nil_from_length}
 use Rattle.std.specs.Prelude.{Option}
 use Rattle.xdr_wire.specs.Xdr.{Value}
 use Rattle.xdr_wire.specs.Reading.{read_at}
@@ -12,7 +13,10 @@ use Rattle.journal.specs.Frames.{Bytes}
 use Rattle.journal.specs.Files.{Content}
 use Rattle.tree_store.specs.Kept.{Kept}
 use Rattle.tree_store.specs.Holds.{ReadsParts, Restores, Begins, LeadsOn, LeadsThrough, Holds}
-use Rattle.tree_store.specs.Reading.{TakesBytes, content_of}
+use Rattle.tree_store.specs.declared.fault.StoreFault.{StoreFault}
+use Rattle.tree_store.specs.declared.fault.StoreFault.TheVariants.{Failed, Version, Damaged, Memory}
+use Rattle.tree_store.specs.Keeping.{ReadsSo}
+use Rattle.tree_store.specs.Reading.{TakesBytes, TakesSo, RestoresSo, BeginsSo, LeadsSo, content_of}
 use Rattle.tree_store.proofs.One.{one_reading, takes_one, begins_one, leads_on_one}
 use Rattle.tree_store.proofs.Quiet.{IsQuiet, bare_is, replays_quiet, restores_quiet}
 
@@ -59,8 +63,8 @@ taking_more parts so_far all bytes left more old is takes = record {
       onward so_far bytes left more takes q.values q.begun q.read q.taken w q.whole q.world_is;
 }
 
-pub taking_done : (parts : List Bytes) (b : Begun) (left : List Bytes) → IsTaking parts (Some b) left → left ≡ [] → is_whole b.world ≡ true → (w : World) → w ≡ b.world → Restores None parts w
-taking_done parts b left t none whole w is = t.whole w (subst (λ (l : List Bytes). Restores (Some b) l w) (sym none) (record { values = []; read = tt; begun = b; taken = refl; whole = whole; world_is = is }))
+pub taking_done : (parts : List Bytes) (so_far : Option Begun) (b : Begun) (left : List Bytes) → so_far ≡ Some b → IsTaking parts so_far left → left ≡ [] → is_whole b.world ≡ true → (w : World) → w ≡ b.world → Restores None parts w
+taking_done parts so_far b left some t none whole w is = t.whole w (subst (λ (l : List Bytes). Restores so_far l w) (sym none) (record { values = []; read = tt; begun = b; taken = some; whole = whole; world_is = is }))
 
 -- where nothing is left, all were taken
 ended : (so_far : Option Begun) (values : List (Value part)) (begun : Begun) → ReadsParts [] values → TakesAll so_far values (Some begun) → so_far ≡ Some begun
@@ -70,16 +74,16 @@ ended so_far (v ∷ values) begun read taken = elim read [ ]
 at_end : (so_far : Option Begun) (left : List Bytes) (w : World) → left ≡ [] → (r : Restores so_far left w) → so_far ≡ Some r.begun
 at_end so_far left w none r = ended so_far r.values r.begun (subst (λ (l : List Bytes). ReadsParts l r.values) none r.read) r.taken
 
-pub taking_none : (parts left : List Bytes) → IsTaking parts None left → left ≡ [] → (w : World) → Restores None parts w → ⊥
-taking_none parts left t none w r = never (at_end None left w none (t.rest w r))
+pub taking_none : (parts : List Bytes) (so_far : Option Begun) (left : List Bytes) → so_far ≡ None → IsTaking parts so_far left → left ≡ [] → (w : World) → Restores None parts w → ⊥
+taking_none parts so_far left not t none w r = never (sym not ∙ at_end so_far left w none (t.rest w r))
   where
     never : {b : Begun} → None ≡ Some b → ⊥
     never e = cc
 
-pub taking_unwhole : (parts : List Bytes) (b : Begun) (left : List Bytes) → IsTaking parts (Some b) left → left ≡ [] → is_whole b.world ≡ false → (w : World) → Restores None parts w → ⊥
-taking_unwhole parts b left t none unwhole w r =
+pub taking_unwhole : (parts : List Bytes) (so_far : Option Begun) (b : Begun) (left : List Bytes) → so_far ≡ Some b → IsTaking parts so_far left → left ≡ [] → is_whole b.world ≡ false → (w : World) → Restores None parts w → ⊥
+taking_unwhole parts so_far b left some t none unwhole w r =
     let q = t.rest w r in
-    let same : b ≡ q.begun = some_one b q.begun (at_end (Some b) left w none q) in
+    let same : b ≡ q.begun = some_one b q.begun (sym some ∙ at_end so_far left w none q) in
     never (sym unwhole ∙ ap (λ (c : Begun). is_whole c.world) same ∙ q.whole)
   where
     some_one : (b c : Begun) → Some b ≡ Some c → b ≡ c
@@ -134,3 +138,53 @@ led_not parts records base found all bytes left begins led is not k h =
     let through : LeadsThrough base records k = subst (λ (b : Kept). LeadsThrough b records k) (begins_one parts h.base base h.begins begins) h.through in
     let q : LeadsThrough found (bytes ∷ left) k = subst (λ (r : List Bytes). LeadsThrough found r k) is (led.rest k through) in
     not q.0 q.1
+
+-- the checkpoint was read, and some records after it
+pub record IsReadingOn (parts records : List Bytes) (found : Kept) (left : List Bytes) : Type 0 where
+  pub base : Kept
+  pub begins : Begins parts base
+  pub led : IsLed base records found left
+
+pub reading_begun : (parts records left : List Bytes) (base : Kept) → Begins parts base → left ≡ records → IsReadingOn parts records base left
+reading_begun [] records left base begins same = elim begins [ ]
+reading_begun (first ∷ parts) records left base begins same = record { base = base; begins = begins; led = led_begun base records left same (restores_quiet parts base.0 begins.1) }
+
+pub reading_more : (parts records : List Bytes) (found : Kept) (all : List Bytes) (bytes : Bytes) (left : List Bytes) (next : Kept) → IsReadingOn parts records found all → all ≡ bytes ∷ left → LeadsOn found bytes next → IsReadingOn parts records next left
+reading_more parts records found all bytes left next r is on = record { base = r.base; begins = r.begins; led = led_more r.base records found all bytes left next r.led is on }
+
+pub reading_done : (parts records : List Bytes) (found : Kept) (left : List Bytes) → IsReadingOn parts records found left → left ≡ [] → Holds (content_of parts records) (bare found.0, found.1)
+reading_done parts records found left r none = led_done parts records r.base found left r.begins r.led none
+
+pub reading_not : (parts records : List Bytes) (found : Kept) (all : List Bytes) (bytes : Bytes) (left : List Bytes) → IsReadingOn parts records found all → all ≡ bytes ∷ left → ((k : Kept) → LeadsOn found bytes k → ⊥) → (k : Kept) → Holds (content_of parts records) k → ⊥
+reading_not parts records found all bytes left r is not k h = led_not parts records r.base found all bytes left r.begins r.led is not k h
+
+-- ---- pieces by their places
+
+pub at_place : {X : Type 0} (view : X → Bytes) (xs : List X) (i : ℕ) (d : X) → i < length xs → map view (drop i xs) ≡ view (get_or xs i d) ∷ map view (drop (i + 1) xs)
+at_place view xs i d h = rw (add-one, drop-cons xs i d) refl
+
+pub at_last : {X : Type 0} (view : X → Bytes) (xs : List X) (i : ℕ) → length xs ≤ i → map view (drop i xs) ≡ []
+at_last view xs i h = ap (map view) (nil_from_length (drop i xs) (omega (arith, length-drop i xs)))
+
+-- ---- faults
+
+pub restored_fault : (parts : List Bytes) (so_far : Option Begun) (all : List Bytes) (bytes : Bytes) (left : List Bytes) (fault : StoreFault) → IsTaking parts so_far all → all ≡ bytes ∷ left → TakesSo so_far bytes (Err fault) → RestoresSo parts (Err fault)
+restored_fault parts so_far all bytes left Failed t is it = it
+restored_fault parts so_far all bytes left Version t is it = it
+restored_fault parts so_far all bytes left Damaged t is it = taking_not parts so_far all bytes left t is it
+restored_fault parts so_far all bytes left Memory t is it = tt
+
+pub begins_not : (parts : List Bytes) (first : Bytes) (others : List Bytes) → parts ≡ first ∷ others → ((w : World) → Restores None others w → ⊥) → (k : Kept) → Begins parts k → ⊥
+begins_not parts first others is not k b = not k.0 (subst (λ (l : List Bytes). Begins l k) is b).1
+
+pub begun_fault : (A : Type 0) (parts : List Bytes) (first : Bytes) (others : List Bytes) (fault : StoreFault) → parts ≡ first ∷ others → RestoresSo others (Err fault) → BeginsSo {A = A} parts (Err fault)
+begun_fault A parts first others Failed is it = it
+begun_fault A parts first others Version is it = it
+begun_fault A parts first others Damaged is it = begins_not parts first others is it
+begun_fault A parts first others Memory is it = tt
+
+pub content_fault : (A : Type 0) (parts records : List Bytes) (found new : Kept) (all : List Bytes) (bytes : Bytes) (left : List Bytes) (fault : StoreFault) → IsReadingOn parts records found all → all ≡ bytes ∷ left → LeadsSo found bytes (Err fault) new → ReadsSo {A = A} (content_of parts records) (Err fault)
+content_fault A parts records found new all bytes left Failed r is it = it
+content_fault A parts records found new all bytes left Version r is it = it
+content_fault A parts records found new all bytes left Damaged r is it = reading_not parts records found all bytes left r is it
+content_fault A parts records found new all bytes left Memory r is it = tt

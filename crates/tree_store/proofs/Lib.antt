@@ -7,3 +7,5 @@ pub mod Quiet
 pub mod Gathering
 pub mod GoingOn
 pub mod Writing
+pub mod Calls
+pub mod Putting

@@ -27,7 +27,7 @@ use Rattle.tree_store.specs.Standing.{Stands}
 use Rattle.tree_store.specs.Keeping.{both_found}
 use Rattle.tree_store.specs.Reading.{content_of}
 use Rattle.tree_store.specs.Writing.{part_frames, IsBegun, IfDone, Appends, Counts}
-use Rattle.tree_store.proofs.Doing.{does_nothing, does_one, does_two, does_then, leaves_also}
+use Rattle.tree_store.proofs.Doing.{does_nothing, does_one, does_two, does_then, does_also, leaves_also}
 use Rattle.tree_store.proofs.Crashes.{leaves_found, leaves_live, leaves_replaced}
 use Rattle.tree_store.proofs.Records.{off_other, front_of_none, none_written}
 use Rattle.tree_store.proofs.Parts as steps
@@ -247,3 +247,45 @@ module _ {D : Type 0} (adds : Adding D) (c : Checkpoint) (key generation : ℕ) 
       failing faults.Failed (inr (inl it, fit)) = does_one adds key history (IsFoundOr content aim) (λ acts. Unit {0}) old new (Tore (other s) end_bytes) before it (end_torn fit) tt
       failing faults.Failed (inr (inr twice, fit)) =
           does_two adds key history (IsFoundOr content aim) (λ acts. Unit {0}) old twice.mid new (Appended (other s) end_bytes) (Unsynced (other s)) before twice.one (end_appended fit) twice.two (end_unsynced fit) tt
+
+-- ---- a whole checkpoint
+
+module _ {D : Type 0} (adds : Adding D) (key generation : ℕ) (s : Slot) (content : Option Content) (history : List Act) (counts : Counts key generation s content history) (aim : Kept) where
+  pub checkpoint_nothing : (after : List Act → Type 0) (old new : D) → new ≡ old → after history → Does adds key history (IsFoundOr content aim) after old new
+  checkpoint_nothing after old new same so = does_nothing adds key history (IsFoundOr content aim) after old new (leaves_also key history (λ o. o ≡ content) (IsFoundOr content aim) (λ o is. inl is) counts.leaves) same so
+
+  pub checkpoint_unbegun : (fault : JournalFault) (old new : D) → BeginGives adds key s generation (Err fault) old new → Does adds key history (IsFoundOr content aim) (λ acts. Unit {0}) old new
+  checkpoint_unbegun fault old new gives =
+      does_also adds key history (λ o. o ≡ content) (IsFoundOr content aim) (λ acts. Unit {0}) (λ acts. Unit {0}) old new (λ o is. inl is) (λ acts it. it)
+      (begin_fails key generation s content history counts adds fault old new gives)
+
+  module _ (c c' : Checkpoint) (all : List Bytes) (old mid : D) (begins : BeginGives adds key s generation (Ok c) old mid) where
+    pub checkpoint_stops : (fault : StoreFault) (new : D) (also : List Act → Store → Type 0) → Appends adds c all (Err fault) c' mid new → Does adds key history (IsFoundOr content aim) (λ acts. IfDone (also acts) (Err fault)) old new
+    checkpoint_stops fault new also appends =
+        does_also adds key history (λ o. o ≡ content) (IsFoundOr content aim) (λ acts. IfDone {X = Unit {0}} (λ done. IsBegun key generation s content c' ([] ++ all) acts) (Err fault)) (λ acts. IfDone (also acts) (Err fault)) old new (λ o is. inl is)
+        (λ acts it. stopped fault (λ done. IsBegun key generation s content c' ([] ++ all) acts) (also acts) it)
+        (does_then adds key history (λ o. o ≡ content) (IsBegun key generation s content c []) (λ acts. IfDone {X = Unit {0}} (λ done. IsBegun key generation s content c' ([] ++ all) acts) (Err fault)) old mid new
+        (begin_goes key generation s content history counts adds c old mid begins) (λ acts b. appends key generation s content [] acts b))
+      where
+        stopped : (fault : StoreFault) (so : Unit {0} → Type 0) (also : Store → Type 0) → IfDone so (Err fault) → IfDone also (Err fault)
+        stopped Failed so also it = tt
+        stopped Version so also it = it
+        stopped Damaged so also it = it
+        stopped Memory so also it = tt
+
+    module _ (end : D) (appends : Appends adds c all (Ok tt) c' mid end) (holds : Holds (content_of all []) aim) where
+      whole : Does adds key history (IsFoundOr content aim) (IsBegun key generation s content c' all) old end
+      whole =
+          does_also adds key history (λ o. o ≡ content) (IsFoundOr content aim) (IsBegun key generation s content c' all) (IsBegun key generation s content c' all) old end (λ o is. inl is) (λ acts it. it)
+          (does_then adds key history (λ o. o ≡ content) (IsBegun key generation s content c []) (IsBegun key generation s content c' all) old mid end
+          (begin_goes key generation s content history counts adds c old mid begins) (λ acts b. appends key generation s content [] acts b))
+
+      pub checkpoint_done : (j : Journal) (store : Store) (new : D) → FinishGives adds c' (Ok j) end new → store.journal ≡ j → store.next ≡ aim.1 → Does adds key history (IsFoundOr content aim) (λ acts. Stands key acts store aim) old new
+      checkpoint_done j store new gives is next =
+          does_then adds key history (IsFoundOr content aim) (IsBegun key generation s content c' all) (λ acts. Stands key acts store aim) old end new whole
+          (λ acts b. finish_goes adds c' key generation s content all aim holds acts b j store end new gives is next)
+
+      pub checkpoint_unfinished : (fault : JournalFault) (new : D) → FinishGives adds c' (Err fault) end new → Does adds key history (IsFoundOr content aim) (λ acts. Unit {0}) old new
+      checkpoint_unfinished fault new gives =
+          does_then adds key history (IsFoundOr content aim) (IsBegun key generation s content c' all) (λ acts. Unit {0}) old end new whole
+          (λ acts b. finish_fails adds c' key generation s content all aim holds acts b fault end new gives)

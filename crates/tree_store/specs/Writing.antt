@@ -1,6 +1,7 @@
 -- What the steps of writing a record and a checkpoint do.
 use Rattle.std.specs.Prelude.{ℕ, ◌≡◌, ◌⊎◌, ◌+◌, ◌^◌, ◌<◌, ◌≤◌, Bool, true, false, List, [], ◌∷◌, ◌++◌, length, map, Option, Some, Result, Ok, Err}
-use Rattle.xdr_wire.specs.Xdr.{spelling}
+use Rattle.std.specs.List.{AllByRecursion}
+use Rattle.xdr_wire.specs.Xdr.{HasSpelling, spelling}
 use Rattle.journal.specs.declared.disk.Slot.{Slot}
 use Rattle.journal.specs.declared.journal.Checkpoint.{Checkpoint}
 use Rattle.journal.specs.declared.journal.Journal.{Journal}
@@ -9,9 +10,9 @@ use Rattle.journal.specs.Frames.{Bytes, Frame, PART, RECORD, MAX_BODY, framed, a
 use Rattle.journal.specs.Files.{Content}
 use Rattle.journal.specs.Replacing.{IsBase, IsReplaced}
 use Rattle.journal.specs.Keeping.{Adding, Twice}
-use Rattle.node_tree.specs.World.{World}
+use Rattle.node_tree.specs.World.{World, Object, Name}
 use Rattle.session_slots.specs.declared.restoring.NextNumbers.{NextNumbers}
-use Rattle.tree_changes.specs.Parts.{part, parts}
+use Rattle.tree_changes.specs.Parts.{part, parts, object_value, name_value}
 use Rattle.tree_store.specs.declared.fault.StoreFault.{StoreFault}
 use Rattle.tree_store.specs.declared.fault.StoreFault.TheVariants.{Failed, Version, Damaged, Memory}
 use Rattle.tree_store.specs.declared.store.Store.{Store}
@@ -69,6 +70,23 @@ Appends adds c more result c' old new =
     (key generation : ℕ) (s : Slot) (content : Option Content) (parts : List Bytes) (history : List Act)
     → IsBegun key generation s content c parts history
     → Does adds key history (λ o. o ≡ content) (λ acts. IfDone (λ done. IsBegun key generation s content c' (parts ++ more) acts) result) old new
+
+-- the bytes of an object and of a name, and that they are read again
+abbrev pub object_bytes : ℕ × Object → Bytes
+object_bytes e = spelling part (object_value e.0 e.1)
+
+abbrev pub name_bytes : Name → Bytes
+name_bytes n = spelling part (name_value n)
+
+abbrev pub HasObjectSpelling : ℕ × Object → Type 0
+HasObjectSpelling e = HasSpelling part (object_value e.0 e.1)
+
+abbrev pub HasNameSpelling : Name → Type 0
+HasNameSpelling n = HasSpelling part (name_value n)
+
+-- the numbers and all parts of the tree are read again
+abbrev pub HaveSpelling : World → NextNumbers → Type 0
+HaveSpelling w next = HasSpelling numbers (numbers_value next) × AllByRecursion (HasSpelling part) (parts w)
 
 -- the parts of a checkpoint
 abbrev pub all_parts : World → NextNumbers → List Bytes

@@ -1,16 +1,18 @@
 //! A checkpoint of a tree, part by part.
 ghost use Rattle.std.specs.Prelude.{◌≡◌, ◌∷◌, [], map, OnOk};
-ghost use Rattle.xdr_wire.specs.Xdr.{spelling};
-ghost use Rattle.tree_changes.specs.Parts.{part, counters_value, object_value, name_value};
+ghost use Rattle.std.specs.List.{AllByRecursion};
+ghost use Rattle.xdr_wire.specs.Xdr.{HasSpelling, spelling};
+ghost use Rattle.node_tree.specs.Sound.{IsSound};
+ghost use Rattle.tree_changes.specs.Parts.{part, counters_value};
 ghost use Rattle.tree_store.specs.Forms.{numbers, numbers_value};
 ghost use Rattle.tree_store.specs.Kept.{kept_with};
-ghost use Rattle.tree_store.specs.Writing.{Appends, Checkpoints, all_parts};
+ghost use Rattle.tree_store.specs.Writing.{Appends, Checkpoints, all_parts, object_bytes, name_bytes, HasObjectSpelling, HasNameSpelling, HaveSpelling};
 
 use crate::fault::StoreFault;
 use crate::numbers::write_numbers;
 use crate::store::Store;
 use journal::{Checkpoint, Disk, JournalFault, Slot};
-use node_tree::Tree;
+use node_tree::{ROOT, Tree};
 use session_slots::NextNumbers;
 use std::alloc::Allocator;
 use tree_changes::{write_counters, write_name, write_object};
@@ -53,11 +55,12 @@ impl<A: Allocator + Copy> Parts<A> {
     ) -> Result<(), StoreFault>
         requires { self.old.writer.bytes ≡ [] }
         ensures appends { Appends D.adds self.old.checkpoint (spelling numbers (numbers_value next) ∷ []) result self.new.checkpoint disk.old disk.new }
+        ensures has_spelling { OnOk result (HasSpelling numbers (numbers_value next)) }
         ensures empty { self.new.writer.bytes ≡ [] }
     {
-        if write_numbers(next, &mut self.writer).is_err() {
+        let Ok(()) = write_numbers(next, &mut self.writer) else {
             return Err(StoreFault::Memory);
-        }
+        };
         self.put(disk, alloc)
     }
 
@@ -70,11 +73,12 @@ impl<A: Allocator + Copy> Parts<A> {
     ) -> Result<(), StoreFault>
         requires { self.old.writer.bytes ≡ [] }
         ensures appends { Appends D.adds self.old.checkpoint (spelling part (counters_value tree.now) ∷ []) result self.new.checkpoint disk.old disk.new }
+        ensures has_spelling { OnOk result (HasSpelling part (counters_value tree.now)) }
         ensures empty { self.new.writer.bytes ≡ [] }
     {
-        if write_counters(tree, &mut self.writer).is_err() {
+        let Ok(()) = write_counters(tree, &mut self.writer) else {
             return Err(StoreFault::Memory);
-        }
+        };
         self.put(disk, alloc)
     }
 
@@ -85,17 +89,21 @@ impl<A: Allocator + Copy> Parts<A> {
         alloc: A,
         tree: &Tree<A>,
     ) -> Result<(), StoreFault>
-        requires { self.old.writer.bytes ≡ [] }
-        ensures appends { Appends D.adds self.old.checkpoint (map (λ e. spelling part (object_value e.0 e.1)) tree.now.objects) result self.new.checkpoint disk.old disk.new }
+        requires empty { self.old.writer.bytes ≡ [] }
+        requires sound { IsSound tree.now }
+        ensures appends { Appends D.adds self.old.checkpoint (map object_bytes tree.now.objects) result self.new.checkpoint disk.old disk.new }
+        ensures has_spelling { OnOk result (AllByRecursion HasObjectSpelling tree.now.objects) }
         ensures empty { OnOk result (self.new.writer.bytes ≡ []) }
     {
         let mut at = 0;
         while let Some(number) = tree.number_after(at) {
-            if write_object(tree, alloc, number, &mut self.writer).is_err() {
+            let Ok(()) = write_object(tree, alloc, number, &mut self.writer) else {
                 return Err(StoreFault::Memory);
+            };
+            match self.put(disk, alloc) {
+                Ok(()) => at = number,
+                Err(fault) => return Err(fault),
             }
-            self.put(disk, alloc)?;
-            at = number;
         }
         Ok(())
     }
@@ -107,16 +115,20 @@ impl<A: Allocator + Copy> Parts<A> {
         alloc: A,
         tree: &Tree<A>,
     ) -> Result<(), StoreFault>
-        requires { self.old.writer.bytes ≡ [] }
-        ensures appends { Appends D.adds self.old.checkpoint (map (λ n. spelling part (name_value n)) tree.now.names) result self.new.checkpoint disk.old disk.new }
+        requires empty { self.old.writer.bytes ≡ [] }
+        requires sound { IsSound tree.now }
+        ensures appends { Appends D.adds self.old.checkpoint (map name_bytes tree.now.names) result self.new.checkpoint disk.old disk.new }
+        ensures has_spelling { OnOk result (AllByRecursion HasNameSpelling tree.now.names) }
     {
         let mut at = 0;
         while let Some(name) = tree.any_after(at) {
-            if write_name(name, &mut self.writer).is_err() {
+            let Ok(()) = write_name(name, &mut self.writer) else {
                 return Err(StoreFault::Memory);
+            };
+            match self.put(disk, alloc) {
+                Ok(()) => at = name.cookie(),
+                Err(fault) => return Err(fault),
             }
-            self.put(disk, alloc)?;
-            at = name.cookie();
         }
         Ok(())
     }
@@ -129,12 +141,23 @@ impl<A: Allocator + Copy> Parts<A> {
         tree: &Tree<A>,
         next: NextNumbers,
     ) -> Result<(), StoreFault>
-        requires { self.old.writer.bytes ≡ [] }
-        ensures { Appends D.adds self.old.checkpoint (all_parts tree.now next) result self.new.checkpoint disk.old disk.new }
+        requires empty { self.old.writer.bytes ≡ [] }
+        requires sound { IsSound tree.now }
+        ensures appends { Appends D.adds self.old.checkpoint (all_parts tree.now next) result self.new.checkpoint disk.old disk.new }
+        ensures has_spelling { OnOk result (HaveSpelling tree.now next) }
     {
-        self.put_numbers(disk, alloc, next)?;
-        self.put_counters(disk, alloc, tree)?;
-        self.put_objects(disk, alloc, tree)?;
+        match self.put_numbers(disk, alloc, next) {
+            Ok(()) => {}
+            Err(fault) => return Err(fault),
+        }
+        match self.put_counters(disk, alloc, tree) {
+            Ok(()) => {}
+            Err(fault) => return Err(fault),
+        }
+        match self.put_objects(disk, alloc, tree) {
+            Ok(()) => {}
+            Err(fault) => return Err(fault),
+        }
         self.put_names(disk, alloc, tree)
     }
 }
@@ -151,7 +174,11 @@ pub(crate) fn write_checkpoint<D: Disk, A: Allocator + Copy>(
 ) -> Result<Store, StoreFault>
     ensures { Checkpoints D.adds key slot generation (kept_with tree.now next) result disk.old disk.new }
 {
-    let writer = Writer::new(alloc, PART_ROOM)?;
+    // of a tree of which something was looked up it is known that it is sound
+    let _root = tree.object(ROOT);
+    let Ok(writer) = Writer::new(alloc, PART_ROOM) else {
+        return Err(StoreFault::Memory);
+    };
     let checkpoint = match Checkpoint::begin(disk, key, slot, generation) {
         Ok(checkpoint) => checkpoint,
         Err(_) => return Err(StoreFault::Failed),
@@ -161,7 +188,10 @@ pub(crate) fn write_checkpoint<D: Disk, A: Allocator + Copy>(
         writer,
         size: 0,
     };
-    parts.put_all(disk, alloc, tree, next)?;
+    match parts.put_all(disk, alloc, tree, next) {
+        Ok(()) => {}
+        Err(fault) => return Err(fault),
+    }
     let journal = match parts.checkpoint.finish(disk, alloc) {
         Ok(journal) => journal,
         Err(JournalFault::Memory) => return Err(StoreFault::Memory),

@@ -39,13 +39,11 @@ fn restored<A: Allocator + Copy>(alloc: A, parts: &[&[u8]]) -> Result<Tree<A>, S
     ensures { RestoresSo (map (λ b. b.now) parts.now) result }
 {
     let mut so_far = None;
-    let mut left = parts;
-    while let Some((bytes, others)) = left.split_first() {
+    for bytes in parts {
         match take_part(alloc, so_far, bytes) {
             Ok(more) => so_far = Some(more),
             Err(fault) => return Err(fault),
         }
-        left = others;
     }
     let Some(restoring) = so_far else {
         return Err(StoreFault::Damaged);
@@ -119,10 +117,9 @@ pub(crate) fn read_content<A: Allocator + Copy>(
         Ok(found) => found,
         Err(fault) => return Err(fault),
     };
-    let mut left = records;
-    while let Some((bytes, others)) = left.split_first() {
+    for bytes in records {
         match lead_on(alloc, &mut found, bytes) {
-            Ok(()) => left = others,
+            Ok(()) => {}
             Err(fault) => return Err(fault),
         }
     }

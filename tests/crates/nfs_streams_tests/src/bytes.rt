@@ -53,6 +53,10 @@ const CALL: &str =
 const REMOVE: &str =
     "80000060 x 0 2 186a3 4 1 1 18 0 0 3ea 64 1 64 0 0 0 1 2 18 1c 5 6e6f7465 73000000";
 
+/// PUTROOTFH, LOOKUP of `pub` and CREATE of a directory `made`, by the same user, who has the right to that.
+const MAKE: &str =
+    "80000074 x 0 2 186a3 4 1 1 18 0 0 3ea 64 1 64 0 0 0 1 3 18 f 3 70756200 6 2 4 6d616465 0 0";
+
 /// The reply where the caller has the right to read, and where it has none.
 const REPLY: &str = "80000044 x 1 0 0 0 0 0 0 3 18 0 f 0 3 0 2d 1";
 
@@ -81,6 +85,13 @@ pub fn removes_of(peer: u32, calls: u32) -> Bytes {
     for number in first..first.saturating_add(calls) {
         bytes.put(REMOVE, number);
     }
+    bytes
+}
+
+/// A call of a peer that makes a directory.
+pub fn makes_of(peer: u32) -> Bytes {
+    let mut bytes = Bytes::none();
+    bytes.put(MAKE, peer.saturating_mul(1_000));
     bytes
 }
 

@@ -1,5 +1,5 @@
-//! What is done between a read and the replies: the trail is kept after each record, a book that came with the read counts, a peer that
-//! never reads gets one piece in, and what outlives a restart is stored once.
+//! What is done between a read and the replies: the trail is kept after each record, a book that came with the read counts, and a peer that
+//! never reads gets one piece in.
 
 use crate::memory::{Memory, Time};
 use crate::peers::{Script, script_of};
@@ -86,19 +86,5 @@ fn one_that_cannot_be_taken_is_tried_again(rt: HostRuntime) -> Result<(), Fail> 
     let hasher = RandomState::new(&rt)?;
     assert_eq!(rt; stuck(rt.alloc(), hasher, 16)?, (6, true));
     assert_eq!(rt; stuck(rt.alloc(), hasher, 1)?, (6, true));
-    Ok(())
-}
-
-/// What outlives a restart is stored once in each turn, after the records of the turn and before their replies.
-#[test]
-fn it_is_stored_before_the_replies(rt: HostRuntime) -> Result<(), Fail> {
-    let hasher = RandomState::new(&rt)?;
-    let time = Time::new();
-    let mut streams = Memory::new(rt.alloc(), &time);
-    streams.add_all("u u u");
-    serve_new(rt.alloc(), hasher, &mut streams, &time, AMPLE)?;
-    assert_eq!(rt; streams.stores, streams.waits);
-    assert!(rt; !streams.late);
-    assert!(rt; streams.all().iter().all(|stream| stream.has_all()));
     Ok(())
 }

@@ -8,6 +8,8 @@ mod bytes;
 #[cfg(test)]
 mod ends;
 #[cfg(test)]
+mod files;
+#[cfg(test)]
 mod house;
 #[cfg(test)]
 mod keeping;
@@ -21,3 +23,5 @@ mod peers;
 mod plain;
 #[cfg(test)]
 mod stopping;
+#[cfg(test)]
+mod storing;

@@ -1,8 +1,10 @@
 //! Streams in memory: peers that knock in turn, a trail that is kept, and a book that comes.
 
+use crate::files::Files;
 use crate::peers::{Script, Seat, Stream, USUAL, script_of};
 use crate::plain::{read_book, total};
 use compound_run::Server;
+use journal::{Disk, LoadFault, Slot};
 use nfs_hub::{Clock, ConnId};
 use nfs_streams::{Knock, Moved, StreamEnd, Streams, Wait};
 use nfs_types::Moment;
@@ -54,13 +56,9 @@ pub struct Memory<'a> {
     pub keeps: u64,
     /// Keeping fails at this number; 0: never.
     pub fails_keep: u64,
-    /// How often what outlives a restart was stored.
-    pub stores: u64,
-    /// Storing fails at this number; 0: never.
-    pub fails_store: u64,
-    /// How many waits there were, and how often the trail was kept, when it was stored last.
-    since: (u64, u64),
-    /// Bytes were written in a turn before it was stored, or after a record that ran later.
+    /// The files of the store, if there is one.
+    pub files: Files,
+    /// Bytes were written while something in the files wasn't synced.
     pub late: bool,
     /// How many lines the trail had where it was kept last.
     pub lines: u64,
@@ -96,9 +94,7 @@ impl<'a> Memory<'a> {
             seconds: 0,
             keeps: 0,
             fails_keep: 0,
-            stores: 0,
-            fails_store: 0,
-            since: (0, 0),
+            files: Files::new(),
             late: false,
             lines: 0,
             most_new: 0,
@@ -159,7 +155,27 @@ impl<'a> Memory<'a> {
     }
 }
 
+impl Disk for Memory<'_> {
+    fn load<A: Allocator>(&mut self, alloc: A, slot: Slot) -> Result<Vec<u8, A>, LoadFault> {
+        self.files.load(alloc, slot)
+    }
+
+    fn append(&mut self, slot: Slot, bytes: &[u8]) -> bool {
+        self.files.append(slot, bytes)
+    }
+
+    fn sync(&mut self, _slot: Slot) -> bool {
+        self.files.sync()
+    }
+
+    fn empty(&mut self, slot: Slot) -> bool {
+        self.files.empty(slot)
+    }
+}
+
 impl<A: Allocator + Copy> Streams<A> for Memory<'_> {
+    ghost disk_acts = { λ old new act it. tt };
+
     fn wait(&mut self, how: Wait) -> bool {
         self.waits = self.waits.saturating_add(1);
         if how != Wait::No {
@@ -221,7 +237,7 @@ impl<A: Allocator + Copy> Streams<A> for Memory<'_> {
 
     fn write(&mut self, place: usize, bytes: &[u8]) -> Moved {
         let waits = self.waits;
-        self.late = self.late || self.since != (waits, self.keeps);
+        self.late = self.late || self.files.loose;
         match self.at(place) {
             Some(stream) => stream.take(waits, bytes),
             None => Moved::Failed,
@@ -237,11 +253,5 @@ impl<A: Allocator + Copy> Streams<A> for Memory<'_> {
         self.most_new = self.most_new.max(lines.saturating_sub(self.lines));
         self.lines = lines;
         true
-    }
-
-    fn store(&mut self, _server: &Server<A>) -> bool {
-        self.stores = self.stores.saturating_add(1);
-        self.since = (self.waits, self.keeps);
-        self.stores != self.fails_store
     }
 }

@@ -1,6 +1,6 @@
 //! Peers, and the streams between them and the server.
 
-use crate::bytes::{Bytes, calls_of, removes_of, replies_to};
+use crate::bytes::{Bytes, calls_of, makes_of, removes_of, replies_to};
 use nfs_streams::{Moved, StreamEnd};
 
 /// The acts of the peer of a stream.
@@ -14,6 +14,8 @@ pub struct Script {
     pub repeats: bool,
     /// Its calls are refused: each would remove the file.
     pub removes: bool,
+    /// It makes a directory by one call.
+    pub makes: bool,
     /// The stream ends inside the last call.
     pub stops_short: bool,
     /// Behind its calls the peer sends bytes that break the connection.
@@ -38,6 +40,7 @@ pub const USUAL: Script = Script {
     calls: 2,
     repeats: false,
     removes: false,
+    makes: false,
     stops_short: false,
     breaks: false,
     leaves: true,
@@ -73,6 +76,7 @@ fn peer(comes: u64, calls: u32, leaves: bool) -> Script {
 /// | s | is silent |
 /// | h | sends one call and half of another, and leaves |
 /// | r | sends two calls that are refused, in one piece, and leaves |
+/// | m | sends a call that makes a directory, and leaves |
 pub fn script_of(word: &str) -> Script {
     let comes = word.get(1..).unwrap_or("").parse::<u64>().unwrap_or(0);
     match word.as_bytes().first() {
@@ -113,6 +117,10 @@ pub fn script_of(word: &str) -> Script {
             removes: true,
             ..peer(comes, 2, true)
         },
+        Some(b'm') => Script {
+            makes: true,
+            ..peer(comes, 1, true)
+        },
         _ => peer(comes, 2, true),
     }
 }
@@ -121,6 +129,8 @@ pub fn script_of(word: &str) -> Script {
 fn input_of(number: u32, script: Script) -> Bytes {
     let mut input = if script.removes {
         removes_of(number, script.calls)
+    } else if script.makes {
+        makes_of(number)
     } else {
         calls_of(number, script.calls, script.breaks)
     };

@@ -6,7 +6,11 @@ use nfs_hub::Hub;
 use nfs_streams::{AllEnd, Limits, serve_all};
 use std::alloc::{AllocError, Allocator, Global};
 use std::hash::RandomState;
+use tree_store::{Base, Found, NOTES_ROOM, Store, StoreFault, open};
 use who_book::Book;
+
+/// The key of the digests.
+const KEY: u64 = 7;
 
 /// A hub of the sample tree, without sessions.
 fn bare(alloc: Global, hasher: RandomState) -> Result<Hub, AllocError> {
@@ -18,9 +22,10 @@ fn serve(
     hub: &mut Hub,
     streams: &mut Memory<'_>,
     time: &Time,
+    store: Option<Store>,
     limits: Limits,
 ) -> AllEnd {
-    serve_all(alloc, hub, streams, time, limits)
+    serve_all(alloc, hub, streams, time, store, limits)
 }
 
 /// The end of serving streams by a new hub.
@@ -32,7 +37,47 @@ pub fn serve_new(
     limits: Limits,
 ) -> Result<AllEnd, AllocError> {
     let mut hub = bare(alloc, hasher)?;
-    Ok(serve(alloc, &mut hub, streams, time, limits))
+    Ok(serve(alloc, &mut hub, streams, time, None, limits))
+}
+
+/// What the files of the streams have, and where a store begins in them.
+pub fn open_files(
+    alloc: Global,
+    streams: &mut Memory<'_>,
+) -> Result<(Base, Option<Found<Global>>), StoreFault> {
+    open(streams, alloc, KEY)
+}
+
+fn start(
+    alloc: Global,
+    streams: &mut Memory<'_>,
+    base: Base,
+    hub: &Hub,
+) -> Result<Store, StoreFault> {
+    let server = hub.server();
+    Store::start(streams, alloc, base, server.tree(), server.next_numbers())
+}
+
+fn begin_notes(hub: &mut Hub) -> Result<(), AllocError> {
+    hub.begin_notes(NOTES_ROOM)
+}
+
+/// The end of serving streams by a new hub with a store in their files, of whose calls the one of this number fails, from when serving
+/// begins.
+pub fn serve_stored(
+    alloc: Global,
+    hasher: RandomState,
+    streams: &mut Memory<'_>,
+    time: &Time,
+    fails: u64,
+) -> Result<AllEnd, StoreFault> {
+    let mut hub = bare(alloc, hasher)?;
+    let (base, _) = open_files(alloc, streams)?;
+    let store = start(alloc, streams, base, &hub)?;
+    begin_notes(&mut hub)?;
+    streams.files.calls = 0;
+    streams.files.fails = fails;
+    Ok(serve(alloc, &mut hub, streams, time, Some(store), AMPLE))
 }
 
 /// The book of a text.

@@ -19,8 +19,6 @@ struct Stop {
     fails_wait: u64,
     /// The keeping that fails; 0: none.
     fails_keep: u64,
-    /// The storing that fails; 0: none.
-    fails_store: u64,
     end: AllEnd,
     waits: u64,
     admitted: usize,
@@ -28,14 +26,13 @@ struct Stop {
     told: usize,
 }
 
-static STOPS: [Stop; 11] = [
+static STOPS: [Stop; 9] = [
     Stop {
         name: "all are served",
         connections: 2,
         turns: 400,
         fails_wait: 0,
         fails_keep: 0,
-        fails_store: 0,
         end: AllEnd::Served,
         waits: 3,
         admitted: 2,
@@ -47,7 +44,6 @@ static STOPS: [Stop; 11] = [
         turns: 400,
         fails_wait: 0,
         fails_keep: 0,
-        fails_store: 0,
         end: AllEnd::Served,
         waits: 3,
         admitted: 1,
@@ -59,7 +55,6 @@ static STOPS: [Stop; 11] = [
         turns: 400,
         fails_wait: 0,
         fails_keep: 0,
-        fails_store: 0,
         end: AllEnd::Served,
         waits: 0,
         admitted: 0,
@@ -71,7 +66,6 @@ static STOPS: [Stop; 11] = [
         turns: 2,
         fails_wait: 0,
         fails_keep: 0,
-        fails_store: 0,
         end: AllEnd::Turns,
         waits: 2,
         admitted: 2,
@@ -83,7 +77,6 @@ static STOPS: [Stop; 11] = [
         turns: 0,
         fails_wait: 0,
         fails_keep: 0,
-        fails_store: 0,
         end: AllEnd::Turns,
         waits: 0,
         admitted: 0,
@@ -95,7 +88,6 @@ static STOPS: [Stop; 11] = [
         turns: 400,
         fails_wait: 2,
         fails_keep: 0,
-        fails_store: 0,
         end: AllEnd::Wait,
         waits: 2,
         admitted: 2,
@@ -107,7 +99,6 @@ static STOPS: [Stop; 11] = [
         turns: 400,
         fails_wait: 0,
         fails_keep: 2,
-        fails_store: 0,
         end: AllEnd::Keep,
         waits: 2,
         admitted: 2,
@@ -119,35 +110,10 @@ static STOPS: [Stop; 11] = [
         turns: 400,
         fails_wait: 0,
         fails_keep: 4,
-        fails_store: 0,
         end: AllEnd::Keep,
         waits: 2,
         admitted: 2,
         told: 0,
-    },
-    Stop {
-        name: "nothing can be stored when there are replies to write",
-        connections: 9,
-        turns: 400,
-        fails_wait: 0,
-        fails_keep: 0,
-        fails_store: 2,
-        end: AllEnd::Store,
-        waits: 2,
-        admitted: 2,
-        told: 0,
-    },
-    Stop {
-        name: "nothing can be stored after the first replies",
-        connections: 9,
-        turns: 400,
-        fails_wait: 0,
-        fails_keep: 0,
-        fails_store: 3,
-        end: AllEnd::Store,
-        waits: 3,
-        admitted: 2,
-        told: 4,
     },
     Stop {
         name: "the trail can't be kept at first",
@@ -155,7 +121,6 @@ static STOPS: [Stop; 11] = [
         turns: 400,
         fails_wait: 0,
         fails_keep: 1,
-        fails_store: 0,
         end: AllEnd::Keep,
         waits: 1,
         admitted: 2,
@@ -191,7 +156,6 @@ fn serve_stop(alloc: Global, hasher: RandomState, stop: &Stop) -> Result<Told, A
     streams.add_all("u u");
     streams.fails_wait = stop.fails_wait;
     streams.fails_keep = stop.fails_keep;
-    streams.fails_store = stop.fails_store;
     let limits = Limits {
         connections: stop.connections,
         turns: stop.turns,

@@ -1,6 +1,6 @@
 use Rattle.std.proofs.Common.{refl, ap, arith}
 use Rattle.nfs_streams.specs.declared.serving.Limits.{Limits}
-use Rattle.nfs_streams.proofs.Steps.{heard, spent, ended, unread, worn}
+use Rattle.nfs_streams.proofs.Steps.{heard, unheard, spent, ended, unread, worn}
 use Rattle.nfs_streams.proofs.peer.listen.Goals as goal
 
 pub returns-in-Some : goal.returns-in-Some
@@ -24,3 +24,7 @@ returns-in-Over g c = λ n limits same o left ps lim lt st.
 pub returns-in-Failed : goal.returns-in-Failed
 returns-in-Failed g c = λ n limits same o left ps lim lt st.
     unread ps c.args.place c.args.peer.now lt st c.shut-in-Failed.new.hub _ c.shut-in-Failed.ensures.goes _ c.if-is_waiting.ensures c.in_default.is (c.is_empty.ensures.0 c.if-not-is_empty.false) c.in-Failed.ensures.0 c.shut-in-Failed.ensures.said
+
+pub returns-in-NotYet : goal.returns-in-NotYet
+returns-in-NotYet g c = λ n limits same o left ps lim lt st.
+    unheard ps c.args.place c.args.peer.now lt st c.read.new.self _ (c.is_empty.ensures.0 c.if-not-is_empty.false) c.in-NotYet.ensures.1 c.in-NotYet.ensures.0

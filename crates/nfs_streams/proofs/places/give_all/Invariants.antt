@@ -1,10 +1,10 @@
 use Rattle.std.proofs.Common.{◌≡◌, ℕ, length}
 use Rattle.nfs_streams.specs.declared.serving.Limits.{Limits}
-use Rattle.nfs_streams.specs.Standing.{Giving, Moves}
+use Rattle.nfs_streams.specs.Standing.{Left, Giving, Moves}
 use Rattle.nfs_streams.proofs.places.give_all.Given as goal
 
 abbrev pub invariant-loop-index : goal.invariant-loop-index
 invariant-loop-index g l = record {
   len : length l.places ≡ length l.fn.places;
-  moves : (n left : ℕ) (limits : Limits) → Moves (Giving n) (Giving n) limits l.fn.hub l.fn.places left l.hub l.places left (g.S.Streams.acts l.fn.streams) (g.S.Streams.acts l.streams);
+  moves : (n : ℕ) (left : Left) (limits : Limits) → Moves (Giving n) (Giving n) limits l.fn.hub l.fn.places left l.hub l.places left (g.S.Streams.acts l.fn.streams) (g.S.Streams.acts l.streams);
 }

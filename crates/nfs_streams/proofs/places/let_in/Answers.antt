@@ -1,5 +1,11 @@
-use Rattle.nfs_streams.proofs.Steps.{knocks}
+use Rattle.nfs_streams.proofs.Steps.{knocks, quiet}
 use Rattle.nfs_streams.proofs.places.let_in.Goals as goal
 
 pub returns-in-Here-clause-moves : goal.returns-in-Here-clause-moves
 returns-in-Here-clause-moves g c = λ n o same st. c.admit.ensures.moves n o same (knocks _ c.in-Here.ensures st)
+
+pub returns-in-Nobody-clause-moves : goal.returns-in-Nobody-clause-moves
+returns-in-Nobody-clause-moves g c = λ n o same st. quiet _ c.in-Nobody.ensures st
+
+pub returns-in-Waiting-clause-moves : goal.returns-in-Waiting-clause-moves
+returns-in-Waiting-clause-moves g c = λ n o same st. quiet _ c.in-Waiting.ensures st

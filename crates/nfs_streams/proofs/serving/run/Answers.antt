@@ -8,18 +8,26 @@ returns-then-are_served g c = (c.loop-turn._turn, omega (arith, c.loop-turn-test
 pub returns-then-not-wait : goal.returns-then-not-wait
 returns-then-not-wait g c = (c.loop-turn._turn + 1, omega (arith, c.loop-turn-test.true), tt, λ o same st. unwaited (c.loop-turn.invariant.moves o same st) _ c.if-not-wait.ensures)
 
-pub returns-in_default : goal.returns-in_default
-returns-in_default g c = (
+pub returns-in-Err-Keep : goal.returns-in-Err-Keep
+returns-in-Err-Keep g c = (
   c.loop-turn._turn + 1,
   omega (arith, c.loop-turn-test.true),
   tt,
-  λ o same st. c.in_default.ensures.moves (c.loop-turn._turn + 1) o (same ∙ sym c.loop-turn.invariant.most) (waited (c.loop-turn.invariant.moves o same st) _ c.if-not-wait.ensures),
+  λ o same st. rw c.in-Err-Keep.field-0-is at (c.in-Err-Keep.ensures.moves (c.loop-turn._turn + 1) o (same ∙ sym c.loop-turn.invariant.most) (waited (c.loop-turn.invariant.moves o same st) _ c.if-not-wait.ensures)),
+)
+
+pub returns-in-Err-Store : goal.returns-in-Err-Store
+returns-in-Err-Store g c = (
+  c.loop-turn._turn + 1,
+  omega (arith, c.loop-turn-test.true),
+  tt,
+  λ o same st. rw c.in-Err-Store.field-0-is at (c.in-Err-Store.ensures.moves (c.loop-turn._turn + 1) o (same ∙ sym c.loop-turn.invariant.most) (waited (c.loop-turn.invariant.moves o same st) _ c.if-not-wait.ensures)),
 )
 
 pub loop-turn-preserved : goal.loop-turn-preserved
 loop-turn-preserved g c = record {
-  most = c.in-Some.ensures.most ∙ c.loop-turn.invariant.most;
-  moves = λ o same st. c.in-Some.ensures.moves (c.loop-turn._turn + 1) o (same ∙ sym c.loop-turn.invariant.most) (waited (c.loop-turn.invariant.moves o same st) _ c.if-not-wait.ensures);
+  most = c.in-Ok.ensures.most ∙ c.loop-turn.invariant.most;
+  moves = λ o same st. c.in-Ok.ensures.moves (c.loop-turn._turn + 1) o (same ∙ sym c.loop-turn.invariant.most) (waited (c.loop-turn.invariant.moves o same st) _ c.if-not-wait.ensures);
 }
 
 pub returns : goal.returns

@@ -1,9 +1,11 @@
-use Rattle.nfs_streams.proofs.Steps.{stores, unstored}
+use Rattle.std.proofs.Common.{refl}
+use Rattle.nfs_streams.proofs.Storing.{stores, unstored}
 use Rattle.nfs_streams.proofs.serving.store.Goals as goal
 
-pub returns-then-not-store : goal.returns-then-not-store
-returns-then-not-store g c = λ n left limits places o same st. unstored st _ c.if-not-store.ensures
+pub returns-then-not-keep_tree-clause-stores : goal.returns-then-not-keep_tree-clause-stores
+returns-then-not-keep_tree-clause-stores g c = λ n limits places o same st.
+    unstored g.S.Streams.acts g.S.Disk.adds g.met.S.Streams.disk_acts _ _ st _ _ c.if-not-keep_tree.ensures
 
-pub returns : goal.returns
-returns g c = λ n left limits places o same st.
-    stores st _ c.clear_notes.new.self c.server.result.now c.server.ensures c.clear_notes.ensures.goes c.if-not-store.ensures
+pub returns-clause-stores : goal.returns-clause-stores
+returns-clause-stores g c = λ n limits places o same st.
+    stores g.S.Streams.acts g.S.Disk.adds g.met.S.Streams.disk_acts _ _ st _ _ c.if-not-keep_tree.ensures refl c.clear_notes.new.self c.clear_notes.ensures.goes

@@ -1,0 +1,80 @@
+-- What a crash leaves of the two files of the store, at any moment of serving.
+use Rattle.std.specs.Prelude.{◌≡◌, ◌⊎◌, ℕ, Bool, true, List, [], ◌∷◌, ◌++◌, Option, Some, None, Result, is_ok}
+use Rattle.journal.specs.Disk.{Act as DiskAct}
+use Rattle.journal.specs.Files.{Content}
+use Rattle.journal.specs.Keeping.{Adding}
+use Rattle.tree_store.specs.declared.fault.StoreFault.{StoreFault}
+use Rattle.tree_store.specs.declared.store.Store.{Store as TreeStore}
+use Rattle.tree_store.specs.Kept.{Kept, Covers, Follows}
+use Rattle.tree_store.specs.Holds.{Holds}
+use Rattle.tree_store.specs.Leaving.{Leaves}
+use Rattle.tree_store.specs.Standing.{Stands as StandsFor}
+use Rattle.tree_store.specs.Keeping.{Keeps}
+use Rattle.compound_run.specs.State.{State as ServerState, kept_of, next_numbers}
+use Rattle.nfs_hub.specs.declared.hub.Hub.{Hub}
+use Rattle.nfs_hub.specs.Machine.{State}
+use Rattle.nfs_hub.specs.Hub.{IsHub}
+use Rattle.nfs_streams.specs.declared.serving.Limits.{Limits}
+use Rattle.nfs_streams.specs.Acts.{Act, OnDisk, Told, Unwritten}
+use Rattle.nfs_streams.specs.Runs.{Runs}
+
+-- the acts on the files of the store
+abbrev pub disk_of : List Act → List DiskAct
+disk_of [] = []
+disk_of (OnDisk act ∷ acts) = act ∷ disk_of acts
+disk_of (act ∷ acts) = disk_of acts
+
+-- By this act no bytes were written to a stream. A write that failed may have written some.
+abbrev pub IsQuiet : Act → Type 0
+IsQuiet (Told place bytes) = ⊥
+IsQuiet (Unwritten place) = ⊥
+IsQuiet act = Unit {0}
+
+-- What is kept is what outlives a restart of the server, but for the number of the next open file, as the server is at the
+-- end of a run, or as it was before the last acts of the run, by which no bytes were written to a stream. So what is kept
+-- has all that was done for each reply that was written.
+abbrev pub IsShown : (limits : Limits) (acts : List Act) (start s : State) → Runs limits acts start s → Kept → Type 0
+IsShown limits [] start s run kept = Covers (kept_of s.served.state) kept
+IsShown limits (act ∷ acts) start s run kept =
+    Covers (kept_of s.served.state) kept ⊎ (IsQuiet act × IsShown limits acts start run.0 run.1 kept)
+
+-- a content that holds such a thing
+abbrev pub HoldsShown : (limits : Limits) (acts : List Act) (start s : State) → Runs limits acts start s → Option Content → Type 0
+HoldsShown limits acts start s run content =
+    (c : Content) × (kept : Kept) × (content ≡ Some c) × Holds c kept × IsShown limits acts start s run kept
+
+-- A crash at the end of a run leaves such a thing in the files, which had this history before the run.
+abbrev pub Survives : ℕ → List DiskAct → (limits : Limits) (acts : List Act) (start s : State) → Runs limits acts start s → Type 0
+Survives key history limits acts start s run = Leaves key (disk_of acts ++ history) (HoldsShown limits acts start s run)
+
+-- and so does a crash after each of the acts
+abbrev pub AlwaysSurvives : ℕ → List DiskAct → (limits : Limits) (acts : List Act) (start s : State) → Runs limits acts start s → Type 0
+AlwaysSurvives key history limits [] start s run = Survives key history limits [] start s run
+AlwaysSurvives key history limits (act ∷ acts) start s run =
+    Survives key history limits (act ∷ acts) start s run × AlwaysSurvives key history limits acts start run.0 run.1
+
+-- so it is where there is a store
+abbrev pub SurvivesIn : Option TreeStore → List DiskAct → (limits : Limits) (acts : List Act) (start s : State) → Runs limits acts start s → Type 0
+SurvivesIn None history limits acts start s run = Unit {0}
+SurvivesIn (Some store) history limits acts start s run = AlwaysSurvives store.journal.key history limits acts start s run
+
+-- A store that serving begins with: after this history it stands for what is kept, from where the notes of the world lead;
+-- and that is what outlives a restart of the server.
+pub record StandsOpen (history : List DiskAct) (store : TreeStore) (kept : Kept) (state : ServerState) : Type 0 where
+  pub stands : StandsFor store.journal.key history store kept
+  pub follows : Follows kept state.realm.world
+  pub covers : Covers (kept_of state) kept
+
+-- if there is one
+abbrev pub IsOpen : {A : Type 0} → Option TreeStore → List DiskAct → Kept → Hub A → Type 0
+IsOpen None history kept hub = Unit {0}
+IsOpen (Some store) history kept hub = StandsOpen history store kept hub.service.state
+
+-- The world of the hub and its next numbers are kept, if there is a store.
+abbrev pub KeepsTree : {A D : Type 0} → Adding D → Hub A → Option TreeStore → Bool → Option TreeStore → D → D → Type 0
+KeepsTree adds hub None result None old new = (result ≡ true) × (new ≡ old)
+KeepsTree adds hub None result (Some store') old new = ⊥
+KeepsTree adds hub (Some store) result None old new = ⊥
+KeepsTree adds hub (Some store) result (Some store') old new =
+    (s : State) → IsHub hub s → (done : Result (Unit {0}) StoreFault) × (result ≡ is_ok done)
+    × Keeps adds store s.served.state.realm.world (next_numbers s.served.state) done store' old new

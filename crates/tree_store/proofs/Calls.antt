@@ -1,0 +1,127 @@
+-- What the calls of a store make of what its steps do.
+use Rattle.std.proofs.Common.{◌≡◌, ◌⊎◌, inl, inr, ℕ, ◌≤◌, ◌<◌, ◌+◌, ◌^◌, true, false, List, [], ◌∷◌, ◌++◌, refl, sym, ◌∙◌, ap, subst, arith, Ok, Err, Some, None}
+use Rattle.std.specs.Prelude.{Option, Result, OnErr}
+use Rattle.xdr_wire.specs.Reading.{read_at}
+use Rattle.node_tree.specs.World.{World}
+use Rattle.node_tree.specs.Forms.{change, step_value}
+use Rattle.node_tree.specs.Steps.{Step}
+use Rattle.session_slots.specs.declared.restoring.NextNumbers.{NextNumbers}
+use Rattle.tree_changes.specs.Noting.{bare}
+use Rattle.tree_changes.specs.Stepped.{Leads}
+use Rattle.tree_changes.specs.Replays.{ReadsAs, Replays}
+use Rattle.tree_changes.proofs.Noting.{notes_replay}
+use Rattle.journal.specs.declared.disk.Slot.{Slot}
+use Rattle.journal.specs.Disk.{Act}
+use Rattle.journal.specs.Frames.{Bytes}
+use Rattle.journal.specs.Files.{Content}
+use Rattle.journal.specs.Opening.{Chooses}
+use Rattle.journal.specs.Keeping.{Adding, BothFound}
+use Rattle.tree_store.specs.declared.fault.StoreFault.{StoreFault}
+use Rattle.tree_store.specs.declared.fault.StoreFault.TheVariants.{Failed, Version, Damaged, Memory}
+use Rattle.tree_store.specs.declared.opening.Base.{Base}
+use Rattle.tree_store.specs.declared.opening.Found.{Found}
+use Rattle.tree_store.specs.declared.store.Store.{Store}
+use Rattle.tree_store.specs.Kept.{Kept, kept_with, Covers, Follows}
+use Rattle.tree_store.specs.Holds.{IsFoundOr, IsHeldOr}
+use Rattle.tree_store.specs.Leaving.{Does}
+use Rattle.tree_store.specs.Standing.{Stands}
+use Rattle.tree_store.specs.Keeping.{ReadsSo, OpensSo, Opens, both_found, BegunSo, Starts, KeptSo}
+use Rattle.tree_store.specs.Writing.{IfDone, Checkpoints, GoesOn, IsIdle}
+use Rattle.tree_store.proofs.Doing.{does_also}
+use Rattle.tree_store.proofs.GoingOn.{nothing_done}
+use Rattle.tree_store.proofs.Writing.{chosen_counts, standing_counts}
+
+-- ---- opening
+
+pub opens : {A D : Type 0} (adds : Adding D) (key : ℕ) (a b : Bytes) (result : Result (Base × Option (Found A)) StoreFault) (old new : D) → BothFound adds a b old new → OpensSo key a b result → Opens adds key result old new
+opens adds key a b (Ok (base, None)) old new found so = (a, b, found, so)
+opens adds key a b (Ok (base, Some f)) old new found so = (a, b, found, so)
+opens adds key a b (Err Failed) old new found so = elim so [ ]
+opens adds key a b (Err Version) old new found so = (a, b, found, so)
+opens adds key a b (Err Damaged) old new found so = (a, b, found, so)
+opens adds key a b (Err Memory) old new found so = inr (a, b, found, tt)
+
+-- what was chosen is read as nothing, or there is no memory
+pub opened_fault : (A : Type 0) (key : ℕ) (a b : Bytes) (slot : Slot) (generation : ℕ) (content : Content) (fault : StoreFault) → Chooses key a b slot generation (Some content) → ReadsSo {A = A} content (Err fault) → OpensSo {A = A} key a b (Err fault)
+opened_fault A key a b slot generation content Failed chosen it = it
+opened_fault A key a b slot generation content Version chosen it = elim it [ ]
+opened_fault A key a b slot generation content Damaged chosen it = inr (slot, generation, content, chosen, it)
+opened_fault A key a b slot generation content Memory chosen it = tt
+
+-- ---- starting
+
+begun_so : (key : ℕ) (acts : List Act) (aim : Kept) (result : Result Store StoreFault) → IfDone (λ store. Stands key acts store aim) result → BegunSo key acts result aim
+begun_so key acts aim (Ok store) so = so
+begun_so key acts aim (Err Failed) so = tt
+begun_so key acts aim (Err Version) so = so
+begun_so key acts aim (Err Damaged) so = so
+begun_so key acts aim (Err Memory) so = tt
+
+pub starts : {D : Type 0} (adds : Adding D) (base : Base) (aim : Kept) (result : Result Store StoreFault) (old new : D) → Checkpoints adds base.key base.slot base.generation aim result old new → Starts adds base aim result old new
+starts adds base aim result old new does a b content chosen =
+    does_also adds base.key (both_found a b) (IsFoundOr content aim) (IsFoundOr content aim) (λ acts. IfDone (λ store. Stands base.key acts store aim) result) (λ acts. BegunSo base.key acts result aim) old new
+    (λ c is. is) (λ acts so. begun_so base.key acts aim result so)
+    (does content (both_found a b) (chosen_counts base.key a b base.slot base.generation content chosen))
+
+-- ---- a checkpoint of a store that goes on
+
+pub renews : {D : Type 0} (adds : Adding D) (store store' : Store) (kept aim : Kept) (result : Result Store StoreFault) (said : Result (Unit {0}) StoreFault) (old new : D) → Checkpoints adds store.journal.key store.journal.slot store.journal.generation aim result old new → ((acts : List Act) → IfDone (λ it. Stands store.journal.key acts it aim) result → IfDone (λ done. Stands store.journal.key acts store' aim) said) → GoesOn adds store kept aim said store' old new
+renews adds store store' kept aim result said old new does same history s =
+    does_also adds store.journal.key history (IsFoundOr (Some s.content) aim) (IsHeldOr kept aim) (λ acts. IfDone (λ it. Stands store.journal.key acts it aim) result) (λ acts. IfDone (λ done. Stands store.journal.key acts store' aim) said) old new
+    (λ c is. held c is) same
+    (does (Some s.content) history (standing_counts store.journal.key history store kept s))
+  where
+    held : (c : _) → IsFoundOr (Some s.content) aim c → IsHeldOr kept aim c
+    held c (inl is) = inl (s.content, is, s.holds)
+    held c (inr it) = inr it
+
+-- a fault is one, whatever would stand after success
+pub same_fault : {X Y : Type 0} (so : X → Type 0) (also : Y → Type 0) (fault : StoreFault) → IfDone {X = X} so (Err fault) → IfDone {X = Y} also (Err fault)
+same_fault so also Failed it = tt
+same_fault so also Version it = it
+same_fault so also Damaged it = it
+same_fault so also Memory it = tt
+
+-- ---- keeping
+
+kept_all : (aim : Kept) → Covers aim aim
+kept_all aim = record { world_is = refl; client_is = refl; session_is = refl; no_later = omega arith; near = omega arith }
+
+kept_so : (key : ℕ) (acts : List Act) (result : Result (Unit {0}) StoreFault) (store : Store) (aim : Kept) → OnErr result (store.journal.has_failed ≡ true) → IfDone (λ done. Stands key acts store aim) result → KeptSo key acts result store aim
+kept_so key acts (Ok done) store aim failed so = (aim, so, kept_all aim)
+kept_so key acts (Err Failed) store aim failed so = failed
+kept_so key acts (Err Version) store aim failed so = so
+kept_so key acts (Err Damaged) store aim failed so = so
+kept_so key acts (Err Memory) store aim failed so = failed
+
+pub keeps : {D : Type 0} (adds : Adding D) (store store' : Store) (kept aim : Kept) (result : Result (Unit {0}) StoreFault) (old new : D) (history : List Act) → Stands store.journal.key history store kept → GoesOn adds store kept aim result store' old new → OnErr result (store'.journal.has_failed ≡ true) → Does adds store.journal.key history (IsHeldOr kept aim) (λ acts. KeptSo store.journal.key acts result store' aim) old new
+keeps adds store store' kept aim result old new history s does failed =
+    does_also adds store.journal.key history (IsHeldOr kept aim) (IsHeldOr kept aim) (λ acts. IfDone (λ done. Stands store.journal.key acts store' aim) result) (λ acts. KeptSo store.journal.key acts result store' aim) old new
+    (λ c is. is) (λ acts so. kept_so store.journal.key acts result store' aim failed so) (does history s)
+
+-- what was noted leads from what is kept
+pub follows : (kept : Kept) (w : World) (notes : Bytes) → Follows kept w → w.notes.is_lost ≡ false → notes ≡ w.notes.bytes → Replays kept.0 notes (bare w)
+follows kept w notes (base, is, noted) here same =
+    subst (λ (v : World). Replays v notes (bare w)) is (subst (λ (b : Bytes). Replays (bare base) b (bare w)) (sym same) (notes_replay base w noted here))
+
+none_read : (s : Step) (rest : List ℕ) → read_at change [] ≡ Ok (step_value s, rest) → ⊥
+none_read s rest h = cc
+
+-- where nothing was noted nothing has changed
+unchanged : (old new : World) (steps : List Step) → ReadsAs [] steps → Leads old steps new → old ≡ new
+unchanged old new [] read leads = leads
+unchanged old new (s ∷ steps) read leads = absurd (none_read s read.0 read.1)
+
+pub idle : {D : Type 0} (adds : Adding D) (store : Store) (kept : Kept) (w : World) (next : NextNumbers) (notes : Bytes) (old new : D) (history : List Act) → Stands store.journal.key history store kept → Replays kept.0 notes (bare w) → IsIdle store notes next → new ≡ old → Does adds store.journal.key history (IsHeldOr kept (kept_with w next)) (λ acts. KeptSo store.journal.key acts (Ok tt) store (kept_with w next)) old new
+idle adds store kept w next notes old new history s replays i same =
+    nothing_done adds store kept (kept_with w next) history s (λ acts. KeptSo store.journal.key acts (Ok tt) store (kept_with w next)) old new same (
+      kept,
+      s,
+      record {
+        world_is = unchanged kept.0 (bare w) replays.steps (subst (λ (b : Bytes). ReadsAs b replays.steps) i.none replays.read) replays.leads;
+        client_is = ap (λ (n : NextNumbers). n.client) (sym s.next_is) ∙ i.client_is;
+        session_is = ap (λ (n : NextNumbers). n.session) (sym s.next_is) ∙ i.session_is;
+        no_later = subst (λ (n : NextNumbers). n.open_file ≤ next.open_file) s.next_is i.no_later;
+        near = subst (λ (n : NextNumbers). next.open_file < n.open_file + 2 ^ 31) s.next_is i.near;
+      },
+    )

@@ -1,0 +1,50 @@
+use Rattle.std.proofs.Common.{refl, subst, Ok, Err}
+use Rattle.std.specs.Prelude.{Result}
+use Rattle.journal.specs.declared.journal.Journal.{Journal}
+use Rattle.journal.specs.declared.journal.JournalFault.{JournalFault}
+use Rattle.journal.specs.Keeping.{FinishGives}
+use Rattle.tree_changes.proofs.Again.{taken_again}
+use Rattle.tree_store.specs.Kept.{kept_with}
+use Rattle.tree_store.specs.Standing.{Stands}
+use Rattle.tree_store.specs.Writing.{all_parts}
+use Rattle.tree_store.proofs.Putting.{checkpoint_holds}
+use Rattle.tree_store.proofs.Writing.{checkpoint_nothing, checkpoint_unbegun, checkpoint_stops, checkpoint_done, checkpoint_unfinished}
+use Rattle.tree_store.proofs.checkpoint.write_checkpoint.Goals as goal
+
+pub returns-in_default : goal.returns-in_default
+returns-in_default g c content history counts = checkpoint_nothing g.D.Disk.adds c.args.key c.args.generation c.args.slot content history counts (kept_with c.args.tree.now c.args.next) _ _ _ refl tt
+
+pub returns-in-Err : goal.returns-in-Err
+returns-in-Err g c content history counts = checkpoint_unbegun g.D.Disk.adds c.args.key c.args.generation c.args.slot content history counts (kept_with c.args.tree.now c.args.next) c.in-Err.field-0 _ _ c.in-Err.ensures
+
+pub returns-in-Err-put_all : goal.returns-in-Err-put_all
+returns-in-Err-put_all g c content history counts =
+    let w = c.args.tree.now in
+    let aim = kept_with w c.args.next in
+    checkpoint_stops g.D.Disk.adds c.args.key c.args.generation c.args.slot content history counts aim c.in-Ok-begin.checkpoint c.put_all.new.self.checkpoint (all_parts w c.args.next) c.args.disk.now c.begin.new.disk c.in-Ok-begin.ensures
+    c.in-Err-put_all.fault c.put_all.new.disk (λ acts store. Stands c.args.key acts store aim) c.in-Err-put_all.ensures.appends
+
+pub returns-in-Err-Memory : goal.returns-in-Err-Memory
+returns-in-Err-Memory g c content history counts =
+    let w = c.args.tree.now in
+    let aim = kept_with w c.args.next in
+    checkpoint_unfinished g.D.Disk.adds c.args.key c.args.generation c.args.slot content history counts aim c.in-Ok-begin.checkpoint c.put_all.new.self.checkpoint (all_parts w c.args.next) c.args.disk.now c.begin.new.disk c.in-Ok-begin.ensures
+    c.put_all.new.disk c.in-Ok-put_all.ensures.appends (checkpoint_holds w c.args.next (taken_again w c.object-root.ensures.sound) c.in-Ok-put_all.ensures.has_spelling)
+    c.in-Err-Memory.field-0 c.finish.new.disk
+    (subst (λ (r : Result Journal JournalFault). FinishGives g.D.Disk.adds c.put_all.new.self.checkpoint r c.put_all.new.disk c.finish.new.disk) c.in-Err-Memory.is c.finish.ensures)
+
+pub returns-in-Err-finish : goal.returns-in-Err-finish
+returns-in-Err-finish g c content history counts =
+    let w = c.args.tree.now in
+    let aim = kept_with w c.args.next in
+    checkpoint_unfinished g.D.Disk.adds c.args.key c.args.generation c.args.slot content history counts aim c.in-Ok-begin.checkpoint c.put_all.new.self.checkpoint (all_parts w c.args.next) c.args.disk.now c.begin.new.disk c.in-Ok-begin.ensures
+    c.put_all.new.disk c.in-Ok-put_all.ensures.appends (checkpoint_holds w c.args.next (taken_again w c.object-root.ensures.sound) c.in-Ok-put_all.ensures.has_spelling)
+    c.in-Err-finish.field-0 c.finish.new.disk c.in-Err-finish.ensures
+
+pub returns : goal.returns
+returns g c content history counts =
+    let w = c.args.tree.now in
+    let aim = kept_with w c.args.next in
+    checkpoint_done g.D.Disk.adds c.args.key c.args.generation c.args.slot content history counts aim c.in-Ok-begin.checkpoint c.put_all.new.self.checkpoint (all_parts w c.args.next) c.args.disk.now c.begin.new.disk c.in-Ok-begin.ensures
+    c.put_all.new.disk c.in-Ok-put_all.ensures.appends (checkpoint_holds w c.args.next (taken_again w c.object-root.ensures.sound) c.in-Ok-put_all.ensures.has_spelling)
+    c.in-Ok-finish.journal _ c.finish.new.disk c.in-Ok-finish.ensures refl refl
