@@ -1,5 +1,5 @@
 -- What the calls of a store make of what its steps do.
-use Rattle.std.proofs.Common.{◌≡◌, ◌⊎◌, inl, inr, ℕ, ◌≤◌, ◌<◌, ◌+◌, ◌^◌, true, false, List, [], ◌∷◌, ◌++◌, refl, sym, ◌∙◌, ap, subst, arith, Ok, Err, Some, None}
+use Rattle.std.proofs.Common.{◌≡◌, inl, inr, ℕ, ◌≤◌, ◌<◌, ◌+◌, ◌^◌, true, false, List, [], ◌∷◌, refl, sym, ◌∙◌, ap, subst, arith, Ok, Err, Some, None}
 use Rattle.std.specs.Prelude.{Option, Result, OnErr}
 use Rattle.xdr_wire.specs.Reading.{read_at}
 use Rattle.node_tree.specs.World.{World}
@@ -50,24 +50,24 @@ opened_fault A key a b slot generation content Memory chosen it = tt
 
 -- ---- starting
 
-begun_so : (key : ℕ) (acts : List Act) (aim : Kept) (result : Result Store StoreFault) → IfDone (λ store. Stands key acts store aim) result → BegunSo key acts result aim
+begun_so : (key : ℕ) (acts : List Act) (aim : Kept) (result : Result Store StoreFault) → IfDone (λ store. Stands key acts store aim) acts result → BegunSo key acts result aim
 begun_so key acts aim (Ok store) so = so
-begun_so key acts aim (Err Failed) so = tt
+begun_so key acts aim (Err Failed) so = so
 begun_so key acts aim (Err Version) so = so
 begun_so key acts aim (Err Damaged) so = so
 begun_so key acts aim (Err Memory) so = tt
 
 pub starts : {D : Type 0} (adds : Adding D) (base : Base) (aim : Kept) (result : Result Store StoreFault) (old new : D) → Checkpoints adds base.key base.slot base.generation aim result old new → Starts adds base aim result old new
 starts adds base aim result old new does a b content chosen =
-    does_also adds base.key (both_found a b) (IsFoundOr content aim) (IsFoundOr content aim) (λ acts. IfDone (λ store. Stands base.key acts store aim) result) (λ acts. BegunSo base.key acts result aim) old new
+    does_also adds base.key (both_found a b) (IsFoundOr content aim) (IsFoundOr content aim) (λ acts. IfDone (λ store. Stands base.key acts store aim) acts result) (λ acts. BegunSo base.key acts result aim) old new
     (λ c is. is) (λ acts so. begun_so base.key acts aim result so)
     (does content (both_found a b) (chosen_counts base.key a b base.slot base.generation content chosen))
 
 -- ---- a checkpoint of a store that goes on
 
-pub renews : {D : Type 0} (adds : Adding D) (store store' : Store) (kept aim : Kept) (result : Result Store StoreFault) (said : Result (Unit {0}) StoreFault) (old new : D) → Checkpoints adds store.journal.key store.journal.slot store.journal.generation aim result old new → ((acts : List Act) → IfDone (λ it. Stands store.journal.key acts it aim) result → IfDone (λ done. Stands store.journal.key acts store' aim) said) → GoesOn adds store kept aim said store' old new
+pub renews : {D : Type 0} (adds : Adding D) (store store' : Store) (kept aim : Kept) (result : Result Store StoreFault) (said : Result (Unit {0}) StoreFault) (old new : D) → Checkpoints adds store.journal.key store.journal.slot store.journal.generation aim result old new → ((acts : List Act) → IfDone (λ it. Stands store.journal.key acts it aim) acts result → IfDone (λ done. Stands store.journal.key acts store' aim) acts said) → GoesOn adds store kept aim said store' old new
 renews adds store store' kept aim result said old new does same history s =
-    does_also adds store.journal.key history (IsFoundOr (Some s.content) aim) (IsHeldOr kept aim) (λ acts. IfDone (λ it. Stands store.journal.key acts it aim) result) (λ acts. IfDone (λ done. Stands store.journal.key acts store' aim) said) old new
+    does_also adds store.journal.key history (IsFoundOr (Some s.content) aim) (IsHeldOr kept aim) (λ acts. IfDone (λ it. Stands store.journal.key acts it aim) acts result) (λ acts. IfDone (λ done. Stands store.journal.key acts store' aim) acts said) old new
     (λ c is. held c is) same
     (does (Some s.content) history (standing_counts store.journal.key history store kept s))
   where
@@ -76,27 +76,27 @@ renews adds store store' kept aim result said old new does same history s =
     held c (inr it) = inr it
 
 -- a fault is one, whatever would stand after success
-pub same_fault : {X Y : Type 0} (so : X → Type 0) (also : Y → Type 0) (fault : StoreFault) → IfDone {X = X} so (Err fault) → IfDone {X = Y} also (Err fault)
-same_fault so also Failed it = tt
-same_fault so also Version it = it
-same_fault so also Damaged it = it
-same_fault so also Memory it = tt
+pub same_fault : {X Y : Type 0} (so : X → Type 0) (also : Y → Type 0) (acts : List Act) (fault : StoreFault) → IfDone {X = X} so acts (Err fault) → IfDone {X = Y} also acts (Err fault)
+same_fault so also acts Failed it = it
+same_fault so also acts Version it = it
+same_fault so also acts Damaged it = it
+same_fault so also acts Memory it = tt
 
 -- ---- keeping
 
 kept_all : (aim : Kept) → Covers aim aim
 kept_all aim = record { world_is = refl; client_is = refl; session_is = refl; no_later = omega arith; near = omega arith }
 
-kept_so : (key : ℕ) (acts : List Act) (result : Result (Unit {0}) StoreFault) (store : Store) (aim : Kept) → OnErr result (store.journal.has_failed ≡ true) → IfDone (λ done. Stands key acts store aim) result → KeptSo key acts result store aim
+kept_so : (key : ℕ) (acts : List Act) (result : Result (Unit {0}) StoreFault) (store : Store) (aim : Kept) → OnErr result (store.journal.has_failed ≡ true) → IfDone (λ done. Stands key acts store aim) acts result → KeptSo key acts result store aim
 kept_so key acts (Ok done) store aim failed so = (aim, so, kept_all aim)
-kept_so key acts (Err Failed) store aim failed so = failed
+kept_so key acts (Err Failed) store aim failed so = (so, failed)
 kept_so key acts (Err Version) store aim failed so = so
 kept_so key acts (Err Damaged) store aim failed so = so
 kept_so key acts (Err Memory) store aim failed so = failed
 
 pub keeps : {D : Type 0} (adds : Adding D) (store store' : Store) (kept aim : Kept) (result : Result (Unit {0}) StoreFault) (old new : D) (history : List Act) → Stands store.journal.key history store kept → GoesOn adds store kept aim result store' old new → OnErr result (store'.journal.has_failed ≡ true) → Does adds store.journal.key history (IsHeldOr kept aim) (λ acts. KeptSo store.journal.key acts result store' aim) old new
 keeps adds store store' kept aim result old new history s does failed =
-    does_also adds store.journal.key history (IsHeldOr kept aim) (IsHeldOr kept aim) (λ acts. IfDone (λ done. Stands store.journal.key acts store' aim) result) (λ acts. KeptSo store.journal.key acts result store' aim) old new
+    does_also adds store.journal.key history (IsHeldOr kept aim) (IsHeldOr kept aim) (λ acts. IfDone (λ done. Stands store.journal.key acts store' aim) acts result) (λ acts. KeptSo store.journal.key acts result store' aim) old new
     (λ c is. is) (λ acts so. kept_so store.journal.key acts result store' aim failed so) (does history s)
 
 -- what was noted leads from what is kept

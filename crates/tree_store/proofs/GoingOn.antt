@@ -1,5 +1,5 @@
 -- What a record that is appended and synced makes of a store.
-use Rattle.std.proofs.Common.{◌≡◌, ◌⊎◌, inl, inr, ℕ, ◌≤◌, ◌+◌, true, false, List, [], ◌∷◌, ◌++◌, length, refl, sym, ◌∙◌, ap, subst, arith, length-append, Ok, Err, Some, None}
+use Rattle.std.proofs.Common.{◌≡◌, inl, inr, ℕ, ◌≤◌, ◌+◌, true, false, List, [], ◌∷◌, ◌++◌, length, refl, sym, ◌∙◌, ap, subst, arith, length-append, Ok, Err, Some}
 use Rattle.std.specs.Prelude.{Option, Result}
 use Rattle.std.proofs.lemmas.List.{append-nil}
 use Rattle.xdr_wire.specs.Xdr.{HasSpelling, spelling}
@@ -7,14 +7,13 @@ use Rattle.xdr_wire.specs.Reading.{read_at}
 use Rattle.xdr_wire.proofs.Spelling.{again, spelled}
 use Rattle.node_tree.specs.World.{World}
 use Rattle.tree_changes.specs.Replays.{Replays}
-use Rattle.journal.specs.declared.disk.Slot.{Slot}
 use Rattle.journal.specs.declared.journal.Journal.{Journal}
 use Rattle.journal.specs.Disk.{Act, Appended, Tore, Synced, Unsynced, on_disk}
-use Rattle.journal.specs.Frames.{Bytes, Frame, framed, IsFit}
+use Rattle.journal.specs.Frames.{Bytes, Frame, IsFit}
 use Rattle.journal.specs.Files.{Content, bodies}
 use Rattle.journal.specs.Crash.{IsFront}
 use Rattle.journal.specs.Living.{IsLive}
-use Rattle.journal.specs.Keeping.{Adding, Twice}
+use Rattle.journal.specs.Keeping.{Adding}
 use Rattle.session_slots.specs.declared.restoring.NextNumbers.{NextNumbers}
 use Rattle.tree_store.specs.declared.fault.StoreFault.{StoreFault}
 use Rattle.tree_store.specs.declared.fault.StoreFault.TheVariants.{Failed, Version, Damaged, Memory}
@@ -127,16 +126,19 @@ module _ {D : Type 0} (adds : Adding D) (store store' : Store) (kept aim : Kept)
         longer refl count count refl
 
   abbrev After : Result (Unit {0}) StoreFault → List Act → Type 0
-  After result acts = IfDone (λ done. Stands key acts store' aim) result
+  After result acts = IfDone (λ done. Stands key acts store' aim) acts result
 
   pub goes_on : (result : Result (Unit {0}) StoreFault) (j' : Journal) (old new : D) → RecordGives adds j bytes result j' old new → (result ≡ Ok tt → (store'.journal ≡ j') × (store'.next ≡ aim.1)) → Does adds key history is (After result) old new
   goes_on (Ok done) j' old new (twice, fit, same) stored =
       let by = stored refl in
       does_two adds key history is (After (Ok done)) old twice.mid new (Appended j.slot (framed_of j bytes)) (Synced j.slot) first twice.one (then fit) twice.two (synced fit) (stands fit (by.0 ∙ same) by.1)
-  goes_on (Err Failed) j' old new (inl (same, why)) stored = does_nothing adds key history is (After (Err Failed)) old new first same tt
-  goes_on (Err Failed) j' old new (inr (inl it, fit)) stored = does_one adds key history is (After (Err Failed)) old new (Tore j.slot (framed_of j bytes)) first it (torn fit) tt
+  goes_on (Err Failed) j' old new (inl (failed, same)) stored = absurd (never (sym s.going ∙ failed))
+    where
+      never : false ≡ true → ⊥
+      never e = cc
+  goes_on (Err Failed) j' old new (inr (inl it, fit)) stored = does_one adds key history is (After (Err Failed)) old new (Tore j.slot (framed_of j bytes)) first it (torn fit) (λ going. going)
   goes_on (Err Failed) j' old new (inr (inr twice, fit)) stored =
-      does_two adds key history is (After (Err Failed)) old twice.mid new (Appended j.slot (framed_of j bytes)) (Unsynced j.slot) first twice.one (then fit) twice.two (unsynced fit) tt
+      does_two adds key history is (After (Err Failed)) old twice.mid new (Appended j.slot (framed_of j bytes)) (Unsynced j.slot) first twice.one (then fit) twice.two (unsynced fit) (λ going. going)
   goes_on (Err Version) j' old new gives stored = elim gives [ ]
   goes_on (Err Damaged) j' old new gives stored = elim gives [ ]
   goes_on (Err Memory) j' old new same stored = does_nothing adds key history is (After (Err Memory)) old new first same tt

@@ -1,5 +1,5 @@
 -- Parts that are appended one after the other.
-use Rattle.std.proofs.Common.{◌≡◌, ◌⊎◌, inl, inr, ℕ, ◌≤◌, ◌<◌, ◌+◌, ◌^◌, Bool, true, false, cond, List, [], ◌∷◌, ◌++◌, length, map, refl, sym, ◌∙◌, ap, subst, arith, append_assoc, Ok, Err, Some, None}
+use Rattle.std.proofs.Common.{◌≡◌, inl, inr, ℕ, ◌≤◌, ◌<◌, ◌+◌, ◌^◌, true, false, cond, List, [], ◌∷◌, ◌++◌, map, refl, sym, ◌∙◌, ap, subst, arith, append_assoc, Ok, Err, Some, None}
 use Rattle.std.specs.Prelude.{Option, Result, IsSome, IfSome, OnOk, slice_get, find, nat_lt}
 use Rattle.std.specs.List.{AllByRecursion}
 use Rattle.std.specs.Option.{option_map}
@@ -16,11 +16,9 @@ use Rattle.xdr_wire.proofs.Spelling.{again, spelled}
 use Rattle.node_tree.specs.World.{World, Object, Name, object}
 use Rattle.node_tree.specs.Sound.{IsSound, IsIn, Rises}
 use Rattle.node_tree.specs.Parts.{number_after, any_after}
-use Rattle.node_tree.specs.Restored.{Begun}
 use Rattle.node_tree.proofs.Reading.{read_in_order}
 use Rattle.node_tree.proofs.Objects.{is_at-same, is_at-apart}
 use Rattle.session_slots.specs.declared.restoring.NextNumbers.{NextNumbers}
-use Rattle.tree_changes.specs.Noting.{bare}
 use Rattle.tree_changes.specs.Parts.{part, parts, counters_value, object_value, name_value}
 use Rattle.tree_changes.specs.Again.{IsTakenAgain}
 use Rattle.journal.specs.declared.disk.Slot.{Slot}
@@ -31,9 +29,9 @@ use Rattle.journal.specs.Files.{Content}
 use Rattle.journal.specs.Keeping.{Adding}
 use Rattle.tree_store.specs.declared.fault.StoreFault.{StoreFault}
 use Rattle.tree_store.specs.declared.fault.StoreFault.TheVariants.{Failed, Version, Damaged, Memory}
-use Rattle.tree_store.specs.Kept.{Kept, kept_with}
+use Rattle.tree_store.specs.Kept.{kept_with}
 use Rattle.tree_store.specs.Forms.{numbers, numbers_value}
-use Rattle.tree_store.specs.Holds.{ReadsParts, Begins, Holds}
+use Rattle.tree_store.specs.Holds.{ReadsParts, Holds}
 use Rattle.tree_store.specs.Leaving.{Does}
 use Rattle.tree_store.specs.Reading.{content_of}
 use Rattle.tree_store.specs.Writing.{IsBegun, IfDone, Appends, all_parts, object_bytes, name_bytes, HasObjectSpelling, HasNameSpelling, HaveSpelling}
@@ -53,22 +51,22 @@ appends_none adds c d key generation s content so_far history b =
 
 pub appends_then : {D : Type 0} (adds : Adding D) (c c' c'' : Checkpoint) (first more : List Bytes) (result : Result (Unit {0}) StoreFault) (old mid new : D) → Appends adds c first (Ok tt) c' old mid → Appends adds c' more result c'' mid new → Appends adds c (first ++ more) result c'' old new
 appends_then adds c c' c'' first more result old mid new one two key generation s content so_far history b =
-    does_then adds key history (λ o. o ≡ content) (λ acts. IsBegun key generation s content c' (so_far ++ first) acts) (λ acts. IfDone (λ done. IsBegun key generation s content c'' (so_far ++ (first ++ more)) acts) result) old mid new
+    does_then adds key history (λ o. o ≡ content) (λ acts. IsBegun key generation s content c' (so_far ++ first) acts) (λ acts. IfDone (λ done. IsBegun key generation s content c'' (so_far ++ (first ++ more)) acts) acts result) old mid new
     (one key generation s content so_far history b)
-    (λ acts begun. subst (λ (l : List Bytes). Does adds key acts (λ o. o ≡ content) (λ later. IfDone (λ done. IsBegun key generation s content c'' l later) result) mid new) (append_assoc so_far first more)
+    (λ acts begun. subst (λ (l : List Bytes). Does adds key acts (λ o. o ≡ content) (λ later. IfDone (λ done. IsBegun key generation s content c'' l later) later result) mid new) (append_assoc so_far first more)
     (two key generation s content (so_far ++ first) acts begun))
 
-still_fault : (so also : Unit {0} → Type 0) (fault : StoreFault) → IfDone so (Err fault) → IfDone also (Err fault)
-still_fault so also Failed it = tt
-still_fault so also Version it = it
-still_fault so also Damaged it = it
-still_fault so also Memory it = tt
+still_fault : (so also : Unit {0} → Type 0) (acts : List Act) (fault : StoreFault) → IfDone so acts (Err fault) → IfDone also acts (Err fault)
+still_fault so also acts Failed it = it
+still_fault so also acts Version it = it
+still_fault so also acts Damaged it = it
+still_fault so also acts Memory it = tt
 
 -- after a fault nothing more is appended
 pub appends_fault : {D : Type 0} (adds : Adding D) (c c' c'' : Checkpoint) (first all : List Bytes) (fault : StoreFault) (old new : D) → Appends adds c first (Err fault) c' old new → Appends adds c all (Err fault) c'' old new
 appends_fault adds c c' c'' first all fault old new one key generation s content so_far history b =
-    does_also adds key history (λ o. o ≡ content) (λ o. o ≡ content) (λ acts. IfDone {X = Unit {0}} (λ done. IsBegun key generation s content c' (so_far ++ first) acts) (Err fault)) (λ acts. IfDone {X = Unit {0}} (λ done. IsBegun key generation s content c'' (so_far ++ all) acts) (Err fault)) old new
-    (λ o is. is) (λ acts it. still_fault (λ done. IsBegun key generation s content c' (so_far ++ first) acts) (λ done. IsBegun key generation s content c'' (so_far ++ all) acts) fault it)
+    does_also adds key history (λ o. o ≡ content) (λ o. o ≡ content) (λ acts. IfDone {X = Unit {0}} (λ done. IsBegun key generation s content c' (so_far ++ first) acts) acts (Err fault)) (λ acts. IfDone {X = Unit {0}} (λ done. IsBegun key generation s content c'' (so_far ++ all) acts) acts (Err fault)) old new
+    (λ o is. is) (λ acts it. still_fault (λ done. IsBegun key generation s content c' (so_far ++ first) acts) (λ done. IsBegun key generation s content c'' (so_far ++ all) acts) acts fault it)
     (one key generation s content so_far history b)
 
 -- what was written into an empty buffer

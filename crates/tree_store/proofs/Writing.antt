@@ -1,28 +1,27 @@
 -- What the parts of a checkpoint make of two files, of which one counts.
-use Rattle.std.proofs.Common.{◌≡◌, ◌⊎◌, inl, inr, ℕ, ◌≤◌, ◌+◌, Bool, true, false, List, [], ◌∷◌, ◌++◌, length, refl, sym, ◌∙◌, ap, subst, arith, length-append, append_assoc, Ok, Err, Some, None}
+use Rattle.std.proofs.Common.{◌≡◌, inl, inr, ℕ, ◌+◌, Bool, true, false, List, [], ◌∷◌, ◌++◌, length, refl, sym, ◌∙◌, ap, subst, arith, length-append, Ok, Err, Some, None}
 use Rattle.std.specs.Prelude.{Option, Result}
-use Rattle.std.proofs.lemmas.List.{append-nil}
 use Rattle.journal.specs.declared.disk.Slot.{Slot}
 use Rattle.journal.specs.declared.journal.Checkpoint.{Checkpoint}
 use Rattle.journal.specs.declared.journal.Journal.{Journal}
 use Rattle.journal.specs.declared.journal.JournalFault.{JournalFault}
 use Rattle.journal.specs.declared.journal.JournalFault.TheVariants as faults
-use Rattle.journal.specs.Disk.{Act, Appended, Tore, Synced, Unsynced, Emptied, Unemptied, Found, other, settled, on_disk, after_sync, after_emptying}
-use Rattle.journal.specs.declared.disk.Slot.TheVariants.{A, B}
+use Rattle.journal.specs.Disk.{Act, Appended, Tore, Synced, Unsynced, Emptied, Unemptied, other, on_disk, after_sync, after_emptying}
 use Rattle.journal.specs.Frames.{Bytes, Frame, PART, framed, frame_with, IsFit, all_framed}
 use Rattle.journal.specs.Files.{Content, contents, bodies}
 use Rattle.journal.specs.Opening.{Chooses}
 use Rattle.journal.specs.Crash.{IsFront}
 use Rattle.journal.specs.Living.{IsLive}
-use Rattle.journal.specs.Replacing.{IsBase, IsReplaced}
-use Rattle.journal.specs.Keeping.{Adding, Twice, FrameGives, BeginGives, FinishGives, end_frame}
+use Rattle.journal.specs.Replacing.{IsReplaced}
+use Rattle.journal.specs.Keeping.{Adding, FrameGives, BeginGives, FinishGives, end_frame}
 use Rattle.journal.proofs.Replacing.{start_law, renew_law}
 use Rattle.tree_store.specs.declared.fault.StoreFault.{StoreFault}
 use Rattle.tree_store.specs.declared.fault.StoreFault.TheVariants.{Failed, Version, Damaged, Memory}
 use Rattle.tree_store.specs.declared.store.Store.{Store}
+use Rattle.tree_store.specs.Said.{said}
 use Rattle.tree_store.specs.Kept.{Kept}
-use Rattle.tree_store.specs.Holds.{Holds, IsHeld, IsFoundOr}
-use Rattle.tree_store.specs.Leaving.{Leaves, Does, written_since}
+use Rattle.tree_store.specs.Holds.{Holds, IsFoundOr}
+use Rattle.tree_store.specs.Leaving.{Leaves, Does, HasFailed}
 use Rattle.tree_store.specs.Standing.{Stands}
 use Rattle.tree_store.specs.Keeping.{both_found}
 use Rattle.tree_store.specs.Reading.{content_of}
@@ -105,6 +104,14 @@ module _ (key generation : ℕ) (s : Slot) (content : Option Content) (history :
   begin_fails adds faults.Failed old new (inr twice) =
       does_two adds key history (λ o. o ≡ content) (λ acts. Unit {0}) old twice.mid new (Emptied (other s)) (Unsynced (other s)) counts.leaves twice.one emptied twice.two unsynced tt
 
+  pub begin_failed : {D : Type 0} (adds : Adding D) (old new : D) → BeginGives adds key s generation (Err faults.Failed) old new → Does adds key history (λ o. o ≡ content) HasFailed old new
+  begin_failed adds old new (inl it) = does_one adds key history (λ o. o ≡ content) HasFailed old new (Unemptied (other s)) counts.leaves it unemptied (λ going. going)
+  begin_failed adds old new (inr twice) =
+      does_two adds key history (λ o. o ≡ content) HasFailed old twice.mid new (Emptied (other s)) (Unsynced (other s)) counts.leaves twice.one emptied twice.two unsynced (λ going. going)
+
+not_failed : false ≡ true → ⊥
+not_failed e = cc
+
 -- ---- one part more
 
 -- while parts are appended, a crash leaves the old file as it was
@@ -167,7 +174,7 @@ module _ {D : Type 0} (adds : Adding D) (c c' : Checkpoint) (bytes : Bytes) (key
       does_one adds key history (λ o. o ≡ content) (λ acts. IsBegun key generation s content c' (parts ++ bytes ∷ []) acts) old new (Appended (other s) (framed key (generation + 1) (length parts) f)) first g.0
       (begun_leaves key generation s content c' (parts ++ bytes ∷ []) (Appended (other s) (framed key (generation + 1) (length parts) f) ∷ history) next) next
 
-  pub part_fails : (fault : JournalFault) (old new : D) → FrameGives adds c.slot c.key c.generation c.number f c.has_failed c'.number c'.has_failed (Err fault) old new → Does adds key history (λ o. o ≡ content) (λ acts. Unit {0}) old new
+  part_fails : (fault : JournalFault) (old new : D) → FrameGives adds c.slot c.key c.generation c.number f c.has_failed c'.number c'.has_failed (Err fault) old new → Does adds key history (λ o. o ≡ content) (λ acts. Unit {0}) old new
   part_fails fault old new gives = failing fault (gives_at (Err fault) old new gives)
     where
       failing : (fault : JournalFault) → FrameGives adds (other s) key (generation + 1) (length parts) f false c'.number c'.has_failed (Err fault) old new → Does adds key history (λ o. o ≡ content) (λ acts. Unit {0}) old new
@@ -176,6 +183,22 @@ module _ {D : Type 0} (adds : Adding D) (c c' : Checkpoint) (bytes : Bytes) (key
       failing faults.Full g = does_nothing adds key history (λ o. o ≡ content) (λ acts. Unit {0}) old new first g.1 tt
       failing faults.Failed (inl g) = does_nothing adds key history (λ o. o ≡ content) (λ acts. Unit {0}) old new first g.1 tt
       failing faults.Failed (inr g) = does_one adds key history (λ o. o ≡ content) (λ acts. Unit {0}) old new (Tore (other s) (framed key (generation + 1) (length parts) f)) first g.0 (torn g.1) tt
+
+  part_failed : (old new : D) → FrameGives adds c.slot c.key c.generation c.number f c.has_failed c'.number c'.has_failed (Err faults.Failed) old new → Does adds key history (λ o. o ≡ content) HasFailed old new
+  part_failed old new gives = failing (gives_at (Err faults.Failed) old new gives)
+    where
+      failing : FrameGives adds (other s) key (generation + 1) (length parts) f false c'.number c'.has_failed (Err faults.Failed) old new → Does adds key history (λ o. o ≡ content) HasFailed old new
+      failing (inl g) = absurd (not_failed g.0)
+      failing (inr g) = does_one adds key history (λ o. o ≡ content) HasFailed old new (Tore (other s) (framed key (generation + 1) (length parts) f)) first g.0 (torn g.1) (λ going. going)
+
+  pub part_not : (fault : JournalFault) (told : StoreFault) (so : List Act → Unit {0} → Type 0) (old new : D) → told ≡ said fault → FrameGives adds c.slot c.key c.generation c.number f c.has_failed c'.number c'.has_failed (Err fault) old new → Does adds key history (λ o. o ≡ content) (λ acts. IfDone (so acts) acts (Err told)) old new
+  part_not fault told so old new is gives = subst (λ (e : StoreFault). Does adds key history (λ o. o ≡ content) (λ acts. IfDone (so acts) acts (Err e)) old new) (sym is) (by_fault fault gives)
+    where
+      by_fault : (fault : JournalFault) → FrameGives adds c.slot c.key c.generation c.number f c.has_failed c'.number c'.has_failed (Err fault) old new → Does adds key history (λ o. o ≡ content) (λ acts. IfDone (so acts) acts (Err (said fault))) old new
+      by_fault faults.Failed gives = part_failed old new gives
+      by_fault faults.TooLong gives = part_fails faults.TooLong old new gives
+      by_fault faults.Memory gives = part_fails faults.Memory old new gives
+      by_fault faults.Full gives = part_fails faults.Full old new gives
 
 -- ---- the end
 
@@ -248,30 +271,46 @@ module _ {D : Type 0} (adds : Adding D) (c : Checkpoint) (key generation : ℕ) 
       failing faults.Failed (inr (inr twice, fit)) =
           does_two adds key history (IsFoundOr content aim) (λ acts. Unit {0}) old twice.mid new (Appended (other s) end_bytes) (Unsynced (other s)) before twice.one (end_appended fit) twice.two (end_unsynced fit) tt
 
+  pub finish_failed : (old new : D) → FinishGives adds c (Err faults.Failed) old new → Does adds key history (IsFoundOr content aim) HasFailed old new
+  finish_failed old new gives = failing (end_gives (Err faults.Failed) old new gives)
+    where
+      failing : FinishGives adds (record { key = key; slot = other s; generation = generation + 1; number = length parts; has_failed = false }) (Err faults.Failed) old new → Does adds key history (IsFoundOr content aim) HasFailed old new
+      failing (inl g) = absurd (not_failed g.0)
+      failing (inr (inl it, fit)) = does_one adds key history (IsFoundOr content aim) HasFailed old new (Tore (other s) end_bytes) before it (end_torn fit) (λ going. going)
+      failing (inr (inr twice, fit)) =
+          does_two adds key history (IsFoundOr content aim) HasFailed old twice.mid new (Appended (other s) end_bytes) (Unsynced (other s)) before twice.one (end_appended fit) twice.two (end_unsynced fit) (λ going. going)
+
 -- ---- a whole checkpoint
 
 module _ {D : Type 0} (adds : Adding D) (key generation : ℕ) (s : Slot) (content : Option Content) (history : List Act) (counts : Counts key generation s content history) (aim : Kept) where
   pub checkpoint_nothing : (after : List Act → Type 0) (old new : D) → new ≡ old → after history → Does adds key history (IsFoundOr content aim) after old new
   checkpoint_nothing after old new same so = does_nothing adds key history (IsFoundOr content aim) after old new (leaves_also key history (λ o. o ≡ content) (IsFoundOr content aim) (λ o is. inl is) counts.leaves) same so
 
-  pub checkpoint_unbegun : (fault : JournalFault) (old new : D) → BeginGives adds key s generation (Err fault) old new → Does adds key history (IsFoundOr content aim) (λ acts. Unit {0}) old new
-  checkpoint_unbegun fault old new gives =
-      does_also adds key history (λ o. o ≡ content) (IsFoundOr content aim) (λ acts. Unit {0}) (λ acts. Unit {0}) old new (λ o is. inl is) (λ acts it. it)
-      (begin_fails key generation s content history counts adds fault old new gives)
+  pub checkpoint_unbegun : (fault : JournalFault) (told : StoreFault) (so : List Act → Store → Type 0) (old new : D) → told ≡ said fault → BeginGives adds key s generation (Err fault) old new → Does adds key history (IsFoundOr content aim) (λ acts. IfDone (so acts) acts (Err told)) old new
+  checkpoint_unbegun fault told so old new is gives = subst (λ (e : StoreFault). Does adds key history (IsFoundOr content aim) (λ acts. IfDone (so acts) acts (Err e)) old new) (sym is) (by_fault fault gives)
+    where
+      also : (after : List Act → Type 0) → Does adds key history (λ o. o ≡ content) after old new → Does adds key history (IsFoundOr content aim) after old new
+      also after d = does_also adds key history (λ o. o ≡ content) (IsFoundOr content aim) after after old new (λ o it. inl it) (λ acts it. it) d
+
+      by_fault : (fault : JournalFault) → BeginGives adds key s generation (Err fault) old new → Does adds key history (IsFoundOr content aim) (λ acts. IfDone (so acts) acts (Err (said fault))) old new
+      by_fault faults.Failed gives = also HasFailed (begin_failed key generation s content history counts adds old new gives)
+      by_fault faults.TooLong gives = also (λ acts. Unit {0}) (begin_fails key generation s content history counts adds faults.TooLong old new gives)
+      by_fault faults.Memory gives = also (λ acts. Unit {0}) (begin_fails key generation s content history counts adds faults.Memory old new gives)
+      by_fault faults.Full gives = also (λ acts. Unit {0}) (begin_fails key generation s content history counts adds faults.Full old new gives)
 
   module _ (c c' : Checkpoint) (all : List Bytes) (old mid : D) (begins : BeginGives adds key s generation (Ok c) old mid) where
-    pub checkpoint_stops : (fault : StoreFault) (new : D) (also : List Act → Store → Type 0) → Appends adds c all (Err fault) c' mid new → Does adds key history (IsFoundOr content aim) (λ acts. IfDone (also acts) (Err fault)) old new
+    pub checkpoint_stops : (fault : StoreFault) (new : D) (also : List Act → Store → Type 0) → Appends adds c all (Err fault) c' mid new → Does adds key history (IsFoundOr content aim) (λ acts. IfDone (also acts) acts (Err fault)) old new
     checkpoint_stops fault new also appends =
-        does_also adds key history (λ o. o ≡ content) (IsFoundOr content aim) (λ acts. IfDone {X = Unit {0}} (λ done. IsBegun key generation s content c' ([] ++ all) acts) (Err fault)) (λ acts. IfDone (also acts) (Err fault)) old new (λ o is. inl is)
-        (λ acts it. stopped fault (λ done. IsBegun key generation s content c' ([] ++ all) acts) (also acts) it)
-        (does_then adds key history (λ o. o ≡ content) (IsBegun key generation s content c []) (λ acts. IfDone {X = Unit {0}} (λ done. IsBegun key generation s content c' ([] ++ all) acts) (Err fault)) old mid new
+        does_also adds key history (λ o. o ≡ content) (IsFoundOr content aim) (λ acts. IfDone {X = Unit {0}} (λ done. IsBegun key generation s content c' ([] ++ all) acts) acts (Err fault)) (λ acts. IfDone (also acts) acts (Err fault)) old new (λ o is. inl is)
+        (λ acts it. stopped acts fault (λ done. IsBegun key generation s content c' ([] ++ all) acts) (also acts) it)
+        (does_then adds key history (λ o. o ≡ content) (IsBegun key generation s content c []) (λ acts. IfDone {X = Unit {0}} (λ done. IsBegun key generation s content c' ([] ++ all) acts) acts (Err fault)) old mid new
         (begin_goes key generation s content history counts adds c old mid begins) (λ acts b. appends key generation s content [] acts b))
       where
-        stopped : (fault : StoreFault) (so : Unit {0} → Type 0) (also : Store → Type 0) → IfDone so (Err fault) → IfDone also (Err fault)
-        stopped Failed so also it = tt
-        stopped Version so also it = it
-        stopped Damaged so also it = it
-        stopped Memory so also it = tt
+        stopped : (acts : List Act) (fault : StoreFault) (so : Unit {0} → Type 0) (also : Store → Type 0) → IfDone so acts (Err fault) → IfDone also acts (Err fault)
+        stopped acts Failed so also it = it
+        stopped acts Version so also it = it
+        stopped acts Damaged so also it = it
+        stopped acts Memory so also it = tt
 
     module _ (end : D) (appends : Appends adds c all (Ok tt) c' mid end) (holds : Holds (content_of all []) aim) where
       whole : Does adds key history (IsFoundOr content aim) (IsBegun key generation s content c' all) old end
@@ -285,7 +324,13 @@ module _ {D : Type 0} (adds : Adding D) (key generation : ℕ) (s : Slot) (conte
           does_then adds key history (IsFoundOr content aim) (IsBegun key generation s content c' all) (λ acts. Stands key acts store aim) old end new whole
           (λ acts b. finish_goes adds c' key generation s content all aim holds acts b j store end new gives is next)
 
-      pub checkpoint_unfinished : (fault : JournalFault) (new : D) → FinishGives adds c' (Err fault) end new → Does adds key history (IsFoundOr content aim) (λ acts. Unit {0}) old new
-      checkpoint_unfinished fault new gives =
-          does_then adds key history (IsFoundOr content aim) (IsBegun key generation s content c' all) (λ acts. Unit {0}) old end new whole
-          (λ acts b. finish_fails adds c' key generation s content all aim holds acts b fault end new gives)
+      pub checkpoint_unfinished : (fault : JournalFault) (told : StoreFault) (so : List Act → Store → Type 0) (new : D) → told ≡ said fault → FinishGives adds c' (Err fault) end new → Does adds key history (IsFoundOr content aim) (λ acts. IfDone (so acts) acts (Err told)) old new
+      checkpoint_unfinished fault told so new is gives =
+          subst (λ (e : StoreFault). Does adds key history (IsFoundOr content aim) (λ acts. IfDone (so acts) acts (Err e)) old new) (sym is)
+          (does_then adds key history (IsFoundOr content aim) (IsBegun key generation s content c' all) (λ acts. IfDone (so acts) acts (Err (said fault))) old end new whole (λ acts b. by_fault acts b fault gives))
+        where
+          by_fault : (acts : List Act) → IsBegun key generation s content c' all acts → (fault : JournalFault) → FinishGives adds c' (Err fault) end new → Does adds key acts (IsFoundOr content aim) (λ later. IfDone (so later) later (Err (said fault))) end new
+          by_fault acts b faults.Failed gives = finish_failed adds c' key generation s content all aim holds acts b end new gives
+          by_fault acts b faults.TooLong gives = finish_fails adds c' key generation s content all aim holds acts b faults.TooLong end new gives
+          by_fault acts b faults.Memory gives = finish_fails adds c' key generation s content all aim holds acts b faults.Memory end new gives
+          by_fault acts b faults.Full gives = finish_fails adds c' key generation s content all aim holds acts b faults.Full end new gives

@@ -1,5 +1,5 @@
 -- What the calls of a store do.
-use Rattle.std.specs.Prelude.{ℕ, ◌≡◌, ◌⊎◌, true, false, List, [], ◌∷◌, ◌++◌, Option, Some, None, Result, Ok, Err}
+use Rattle.std.specs.Prelude.{ℕ, ◌≡◌, ◌⊎◌, true, false, List, [], ◌∷◌, Option, Some, None, Result, Ok, Err}
 use Rattle.journal.specs.declared.disk.Slot.{Slot}
 use Rattle.journal.specs.declared.disk.Slot.TheVariants.{A, B}
 use Rattle.journal.specs.Disk.{Act, Found as WasFound}
@@ -16,7 +16,7 @@ use Rattle.tree_store.specs.declared.opening.Found.{Found}
 use Rattle.tree_store.specs.declared.store.Store.{Store}
 use Rattle.tree_store.specs.Kept.{Kept, kept_with, Covers, Follows}
 use Rattle.tree_store.specs.Holds.{Holds, IsFoundOr, IsHeldOr}
-use Rattle.tree_store.specs.Leaving.{Does}
+use Rattle.tree_store.specs.Leaving.{Does, HasFailed}
 use Rattle.tree_store.specs.Standing.{Stands}
 
 -- ---- opening
@@ -67,10 +67,10 @@ Opens adds key (Ok found) old new = BothFoundAnd adds (λ a b. OpensSo key a b (
 abbrev pub both_found : Bytes → Bytes → List Act
 both_found a b = WasFound B b ∷ WasFound A a ∷ []
 
--- a store that was begun stands for this
+-- a store that was begun stands for this; where the disk has failed, the newest act has
 abbrev pub BegunSo : ℕ → List Act → Result Store StoreFault → Kept → Type 0
 BegunSo key history (Ok store) aim = Stands key history store aim
-BegunSo key history (Err Failed) aim = Unit {0}
+BegunSo key history (Err Failed) aim = HasFailed history
 BegunSo key history (Err Version) aim = ⊥
 BegunSo key history (Err Damaged) aim = ⊥
 BegunSo key history (Err Memory) aim = Unit {0}
@@ -84,10 +84,11 @@ Starts adds base aim result old new =
 
 -- ---- keeping
 
--- a store that has kept this stands for it, but for open files that were given since; after a fault it isn't called again
+-- A store that has kept this stands for it, but for open files that were given since. Where the disk has failed, the
+-- newest act has; and after a fault the store isn't called again.
 abbrev pub KeptSo : ℕ → List Act → Result (Unit {0}) StoreFault → Store → Kept → Type 0
 KeptSo key history (Ok done) store aim = (kept : Kept) × Stands key history store kept × Covers aim kept
-KeptSo key history (Err Failed) store aim = store.journal.has_failed ≡ true
+KeptSo key history (Err Failed) store aim = HasFailed history × (store.journal.has_failed ≡ true)
 KeptSo key history (Err Version) store aim = ⊥
 KeptSo key history (Err Damaged) store aim = ⊥
 KeptSo key history (Err Memory) store aim = store.journal.has_failed ≡ true

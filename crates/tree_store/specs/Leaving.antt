@@ -1,8 +1,8 @@
 -- What is found in two files after a crash at any moment.
-use Rattle.std.specs.Prelude.{ℕ, ◌≡◌, ◌⊎◌, ◌<◌, ◌≤◌, ◌+◌, Bool, List, [], ◌∷◌, ◌++◌, length, Option, Some}
+use Rattle.std.specs.Prelude.{ℕ, ◌≡◌, ◌⊎◌, ◌<◌, ◌≤◌, ◌+◌, Bool, List, [], ◌∷◌, ◌++◌, length, Option}
 use Rattle.journal.specs.declared.disk.Slot.{Slot}
 use Rattle.journal.specs.declared.disk.Slot.TheVariants.{A, B}
-use Rattle.journal.specs.Disk.{Act, Found, Unfound, Appended, Tore, Synced, Unsynced, Emptied, Unemptied, on_disk, MayLeave}
+use Rattle.journal.specs.Disk.{Act, Found, Unfound, Appended, Tore, Synced, Unsynced, Emptied, Unemptied, on_disk, MayLeave, IsGoing}
 use Rattle.journal.specs.Frames.{Bytes, Frame, all_framed}
 use Rattle.journal.specs.Files.{Content}
 use Rattle.journal.specs.Opening.{Chooses, Refuses, in_slot}
@@ -67,6 +67,11 @@ Leaves key history is =
 abbrev pub AlwaysLeaves : ℕ → List Act → List Act → (Option Content → Type 0) → Type 0
 AlwaysLeaves key [] history is = Leaves key history is
 AlwaysLeaves key (act ∷ acts) history is = Leaves key (act ∷ acts ++ history) is × AlwaysLeaves key acts history is
+
+-- the newest act has failed
+abbrev pub HasFailed : List Act → Type 0
+HasFailed [] = ⊥
+HasFailed (act ∷ acts) = IsGoing act → ⊥
 
 -- Acts were done after a history: a crash at any moment of them leaves what is so, and after them this holds of all acts.
 pub record Does {D : Type 0} (adds : Adding D) (key : ℕ) (history : List Act) (is : Option Content → Type 0) (after : List Act → Type 0) (old new : D) : Type 0 where

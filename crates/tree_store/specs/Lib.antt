@@ -1,3 +1,4 @@
+pub mod Said
 pub mod Kept
 pub mod Forms
 pub mod Holds

@@ -1,12 +1,12 @@
 -- What the steps of writing a record and a checkpoint do.
-use Rattle.std.specs.Prelude.{ℕ, ◌≡◌, ◌⊎◌, ◌+◌, ◌^◌, ◌<◌, ◌≤◌, Bool, true, false, List, [], ◌∷◌, ◌++◌, length, map, Option, Some, Result, Ok, Err}
+use Rattle.std.specs.Prelude.{ℕ, ◌≡◌, ◌⊎◌, ◌+◌, ◌^◌, ◌<◌, ◌≤◌, true, false, List, [], ◌∷◌, ◌++◌, length, map, Option, Result, Ok, Err}
 use Rattle.std.specs.List.{AllByRecursion}
 use Rattle.xdr_wire.specs.Xdr.{HasSpelling, spelling}
 use Rattle.journal.specs.declared.disk.Slot.{Slot}
 use Rattle.journal.specs.declared.journal.Checkpoint.{Checkpoint}
 use Rattle.journal.specs.declared.journal.Journal.{Journal}
 use Rattle.journal.specs.Disk.{Act, Appended, Tore, Synced, Unsynced, other, settled, on_disk}
-use Rattle.journal.specs.Frames.{Bytes, Frame, PART, RECORD, MAX_BODY, framed, all_framed, frame_with, IsFit}
+use Rattle.journal.specs.Frames.{Bytes, Frame, PART, RECORD, framed, all_framed, frame_with, IsFit}
 use Rattle.journal.specs.Files.{Content}
 use Rattle.journal.specs.Replacing.{IsBase, IsReplaced}
 use Rattle.journal.specs.Keeping.{Adding, Twice}
@@ -19,7 +19,7 @@ use Rattle.tree_store.specs.declared.store.Store.{Store}
 use Rattle.tree_store.specs.Kept.{Kept}
 use Rattle.tree_store.specs.Forms.{numbers, numbers_value}
 use Rattle.tree_store.specs.Holds.{IsFoundOr, IsHeldOr}
-use Rattle.tree_store.specs.Leaving.{Does, Leaves, written_since}
+use Rattle.tree_store.specs.Leaving.{Does, Leaves, HasFailed, written_since}
 use Rattle.tree_store.specs.Standing.{Stands}
 
 -- ---- a record
@@ -30,14 +30,13 @@ frame_of j bytes = frame_with RECORD j.safe bytes
 abbrev pub framed_of : Journal → Bytes → Bytes
 framed_of j bytes = framed j.key j.generation j.number (frame_of j bytes)
 
--- A record was appended and then synced, or the disk has failed, or nothing was done: there is no memory, or the disk had
--- failed before, or the record is too long or no number is left.
+-- A record was appended and then synced, or the disk has failed, now or before, or nothing was done.
 abbrev pub RecordGives : {D : Type 0} → Adding D → Journal → Bytes → Result (Unit {0}) StoreFault → Journal → D → D → Type 0
 RecordGives adds j bytes (Ok done) j' old new =
     Twice adds (Appended j.slot (framed_of j bytes)) (Synced j.slot) old new × IsFit j.key j.generation j.number (frame_of j bytes)
     × (j' ≡ record j { number = j.number + 1; safe = j.number + 1; has_failed = false })
 RecordGives adds j bytes (Err Failed) j' old new =
-    ((new ≡ old) × ((j.has_failed ≡ true) ⊎ ((MAX_BODY < length bytes) ⊎ (j.number ≡ 18446744073709551615))))
+    ((j.has_failed ≡ true) × (new ≡ old))
     ⊎ ((adds old (Tore j.slot (framed_of j bytes)) new ⊎ Twice adds (Appended j.slot (framed_of j bytes)) (Unsynced j.slot) old new)
     × IsFit j.key j.generation j.number (frame_of j bytes))
 RecordGives adds j bytes (Err Version) j' old new = ⊥
@@ -56,20 +55,20 @@ pub record IsBegun (key generation : ℕ) (s : Slot) (content : Option Content) 
   pub written : written_since (other s) history ≡ all_framed key (generation + 1) 0 (part_frames parts)
   pub checkpoint_is : c ≡ record { key = key; slot = other s; generation = generation + 1; number = length parts; has_failed = false }
 
--- what stands after a step, where it has succeeded
-abbrev pub IfDone : {X : Type 0} → (X → Type 0) → Result X StoreFault → Type 0
-IfDone so (Ok x) = so x
-IfDone so (Err Failed) = Unit {0}
-IfDone so (Err Version) = ⊥
-IfDone so (Err Damaged) = ⊥
-IfDone so (Err Memory) = Unit {0}
+-- what stands after the acts of a step, where it has succeeded; where the disk has failed, the newest act has
+abbrev pub IfDone : {X : Type 0} → (X → Type 0) → List Act → Result X StoreFault → Type 0
+IfDone so acts (Ok x) = so x
+IfDone so acts (Err Failed) = HasFailed acts
+IfDone so acts (Err Version) = ⊥
+IfDone so acts (Err Damaged) = ⊥
+IfDone so acts (Err Memory) = Unit {0}
 
 -- Of a checkpoint that is being written: more parts are appended, and a crash at any moment leaves what the old file has.
 abbrev pub Appends : {D : Type 0} → Adding D → Checkpoint → List Bytes → Result (Unit {0}) StoreFault → Checkpoint → D → D → Type 0
 Appends adds c more result c' old new =
     (key generation : ℕ) (s : Slot) (content : Option Content) (parts : List Bytes) (history : List Act)
     → IsBegun key generation s content c parts history
-    → Does adds key history (λ o. o ≡ content) (λ acts. IfDone (λ done. IsBegun key generation s content c' (parts ++ more) acts) result) old new
+    → Does adds key history (λ o. o ≡ content) (λ acts. IfDone (λ done. IsBegun key generation s content c' (parts ++ more) acts) acts result) old new
 
 -- the bytes of an object and of a name, and that they are read again
 abbrev pub object_bytes : ℕ × Object → Bytes
@@ -104,7 +103,7 @@ pub record Counts (key generation : ℕ) (s : Slot) (content : Option Content) (
 abbrev pub Checkpoints : {D : Type 0} → Adding D → ℕ → Slot → ℕ → Kept → Result Store StoreFault → D → D → Type 0
 Checkpoints adds key s generation aim result old new =
     (content : Option Content) (history : List Act) → Counts key generation s content history
-    → Does adds key history (IsFoundOr content aim) (λ acts. IfDone (λ store. Stands key acts store aim) result) old new
+    → Does adds key history (IsFoundOr content aim) (λ acts. IfDone (λ store. Stands key acts store aim) acts result) old new
 
 -- ---- a store that goes on
 
@@ -113,7 +112,7 @@ Checkpoints adds key s generation aim result old new =
 abbrev pub GoesOn : {D : Type 0} → Adding D → Store → Kept → Kept → Result (Unit {0}) StoreFault → Store → D → D → Type 0
 GoesOn adds store kept aim result store' old new =
     (history : List Act) → Stands store.journal.key history store kept
-    → Does adds store.journal.key history (IsHeldOr kept aim) (λ acts. IfDone (λ done. Stands store.journal.key acts store' aim) result) old new
+    → Does adds store.journal.key history (IsHeldOr kept aim) (λ acts. IfDone (λ done. Stands store.journal.key acts store' aim) acts result) old new
 
 -- nothing was noted, and the numbers are those that are kept, but for open files, of which fewer than 2 ^ 31 were given
 pub record IsIdle (store : Store) (bytes : Bytes) (next : NextNumbers) : Type 0 where

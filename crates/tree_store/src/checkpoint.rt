@@ -8,10 +8,10 @@ ghost use Rattle.tree_store.specs.Forms.{numbers, numbers_value};
 ghost use Rattle.tree_store.specs.Kept.{kept_with};
 ghost use Rattle.tree_store.specs.Writing.{Appends, Checkpoints, all_parts, object_bytes, name_bytes, HasObjectSpelling, HasNameSpelling, HaveSpelling};
 
-use crate::fault::StoreFault;
+use crate::fault::{StoreFault, said};
 use crate::numbers::write_numbers;
 use crate::store::Store;
-use journal::{Checkpoint, Disk, JournalFault, Slot};
+use journal::{Checkpoint, Disk, Slot};
 use node_tree::{ROOT, Tree};
 use session_slots::NextNumbers;
 use std::alloc::Allocator;
@@ -41,8 +41,7 @@ impl<A: Allocator + Copy> Parts<A> {
         self.writer.truncate(0);
         match done {
             Ok(()) => Ok(()),
-            Err(JournalFault::Memory) => Err(StoreFault::Memory),
-            Err(_) => Err(StoreFault::Failed),
+            Err(fault) => Err(said(fault)),
         }
     }
 
@@ -181,7 +180,7 @@ pub(crate) fn write_checkpoint<D: Disk, A: Allocator + Copy>(
     };
     let checkpoint = match Checkpoint::begin(disk, key, slot, generation) {
         Ok(checkpoint) => checkpoint,
-        Err(_) => return Err(StoreFault::Failed),
+        Err(fault) => return Err(said(fault)),
     };
     let mut parts = Parts {
         checkpoint,
@@ -194,8 +193,7 @@ pub(crate) fn write_checkpoint<D: Disk, A: Allocator + Copy>(
     }
     let journal = match parts.checkpoint.finish(disk, alloc) {
         Ok(journal) => journal,
-        Err(JournalFault::Memory) => return Err(StoreFault::Memory),
-        Err(_) => return Err(StoreFault::Failed),
+        Err(fault) => return Err(said(fault)),
     };
     Ok(Store {
         journal,

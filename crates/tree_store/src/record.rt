@@ -4,15 +4,15 @@ ghost use Rattle.xdr_wire.specs.Xdr.{HasSpelling, spelling};
 ghost use Rattle.tree_store.specs.Forms.{numbers, numbers_value};
 ghost use Rattle.tree_store.specs.Writing.{RecordGives};
 
-use crate::fault::StoreFault;
+use crate::fault::{StoreFault, said};
 use crate::numbers::write_numbers;
-use journal::{Disk, Journal, JournalFault};
+use journal::{Disk, Journal};
 use session_slots::NextNumbers;
 use std::alloc::{AllocError, Allocator};
 use xdr_wire::Writer;
 
 /// The bytes of the numbers at the front of a record.
-const NUMBERS: usize = 24;
+pub(crate) const NUMBERS: usize = 24;
 
 /// The bytes of a record: the numbers, and after them the changes as they were noted.
 pub(crate) fn record_of<A: Allocator>(
@@ -43,8 +43,7 @@ pub(crate) fn keep_record<D: Disk, A: Allocator>(
 {
     match journal.append(disk, alloc, bytes) {
         Ok(()) => {}
-        Err(JournalFault::Memory) => return Err(StoreFault::Memory),
-        Err(_) => return Err(StoreFault::Failed),
+        Err(fault) => return Err(said(fault)),
     }
     if !journal.sync(disk) {
         return Err(StoreFault::Failed);

@@ -10,7 +10,7 @@ ghost use Rattle.tree_store.specs.declared.fault.StoreFault.TheVariants.{Failed}
 use crate::checkpoint::write_checkpoint;
 use crate::fault::StoreFault;
 use crate::opening::Base;
-use crate::record::{keep_record, record_of};
+use crate::record::{NUMBERS, keep_record, record_of};
 use journal::{Disk, Journal};
 use node_tree::Tree;
 use session_slots::NextNumbers;
@@ -41,7 +41,7 @@ impl Store {
     /// Begins a store over two files of which one was chosen: writes a checkpoint of the tree and the numbers into the
     /// other one, and syncs it. A crash meanwhile leaves what was found, or what was to be kept.
     ///
-    /// `Failed`: the disk has failed, or no generation is left. `Memory`. The file that was chosen is as it was.
+    /// `Failed`: the disk has failed. `Memory`. The file that was chosen is as it was.
     pub fn start<D: Disk, A: Allocator + Copy>(
         disk: &mut D,
         alloc: A,
@@ -73,10 +73,11 @@ impl Store {
             && next.open_file - self.next.open_file < OPENS
     }
 
-    /// Whether the records have more bytes than 64 MiB, and more than the checkpoint.
+    /// Whether a record of these notes would have more bytes than 64 MiB, or the records more than that and than the
+    /// checkpoint.
     fn is_long(&self, notes: usize) -> bool {
-        let records = self.records.saturating_add(notes as u64);
-        RECORDS.max(self.checkpoint) < records
+        let bytes = (notes as u64).saturating_add(NUMBERS as u64);
+        RECORDS < bytes || RECORDS.max(self.checkpoint) < self.records.saturating_add(bytes)
     }
 
     /// Writes a checkpoint into the other file.
@@ -139,8 +140,8 @@ impl Store {
     /// clients and sessions are those that are kept, and fewer than 2^31 numbers of open files were given since. The
     /// notes are cleared by the caller.
     ///
-    /// A crash meanwhile leaves what was kept before, or all of this. `Failed`: the disk has failed, now or before, or no
-    /// number of a frame or generation is left. `Memory`. After a fault each call is `Failed`, and does nothing.
+    /// A crash meanwhile leaves what was kept before, or all of this. `Failed`: the disk has failed. `Memory`. After a fault
+    /// each call is `Failed`, and does nothing.
     pub fn keep<D: Disk, A: Allocator + Copy>(
         &mut self,
         disk: &mut D,

@@ -1,8 +1,4 @@
-use Rattle.std.proofs.Common.{refl, subst, Ok, Err}
-use Rattle.std.specs.Prelude.{Result}
-use Rattle.journal.specs.declared.journal.Journal.{Journal}
-use Rattle.journal.specs.declared.journal.JournalFault.{JournalFault}
-use Rattle.journal.specs.Keeping.{FinishGives}
+use Rattle.std.proofs.Common.{refl}
 use Rattle.tree_changes.proofs.Again.{taken_again}
 use Rattle.tree_store.specs.Kept.{kept_with}
 use Rattle.tree_store.specs.Standing.{Stands}
@@ -15,7 +11,9 @@ pub returns-in_default : goal.returns-in_default
 returns-in_default g c content history counts = checkpoint_nothing g.D.Disk.adds c.args.key c.args.generation c.args.slot content history counts (kept_with c.args.tree.now c.args.next) _ _ _ refl tt
 
 pub returns-in-Err : goal.returns-in-Err
-returns-in-Err g c content history counts = checkpoint_unbegun g.D.Disk.adds c.args.key c.args.generation c.args.slot content history counts (kept_with c.args.tree.now c.args.next) c.in-Err.field-0 _ _ c.in-Err.ensures
+returns-in-Err g c content history counts =
+    let aim = kept_with c.args.tree.now c.args.next in
+    checkpoint_unbegun g.D.Disk.adds c.args.key c.args.generation c.args.slot content history counts aim c.in-Err.fault c.said.result (λ acts store. Stands c.args.key acts store aim) _ _ c.said.ensures c.in-Err.ensures
 
 pub returns-in-Err-put_all : goal.returns-in-Err-put_all
 returns-in-Err-put_all g c content history counts =
@@ -24,22 +22,13 @@ returns-in-Err-put_all g c content history counts =
     checkpoint_stops g.D.Disk.adds c.args.key c.args.generation c.args.slot content history counts aim c.in-Ok-begin.checkpoint c.put_all.new.self.checkpoint (all_parts w c.args.next) c.args.disk.now c.begin.new.disk c.in-Ok-begin.ensures
     c.in-Err-put_all.fault c.put_all.new.disk (λ acts store. Stands c.args.key acts store aim) c.in-Err-put_all.ensures.appends
 
-pub returns-in-Err-Memory : goal.returns-in-Err-Memory
-returns-in-Err-Memory g c content history counts =
-    let w = c.args.tree.now in
-    let aim = kept_with w c.args.next in
-    checkpoint_unfinished g.D.Disk.adds c.args.key c.args.generation c.args.slot content history counts aim c.in-Ok-begin.checkpoint c.put_all.new.self.checkpoint (all_parts w c.args.next) c.args.disk.now c.begin.new.disk c.in-Ok-begin.ensures
-    c.put_all.new.disk c.in-Ok-put_all.ensures.appends (checkpoint_holds w c.args.next (taken_again w c.object-root.ensures.sound) c.in-Ok-put_all.ensures.has_spelling)
-    c.in-Err-Memory.field-0 c.finish.new.disk
-    (subst (λ (r : Result Journal JournalFault). FinishGives g.D.Disk.adds c.put_all.new.self.checkpoint r c.put_all.new.disk c.finish.new.disk) c.in-Err-Memory.is c.finish.ensures)
-
 pub returns-in-Err-finish : goal.returns-in-Err-finish
 returns-in-Err-finish g c content history counts =
     let w = c.args.tree.now in
     let aim = kept_with w c.args.next in
     checkpoint_unfinished g.D.Disk.adds c.args.key c.args.generation c.args.slot content history counts aim c.in-Ok-begin.checkpoint c.put_all.new.self.checkpoint (all_parts w c.args.next) c.args.disk.now c.begin.new.disk c.in-Ok-begin.ensures
     c.put_all.new.disk c.in-Ok-put_all.ensures.appends (checkpoint_holds w c.args.next (taken_again w c.object-root.ensures.sound) c.in-Ok-put_all.ensures.has_spelling)
-    c.in-Err-finish.field-0 c.finish.new.disk c.in-Err-finish.ensures
+    c.in-Err-finish.fault c.said-in-Err-finish.result (λ acts store. Stands c.args.key acts store aim) c.finish.new.disk c.said-in-Err-finish.ensures c.in-Err-finish.ensures
 
 pub returns : goal.returns
 returns g c content history counts =

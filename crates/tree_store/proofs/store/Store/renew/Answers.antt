@@ -11,7 +11,7 @@ returns-in-Err-clause-goes_on g c kept =
     let failed = record store { journal = record store.journal { has_failed = true } } in
     let aim = kept_with c.args.tree.now c.args.next in
     renews g.D.Disk.adds store failed kept aim (Err c.in-Err.fault) (Err c.in-Err.fault) c.args.disk.now c.write_checkpoint.new.disk c.in-Err.ensures
-    (λ acts it. same_fault {X = Store} {Y = Unit {0}} (λ s. Stands store.journal.key acts s aim) (λ done. Stands store.journal.key acts failed aim) c.in-Err.fault it)
+    (λ acts it. same_fault {X = Store} {Y = Unit {0}} (λ s. Stands store.journal.key acts s aim) (λ done. Stands store.journal.key acts failed aim) acts c.in-Err.fault it)
 
 pub returns-clause-goes_on : goal.returns-clause-goes_on
 returns-clause-goes_on g c kept =
