@@ -1,19 +1,22 @@
-//! The streams that are served: sockets, the file of the trail, and the file of the book.
+//! The streams that are served: sockets, the store, the file of the trail, and the file of the book.
 use crate::book_file::BookFile;
 use crate::sockets::Sockets;
+use crate::stored::Stored;
 use crate::trail_file::TrailFile;
 use compound_run::Server;
 use nfs_hub::ConnId;
 use nfs_streams::{Knock, Moved, StreamEnd, Streams, Wait};
 use std::alloc::Global;
 use std::rt::{Clock, Files};
+use store_files::StoreStop;
 use who_book::Book;
 
-/// Sockets, the file in which the trail is kept, if it is kept, and the file of the book.
+/// Sockets, the store, if there is one, the file in which the trail is kept, if it is kept, and the file of the book.
 #[derive(Drop)]
 pub(crate) struct Served<'a, R: Files> {
     rt: &'a R,
     sockets: Sockets,
+    stored: Option<Stored>,
     trail: Option<TrailFile<'a, R>>,
     book: BookFile<'a, R>,
     /// Each connection so far ended after a whole record.
@@ -25,12 +28,14 @@ impl<'a, R: Files + Eprint> Served<'a, R> {
     pub(crate) fn new(
         rt: &'a R,
         sockets: Sockets,
+        stored: Option<Stored>,
         trail: Option<TrailFile<'a, R>>,
         book: BookFile<'a, R>,
     ) -> Self {
         Served {
             rt,
             sockets,
+            stored,
             trail,
             book,
             are_whole: true,
@@ -40,6 +45,14 @@ impl<'a, R: Files + Eprint> Served<'a, R> {
     /// Whether each connection so far ended after a whole record.
     pub(crate) fn are_whole(&self) -> bool {
         self.are_whole
+    }
+
+    /// Why nothing more is stored.
+    pub(crate) fn store_stop(&mut self) -> StoreStop {
+        match &mut self.stored {
+            Some(stored) => stored.stop(),
+            None => StoreStop::Failed(None),
+        }
     }
 
     /// Says on standard error how a connection ended that didn't end after a whole record. What can't be said isn't said. Of those that were
@@ -87,6 +100,13 @@ impl<R: Files + Alloc + Eprint + Clock> Streams<Global> for Served<'_, R> {
     fn keep(&mut self, server: &Server) -> bool {
         match &mut self.trail {
             Some(trail) => trail.keep(server.guard()),
+            None => true,
+        }
+    }
+
+    fn store(&mut self, server: &Server) -> bool {
+        match &mut self.stored {
+            Some(stored) => stored.keep(server),
             None => true,
         }
     }
