@@ -1,17 +1,16 @@
 -- What is kept while serving goes on: the trail, and what outlives a restart.
-use Rattle.std.proofs.Common.{◌≡◌, ◌⊎◌, inl, inr, ⊎_elim, ℕ, ◌<◌, ◌+◌, true, List, [], ◌∷◌, ◌++◌, length, Option, Some, None, refl, sym, ◌∙◌, ap, subst, arith}
+use Rattle.std.proofs.Common.{◌≡◌, inl, inr, ⊎_elim, ℕ, true, List, [], ◌∷◌, ◌++◌, Option, Some, None, refl, sym, ◌∙◌, ap, subst, arith}
 use Rattle.std.proofs.lemmas.List.{append-nil}
 use Rattle.journal.specs.Disk.{Act as DiskAct, on_disk}
-use Rattle.journal.specs.declared.disk.Slot.{Slot}
 use Rattle.journal.specs.Frames.{Bytes, Frame}
 use Rattle.journal.specs.Files.{Content, bodies}
-use Rattle.journal.specs.Opening.{Chooses, Refuses, in_slot}
+use Rattle.journal.specs.Opening.{in_slot}
 use Rattle.journal.specs.Crash.{IsFront}
 use Rattle.journal.specs.Living.{IsKept as IsKeptIn, Chance}
 use Rattle.journal.proofs.Living.{live_law}
 use Rattle.tree_store.specs.declared.store.Store.{Store as TreeStore}
 use Rattle.tree_store.specs.Kept.{Kept, Covers, Follows}
-use Rattle.tree_store.specs.Holds.{Holds, IsHeld}
+use Rattle.tree_store.specs.Holds.{IsHeld}
 use Rattle.tree_store.specs.Leaving.{Fluked, Leaves}
 use Rattle.tree_store.specs.Standing.{Stands as StandsFor}
 use Rattle.access_guard.specs.declared.line.Line.{Line}
@@ -23,10 +22,10 @@ use Rattle.nfs_hub.specs.declared.hub.Hub.{Hub}
 use Rattle.nfs_hub.specs.Answer.{Served as ServedState}
 use Rattle.nfs_hub.specs.Machine.{State}
 use Rattle.nfs_streams.specs.declared.serving.Limits.{Limits}
-use Rattle.nfs_streams.specs.Acts.{Act, Kept as KeptTrail, Has, IsStored}
+use Rattle.nfs_streams.specs.Acts.{Act, Kept as KeptTrail, IsStored}
 use Rattle.nfs_streams.specs.Runs.{Runs, HasKept}
 use Rattle.nfs_streams.specs.Keeping.{IsQuiet, IsShown, HoldsShown, Survives, AlwaysSurvives, SurvivesIn, IsOpen, disk_of}
-use Rattle.nfs_streams.specs.Standing.{Origin, Storing, StoringIn}
+use Rattle.nfs_streams.specs.Standing.{Origin, StoringIn}
 
 -- ---- the trail is kept
 

@@ -25,7 +25,7 @@ use Rattle.nfs_streams.specs.declared.streams.Moved.TheVariants as moved
 use Rattle.nfs_streams.specs.declared.streams.StreamEnd.{StreamEnd}
 use Rattle.nfs_streams.specs.declared.streams.StreamEnd.TheVariants as end
 use Rattle.nfs_streams.specs.declared.serving.AllEnd.TheVariants.{Served, Turns, Wait, Keep}
-use Rattle.nfs_streams.specs.Acts.{Act, Just, IsSettled, IsStored, Waited, Knocked, Admitted, Closed, Heard, Ended, Unread, Looked, Loaded, Begun, Given, Kept, Lost, Expired, Told, Unwritten, Adds, Has, conn_at, ahead, fault_at, of_streams, went}
+use Rattle.nfs_streams.specs.Acts.{Act, Just, IsSettled, IsStored, Waited, Knocked, Admitted, Closed, Heard, Ended, Unread, Looked, Loaded, Begun, Given, Kept, Lost, Expired, Told, Unwritten, Adds, conn_at, ahead, fault_at, of_streams, went}
 use Rattle.nfs_streams.specs.Runs.{Runs, HasKept, On, StepAt, AnswersOne, FaultIs, CanHear, IsSpent, IsWaiting, MayHear, MayClose, most_open}
 use Rattle.nfs_streams.specs.Seats.{Stands, AreWaiting, Knows, IsSeated, IsFresh, place_at, taken}
 use Rattle.nfs_streams.specs.Standing.{Origin, Left, Keeping, Stage, Listening, Knocking, Full, Looking, Giving, Piecing, Unkept, Answering, Stopped, Ending, Way, Standing, StreamEnds, IsClosing, ends_at, broken_end, closed_stage}

@@ -1,13 +1,12 @@
 -- What outlives a restart is kept in the store, whose acts on the disk are acts of serving.
-use Rattle.std.proofs.Common.{◌≡◌, ◌⊎◌, inl, inr, ⊎_elim, ℕ, ◌+◌, Bool, true, false, List, [], ◌∷◌, ◌++◌, Option, Some, None, Ok, Err, refl, sym, ◌∙◌, ap, subst, arith}
-use Rattle.std.specs.Prelude.{Result, is_ok, ◌<◌, ◌^◌}
+use Rattle.std.proofs.Common.{◌≡◌, inl, inr, ⊎_elim, ℕ, ◌+◌, Bool, true, false, List, [], ◌∷◌, ◌++◌, Option, Some, None, Ok, Err, refl, sym, ◌∙◌, ap, subst, arith}
+use Rattle.std.specs.Prelude.{Result, is_ok}
 use Rattle.journal.specs.Disk.{Act as DiskAct}
-use Rattle.journal.specs.Files.{Content}
 use Rattle.journal.specs.Keeping.{Adding}
 use Rattle.tree_store.specs.declared.fault.StoreFault.{StoreFault}
 use Rattle.tree_store.specs.declared.store.Store.{Store as TreeStore}
 use Rattle.tree_store.specs.Kept.{Kept, Covers}
-use Rattle.tree_store.specs.Holds.{Holds, IsHeld, IsHeldOr}
+use Rattle.tree_store.specs.Holds.{IsHeld, IsHeldOr}
 use Rattle.tree_store.specs.Leaving.{Chain, Leaves, AlwaysLeaves, Does}
 use Rattle.tree_store.specs.Standing.{Stands as StandsFor}
 use Rattle.tree_store.specs.Keeping.{KeptSo, Keeps}
@@ -27,7 +26,7 @@ use Rattle.nfs_streams.specs.Acts.{Act, OnDisk, Stored, Unstored, Adds, IsSettle
 use Rattle.nfs_streams.specs.Runs.{Runs, IsKept}
 use Rattle.nfs_streams.specs.Seats.{Stands}
 use Rattle.nfs_streams.specs.Keeping.{IsShown, HoldsShown, AlwaysSurvives, SurvivesIn, KeepsTree, disk_of}
-use Rattle.nfs_streams.specs.Standing.{Origin, Left, Giving, Answering, Stopped, Standing, Storing, StoringIn}
+use Rattle.nfs_streams.specs.Standing.{Origin, Left, Giving, Answering, Stopped, Standing, StoringIn}
 use Rattle.nfs_streams.proofs.Lists.{adds_on}
 use Rattle.nfs_streams.proofs.Changing.{stands_as}
 use Rattle.nfs_streams.proofs.Keeping.{still_kept, leaves_also, now_shown, always_on, survives_in_on}
