@@ -141,8 +141,8 @@ impl Store {
     /// clients and sessions are those that are kept, and fewer than 2^31 numbers of open files were given since. The
     /// notes are cleared by the caller.
     ///
-    /// A crash meanwhile leaves what was kept before, or all of this. `Failed`: the disk has failed. `Memory`. After a fault
-    /// each call is `Failed`, and does nothing.
+    /// A crash meanwhile leaves what was kept before, or all of this. `Failed`: the disk has failed. `Memory`. After a
+    /// fault each call is `Failed`, and does nothing.
     pub fn keep<D: Disk, A: Allocator + Copy>(
         &mut self,
         disk: &mut D,
