@@ -93,9 +93,10 @@ KeptSo key history (Err Version) store aim = ⊥
 KeptSo key history (Err Damaged) store aim = ⊥
 KeptSo key history (Err Memory) store aim = store.journal.has_failed ≡ true
 
--- Of a store that stands for what is kept, from where the notes of the world lead: a crash at any moment leaves that, or
--- what was to be kept; and at the end the store stands for the latter.
+-- Of a store that stands for what is kept, from where the notes of the world lead: a crash at any moment leaves that,
+-- or what was to be kept; and at the end the store stands for the latter.
 abbrev pub Keeps : {D : Type 0} → Adding D → Store → World → NextNumbers → Result (Unit {0}) StoreFault → Store → D → D → Type 0
 Keeps adds store w next result store' old new =
     (history : List Act) (kept : Kept) → Stands store.journal.key history store kept → Follows kept w
-    → Does adds store.journal.key history (IsHeldOr kept (kept_with w next)) (λ acts. KeptSo store.journal.key acts result store' (kept_with w next)) old new
+    → Does adds store.journal.key history (IsHeldOr kept (kept_with w next))
+    (λ acts. KeptSo store.journal.key acts result store' (kept_with w next)) old new

@@ -36,8 +36,8 @@ written_since s (Emptied t ∷ acts) = if_same_bytes s t (λ b. []) (written_sin
 written_since s (Unemptied t ∷ acts) = if_same_bytes s t (λ b. []) (written_since s acts)
 
 -- A digest fits by chance. A file has kept frames and the later ones that were written since its last sync, and a crash
--- leaves bytes of it that weren't synced. In these stands a frame that isn't the next of the later ones, or a head of no
--- frame of the file, and its digests fit.
+-- leaves bytes of it that weren't synced. In these stands a frame that isn't the next of the later ones, or a head of
+-- no frame of the file, and its digests fit.
 pub record Fluked (key : ℕ) (history : List Act) (a b : Bytes) : Type 0 where
   pub slot : Slot
   pub generation : ℕ
@@ -51,16 +51,18 @@ pub record Fluked (key : ℕ) (history : List Act) (a b : Bytes) : Type 0 where
   -- the generation of the file that counts: this one, or the one that it replaces
   pub least : ℕ
   pub near : generation ≤ least + 1
-  pub fits : Fluke key generation (length kept) later left.more ⊎ HeadFluke key generation least (kept ++ later) left.more
+  pub fits : Fluke key generation (length kept) later left.more
+      ⊎ HeadFluke key generation least (kept ++ later) left.more
 
 -- ---- what is found
 
--- Whatever a crash leaves of both files after these acts: what is chosen is so, and nothing is refused; or a digest fits
--- by chance.
+-- Whatever a crash leaves of both files after these acts: what is chosen is so, and nothing is refused; or a digest
+-- fits by chance.
 abbrev pub Leaves : ℕ → List Act → (Option Content → Type 0) → Type 0
 Leaves key history is =
     (a b : Bytes) → MayLeave (on_disk A history) a → MayLeave (on_disk B history) b
-    → ((slot : Slot) (generation : ℕ) (content : Option Content) → Chooses key a b slot generation content → is content ⊎ Fluked key history a b)
+    → ((slot : Slot) (generation : ℕ) (content : Option Content) → Chooses key a b slot generation content
+    → is content ⊎ Fluked key history a b)
     × ((unknown : Bool) → Refuses key a b unknown → Fluked key history a b)
 
 -- after each front of the acts, which come after a history
@@ -73,7 +75,8 @@ abbrev pub HasFailed : List Act → Type 0
 HasFailed [] = ⊥
 HasFailed (act ∷ acts) = IsGoing act → ⊥
 
--- Acts were done after a history: a crash at any moment of them leaves what is so, and after them this holds of all acts.
+-- Acts were done after a history: a crash at any moment of them leaves what is so, and after them this holds of all
+-- acts.
 pub record Does {D : Type 0} (adds : Adding D) (key : ℕ) (history : List Act) (is : Option Content → Type 0) (after : List Act → Type 0) (old new : D) : Type 0 where
   pub acts : List Act
   pub chain : Chain adds acts old new

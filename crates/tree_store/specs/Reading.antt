@@ -39,13 +39,16 @@ abbrev pub TakesBytes : Option Begun → Bytes → Begun → Type 0
 TakesBytes so_far bytes more = (v : Value part) × (read_at part bytes ≡ Ok (v, [])) × Takes so_far v more
 
 abbrev pub TakesSo : Option Begun → Bytes → Result Begun StoreFault → Type 0
-TakesSo so_far bytes result = AnswersSo (TakesBytes so_far bytes) ((more : Begun) → TakesBytes so_far bytes more → ⊥) result
+TakesSo so_far bytes result =
+    AnswersSo (TakesBytes so_far bytes) ((more : Begun) → TakesBytes so_far bytes more → ⊥) result
 
 abbrev pub RestoresSo : List Bytes → Result World StoreFault → Type 0
 RestoresSo parts result = AnswersSo (Restores None parts) ((w : World) → Restores None parts w → ⊥) result
 
 abbrev pub BeginsSo : {A : Type 0} → List Bytes → Result (Found A) StoreFault → Type 0
-BeginsSo parts result = AnswersSo (λ found. Begins parts (found_kept found)) ((kept : Kept) → Begins parts kept → ⊥) result
+BeginsSo parts result =
+    AnswersSo (λ found. Begins parts (found_kept found)) ((kept : Kept) → Begins parts kept → ⊥) result
 
 abbrev pub LeadsSo : Kept → Bytes → Result (Unit {0}) StoreFault → Kept → Type 0
-LeadsSo old bytes result new = AnswersSo (λ done. LeadsOn old bytes new) ((kept : Kept) → LeadsOn old bytes kept → ⊥) result
+LeadsSo old bytes result new =
+    AnswersSo (λ done. LeadsOn old bytes new) ((kept : Kept) → LeadsOn old bytes kept → ⊥) result

@@ -8,7 +8,8 @@ use Rattle.tree_store.specs.declared.store.Store.{Store}
 use Rattle.tree_store.specs.Kept.{Kept}
 use Rattle.tree_store.specs.Holds.{Holds}
 
--- After these acts the store's file counts. All of it is synced, it holds what is kept, and the store knows its numbers.
+-- After these acts the store's file counts. All of it is synced, it holds what is kept, and the store knows its
+-- numbers.
 pub record Stands (key : ℕ) (history : List Act) (store : Store) (kept : Kept) : Type 0 where
   pub frames : List Frame
   pub content : Content

@@ -33,11 +33,13 @@ framed_of j bytes = framed j.key j.generation j.number (frame_of j bytes)
 -- A record was appended and then synced, or the disk has failed, now or before, or nothing was done.
 abbrev pub RecordGives : {D : Type 0} → Adding D → Journal → Bytes → Result (Unit {0}) StoreFault → Journal → D → D → Type 0
 RecordGives adds j bytes (Ok done) j' old new =
-    Twice adds (Appended j.slot (framed_of j bytes)) (Synced j.slot) old new × IsFit j.key j.generation j.number (frame_of j bytes)
+    Twice adds (Appended j.slot (framed_of j bytes)) (Synced j.slot) old new
+    × IsFit j.key j.generation j.number (frame_of j bytes)
     × (j' ≡ record j { number = j.number + 1; safe = j.number + 1; has_failed = false })
 RecordGives adds j bytes (Err Failed) j' old new =
     ((j.has_failed ≡ true) × (new ≡ old))
-    ⊎ ((adds old (Tore j.slot (framed_of j bytes)) new ⊎ Twice adds (Appended j.slot (framed_of j bytes)) (Unsynced j.slot) old new)
+    ⊎ ((adds old (Tore j.slot (framed_of j bytes)) new
+    ⊎ Twice adds (Appended j.slot (framed_of j bytes)) (Unsynced j.slot) old new)
     × IsFit j.key j.generation j.number (frame_of j bytes))
 RecordGives adds j bytes (Err Version) j' old new = ⊥
 RecordGives adds j bytes (Err Damaged) j' old new = ⊥
@@ -63,12 +65,14 @@ IfDone so acts (Err Version) = ⊥
 IfDone so acts (Err Damaged) = ⊥
 IfDone so acts (Err Memory) = Unit {0}
 
--- Of a checkpoint that is being written: more parts are appended, and a crash at any moment leaves what the old file has.
+-- Of a checkpoint that is being written: more parts are appended, and a crash at any moment leaves what the old file
+-- has.
 abbrev pub Appends : {D : Type 0} → Adding D → Checkpoint → List Bytes → Result (Unit {0}) StoreFault → Checkpoint → D → D → Type 0
 Appends adds c more result c' old new =
     (key generation : ℕ) (s : Slot) (content : Option Content) (parts : List Bytes) (history : List Act)
     → IsBegun key generation s content c parts history
-    → Does adds key history (λ o. o ≡ content) (λ acts. IfDone (λ done. IsBegun key generation s content c' (parts ++ more) acts) acts result) old new
+    → Does adds key history (λ o. o ≡ content)
+    (λ acts. IfDone (λ done. IsBegun key generation s content c' (parts ++ more) acts) acts result) old new
 
 -- the bytes of an object and of a name, and that they are read again
 abbrev pub object_bytes : ℕ × Object → Bytes
@@ -98,21 +102,23 @@ pub record Counts (key generation : ℕ) (s : Slot) (content : Option Content) (
   pub base : IsBase key generation s content bytes
   pub leaves : Leaves key history (λ o. o ≡ content)
 
--- Over a file that counts: a crash at any moment leaves what it has, or what was to be kept; and at the end a store stands
--- for that.
+-- Over a file that counts: a crash at any moment leaves what it has, or what was to be kept; and at the end a store
+-- stands for that.
 abbrev pub Checkpoints : {D : Type 0} → Adding D → ℕ → Slot → ℕ → Kept → Result Store StoreFault → D → D → Type 0
 Checkpoints adds key s generation aim result old new =
     (content : Option Content) (history : List Act) → Counts key generation s content history
-    → Does adds key history (IsFoundOr content aim) (λ acts. IfDone (λ store. Stands key acts store aim) acts result) old new
+    → Does adds key history (IsFoundOr content aim)
+    (λ acts. IfDone (λ store. Stands key acts store aim) acts result) old new
 
 -- ---- a store that goes on
 
--- Of a store that stands for what is kept: a crash at any moment leaves that, or what was to be kept; and at the end the
--- store stands for the latter, or it has failed.
+-- Of a store that stands for what is kept: a crash at any moment leaves that, or what was to be kept; and at the end
+-- the store stands for the latter, or it has failed.
 abbrev pub GoesOn : {D : Type 0} → Adding D → Store → Kept → Kept → Result (Unit {0}) StoreFault → Store → D → D → Type 0
 GoesOn adds store kept aim result store' old new =
     (history : List Act) → Stands store.journal.key history store kept
-    → Does adds store.journal.key history (IsHeldOr kept aim) (λ acts. IfDone (λ done. Stands store.journal.key acts store' aim) acts result) old new
+    → Does adds store.journal.key history (IsHeldOr kept aim)
+    (λ acts. IfDone (λ done. Stands store.journal.key acts store' aim) acts result) old new
 
 -- nothing was noted, and the numbers are those that are kept, but for open files, of which fewer than 2 ^ 31 were given
 pub record IsIdle (store : Store) (bytes : Bytes) (next : NextNumbers) : Type 0 where

@@ -1,4 +1,4 @@
-//! A store of a tree: a checkpoint of it, and a record of each turn's changes after that, in the two files of a journal.
+//! A store of a tree: a checkpoint of it, and a record of each turn's changes after that, in two files.
 #![tactic(auto)]
 
 mod checkpoint;

@@ -54,8 +54,8 @@ fn opened<A: Allocator + Copy>(
     }
 }
 
-/// Syncs and reads both files, the first one first, and answers which of them counts and what it holds; `None` where the
-/// journal is new. The key is that of the digests: that of before, and one that no client knows.
+/// Syncs and reads both files, the first one first, and answers which of them counts and what it holds; `None` where
+/// the journal is new. The key is that of the digests: that of before, and one that no client knows.
 ///
 /// `Failed`: a file can't be read or synced. `Version`: a file has a version that isn't known. `Damaged`: what was kept
 /// doesn't stand any more, or it is no tree. `Memory`. Nothing is changed.

@@ -1,5 +1,5 @@
 //! The store of a server that runs.
-ghost use Rattle.std.specs.Prelude.{◌≡◌, Err, OnErr, true};
+ghost use Rattle.std.specs.Prelude.{◌≡◌, Err, OnErr, IsOk, true, false};
 ghost use Rattle.tree_changes.specs.Replays.{Replays};
 ghost use Rattle.node_tree.specs.World.{World};
 ghost use Rattle.tree_store.specs.Kept.{Kept, kept_with};
@@ -64,7 +64,8 @@ impl Store {
 
     /// Whether what is to be kept is kept, but for fewer than 2^31 numbers of open files.
     fn is_idle(&self, notes: &[u8], next: NextNumbers) -> bool
-        ensures { result ≡ true → IsIdle self.now notes.now next }
+        ensures idle { result ≡ true → IsIdle self.now notes.now next }
+        ensures busy { result ≡ false → IsIdle self.now notes.now next → ⊥ }
     {
         notes.is_empty()
             && self.next.client == next.client
@@ -140,8 +141,8 @@ impl Store {
     /// clients and sessions are those that are kept, and fewer than 2^31 numbers of open files were given since. The
     /// notes are cleared by the caller.
     ///
-    /// A crash meanwhile leaves what was kept before, or all of this. `Failed`: the disk has failed. `Memory`. After a fault
-    /// each call is `Failed`, and does nothing.
+    /// A crash meanwhile leaves what was kept before, or all of this. `Failed`: the disk has failed. `Memory`. After a
+    /// fault each call is `Failed`, and does nothing.
     pub fn keep<D: Disk, A: Allocator + Copy>(
         &mut self,
         disk: &mut D,
@@ -151,6 +152,7 @@ impl Store {
     ) -> Result<(), StoreFault>
         ensures keeps { Keeps D.adds self.old tree.now next result self.new disk.old disk.new }
         ensures failed { self.old.journal.has_failed ≡ true → (result ≡ Err Failed) × (disk.new ≡ disk.old) }
+        ensures idle { self.old.journal.has_failed ≡ false → tree.now.notes.is_lost ≡ false → IsIdle self.old tree.now.notes.bytes next → IsOk result × (disk.new ≡ disk.old) }
     {
         if self.journal.has_failed {
             return Err(StoreFault::Failed);

@@ -40,12 +40,14 @@ fn outcome(alloc: Global, parts: &[&[u8]], record: Option<&[u8]>) -> u32 {
 }
 
 /// The numbers 1, 1 and 1.
-const NUMBERS: [u8; 24] = [0, 0, 0, 0, 0, 0, 0, 1, 0, 0, 0, 0, 0, 0, 0, 1, 0, 0, 0, 0, 0, 0, 0, 1];
+const NUMBERS: [u8; 24] = [
+    0, 0, 0, 0, 0, 0, 0, 1, 0, 0, 0, 0, 0, 0, 0, 1, 0, 0, 0, 0, 0, 0, 0, 1,
+];
 
 /// The counters of a root alone: 2, 2, 2 and 3.
 const COUNTERS: [u8; 36] = [
-    0, 0, 0, 0, 0, 0, 0, 0, 0, 0, 0, 2, 0, 0, 0, 0, 0, 0, 0, 2, 0, 0, 0, 0, 0, 0, 0, 2, 0, 0, 0, 0, 0,
-    0, 0, 3,
+    0, 0, 0, 0, 0, 0, 0, 0, 0, 0, 0, 2, 0, 0, 0, 0, 0, 0, 0, 2, 0, 0, 0, 0, 0, 0, 0, 2, 0, 0, 0, 0,
+    0, 0, 0, 3,
 ];
 
 /// A root: the number 1, a directory without bytes, owner 0, group 0, an empty list, high bits 0, the change 1, two
@@ -58,30 +60,54 @@ const ROOT: [u8; 76] = [
 
 /// The counters with a next tick of 1, which the root has already.
 const EARLY: [u8; 36] = [
-    0, 0, 0, 0, 0, 0, 0, 0, 0, 0, 0, 2, 0, 0, 0, 0, 0, 0, 0, 1, 0, 0, 0, 0, 0, 0, 0, 2, 0, 0, 0, 0, 0,
-    0, 0, 3,
+    0, 0, 0, 0, 0, 0, 0, 0, 0, 0, 0, 2, 0, 0, 0, 0, 0, 0, 0, 1, 0, 0, 0, 0, 0, 0, 0, 2, 0, 0, 0, 0,
+    0, 0, 0, 3,
 ];
 
 #[test]
 fn files_that_hold_a_tree_or_none(rt: HostRuntime) {
     let alloc = rt.alloc();
     assert_eq!(rt; outcome(alloc, &[&NUMBERS, &COUNTERS, &ROOT], None), 0);
-    assert_eq!(rt; outcome(alloc, &[&NUMBERS, &COUNTERS, &ROOT], Some(&NUMBERS)), 0);
+    assert_eq!(rt;
+        outcome(alloc, &[&NUMBERS, &COUNTERS, &ROOT], Some(&NUMBERS)),
+        0
+    );
     // no parts, no tree, no root, no numbers, and numbers of other lengths
     assert_eq!(rt; outcome(alloc, &[], None), 1);
     assert_eq!(rt; outcome(alloc, &[&NUMBERS], None), 1);
     assert_eq!(rt; outcome(alloc, &[&NUMBERS, &COUNTERS], None), 1);
     assert_eq!(rt; outcome(alloc, &[&COUNTERS, &ROOT], None), 1);
-    assert_eq!(rt; outcome(alloc, &[&NUMBERS[..23], &COUNTERS, &ROOT], None), 1);
-    assert_eq!(rt; outcome(alloc, &[&COUNTERS[..28], &COUNTERS, &ROOT], None), 1);
+    assert_eq!(rt;
+        outcome(alloc, &[&NUMBERS[..23], &COUNTERS, &ROOT], None),
+        1
+    );
+    assert_eq!(rt;
+        outcome(alloc, &[&COUNTERS[..28], &COUNTERS, &ROOT], None),
+        1
+    );
     // a part that isn't whole, one that comes twice, and one that doesn't fit the counters
-    assert_eq!(rt; outcome(alloc, &[&NUMBERS, &COUNTERS, &ROOT[..72]], None), 1);
-    assert_eq!(rt; outcome(alloc, &[&NUMBERS, &COUNTERS, &COUNTERS, &ROOT], None), 1);
-    assert_eq!(rt; outcome(alloc, &[&NUMBERS, &COUNTERS, &ROOT, &ROOT], None), 1);
+    assert_eq!(rt;
+        outcome(alloc, &[&NUMBERS, &COUNTERS, &ROOT[..72]], None),
+        1
+    );
+    assert_eq!(rt;
+        outcome(alloc, &[&NUMBERS, &COUNTERS, &COUNTERS, &ROOT], None),
+        1
+    );
+    assert_eq!(rt;
+        outcome(alloc, &[&NUMBERS, &COUNTERS, &ROOT, &ROOT], None),
+        1
+    );
     assert_eq!(rt; outcome(alloc, &[&NUMBERS, &EARLY, &ROOT], None), 1);
     // a record without numbers, and one with changes that are none
-    assert_eq!(rt; outcome(alloc, &[&NUMBERS, &COUNTERS, &ROOT], Some(&NUMBERS[..20])), 1);
-    assert_eq!(rt; outcome(alloc, &[&NUMBERS, &COUNTERS, &ROOT], Some(&ROOT)), 1);
+    assert_eq!(rt;
+        outcome(alloc, &[&NUMBERS, &COUNTERS, &ROOT], Some(&NUMBERS[..20])),
+        1
+    );
+    assert_eq!(rt;
+        outcome(alloc, &[&NUMBERS, &COUNTERS, &ROOT], Some(&ROOT)),
+        1
+    );
 }
 
 /// Whether files of which a bit is turned are refused, or hold what was to be kept after some turn.

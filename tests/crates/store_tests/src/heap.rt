@@ -45,7 +45,7 @@ fn a_start_without_memory_leaves_what_was_found(rt: HostRuntime) -> Result<(), F
     let Ok((base, Some(found))) = open(&mut disk, alloc, KEY) else {
         panic!(rt; "nothing");
     };
-    let heap = LocalHeap::new(alloc, 4096)?;
+    let heap = LocalHeap::new(alloc, 65536)?;
     let Ok(tree) = node_tree::Tree::sample(&heap) else {
         panic!(rt; "no tree");
     };

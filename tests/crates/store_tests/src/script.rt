@@ -160,13 +160,17 @@ impl Turns {
     ) -> Result<bool, AllocError> {
         let bytes = picture(alloc, own, &found.tree, found.next)?;
         for turn in kept..all.saturating_add(1) {
-            let (Some(picture), Some(opens)) =
-                (self.pictures.get(turn as usize), self.opens.get(turn as usize))
-            else {
+            let (Some(picture), Some(opens)) = (
+                self.pictures.get(turn as usize),
+                self.opens.get(turn as usize),
+            ) else {
                 return Ok(false);
             };
             let lag = opens.saturating_sub(found.next.open_file);
-            if bytes.as_slice() == picture.as_slice() && found.next.open_file <= *opens && lag < 100 {
+            if bytes.as_slice() == picture.as_slice()
+                && found.next.open_file <= *opens
+                && lag < 100
+            {
                 return Ok(true);
             }
         }
@@ -241,7 +245,11 @@ fn turn(
 }
 
 /// A store that was begun, and its turns; the notes have room for 400 bytes.
-pub(crate) fn run(alloc: Global, disk: &mut Memory, turns: &mut Turns) -> Result<Store, StoreFault> {
+pub(crate) fn run(
+    alloc: Global,
+    disk: &mut Memory,
+    turns: &mut Turns,
+) -> Result<Store, StoreFault> {
     let (base, _) = open(disk, alloc, KEY)?;
     let mut tree = Tree::sample(alloc)?;
     tree.begin_notes(400)?;

@@ -10,7 +10,7 @@ returns-in_default-clause-keeps g c history kept s f =
 
 pub returns-then-is_idle-clause-keeps : goal.returns-then-is_idle-clause-keeps
 returns-then-is_idle-clause-keeps g c history kept s f =
-    idle g.D.Disk.adds c.args.self.now kept c.args.tree.now c.args.next c.in-Some.notes.now _ _ history s (follows kept c.args.tree.now c.in-Some.notes.now f c.in-Some.ensures.0 c.in-Some.ensures.1) (c.is_idle.ensures c.if-is_idle.true) refl
+    idle g.D.Disk.adds c.args.self.now kept c.args.tree.now c.args.next c.in-Some.notes.now _ _ history s (follows kept c.args.tree.now c.in-Some.notes.now f c.in-Some.ensures.0 c.in-Some.ensures.1) (c.is_idle.ensures.idle c.if-is_idle.true) refl
 
 pub returns-then-is_long-clause-keeps : goal.returns-then-is_long-clause-keeps
 returns-then-is_long-clause-keeps g c history kept s f =
