@@ -12,6 +12,8 @@ use std::alloc::Global;
 use std::io;
 use std::net::Net;
 use std::rt::{Clock as SystemTimes, Files};
+use store_files::StoreFolder;
+use tree_store::Store;
 
 /// The file of the trail, where the options name one. It is none of the store's.
 fn trail<'a, R: Files + Alloc + SystemTimes>(
@@ -33,17 +35,17 @@ fn trail<'a, R: Files + Alloc + SystemTimes>(
     }
 }
 
-/// What is served by the options: sockets that listen, the store, the file of the trail, and the file of the book.
+/// What is served by the options: sockets that listen, the files of the store, the file of the trail, and the file of the book.
 fn served<'a, R: Net + Files + Alloc + Eprint + SystemTimes>(
     rt: &'a R,
     alloc: Global,
     options: &Options<'a>,
     book: BookFile<'a, R>,
-    stored: Option<Stored>,
+    folder: Option<StoreFolder>,
 ) -> Result<Served<'a, R>, Fault> {
     let trail = trail(rt, options)?;
     match Sockets::listen(rt, alloc, options.port, options.privileged_ports) {
-        Ok(sockets) => Ok(Served::new(rt, sockets, stored, trail, book)),
+        Ok(sockets) => Ok(Served::new(rt, sockets, folder, trail, book)),
         Err(error) => Err(Fault::Socket(Some(error.kind()))),
     }
 }
@@ -72,9 +74,10 @@ fn serve_connections<R: Files + Alloc + Eprint + SystemTimes, C: Clock>(
     hub: &mut Hub,
     served: &mut Served<'_, R>,
     clock: &C,
+    store: Option<Store>,
     limits: Limits,
 ) -> Result<bool, Fault> {
-    match serve_all(alloc, hub, served, clock, limits) {
+    match serve_all(alloc, hub, served, clock, store, limits) {
         AllEnd::Served => Ok(served.are_whole()),
         AllEnd::Turns => Ok(ended(rt, ServeEnd::Turns)),
         AllEnd::Wait => Err(Fault::Socket(None)),
@@ -95,11 +98,15 @@ pub(crate) fn serve_options<R: Net + Files + Alloc + Print + Eprint + SystemTime
     book: BookFile<'_, R>,
     stored: Option<Stored>,
 ) -> io::Result<Result<bool, Fault>> {
-    let mut served = match served(rt, alloc, options, book, stored) {
+    let (folder, store) = match stored {
+        Some(Stored { folder, store }) => (Some(folder), Some(store)),
+        None => (None, None),
+    };
+    let mut served = match served(rt, alloc, options, book, folder) {
         Ok(served) => served,
         Err(fault) => return Ok(Err(fault)),
     };
     let port = options.port;
     println!(rt; "listening on 127.0.0.1:{port}")?;
-    Ok(serve_connections(rt, alloc, hub, &mut served, clock, limits(options)))
+    Ok(serve_connections(rt, alloc, hub, &mut served, clock, store, limits(options)))
 }

@@ -1,6 +1,5 @@
 //! What outlives a restart: the store of a folder, and the hub over what was found there.
 use crate::{Fault, hub_fault};
-use compound_run::Server;
 use nfs_hub::Hub;
 use session_slots::RestoreFault;
 use std::alloc::Global;
@@ -8,18 +7,15 @@ use std::fs::File;
 use std::hash::RandomState;
 use std::random::RandomSource;
 use std::rt::Files;
-use store_files::{Damage, StoreFolder, StoreStop};
+use store_files::{StoreFolder, StoreStop};
 use tree_store::{Base, Found, NOTES_ROOM, Store, StoreFault, after_start, open};
 use who_book::Book;
 
-/// A store that is written.
+/// A store that is written, and its folder.
 #[derive(Drop)]
 pub(crate) struct Stored {
-    alloc: Global,
-    folder: StoreFolder,
-    store: Store,
-    /// Why nothing more is kept.
-    fault: Option<StoreFault>,
+    pub(crate) folder: StoreFolder,
+    pub(crate) store: Store,
 }
 
 /// Why a store isn't gone on with, by what it says.
@@ -72,12 +68,7 @@ fn begin(
     if hub.begin_notes(NOTES_ROOM).is_err() {
         return Err(Fault::Store(StoreStop::Memory));
     }
-    Ok(Stored {
-        alloc,
-        folder,
-        store,
-        fault: None,
-    })
+    Ok(Stored { folder, store })
 }
 
 /// Opens the store of a folder, and makes the hub over what it has. A store that is refused is left as it was.
@@ -100,29 +91,4 @@ pub(crate) fn open_store<R: Files<File = File> + RandomSource + Alloc>(
     let mut hub = hub_over(alloc, &mut folder, found, book, hasher)?;
     let stored = begin(alloc, folder, base, &mut hub)?;
     Ok((hub, stored))
-}
-
-impl Stored {
-    /// Keeps what has come since the last call. `false`: it can't be kept.
-    pub(crate) fn keep(&mut self, server: &Server) -> bool {
-        let next = server.next_numbers();
-        match self
-            .store
-            .keep(&mut self.folder, self.alloc, server.tree(), next)
-        {
-            Ok(()) => true,
-            Err(fault) => {
-                self.fault = Some(fault);
-                false
-            }
-        }
-    }
-
-    /// Why nothing more is kept.
-    pub(crate) fn stop(&mut self) -> StoreStop {
-        match self.fault {
-            Some(fault) => stop_of(self.alloc, &mut self.folder, fault),
-            None => StoreStop::failed(&mut self.folder),
-        }
-    }
 }

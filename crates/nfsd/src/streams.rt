@@ -1,22 +1,25 @@
-//! The streams that are served: sockets, the store, the file of the trail, and the file of the book.
+//! The streams that are served: sockets, the files of the store, the file of the trail, and the file of the book.
+ghost use Rattle.std.specs.Prelude.{MatchResult};
+ghost use Rattle.journal.specs.Disk.{Found, Unfound, appended, emptied, synced};
+
 use crate::book_file::BookFile;
 use crate::sockets::Sockets;
-use crate::stored::Stored;
 use crate::trail_file::TrailFile;
 use compound_run::Server;
+use journal::{Disk, LoadFault, Slot};
 use nfs_hub::ConnId;
 use nfs_streams::{Knock, Moved, StreamEnd, Streams, Wait};
-use std::alloc::Global;
+use std::alloc::{Allocator, Global};
 use std::rt::{Clock, Files};
-use store_files::StoreStop;
+use store_files::{StoreFolder, StoreStop};
 use who_book::Book;
 
-/// Sockets, the store, if there is one, the file in which the trail is kept, if it is kept, and the file of the book.
+/// Sockets, the folder of the store, if there is one, the file in which the trail is kept, if it is kept, and the file of the book.
 #[derive(Drop)]
 pub(crate) struct Served<'a, R: Files> {
     rt: &'a R,
     sockets: Sockets,
-    stored: Option<Stored>,
+    folder: Option<StoreFolder>,
     trail: Option<TrailFile<'a, R>>,
     book: BookFile<'a, R>,
     /// Each connection so far ended after a whole record.
@@ -28,14 +31,14 @@ impl<'a, R: Files + Eprint> Served<'a, R> {
     pub(crate) fn new(
         rt: &'a R,
         sockets: Sockets,
-        stored: Option<Stored>,
+        folder: Option<StoreFolder>,
         trail: Option<TrailFile<'a, R>>,
         book: BookFile<'a, R>,
     ) -> Self {
         Served {
             rt,
             sockets,
-            stored,
+            folder,
             trail,
             book,
             are_whole: true,
@@ -47,10 +50,13 @@ impl<'a, R: Files + Eprint> Served<'a, R> {
         self.are_whole
     }
 
-    /// Why nothing more is stored.
+    /// Why nothing more is stored: the disk has failed; or, where it hasn't, there is no memory.
     pub(crate) fn store_stop(&mut self) -> StoreStop {
-        match &mut self.stored {
-            Some(stored) => stored.stop(),
+        match &mut self.folder {
+            Some(folder) => match folder.take_failure() {
+                Some(failure) => StoreStop::Failed(Some(failure)),
+                None => StoreStop::Memory,
+            },
             None => StoreStop::Failed(None),
         }
     }
@@ -67,7 +73,40 @@ impl<'a, R: Files + Eprint> Served<'a, R> {
     }
 }
 
+/// The files of the store. Where there is none, each call fails.
+impl<R: Files> Disk for Served<'_, R> {
+    fn load<A: Allocator>(&mut self, alloc: A, slot: Slot) -> Result<Vec<u8, A>, LoadFault> {
+        match &mut self.folder {
+            Some(folder) => folder.load(alloc, slot),
+            None => Err(LoadFault::Failed),
+        }
+    }
+
+    fn append(&mut self, slot: Slot, bytes: &[u8]) -> bool {
+        match &mut self.folder {
+            Some(folder) => folder.append(slot, bytes),
+            None => false,
+        }
+    }
+
+    fn sync(&mut self, slot: Slot) -> bool {
+        match &mut self.folder {
+            Some(folder) => folder.sync(slot),
+            None => false,
+        }
+    }
+
+    fn empty(&mut self, slot: Slot) -> bool {
+        match &mut self.folder {
+            Some(folder) => folder.empty(slot),
+            None => false,
+        }
+    }
+}
+
 impl<R: Files + Alloc + Eprint + Clock> Streams<Global> for Served<'_, R> {
+    ghost disk_acts = { λ old new act it. tt };
+
     fn wait(&mut self, how: Wait) -> bool {
         self.sockets.wait(how)
     }
@@ -100,13 +139,6 @@ impl<R: Files + Alloc + Eprint + Clock> Streams<Global> for Served<'_, R> {
     fn keep(&mut self, server: &Server) -> bool {
         match &mut self.trail {
             Some(trail) => trail.keep(server.guard()),
-            None => true,
-        }
-    }
-
-    fn store(&mut self, server: &Server) -> bool {
-        match &mut self.stored {
-            Some(stored) => stored.keep(server),
             None => true,
         }
     }
