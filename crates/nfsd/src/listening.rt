@@ -35,7 +35,7 @@ fn trail<'a, R: Files + Alloc + SystemTimes>(
     }
 }
 
-/// What is served by the options: sockets that listen, the store, the file of the trail, and the file of the book.
+/// What is served by the options: sockets that listen, the files of the store, the file of the trail, and the file of the book.
 fn served<'a, R: Net + Files + Alloc + Eprint + SystemTimes>(
     rt: &'a R,
     alloc: Global,

@@ -11,7 +11,7 @@ use store_files::{StoreFolder, StoreStop};
 use tree_store::{Base, Found, NOTES_ROOM, Store, StoreFault, after_start, open};
 use who_book::Book;
 
-/// A store that was begun, and the folder that it is in.
+/// A store that is written, and its folder.
 #[derive(Drop)]
 pub(crate) struct Stored {
     pub(crate) folder: StoreFolder,

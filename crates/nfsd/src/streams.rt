@@ -1,4 +1,7 @@
-//! The streams that are served: sockets, the store, the file of the trail, and the file of the book.
+//! The streams that are served: sockets, the files of the store, the file of the trail, and the file of the book.
+ghost use Rattle.std.specs.Prelude.{MatchResult};
+ghost use Rattle.journal.specs.Disk.{Found, Unfound, appended, emptied, synced};
+
 use crate::book_file::BookFile;
 use crate::sockets::Sockets;
 use crate::trail_file::TrailFile;
@@ -47,10 +50,13 @@ impl<'a, R: Files + Eprint> Served<'a, R> {
         self.are_whole
     }
 
-    /// Why nothing more is stored.
+    /// Why nothing more is stored: the disk has failed; or, where it hasn't, there is no memory.
     pub(crate) fn store_stop(&mut self) -> StoreStop {
         match &mut self.folder {
-            Some(folder) => StoreStop::kept_no_more(folder),
+            Some(folder) => match folder.take_failure() {
+                Some(failure) => StoreStop::Failed(Some(failure)),
+                None => StoreStop::Memory,
+            },
             None => StoreStop::Failed(None),
         }
     }
@@ -67,7 +73,7 @@ impl<'a, R: Files + Eprint> Served<'a, R> {
     }
 }
 
-/// The disk of the store is its folder. Where there is none, nothing is asked of it.
+/// The files of the store. Where there is none, each call fails.
 impl<R: Files> Disk for Served<'_, R> {
     fn load<A: Allocator>(&mut self, alloc: A, slot: Slot) -> Result<Vec<u8, A>, LoadFault> {
         match &mut self.folder {
@@ -99,6 +105,8 @@ impl<R: Files> Disk for Served<'_, R> {
 }
 
 impl<R: Files + Alloc + Eprint + Clock> Streams<Global> for Served<'_, R> {
+    ghost disk_acts = { λ old new act it. tt };
+
     fn wait(&mut self, how: Wait) -> bool {
         self.sockets.wait(how)
     }
@@ -134,6 +142,4 @@ impl<R: Files + Alloc + Eprint + Clock> Streams<Global> for Served<'_, R> {
             None => true,
         }
     }
-
-    ghost disk_acts = { λ old new act it. tt };
 }

@@ -39,14 +39,6 @@ impl StoreStop {
         StoreStop::Failed(folder.take_failure())
     }
 
-    /// Nothing more is kept: a call of the disk has failed, or there is no memory.
-    pub fn kept_no_more(folder: &mut StoreFolder) -> Self {
-        match folder.take_failure() {
-            Some(failure) => StoreStop::Failed(Some(failure)),
-            None => StoreStop::Memory,
-        }
-    }
-
     /// The files of the journal have a version that isn't known.
     pub fn version<A: Allocator + Copy>(alloc: A, folder: &mut StoreFolder) -> Self {
         match load(folder, alloc) {
