@@ -12,10 +12,8 @@ use Rattle.journal.specs.Keeping.{end_frame}
 use Rattle.journal.proofs.Steps.{on_itself, framed_append, append_law, sync_law}
 use Rattle.journal.proofs.Replacing.{finish_law}
 use Rattle.tree_store.specs.Leaving.{written_since}
+use Rattle.tree_store.specs.Writing.{part_frames}
 use Rattle.tree_store.proofs.Records.{off_other, bytes_on_itself, front_of_none}
-
-abbrev part_frames : List Bytes → List Frame
-part_frames parts = map (frame_with PART 0) parts
 
 -- ---- what the frames have
 
