@@ -1,8 +1,9 @@
 //! Listening on 127.0.0.1, and serving by the options.
 use crate::book_file::BookFile;
 use crate::sockets::Sockets;
+use crate::stored::Stored;
 use crate::streams::Served;
-use crate::trail_file::TrailFile;
+use crate::trail_file::{TrailFile, is_of_store};
 use crate::{Fault, TURNS, ended};
 use nfs_hub::{Clock, Hub, HubFault, MAX_CONNECTIONS, ServeEnd};
 use nfs_streams::{AllEnd, Limits, serve_all};
@@ -11,8 +12,10 @@ use std::alloc::Global;
 use std::io;
 use std::net::Net;
 use std::rt::{Clock as SystemTimes, Files};
+use store_files::StoreFolder;
+use tree_store::Store;
 
-/// The file of the trail, where the options name one.
+/// The file of the trail, where the options name one. It is none of the store's.
 fn trail<'a, R: Files + Alloc + SystemTimes>(
     rt: &'a R,
     options: &Options<'a>,
@@ -20,22 +23,29 @@ fn trail<'a, R: Files + Alloc + SystemTimes>(
     let Some(path) = options.trail else {
         return Ok(None);
     };
+    if options
+        .store
+        .is_some_and(|folder| is_of_store(rt, path, folder))
+    {
+        return Err(Fault::Trail);
+    }
     match TrailFile::start(rt, path, options.book, options.stamped) {
         Some(trail) => Ok(Some(trail)),
         None => Err(Fault::Trail),
     }
 }
 
-/// What is served by the options: sockets that listen, the file of the trail, and the file of the book.
+/// What is served by the options: sockets that listen, the store, the file of the trail, and the file of the book.
 fn served<'a, R: Net + Files + Alloc + Eprint + SystemTimes>(
     rt: &'a R,
     alloc: Global,
     options: &Options<'a>,
     book: BookFile<'a, R>,
+    folder: Option<StoreFolder>,
 ) -> Result<Served<'a, R>, Fault> {
     let trail = trail(rt, options)?;
     match Sockets::listen(rt, alloc, options.port, options.privileged_ports) {
-        Ok(sockets) => Ok(Served::new(rt, sockets, trail, book)),
+        Ok(sockets) => Ok(Served::new(rt, sockets, folder, trail, book)),
         Err(error) => Err(Fault::Socket(Some(error.kind()))),
     }
 }
@@ -53,6 +63,7 @@ fn limits(options: &Options<'_>) -> Limits {
         reads: TURNS,
         turns: u64::MAX,
         makes_room: options.concurrent,
+        leases: false,
     }
 }
 
@@ -63,13 +74,15 @@ fn serve_connections<R: Files + Alloc + Eprint + SystemTimes, C: Clock>(
     hub: &mut Hub,
     served: &mut Served<'_, R>,
     clock: &C,
+    store: Option<Store>,
     limits: Limits,
 ) -> Result<bool, Fault> {
-    match serve_all(alloc, hub, served, clock, limits) {
+    match serve_all(alloc, hub, served, clock, store, limits) {
         AllEnd::Served => Ok(served.are_whole()),
         AllEnd::Turns => Ok(ended(rt, ServeEnd::Turns)),
         AllEnd::Wait => Err(Fault::Socket(None)),
         AllEnd::Keep => Err(Fault::Trail),
+        AllEnd::Store => Err(Fault::Store(served.store_stop())),
         AllEnd::Memory => Err(Fault::Hub(HubFault::Memory as u8)),
     }
 }
@@ -83,12 +96,17 @@ pub(crate) fn serve_options<R: Net + Files + Alloc + Print + Eprint + SystemTime
     clock: &C,
     options: &Options<'_>,
     book: BookFile<'_, R>,
+    stored: Option<Stored>,
 ) -> io::Result<Result<bool, Fault>> {
-    let mut served = match served(rt, alloc, options, book) {
+    let (folder, store) = match stored {
+        Some(Stored { folder, store }) => (Some(folder), Some(store)),
+        None => (None, None),
+    };
+    let mut served = match served(rt, alloc, options, book, folder) {
         Ok(served) => served,
         Err(fault) => return Ok(Err(fault)),
     };
     let port = options.port;
     println!(rt; "listening on 127.0.0.1:{port}")?;
-    Ok(serve_connections(rt, alloc, hub, &mut served, clock, limits(options)))
+    Ok(serve_connections(rt, alloc, hub, &mut served, clock, store, limits(options)))
 }

@@ -7,11 +7,11 @@
 
 mod book_file;
 mod book_rule;
-mod bounded;
 mod clock;
 mod listening;
 mod slips;
 mod sockets;
+mod stored;
 mod streams;
 mod trail_file;
 mod words;
@@ -29,8 +29,11 @@ use std::hash::RandomState;
 use std::io::ErrorKind;
 use std::os::fd::AsRawFd;
 use std::process::ExitCode;
+use std::random::RandomSource;
 use std::rt::{Clock, Files};
 use std::{env, fmt, io};
+use store_files::StoreStop;
+use stored::{Stored, open_store};
 use who_book::BookFault;
 
 /// The most turns of a connection: each reads some bytes of it.
@@ -48,6 +51,8 @@ enum Fault {
     Members,
     /// The hub can't be made, by a fault of this number.
     Hub(u8),
+    /// The store isn't gone on with.
+    Store(StoreStop),
     /// The trail's file is that of the book, can't be opened, or can't be written.
     Trail,
     /// The socket can't be listened on, for this reason; or it gives no connection, or waiting for the streams failed.
@@ -61,25 +66,41 @@ impl Display for Fault {
             Fault::Book(fault) => write!(f, "book {}", *fault as u8),
             Fault::Members => write!(f, "book {}", BookFault::Shape as u8),
             Fault::Hub(number) => write!(f, "hub {number}"),
+            Fault::Store(stop) => write!(f, "store {}", stop.number()),
             Fault::Trail => f.write_str("trail"),
             Fault::Socket(_) => f.write_str("socket"),
         }
     }
 }
 
-/// The hub by the options: of the sample tree without sessions, or of a root alone, with the owner and the group of the book.
-fn hub<R: Files + Alloc + Eprint + Clock>(
+/// There is no memory to begin with.
+fn hub_fault() -> Fault {
+    Fault::Hub(HubFault::Memory as u8)
+}
+
+/// The hub by the options: of the sample tree without sessions; of what the store has, which is then written; or of a root alone, with the
+/// owner and the group of the book.
+fn hub<R: Files<File = File> + RandomSource + Alloc + Eprint + Clock>(
+    rt: &R,
     alloc: Global,
     options: &Options<'_>,
     book: &mut BookFile<'_, R>,
     hasher: RandomState,
-) -> Result<Hub, Fault> {
+) -> Result<(Hub, Option<Stored>), Fault> {
     let made = if options.bare {
         Hub::bare(alloc, alloc, hasher)
     } else {
-        Hub::new(alloc, book.read()?, hasher)
+        let book = book.read()?;
+        if let Some(path) = options.store {
+            let (hub, stored) = open_store(rt, alloc, path, book, hasher)?;
+            return Ok((hub, Some(stored)));
+        }
+        Hub::new(alloc, book, hasher)
     };
-    made.map_err(|_| Fault::Hub(HubFault::Memory as u8))
+    match made {
+        Ok(hub) => Ok((hub, None)),
+        Err(_) => Err(hub_fault()),
+    }
 }
 
 /// Says on standard error how a connection ended that didn't end after a whole record. Whether it ended after one. What can't be
@@ -107,15 +128,15 @@ fn serve_hub(
     options: &Options<'_>,
 ) -> Result<Result<bool, Fault>> {
     let mut book = BookFile::new(rt, alloc, options.book);
-    let mut hub = match hub(alloc, options, &mut book, RandomState::new(rt)?) {
-        Ok(hub) => hub,
+    let (mut hub, stored) = match hub(rt, alloc, options, &mut book, RandomState::new(rt)?) {
+        Ok(made) => made,
         Err(fault) => return Ok(Err(fault)),
     };
     if options.bare {
         return Ok(Ok(serve_bare(rt, &mut hub)));
     }
     let clock = SystemClock::new(rt);
-    Ok(serve_options(rt, alloc, &mut hub, &clock, options, book)?)
+    Ok(serve_options(rt, alloc, &mut hub, &clock, options, book, stored)?)
 }
 
 /// The status of the program, by what came of serving. A fault is said on standard error.

@@ -1,19 +1,22 @@
-//! The streams that are served: sockets, the file of the trail, and the file of the book.
+//! The streams that are served: sockets, the store, the file of the trail, and the file of the book.
 use crate::book_file::BookFile;
 use crate::sockets::Sockets;
 use crate::trail_file::TrailFile;
 use compound_run::Server;
+use journal::{Disk, LoadFault, Slot};
 use nfs_hub::ConnId;
 use nfs_streams::{Knock, Moved, StreamEnd, Streams, Wait};
-use std::alloc::Global;
+use std::alloc::{Allocator, Global};
 use std::rt::{Clock, Files};
+use store_files::{StoreFolder, StoreStop};
 use who_book::Book;
 
-/// Sockets, the file in which the trail is kept, if it is kept, and the file of the book.
+/// Sockets, the folder of the store, if there is one, the file in which the trail is kept, if it is kept, and the file of the book.
 #[derive(Drop)]
 pub(crate) struct Served<'a, R: Files> {
     rt: &'a R,
     sockets: Sockets,
+    folder: Option<StoreFolder>,
     trail: Option<TrailFile<'a, R>>,
     book: BookFile<'a, R>,
     /// Each connection so far ended after a whole record.
@@ -25,12 +28,14 @@ impl<'a, R: Files + Eprint> Served<'a, R> {
     pub(crate) fn new(
         rt: &'a R,
         sockets: Sockets,
+        folder: Option<StoreFolder>,
         trail: Option<TrailFile<'a, R>>,
         book: BookFile<'a, R>,
     ) -> Self {
         Served {
             rt,
             sockets,
+            folder,
             trail,
             book,
             are_whole: true,
@@ -42,6 +47,14 @@ impl<'a, R: Files + Eprint> Served<'a, R> {
         self.are_whole
     }
 
+    /// Why nothing more is stored.
+    pub(crate) fn store_stop(&mut self) -> StoreStop {
+        match &mut self.folder {
+            Some(folder) => StoreStop::kept_no_more(folder),
+            None => StoreStop::Failed(None),
+        }
+    }
+
     /// Says on standard error how a connection ended that didn't end after a whole record. What can't be said isn't said. Of those that were
     /// open when serving ended the end of serving is said.
     fn note(&mut self, end: StreamEnd) {
@@ -51,6 +64,37 @@ impl<'a, R: Files + Eprint> Served<'a, R> {
         self.are_whole = false;
         let rt = self.rt;
         let _ = eprintln!(rt; "nfsd: end {}", end as u8);
+    }
+}
+
+/// The disk of the store is its folder. Where there is none, nothing is asked of it.
+impl<R: Files> Disk for Served<'_, R> {
+    fn load<A: Allocator>(&mut self, alloc: A, slot: Slot) -> Result<Vec<u8, A>, LoadFault> {
+        match &mut self.folder {
+            Some(folder) => folder.load(alloc, slot),
+            None => Err(LoadFault::Failed),
+        }
+    }
+
+    fn append(&mut self, slot: Slot, bytes: &[u8]) -> bool {
+        match &mut self.folder {
+            Some(folder) => folder.append(slot, bytes),
+            None => false,
+        }
+    }
+
+    fn sync(&mut self, slot: Slot) -> bool {
+        match &mut self.folder {
+            Some(folder) => folder.sync(slot),
+            None => false,
+        }
+    }
+
+    fn empty(&mut self, slot: Slot) -> bool {
+        match &mut self.folder {
+            Some(folder) => folder.empty(slot),
+            None => false,
+        }
     }
 }
 
@@ -90,4 +134,6 @@ impl<R: Files + Alloc + Eprint + Clock> Streams<Global> for Served<'_, R> {
             None => true,
         }
     }
+
+    ghost disk_acts = { λ old new act it. tt };
 }

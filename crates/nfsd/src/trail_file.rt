@@ -1,7 +1,6 @@
 //! The file in which the trail is kept.
 use crate::book_file::id_of;
 use crate::book_rule::FileId;
-use crate::bounded::{Bounded, file_limit};
 use crate::clock::second;
 use access_guard::Guard;
 use std::fs::{OpenFile, OpenOptions};
@@ -9,6 +8,7 @@ use std::io::{Read, Seek, SeekFrom};
 use std::os::unix::fs::MetadataExt;
 use std::rt::{Clock, Files};
 use std::{fs, io};
+use store_files::{Bounded, Part, file_limit};
 use trail_keeper::{TrailKeeper, moment_text};
 
 /// The file that a name leads to, opened to append to, and which file it is.
@@ -64,6 +64,17 @@ pub(crate) fn leads_to<R: Files>(rt: &R, path: &str, other: &str) -> bool {
         Ok(told) => is_at(rt, path, &id_of(&told)),
         Err(_) => false,
     }
+}
+
+/// Whether a name leads to a file of the store in a folder.
+pub(crate) fn is_of_store<R: Files + Alloc>(rt: &R, path: &str, folder: &str) -> bool {
+    for part in [Part::Key, Part::A, Part::B] {
+        match format!(in rt.alloc(); "{folder}{part}") {
+            Ok(name) if !leads_to(rt, path, name.as_str()) => {}
+            _ => return true,
+        }
+    }
+    false
 }
 
 /// Opens a file to append to. It is made where there is none.

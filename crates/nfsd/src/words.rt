@@ -1,6 +1,6 @@
 //! The second line of a fault: what it is about, what is wrong, and what would do.
 use crate::Fault;
-use crate::trail_file::leads_to;
+use crate::trail_file::{is_of_store, leads_to};
 use book_words::explain;
 use nfsd_options::Options;
 use std::alloc::Global;
@@ -43,15 +43,18 @@ pub(crate) fn say_no_book<R: Files + Alloc + Eprint>(
                 "{path}: members: the key is missing, which the book before has; members = {{}} says nobody"
             );
         }
-        Fault::Hub(_) | Fault::Trail | Fault::Socket(_) => {}
+        Fault::Hub(_) | Fault::Store(_) | Fault::Trail | Fault::Socket(_) => {}
     }
 }
 
 /// Says why the trail isn't kept in the file of a name.
-fn say_trail<R: Files + Eprint>(rt: &R, path: &str, book: Option<&str>) {
-    let _ = match book {
-        Some(book) if leads_to(rt, book, path) => {
+fn say_trail<R: Files + Alloc + Eprint>(rt: &R, path: &str, options: &Options<'_>) {
+    let _ = match (options.book, options.store) {
+        (Some(book), _) if leads_to(rt, book, path) => {
             eprintln!(rt; "{path}: it is the file of the book")
+        }
+        (_, Some(folder)) if is_of_store(rt, path, folder) => {
+            eprintln!(rt; "{path}: it is a file of the store")
         }
         _ => eprintln!(rt; "{path}: it can't be opened, or can't be written"),
     };
@@ -85,9 +88,14 @@ pub(crate) fn say<R: Files + Alloc + Eprint>(
         Fault::Hub(_) => {
             let _ = eprintln!(rt; "there is no memory to begin with");
         }
+        Fault::Store(stop) => {
+            if let Some(path) = options.store {
+                let _ = eprintln!(rt; "{path}{stop}");
+            }
+        }
         Fault::Trail => {
             if let Some(path) = options.trail {
-                say_trail(rt, path, options.book);
+                say_trail(rt, path, options);
             }
         }
         Fault::Socket(kind) => say_socket(rt, options.port, *kind),

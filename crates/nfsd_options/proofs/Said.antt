@@ -47,12 +47,14 @@ module _ (old : Command) (m : ArgMatches) (parsed : IsParsedFrom old m) (is : ap
       (taken.0, number_read _ G bits low high t o (reads (without_minus t) taken.1) only fits taken.0))
 
   -- the mistake of the words, by the values of the getters
-  pub mistake_said : {X : Type 0} (bare stamped ports : Bool) (f : X → Text) (o : Option X) → bare ≡ is_set (given (codes "bare") words)
+  pub mistake_said : {X : Type 0} (bare stamped ports : Bool) (f : X → Text) (o : Option X) (s : Option X) → bare ≡ is_set (given (codes "bare") words)
       → option_map f o ≡ first_value (found_of m) (codes "trail") → stamped ≡ is_set (given (codes "stamped") words)
-      → ports ≡ is_set (given (codes "privileged-ports") words) → mistake_in words ≡ mistake bare (is_some o) stamped ports
-  mistake_said {X = X} bare stamped ports f o is_bare file is_stamped is_privileged =
+      → ports ≡ is_set (given (codes "privileged-ports") words) → option_map f s ≡ first_value (found_of m) (codes "store")
+      → mistake_in words ≡ mistake bare (is_some o) stamped ports (is_some s)
+  mistake_said {X = X} bare stamped ports f o s is_bare file is_stamped is_privileged folder =
       let trail : is_some o ≡ is_some (given (codes "trail") words) = sym (some o) ∙ ap is_some (file ∙ text_said (codes "trail")) in
-      rw is_bare (rw trail (rw is_stamped (rw is_privileged refl)))
+      let store : is_some s ≡ is_some (given (codes "store") words) = sym (some s) ∙ ap is_some (folder ∙ text_said (codes "store")) in
+      rw is_bare (rw trail (rw is_stamped (rw is_privileged (rw store refl))))
     where
       some : (o : Option X) → is_some (option_map f o) ≡ is_some o
       some None = refl

@@ -37,12 +37,13 @@ pub record OptionsOf (words : List Text) (o : Options) : Type 0 where
   pub trail : option_map (λ file. file.now) o.trail ≡ given (codes "trail") words
   pub stamped : o.stamped ≡ is_set (given (codes "stamped") words)
   pub privileged_ports : o.privileged_ports ≡ is_set (given (codes "privileged-ports") words)
+  pub store : option_map (λ folder. folder.now) o.store ≡ given (codes "store") words
 
--- Options that can't be given together, by whether each of them is given: the sample tree has no file of the trail and no ports; and
--- the lines of a trail that goes to no file have no moments.
-abbrev pub mistake : Bool → Bool → Bool → Bool → Option ErrorKind
-mistake bare trail stamped privileged_ports =
-    if bare && (trail || privileged_ports) then Some ArgumentConflict
+-- Options that can't be given together, by whether each of them is given: the sample tree has no file of the trail, no ports and no
+-- store; and the lines of a trail that goes to no file have no moments.
+abbrev pub mistake : Bool → Bool → Bool → Bool → Bool → Option ErrorKind
+mistake bare trail stamped privileged_ports store =
+    if bare && (trail || (privileged_ports || store)) then Some ArgumentConflict
     else if stamped && not trail then Some MissingRequiredArgument
     else None
 
@@ -50,7 +51,7 @@ mistake bare trail stamped privileged_ports =
 abbrev pub mistake_in : List Text → Option ErrorKind
 mistake_in words =
     mistake (is_set (given (codes "bare") words)) (is_some (given (codes "trail") words)) (is_set (given (codes "stamped") words))
-    (is_set (given (codes "privileged-ports") words))
+    (is_set (given (codes "privileged-ports") words)) (is_some (given (codes "store") words))
 
 -- the kinds of the errors that the words may have: those of `clap`'s reading, and else the kind of their mistake
 abbrev pub kinds_of : List Text → Kinds

@@ -1,7 +1,7 @@
 //! The command of `nfsd`, with its help.
 ghost use Rattle.std.specs.Prelude.{◌≡◌, IfOk, false};
 ghost use Rattle.clap.specs.Words.{app_of, rule_of};
-ghost use Rattle.nfsd_options.specs.Simple.{bare_rule, book_rule, concurrent_rule, connections_rule, file_rule, flag_rule, nfsd, port_rule, privileged_rule, stamped_rule, trail_rule};
+ghost use Rattle.nfsd_options.specs.Simple.{bare_rule, book_rule, concurrent_rule, connections_rule, file_rule, flag_rule, nfsd, port_rule, privileged_rule, stamped_rule, store_rule, trail_rule};
 
 use clap::{Arg, ArgAction, Command, value_parser};
 use std::alloc::{AllocError, Global};
@@ -11,7 +11,8 @@ const ABOUT: &str = "\
 Serves files over NFS version 4.1, and means what their access control lists say.
 
 It listens on 127.0.0.1, prints 'listening on 127.0.0.1:PORT', serves its connections, one after the other unless told else, and ends.
-The files are kept in memory: an empty root at first, which belongs to whom the book says.";
+The files are kept in memory: an empty root at first, which belongs to whom the book says. With '--store FOLDER' they are kept in that folder
+too, and outlive the server: nothing that was answered is lost, whatever ends it.";
 
 /// The form of a book, with an example.
 const BOOK: &str = "\
@@ -35,7 +36,7 @@ hasn't changed for two seconds. Where it can't be read or isn't a book, or has n
 standard error says so, and the book before stays.
 
 Nobody overrides a list, root neither: an object whose list grants nobody to change it (WRITE_ACL) is locked, for its owner too, as long
-as the server runs. Sticky, setuid and setgid bits are kept and shown, and have no effect. A change of the mode cuts the entries of named
+as the server runs, and with '--store' for good. Sticky, setuid and setgid bits are kept and shown, and have no effect. A change of the mode cuts the entries of named
 users and groups: those that allow keep no right to read, write or execute that the group's bits lack.
 
 For example, two connections on port 12049:
@@ -44,7 +45,11 @@ For example, two connections on port 12049:
 
 and any number, up to 16 at the same time, until it is stopped:
 
-    nfsd --concurrent --trail trail.txt";
+    nfsd --concurrent --trail trail.txt
+
+and the same with files that are there again after a restart:
+
+    nfsd --concurrent --trail trail.txt --store tree";
 
 /// The command of `nfsd`, as `clap` reads it.
 pub(crate) fn command<'a>(alloc: Global) -> Result<Command<'a>, AllocError>
@@ -60,7 +65,8 @@ pub(crate) fn command<'a>(alloc: Global) -> Result<Command<'a>, AllocError>
         .arg(concurrent(alloc))?
         .arg(trail(alloc))?
         .arg(stamped(alloc))?
-        .arg(privileged_ports(alloc))?;
+        .arg(privileged_ports(alloc))?
+        .arg(store(alloc))?;
     Ok(command)
 }
 
@@ -160,4 +166,15 @@ fn privileged_ports<'a>(alloc: Global) -> Arg<'a>
         "privileged-ports",
         "Closes each connection from a port of 1024 or above, before anything is read of it; not with --bare",
     )
+}
+
+fn store<'a>(alloc: Global) -> Arg<'a>
+    ensures { (rule_of result ≡ store_rule) × (result.global ≡ false) }
+{
+    Arg::new(alloc, "store")
+        .long("store")
+        .value_name("FOLDER")
+        .help(
+            "Keeps the files in this folder, which is made where it isn't there, before the replies go out; not with --bare",
+        )
 }

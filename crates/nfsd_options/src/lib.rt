@@ -1,4 +1,4 @@
-//! The words of `nfsd`: `nfsd [--book FILE] [--bare] [--port N] [--connections N] [--concurrent] [--trail FILE] [--stamped] [--privileged-ports]`.
+//! The words of `nfsd`: `nfsd [--book FILE] [--bare] [--port N] [--connections N] [--concurrent] [--trail FILE] [--stamped] [--privileged-ports] [--store FOLDER]`.
 #![tactic(auto)]
 
 mod command;

@@ -16,6 +16,8 @@ pub(crate) enum Mistake {
     TrailOfBare,
     /// `--privileged-ports` with `--bare`.
     PortsOfBare,
+    /// `--store` with `--bare`.
+    StoreOfBare,
     /// `--stamped` without `--trail`.
     NothingToStamp,
 }
@@ -27,13 +29,16 @@ impl Mistake {
         trail: Option<&str>,
         stamped: bool,
         privileged_ports: bool,
+        store: Option<&str>,
     ) -> Option<Mistake>
-        ensures { option_map kind_at result ≡ mistake bare (is_some trail.entry) stamped privileged_ports }
+        ensures { option_map kind_at result ≡ mistake bare (is_some trail.entry) stamped privileged_ports (is_some store.entry) }
     {
         if bare && trail.is_some() {
             Some(Mistake::TrailOfBare)
         } else if bare && privileged_ports {
             Some(Mistake::PortsOfBare)
+        } else if bare && store.is_some() {
+            Some(Mistake::StoreOfBare)
         } else if stamped && trail.is_none() {
             Some(Mistake::NothingToStamp)
         } else {
@@ -45,7 +50,9 @@ impl Mistake {
         ensures { result ≡ kind_at self }
     {
         match self {
-            Mistake::TrailOfBare | Mistake::PortsOfBare => ErrorKind::ArgumentConflict,
+            Mistake::TrailOfBare | Mistake::PortsOfBare | Mistake::StoreOfBare => {
+                ErrorKind::ArgumentConflict
+            }
             Mistake::NothingToStamp => ErrorKind::MissingRequiredArgument,
         }
     }
@@ -58,6 +65,9 @@ impl Mistake {
             }
             Mistake::PortsOfBare => {
                 "the argument '--privileged-ports' cannot be used with '--bare', which listens on no port"
+            }
+            Mistake::StoreOfBare => {
+                "the argument '--store <FOLDER>' cannot be used with '--bare', whose tree is kept nowhere"
             }
             Mistake::NothingToStamp => {
                 "the argument '--stamped' is for the lines of a file, and '--trail <FILE>' names none"

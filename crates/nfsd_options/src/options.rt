@@ -37,6 +37,8 @@ pub struct Options<'a> {
     pub stamped: bool,
     /// Whether connections are served only from ports below 1024.
     pub privileged_ports: bool,
+    /// The folder of the store, in which all is kept that outlives a restart.
+    pub store: Option<&'a str>,
 }
 
 /// How many connections are served where the words have no number.
@@ -53,8 +55,8 @@ fn connections_of(concurrent: bool) -> u32
 impl<'a> Options<'a> {
     /// Reads the words, of which the first is the program's name, as in `env::args`.
     ///
-    /// An error is `clap`'s own: a mistake in the words, a call for help, options that can't be given together (`--bare` with `--trail`
-    /// or `--privileged-ports`, `--stamped` without `--trail`), or want of memory. Its `Display` is the text for the user.
+    /// An error is `clap`'s own: a mistake in the words, a call for help, options that can't be given together (`--bare` with `--trail`,
+    /// `--privileged-ports` or `--store`, `--stamped` without `--trail`), or want of memory. Its `Display` is the text for the user.
     pub fn read<S: AsStr>(alloc: Global, words: &'a [S]) -> Result<Options<'a>, Error>
         ensures said { IfOk result (OptionsOf (map S.text words.entry.now)) }
         ensures refused { FailsBy (kinds_of (map S.text words.entry.now)) result }
@@ -66,7 +68,8 @@ impl<'a> Options<'a> {
         let trail = matches.get_str("trail");
         let stamped = matches.get_flag("stamped");
         let privileged_ports = matches.get_flag("privileged-ports");
-        if let Some(mistake) = Mistake::of(bare, trail, stamped, privileged_ports) {
+        let store = matches.get_str("store");
+        if let Some(mistake) = Mistake::of(bare, trail, stamped, privileged_ports, store) {
             return Err(mistake.error(alloc)?);
         }
         Ok(Options {
@@ -78,6 +81,7 @@ impl<'a> Options<'a> {
             trail,
             stamped,
             privileged_ports,
+            store,
         })
     }
 }

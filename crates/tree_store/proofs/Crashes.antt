@@ -1,9 +1,9 @@
 -- What a crash leaves of two files: as they were found, while records are appended, and while a checkpoint is written.
-use Rattle.std.proofs.Common.{◌≡◌, ◌⊎◌, inl, inr, ⊎_elim, ℕ, ◌≤◌, ◌<◌, ◌+◌, Bool, List, [], ◌∷◌, ◌++◌, length, Option, Some, None, refl, sym, ◌∙◌, ap, subst, arith}
+use Rattle.std.proofs.Common.{◌≡◌, ◌⊎◌, inl, inr, ⊎_elim, ℕ, ◌+◌, Bool, List, [], ◌∷◌, ◌++◌, length, Option, Some, None, refl, sym, ◌∙◌, ap, subst, arith}
 use Rattle.std.proofs.lemmas.List.{append-nil}
 use Rattle.journal.specs.declared.disk.Slot.{Slot}
 use Rattle.journal.specs.declared.disk.Slot.TheVariants.{A, B}
-use Rattle.journal.specs.Disk.{Act, Found, Disk, other, settled, on_disk, MayLeave}
+use Rattle.journal.specs.Disk.{Act, Found, other, settled, on_disk, MayLeave}
 use Rattle.journal.specs.Frames.{Bytes, Frame, all_framed, frame_at, Holds}
 use Rattle.journal.specs.Files.{File, Has, Content, contents, bodies, rank}
 use Rattle.journal.specs.Opening.{Chooses, Refuses, IsWrong, slot_of, in_slot}

@@ -1,9 +1,7 @@
 -- Acts that are done one after the other, and what a crash leaves meanwhile.
-use Rattle.std.proofs.Common.{◌≡◌, ◌⊎◌, inl, inr, ⊎_elim, ℕ, List, [], ◌∷◌, ◌++◌, Option, refl, sym, subst, append_assoc}
-use Rattle.journal.specs.declared.disk.Slot.{Slot}
+use Rattle.std.proofs.Common.{◌≡◌, inl, inr, ⊎_elim, ℕ, List, [], ◌∷◌, ◌++◌, Option, refl, sym, subst, append_assoc}
 use Rattle.journal.specs.Disk.{Act}
 use Rattle.journal.specs.Files.{Content}
-use Rattle.journal.specs.Opening.{Chooses, Refuses}
 use Rattle.journal.specs.Keeping.{Adding}
 use Rattle.tree_store.specs.Leaving.{Chain, Fluked, Leaves, AlwaysLeaves, Does}
 

@@ -1,5 +1,5 @@
 -- A checkpoint and records that are read piece by piece.
-use Rattle.std.proofs.Common.{◌≡◌, ℕ, ◌+◌, ◌<◌, ◌≤◌, true, false, List, [], ◌∷◌, length, map, drop, get_or, refl, sym, ◌∙◌, ap, subst, arith, Err, add-one, drop-cons, length-drop, Ok, Some, None}
+use Rattle.std.proofs.Common.{◌≡◌, ℕ, ◌+◌, ◌<◌, ◌≤◌, true, false, List, [], ◌∷◌, length, map, drop, get_or, refl, sym, ◌∙◌, ap, subst, arith, Err, add-one, drop-cons, length-drop, Some, None}
 use Rattle.std.proofs.lemmas.List.{nil_from_length}
 use Rattle.std.specs.Prelude.{Option}
 use Rattle.xdr_wire.specs.Xdr.{Value}
@@ -10,7 +10,6 @@ use Rattle.tree_changes.specs.Noting.{bare}
 use Rattle.tree_changes.specs.Parts.{part}
 use Rattle.tree_changes.specs.Taken.{Takes, TakesAll}
 use Rattle.journal.specs.Frames.{Bytes}
-use Rattle.journal.specs.Files.{Content}
 use Rattle.tree_store.specs.Kept.{Kept}
 use Rattle.tree_store.specs.Holds.{ReadsParts, Restores, Begins, LeadsOn, LeadsThrough, Holds}
 use Rattle.tree_store.specs.declared.fault.StoreFault.{StoreFault}

@@ -1,5 +1,5 @@
 -- What a record that is appended and synced makes of a store.
-use Rattle.std.proofs.Common.{◌≡◌, ◌⊎◌, inl, inr, ℕ, ◌≤◌, ◌+◌, true, false, List, [], ◌∷◌, ◌++◌, length, refl, sym, ◌∙◌, ap, subst, arith, length-append, Ok, Err, Some, None}
+use Rattle.std.proofs.Common.{◌≡◌, inl, inr, ℕ, ◌≤◌, ◌+◌, true, false, List, [], ◌∷◌, ◌++◌, length, refl, sym, ◌∙◌, ap, subst, arith, length-append, Ok, Err, Some}
 use Rattle.std.specs.Prelude.{Option, Result}
 use Rattle.std.proofs.lemmas.List.{append-nil}
 use Rattle.xdr_wire.specs.Xdr.{HasSpelling, spelling}
@@ -7,14 +7,13 @@ use Rattle.xdr_wire.specs.Reading.{read_at}
 use Rattle.xdr_wire.proofs.Spelling.{again, spelled}
 use Rattle.node_tree.specs.World.{World}
 use Rattle.tree_changes.specs.Replays.{Replays}
-use Rattle.journal.specs.declared.disk.Slot.{Slot}
 use Rattle.journal.specs.declared.journal.Journal.{Journal}
 use Rattle.journal.specs.Disk.{Act, Appended, Tore, Synced, Unsynced, on_disk}
-use Rattle.journal.specs.Frames.{Bytes, Frame, framed, IsFit}
+use Rattle.journal.specs.Frames.{Bytes, Frame, IsFit}
 use Rattle.journal.specs.Files.{Content, bodies}
 use Rattle.journal.specs.Crash.{IsFront}
 use Rattle.journal.specs.Living.{IsLive}
-use Rattle.journal.specs.Keeping.{Adding, Twice}
+use Rattle.journal.specs.Keeping.{Adding}
 use Rattle.session_slots.specs.declared.restoring.NextNumbers.{NextNumbers}
 use Rattle.tree_store.specs.declared.fault.StoreFault.{StoreFault}
 use Rattle.tree_store.specs.declared.fault.StoreFault.TheVariants.{Failed, Version, Damaged, Memory}

@@ -1,12 +1,12 @@
 -- What bytes are read as is one thing.
-use Rattle.std.proofs.Common.{◌≡◌, ℕ, true, false, List, [], ◌∷◌, refl, sym, ◌∙◌, ap, subst, Ok, Err, inl, inr, Some, None}
+use Rattle.std.proofs.Common.{◌≡◌, ℕ, List, [], ◌∷◌, refl, sym, ◌∙◌, ap, subst, Ok, Err, inl, inr, Some, None}
 use Rattle.std.specs.Prelude.{Option, Result}
 use Rattle.xdr_wire.specs.Xdr.{Value}
 use Rattle.xdr_wire.specs.Reading.{read_at}
 use Rattle.xdr_wire.specs.declared.fault.XdrFault.{XdrFault}
 use Rattle.nfs_types.specs.MomentView.{moment_value}
 use Rattle.node_tree.specs.World.{World, Object, Name}
-use Rattle.node_tree.specs.Restored.{Begun, with_object, with_name, is_whole}
+use Rattle.node_tree.specs.Restored.{Begun, with_object, with_name}
 use Rattle.node_tree.specs.Forms as forms
 use Rattle.node_tree.specs.Forms.{change, step_value}
 use Rattle.node_tree.specs.Steps.{Step}
@@ -19,10 +19,9 @@ use Rattle.tree_changes.specs.Replays.{ReadsAs, Replays}
 use Rattle.tree_changes.proofs.Telling.{step_one, kind_in, kind_again, list_in, list_again, same_moment}
 use Rattle.tree_changes.proofs.Writing.{same_object}
 use Rattle.journal.specs.Frames.{Bytes}
-use Rattle.journal.specs.Files.{Content}
 use Rattle.tree_store.specs.Kept.{Kept}
 use Rattle.tree_store.specs.Forms.{numbers, numbers_value}
-use Rattle.tree_store.specs.Holds.{ReadsNumbers, ReadsParts, Restores, Begins, LeadsOn, LeadsThrough, Holds, HoldsOneLaw}
+use Rattle.tree_store.specs.Holds.{ReadsParts, Restores, Begins, LeadsOn, LeadsThrough, HoldsOneLaw}
 
 abbrev value_in : {V : Type 0} → V → Result (V × List ℕ) XdrFault → V
 value_in d (Ok p) = p.0

@@ -1,11 +1,9 @@
 -- What the frames of a checkpoint that is written make of two files.
-use Rattle.std.proofs.Common.{◌≡◌, ℕ, ◌≤◌, ◌+◌, Bool, true, false, List, [], ◌∷◌, ◌++◌, length, map, Option, Some, None, refl, sym, ◌∙◌, ap, subst, arith, length-append}
-use Rattle.std.specs.Bool.{if◌then◌else◌}
-use Rattle.std.specs.Prelude.{◌==◌}
+use Rattle.std.proofs.Common.{◌≡◌, ℕ, ◌+◌, true, false, List, [], ◌∷◌, ◌++◌, length, map, Option, Some, None, refl, sym, ◌∙◌, ap, subst, arith}
 use Rattle.std.proofs.lemmas.List.{append-nil}
 use Rattle.journal.specs.declared.disk.Slot.{Slot}
 use Rattle.journal.specs.Disk.{Act, Appended, Tore, Synced, Unsynced, Emptied, Unemptied, Disk, other, settled, on_disk, after_sync, after_emptying, with_bytes, with_torn}
-use Rattle.journal.specs.Frames.{Bytes, Frame, PART, END, framed, frame_with, IsFit, all_framed}
+use Rattle.journal.specs.Frames.{Bytes, Frame, PART, framed, frame_with, IsFit, all_framed}
 use Rattle.journal.specs.Files.{Content, contents, with_part, bodies}
 use Rattle.journal.specs.Crash.{IsFront, IsWritten}
 use Rattle.journal.specs.Living.{IsLive}
@@ -13,7 +11,7 @@ use Rattle.journal.specs.Replacing.{IsBase, IsReplaced}
 use Rattle.journal.specs.Keeping.{end_frame}
 use Rattle.journal.proofs.Steps.{on_itself, framed_append, append_law, sync_law}
 use Rattle.journal.proofs.Replacing.{finish_law}
-use Rattle.tree_store.specs.Leaving.{written_since, if_same_bytes}
+use Rattle.tree_store.specs.Leaving.{written_since}
 use Rattle.tree_store.proofs.Records.{off_other, bytes_on_itself, front_of_none}
 
 abbrev part_frames : List Bytes → List Frame

@@ -1,5 +1,5 @@
 -- Parts that are appended one after the other.
-use Rattle.std.proofs.Common.{◌≡◌, ◌⊎◌, inl, inr, ℕ, ◌≤◌, ◌<◌, ◌+◌, ◌^◌, Bool, true, false, cond, List, [], ◌∷◌, ◌++◌, length, map, refl, sym, ◌∙◌, ap, subst, arith, append_assoc, Ok, Err, Some, None}
+use Rattle.std.proofs.Common.{◌≡◌, inl, inr, ℕ, ◌≤◌, ◌<◌, ◌+◌, ◌^◌, true, false, cond, List, [], ◌∷◌, ◌++◌, map, refl, sym, ◌∙◌, ap, subst, arith, append_assoc, Ok, Err, Some, None}
 use Rattle.std.specs.Prelude.{Option, Result, IsSome, IfSome, OnOk, slice_get, find, nat_lt}
 use Rattle.std.specs.List.{AllByRecursion}
 use Rattle.std.specs.Option.{option_map}
@@ -16,11 +16,9 @@ use Rattle.xdr_wire.proofs.Spelling.{again, spelled}
 use Rattle.node_tree.specs.World.{World, Object, Name, object}
 use Rattle.node_tree.specs.Sound.{IsSound, IsIn, Rises}
 use Rattle.node_tree.specs.Parts.{number_after, any_after}
-use Rattle.node_tree.specs.Restored.{Begun}
 use Rattle.node_tree.proofs.Reading.{read_in_order}
 use Rattle.node_tree.proofs.Objects.{is_at-same, is_at-apart}
 use Rattle.session_slots.specs.declared.restoring.NextNumbers.{NextNumbers}
-use Rattle.tree_changes.specs.Noting.{bare}
 use Rattle.tree_changes.specs.Parts.{part, parts, counters_value, object_value, name_value}
 use Rattle.tree_changes.specs.Again.{IsTakenAgain}
 use Rattle.journal.specs.declared.disk.Slot.{Slot}
@@ -31,9 +29,9 @@ use Rattle.journal.specs.Files.{Content}
 use Rattle.journal.specs.Keeping.{Adding}
 use Rattle.tree_store.specs.declared.fault.StoreFault.{StoreFault}
 use Rattle.tree_store.specs.declared.fault.StoreFault.TheVariants.{Failed, Version, Damaged, Memory}
-use Rattle.tree_store.specs.Kept.{Kept, kept_with}
+use Rattle.tree_store.specs.Kept.{kept_with}
 use Rattle.tree_store.specs.Forms.{numbers, numbers_value}
-use Rattle.tree_store.specs.Holds.{ReadsParts, Begins, Holds}
+use Rattle.tree_store.specs.Holds.{ReadsParts, Holds}
 use Rattle.tree_store.specs.Leaving.{Does}
 use Rattle.tree_store.specs.Reading.{content_of}
 use Rattle.tree_store.specs.Writing.{IsBegun, IfDone, Appends, all_parts, object_bytes, name_bytes, HasObjectSpelling, HasNameSpelling, HaveSpelling}

@@ -1,29 +1,27 @@
 -- What the parts of a checkpoint make of two files, of which one counts.
-use Rattle.std.proofs.Common.{◌≡◌, ◌⊎◌, inl, inr, ℕ, ◌≤◌, ◌+◌, Bool, true, false, List, [], ◌∷◌, ◌++◌, length, refl, sym, ◌∙◌, ap, subst, arith, length-append, append_assoc, Ok, Err, Some, None}
+use Rattle.std.proofs.Common.{◌≡◌, inl, inr, ℕ, ◌+◌, Bool, true, false, List, [], ◌∷◌, ◌++◌, length, refl, sym, ◌∙◌, ap, subst, arith, length-append, Ok, Err, Some, None}
 use Rattle.std.specs.Prelude.{Option, Result}
-use Rattle.std.proofs.lemmas.List.{append-nil}
 use Rattle.journal.specs.declared.disk.Slot.{Slot}
 use Rattle.journal.specs.declared.journal.Checkpoint.{Checkpoint}
 use Rattle.journal.specs.declared.journal.Journal.{Journal}
 use Rattle.journal.specs.declared.journal.JournalFault.{JournalFault}
 use Rattle.journal.specs.declared.journal.JournalFault.TheVariants as faults
-use Rattle.journal.specs.Disk.{Act, Appended, Tore, Synced, Unsynced, Emptied, Unemptied, Found, other, settled, on_disk, after_sync, after_emptying}
-use Rattle.journal.specs.declared.disk.Slot.TheVariants.{A, B}
+use Rattle.journal.specs.Disk.{Act, Appended, Tore, Synced, Unsynced, Emptied, Unemptied, other, on_disk, after_sync, after_emptying}
 use Rattle.journal.specs.Frames.{Bytes, Frame, PART, framed, frame_with, IsFit, all_framed}
 use Rattle.journal.specs.Files.{Content, contents, bodies}
 use Rattle.journal.specs.Opening.{Chooses}
 use Rattle.journal.specs.Crash.{IsFront}
 use Rattle.journal.specs.Living.{IsLive}
-use Rattle.journal.specs.Replacing.{IsBase, IsReplaced}
-use Rattle.journal.specs.Keeping.{Adding, Twice, FrameGives, BeginGives, FinishGives, end_frame}
+use Rattle.journal.specs.Replacing.{IsReplaced}
+use Rattle.journal.specs.Keeping.{Adding, FrameGives, BeginGives, FinishGives, end_frame}
 use Rattle.journal.proofs.Replacing.{start_law, renew_law}
 use Rattle.tree_store.specs.declared.fault.StoreFault.{StoreFault}
 use Rattle.tree_store.specs.declared.fault.StoreFault.TheVariants.{Failed, Version, Damaged, Memory}
 use Rattle.tree_store.specs.declared.store.Store.{Store}
 use Rattle.tree_store.specs.Said.{said}
 use Rattle.tree_store.specs.Kept.{Kept}
-use Rattle.tree_store.specs.Holds.{Holds, IsHeld, IsFoundOr}
-use Rattle.tree_store.specs.Leaving.{Leaves, Does, HasFailed, written_since}
+use Rattle.tree_store.specs.Holds.{Holds, IsFoundOr}
+use Rattle.tree_store.specs.Leaving.{Leaves, Does, HasFailed}
 use Rattle.tree_store.specs.Standing.{Stands}
 use Rattle.tree_store.specs.Keeping.{both_found}
 use Rattle.tree_store.specs.Reading.{content_of}

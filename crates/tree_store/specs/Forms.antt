@@ -1,5 +1,5 @@
 -- The XDR form of the next numbers (RFC 4506): those of clients, of sessions and of open files.
-use Rattle.std.specs.Prelude.{ℕ, List, [], ◌∷◌}
+use Rattle.std.specs.Prelude.{[], ◌∷◌}
 use Rattle.session_slots.specs.declared.restoring.NextNumbers.{NextNumbers}
 use Rattle.xdr_wire.specs.Xdr.{Xdr, Value, hyper, fields}
 

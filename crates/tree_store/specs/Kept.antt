@@ -1,5 +1,5 @@
 -- What outlives a restart: the world, but for the notes of its changes, and the next numbers.
-use Rattle.std.specs.Prelude.{ℕ, ◌≡◌, ◌+◌, ◌^◌, ◌<◌, ◌≤◌, min}
+use Rattle.std.specs.Prelude.{◌≡◌, ◌+◌, ◌^◌, ◌<◌, ◌≤◌, min}
 use Rattle.node_tree.specs.World.{World}
 use Rattle.session_slots.specs.declared.restoring.NextNumbers.{NextNumbers}
 use Rattle.tree_changes.specs.Noting.{bare, Noted}

@@ -1,5 +1,5 @@
 -- What is found in two files after a crash at any moment.
-use Rattle.std.specs.Prelude.{ℕ, ◌≡◌, ◌⊎◌, ◌<◌, ◌≤◌, ◌+◌, Bool, List, [], ◌∷◌, ◌++◌, length, Option, Some}
+use Rattle.std.specs.Prelude.{ℕ, ◌≡◌, ◌⊎◌, ◌<◌, ◌≤◌, ◌+◌, Bool, List, [], ◌∷◌, ◌++◌, length, Option}
 use Rattle.journal.specs.declared.disk.Slot.{Slot}
 use Rattle.journal.specs.declared.disk.Slot.TheVariants.{A, B}
 use Rattle.journal.specs.Disk.{Act, Found, Unfound, Appended, Tore, Synced, Unsynced, Emptied, Unemptied, on_disk, MayLeave, IsGoing}

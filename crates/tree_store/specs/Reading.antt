@@ -1,5 +1,5 @@
 -- What the steps of reading a checkpoint and records answer.
-use Rattle.std.specs.Prelude.{ℕ, ◌≡◌, List, [], Option, Some, None, Result, Ok, Err}
+use Rattle.std.specs.Prelude.{◌≡◌, List, [], Option, Some, None, Result, Ok, Err}
 use Rattle.xdr_wire.specs.Xdr.{Value}
 use Rattle.xdr_wire.specs.Reading.{read_at}
 use Rattle.node_tree.specs.World.{World}

@@ -1,12 +1,12 @@
 -- What the steps of writing a record and a checkpoint do.
-use Rattle.std.specs.Prelude.{ℕ, ◌≡◌, ◌⊎◌, ◌+◌, ◌^◌, ◌<◌, ◌≤◌, Bool, true, false, List, [], ◌∷◌, ◌++◌, length, map, Option, Some, Result, Ok, Err}
+use Rattle.std.specs.Prelude.{ℕ, ◌≡◌, ◌⊎◌, ◌+◌, ◌^◌, ◌<◌, ◌≤◌, true, false, List, [], ◌∷◌, ◌++◌, length, map, Option, Result, Ok, Err}
 use Rattle.std.specs.List.{AllByRecursion}
 use Rattle.xdr_wire.specs.Xdr.{HasSpelling, spelling}
 use Rattle.journal.specs.declared.disk.Slot.{Slot}
 use Rattle.journal.specs.declared.journal.Checkpoint.{Checkpoint}
 use Rattle.journal.specs.declared.journal.Journal.{Journal}
 use Rattle.journal.specs.Disk.{Act, Appended, Tore, Synced, Unsynced, other, settled, on_disk}
-use Rattle.journal.specs.Frames.{Bytes, Frame, PART, RECORD, MAX_BODY, framed, all_framed, frame_with, IsFit}
+use Rattle.journal.specs.Frames.{Bytes, Frame, PART, RECORD, framed, all_framed, frame_with, IsFit}
 use Rattle.journal.specs.Files.{Content}
 use Rattle.journal.specs.Replacing.{IsBase, IsReplaced}
 use Rattle.journal.specs.Keeping.{Adding, Twice}

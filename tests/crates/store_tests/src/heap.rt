@@ -16,8 +16,8 @@ fn what_is_found_is_right_or_memory_is_refused(rt: HostRuntime) -> Result<(), Fa
     assert!(rt; run(alloc, &mut disk, &mut turns).is_ok());
     let mut refused = 0u32;
     let mut read = 0u32;
-    for size in 0..160usize {
-        let heap = LocalHeap::new(alloc, 64 + size * 128)?;
+    for size in 0..60usize {
+        let heap = LocalHeap::new(alloc, 64 + size * 512)?;
         disk.good = 2;
         match open(&mut disk, &heap, KEY) {
             Ok((_, Some(found))) => {

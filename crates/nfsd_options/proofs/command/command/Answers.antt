@@ -14,4 +14,5 @@ returns c =
     let fifth = c.in_ok-arg-5.ensures.shape c.concurrent.ensures.1 ∙ ap₂ with_rule fourth c.concurrent.ensures.0 in
     let sixth = c.in_ok-arg-6.ensures.shape c.trail.ensures.1 ∙ ap₂ with_rule fifth c.trail.ensures.0 in
     let seventh = c.in_ok-arg-7.ensures.shape c.stamped.ensures.1 ∙ ap₂ with_rule sixth c.stamped.ensures.0 in
-    c.in_ok-command.ensures.shape c.privileged_ports.ensures.1 ∙ ap₂ with_rule seventh c.privileged_ports.ensures.0
+    let eighth = c.in_ok-arg-8.ensures.shape c.privileged_ports.ensures.1 ∙ ap₂ with_rule seventh c.privileged_ports.ensures.0 in
+    c.in_ok-command.ensures.shape c.store.ensures.1 ∙ ap₂ with_rule eighth c.store.ensures.0

@@ -1,4 +1,4 @@
-use Rattle.std.proofs.Common.{◌≡◌, Bor, List, ℕ, map, refl}
+use Rattle.std.proofs.Common.{Bor, List, ℕ, map, refl}
 use Rattle.tree_store.specs.Reading.{found_kept}
 use Rattle.tree_store.proofs.Gathering.{reading_begun, reading_more, reading_done, content_fault, at_place, at_last}
 use Rattle.tree_store.proofs.reading.read_content.Goals as goal

@@ -1,5 +1,4 @@
 use Rattle.std.proofs.Common.{map, drop}
-use Rattle.tree_store.specs.Holds.{Begins}
 use Rattle.tree_store.specs.Reading.{found_kept}
 use Rattle.tree_store.proofs.Gathering.{IsReadingOn}
 use Rattle.tree_store.proofs.reading.read_content.Given as goal

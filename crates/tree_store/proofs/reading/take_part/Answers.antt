@@ -1,4 +1,4 @@
-use Rattle.std.proofs.Common.{◌≡◌, ◌∙◌, true, [], refl, sym, ap, subst, Ok}
+use Rattle.std.proofs.Common.{◌≡◌, ◌∙◌, [], refl, sym, ap, subst, Ok}
 use Rattle.std.specs.Prelude.{IsTrue}
 use Rattle.xdr_wire.specs.Reading.{read_at}
 use Rattle.tree_changes.specs.Parts.{part, said_part}

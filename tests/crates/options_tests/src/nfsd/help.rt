@@ -25,7 +25,7 @@ fn between<'a>(text: &'a str, front: &str, back: &str) -> Option<&'a str> {
 }
 
 /// Texts of help: the files that are served, the address, the options with their ranges and defaults, and an example.
-static TEXTS: [&str; 26] = [
+static TEXTS: [&str; 30] = [
     "NFS version 4.1",
     "access control lists",
     "127.0.0.1",
@@ -52,6 +52,10 @@ static TEXTS: [&str; 26] = [
     "Sticky, setuid and setgid bits are kept and shown, and have no effect.",
     "nfsd --book names.toml --port 12049 --connections 2\n",
     "nfsd --concurrent --trail trail.txt\n",
+    "--store <FOLDER>",
+    "made where it isn't there, before the replies go out; not with --bare",
+    "nothing that was answered is lost, whatever ends it.",
+    "nfsd --concurrent --trail trail.txt --store tree\n",
 ];
 
 fn texts() -> &'static [&'static str] {
@@ -89,6 +93,16 @@ For more information, try '--help'.
 fn conflict_is_told(rt: HostRuntime) -> Result<(), Fail> {
     let text = told(rt.alloc(), ["nfsd", "--bare", "--trail", "t"].as_slice())?;
     assert_eq!(rt; text.as_str(), CONFLICT);
+    Ok(())
+}
+
+/// So is a sample tree with a store.
+#[test]
+fn conflict_of_a_store_is_told(rt: HostRuntime) -> Result<(), Fail> {
+    let text = told(rt.alloc(), ["nfsd", "--bare", "--store", "s"].as_slice())?;
+    let wanted =
+        "error: the argument '--store <FOLDER>' cannot be used with '--bare', whose tree is kept nowhere\n";
+    assert!(rt; text.starts_with(wanted), "{text}");
     Ok(())
 }
 

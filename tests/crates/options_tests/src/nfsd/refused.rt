@@ -13,7 +13,7 @@ fn refusal(alloc: Global, line: &str) -> Result<Option<ErrorKind>, AllocError> {
     }
 }
 
-static ROWS: [(&str, ErrorKind); 40] = [
+static ROWS: [(&str, ErrorKind); 44] = [
     ("nfsd --port 0", ErrorKind::ValueValidation),
     ("nfsd --port 65536", ErrorKind::ValueValidation),
     ("nfsd --port=-1", ErrorKind::ValueValidation),
@@ -76,6 +76,13 @@ static ROWS: [(&str, ErrorKind); 40] = [
     ),
     ("nfsd --privileged-ports=true", ErrorKind::TooManyValues),
     ("nfsd --stamped --port 0", ErrorKind::ValueValidation),
+    ("nfsd --store", ErrorKind::InvalidValue),
+    ("nfsd --store a --store b", ErrorKind::ArgumentConflict),
+    ("nfsd --store s --bare", ErrorKind::ArgumentConflict),
+    (
+        "nfsd --bare --stamped --store s",
+        ErrorKind::ArgumentConflict,
+    ),
     ("nfsd --help", ErrorKind::DisplayHelp),
     ("nfsd -h", ErrorKind::DisplayHelp),
 ];

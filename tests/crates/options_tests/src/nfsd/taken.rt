@@ -76,6 +76,7 @@ fn lines_are_taken(rt: HostRuntime) -> Result<(), Fail> {
             trail: None,
             stamped: false,
             privileged_ports: false,
+            store: None,
         };
         let said = says(rt.alloc(), line, &want)?;
         assert!(rt; said, "{line}");
@@ -122,6 +123,7 @@ fn lines_of_later_options_are_taken(rt: HostRuntime) -> Result<(), Fail> {
             trail,
             stamped: false,
             privileged_ports: false,
+            store: None,
         };
         let said = says(rt.alloc(), line, &want)?;
         assert!(rt; said, "{line}");
@@ -168,6 +170,44 @@ fn flags_are_taken(rt: HostRuntime) -> Result<(), Fail> {
     Ok(())
 }
 
+/// A line, and the store's folder and the trail's file of its words.
+type StoreRow = (&'static str, Option<&'static str>, Option<&'static str>);
+
+static STORE_ROWS: [StoreRow; 4] = [
+    ("nfsd --store tree", Some("tree"), None),
+    ("nfsd --store=--bare", Some("--bare"), None),
+    ("nfsd --trail t --store s --stamped", Some("s"), Some("t")),
+    ("nfsd --trail=--store", None, Some("--store")),
+];
+
+fn store_rows() -> &'static [StoreRow] {
+    &STORE_ROWS
+}
+
+/// Whether the words of a line, split at spaces, name this folder and this file.
+fn names(
+    alloc: Global,
+    line: &str,
+    store: Option<&str>,
+    trail: Option<&str>,
+) -> Result<bool, AllocError> {
+    let words: Vec<&str> = line.split(' ').collect(alloc)?;
+    match Options::read(alloc, words.as_slice()) {
+        Ok(options) => Ok(options.store == store && options.trail == trail),
+        Err(_) => Ok(false),
+    }
+}
+
+#[test]
+fn stores_are_taken(rt: HostRuntime) -> Result<(), Fail> {
+    for row in store_rows() {
+        let (line, store, trail) = *row;
+        let said = names(rt.alloc(), line, store, trail)?;
+        assert!(rt; said, "{line}");
+    }
+    Ok(())
+}
+
 /// Where there is no word at all, not even a name, the defaults hold.
 #[test]
 fn no_word_is_needed(rt: HostRuntime) {
@@ -179,6 +219,7 @@ fn no_word_is_needed(rt: HostRuntime) {
             && options.connections == 1
             && !options.concurrent
             && options.trail.is_none()
+            && options.store.is_none()
     });
     assert!(rt; said);
 }

@@ -32,10 +32,10 @@ returns-in-Some-clause-refused g c =
     let bare = c.get_flag-bare.ensures in
     let stamped = c.get_flag-stamped.ensures in
     let ports = c.get_flag-privileged_ports.ensures in
-    let mistaken = mistake_said old m parsed is words rows c.get_flag-bare.result c.get_flag-stamped.result c.get_flag-privileged_ports.result _ c.get_str-trail.result
+    let mistaken = mistake_said old m parsed is words rows c.get_flag-bare.result c.get_flag-stamped.result c.get_flag-privileged_ports.result _ c.get_str-trail.result c.get_str-store.result
     (flag_said old m parsed is words rows 1 _ bare_stands c.get_flag-bare.result bare.none bare.value bare.other) c.get_str-trail.ensures
     (flag_said old m parsed is words rows 6 _ stamped_stands c.get_flag-stamped.result stamped.none stamped.value stamped.other)
-    (flag_said old m parsed is words rows 7 _ privileged_stands c.get_flag-privileged_ports.result ports.none ports.value ports.other) in
+    (flag_said old m parsed is words rows 7 _ privileged_stands c.get_flag-privileged_ports.result ports.none ports.value ports.other) c.get_str-store.ensures in
     mistaken_so words c.in_ok-error.field-0 (kind_at c.in-Some.mistake) (kinds_said words (Some (kind_at c.in-Some.mistake)) none (mistaken ∙ sym c.in-Some.ensures)) c.in_ok-error.ensures
 
 pub returns-clause-said : goal.returns-clause-said
@@ -67,6 +67,7 @@ returns-clause-said g c =
       trail = c.get_str-trail.ensures ∙ text_said old m parsed is words rows (codes "trail");
       stamped = flag_said old m parsed is words rows 6 _ stamped_stands c.get_flag-stamped.result stamped.none stamped.value stamped.other;
       privileged_ports = flag_said old m parsed is words rows 7 _ privileged_stands c.get_flag-privileged_ports.result ports.none ports.value ports.other;
+      store = c.get_str-store.ensures ∙ text_said old m parsed is words rows (codes "store");
     }
 
 pub returns-clause-refused : goal.returns-clause-refused
@@ -82,8 +83,8 @@ returns-clause-refused g c =
     let bare = c.get_flag-bare.ensures in
     let stamped = c.get_flag-stamped.ensures in
     let ports = c.get_flag-privileged_ports.ensures in
-    let mistaken = mistake_said old m parsed is words rows c.get_flag-bare.result c.get_flag-stamped.result c.get_flag-privileged_ports.result _ c.get_str-trail.result
+    let mistaken = mistake_said old m parsed is words rows c.get_flag-bare.result c.get_flag-stamped.result c.get_flag-privileged_ports.result _ c.get_str-trail.result c.get_str-store.result
     (flag_said old m parsed is words rows 1 _ bare_stands c.get_flag-bare.result bare.none bare.value bare.other) c.get_str-trail.ensures
     (flag_said old m parsed is words rows 6 _ stamped_stands c.get_flag-stamped.result stamped.none stamped.value stamped.other)
-    (flag_said old m parsed is words rows 7 _ privileged_stands c.get_flag-privileged_ports.result ports.none ports.value ports.other) in
+    (flag_said old m parsed is words rows 7 _ privileged_stands c.get_flag-privileged_ports.result ports.none ports.value ports.other) c.get_str-store.ensures in
     kinds_said words None none (mistaken ∙ sym c.in_default.ensures)

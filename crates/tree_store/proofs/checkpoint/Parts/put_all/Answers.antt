@@ -1,4 +1,4 @@
-use Rattle.std.proofs.Common.{◌∷◌, ◌++◌, [], List, ℕ, map, subst, Ok, Err}
+use Rattle.std.proofs.Common.{◌∷◌, ◌++◌, [], List, map, subst, Err}
 use Rattle.std.specs.List.{AllByRecursion}
 use Rattle.xdr_wire.specs.Xdr.{spelling}
 use Rattle.tree_changes.specs.Parts.{part, counters_value}

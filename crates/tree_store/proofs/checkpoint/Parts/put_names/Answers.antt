@@ -1,4 +1,4 @@
-use Rattle.std.proofs.Common.{◌≡◌, ◌∷◌, ◌++◌, [], List, ℕ, map, sym, ◌∙◌, subst, arith, Ok, Err}
+use Rattle.std.proofs.Common.{◌∷◌, ◌++◌, [], List, ℕ, map, sym, subst, arith, Ok, Err}
 use Rattle.std.specs.List.{AllByRecursion}
 use Rattle.node_tree.specs.World.{Name}
 use Rattle.tree_store.specs.Writing.{Appends, name_bytes, HasNameSpelling}

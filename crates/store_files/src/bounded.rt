@@ -28,22 +28,23 @@ fn first_number(text: &str) -> u64 {
 }
 
 /// The greatest size of a file that this process may write; the greatest number, where there is no limit or the system doesn't say it.
-pub(crate) fn file_limit<R: Files + Alloc>(rt: &R) -> u64 {
+pub fn file_limit<R: Files + Alloc>(rt: &R) -> u64 {
     match fs::read_to_string(rt, LIMITS) {
         Ok(text) => limit_in(text.as_str()),
         Err(_) => u64::MAX,
     }
 }
 
-/// A file, and how many more bytes it may have.
+/// A writer, and how many more bytes may be written to it.
 #[derive(Drop)]
-pub(crate) struct Bounded<F> {
+pub struct Bounded<F> {
     file: F,
     room: u64,
 }
 
 impl<F> Bounded<F> {
-    pub(crate) fn new(file: F, room: u64) -> Self {
+    /// A writer to which this many bytes may be written.
+    pub fn new(file: F, room: u64) -> Self {
         Bounded { file, room }
     }
 }

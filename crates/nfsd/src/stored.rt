@@ -1,0 +1,94 @@
+//! What outlives a restart: the store of a folder, and the hub over what was found there.
+use crate::{Fault, hub_fault};
+use nfs_hub::Hub;
+use session_slots::RestoreFault;
+use std::alloc::Global;
+use std::fs::File;
+use std::hash::RandomState;
+use std::random::RandomSource;
+use std::rt::Files;
+use store_files::{StoreFolder, StoreStop};
+use tree_store::{Base, Found, NOTES_ROOM, Store, StoreFault, after_start, open};
+use who_book::Book;
+
+/// A store that was begun, and the folder that it is in.
+#[derive(Drop)]
+pub(crate) struct Stored {
+    pub(crate) folder: StoreFolder,
+    pub(crate) store: Store,
+}
+
+/// Why a store isn't gone on with, by what it says.
+fn stop_of(alloc: Global, folder: &mut StoreFolder, fault: StoreFault) -> StoreStop {
+    match fault {
+        StoreFault::Failed => StoreStop::failed(folder),
+        StoreFault::Version => StoreStop::version(alloc, folder),
+        StoreFault::Damaged => StoreStop::damaged(alloc, folder),
+        StoreFault::Memory => StoreStop::Memory,
+    }
+}
+
+/// The hub over what was found; over a root alone, where nothing was.
+fn hub_over(
+    alloc: Global,
+    folder: &mut StoreFolder,
+    found: Option<Found<Global>>,
+    book: Book,
+    hasher: RandomState,
+) -> Result<Hub, Fault> {
+    let Some(Found { tree, next }) = found else {
+        return Hub::new(alloc, book, hasher).map_err(|_| hub_fault());
+    };
+    match Hub::restored(alloc, tree, after_start(next), book, hasher) {
+        Ok(hub) => Ok(hub),
+        Err(RestoreFault::Misfit) => Err(Fault::Store(StoreStop::damaged(alloc, folder))),
+        Err(_) => Err(hub_fault()),
+    }
+}
+
+/// Begins the store of a hub: writes its first checkpoint, and has the hub note its changes from then on.
+fn begin(
+    alloc: Global,
+    mut folder: StoreFolder,
+    base: Base,
+    hub: &mut Hub,
+) -> Result<Stored, Fault> {
+    let server = hub.server();
+    let begun = Store::start(
+        &mut folder,
+        alloc,
+        base,
+        server.tree(),
+        server.next_numbers(),
+    );
+    let store = match begun {
+        Ok(store) => store,
+        Err(fault) => return Err(Fault::Store(stop_of(alloc, &mut folder, fault))),
+    };
+    if hub.begin_notes(NOTES_ROOM).is_err() {
+        return Err(Fault::Store(StoreStop::Memory));
+    }
+    Ok(Stored { folder, store })
+}
+
+/// Opens the store of a folder, and makes the hub over what it has. A store that is refused is left as it was.
+pub(crate) fn open_store<R: Files<File = File> + RandomSource + Alloc>(
+    rt: &R,
+    alloc: Global,
+    path: &str,
+    book: Book,
+    hasher: RandomState,
+) -> Result<(Hub, Stored), Fault> {
+    let mut folder = match StoreFolder::open(rt, path) {
+        Ok(folder) => folder,
+        Err(fault) => return Err(Fault::Store(StoreStop::from(fault))),
+    };
+    let key = folder.key();
+    let (base, found) = match open(&mut folder, alloc, key) {
+        Ok(opened) => opened,
+        Err(fault) => return Err(Fault::Store(stop_of(alloc, &mut folder, fault))),
+    };
+    let mut hub = hub_over(alloc, &mut folder, found, book, hasher)?;
+    let stored = begin(alloc, folder, base, &mut hub)?;
+    Ok((hub, stored))
+}

@@ -1,0 +1,90 @@
+//! Why nothing more is read in or written out.
+use node_tree::RestoreFault;
+use std::alloc::{AllocError, AllocFailed};
+use std::fmt::{Display, Formatter};
+use std::io::ErrorKind;
+use std::{fmt, io};
+
+/// Why nothing more is read in or written out.
+#[derive(Debug, Drop)]
+pub(crate) enum Fault {
+    /// The system refuses something.
+    System(io::Error),
+    /// A link's text isn't UTF-8, so this system's path can't be given.
+    Text,
+    /// What was looked at has changed meanwhile, so that no tree takes it.
+    Changed,
+    /// There is no memory.
+    Memory,
+}
+
+impl From<AllocError> for Fault {
+    fn from(_: AllocError) -> Self {
+        Fault::Memory
+    }
+}
+
+impl<T: Drop> From<AllocFailed<T>> for Fault {
+    fn from(_: AllocFailed<T>) -> Self {
+        Fault::Memory
+    }
+}
+
+impl From<io::Error> for Fault {
+    fn from(error: io::Error) -> Self {
+        if error.kind() == ErrorKind::OutOfMemory {
+            Fault::Memory
+        } else {
+            Fault::System(error)
+        }
+    }
+}
+
+impl From<RestoreFault> for Fault {
+    fn from(fault: RestoreFault) -> Self {
+        match fault {
+            RestoreFault::Unsound => Fault::Changed,
+            RestoreFault::Memory => Fault::Memory,
+        }
+    }
+}
+
+impl Display for Fault {
+    fn fmt<W: fmt::Write>(&self, f: &mut Formatter<W>) -> fmt::Result {
+        match self {
+            Fault::System(error) => write!(f, "{error}"),
+            Fault::Text => f.write_str("it has bytes that aren't UTF-8"),
+            Fault::Changed => f.write_str("it has changed meanwhile"),
+            Fault::Memory => f.write_str("there is no memory"),
+        }
+    }
+}
+
+/// Where something stopped, and why.
+#[derive(Debug, Drop)]
+pub(crate) struct Stopped {
+    /// The path of this system, where it is known.
+    pub(crate) path: Option<String>,
+    pub(crate) fault: Fault,
+}
+
+impl Stopped {
+    pub(crate) fn at(path: Option<String>, fault: Fault) -> Self {
+        Stopped { path, fault }
+    }
+}
+
+impl From<Fault> for Stopped {
+    fn from(fault: Fault) -> Self {
+        Stopped { path: None, fault }
+    }
+}
+
+impl From<AllocError> for Stopped {
+    fn from(_: AllocError) -> Self {
+        Stopped {
+            path: None,
+            fault: Fault::Memory,
+        }
+    }
+}
