@@ -1,42 +1,22 @@
 use Rattle.std.proofs.Common.{◌∙◌, ◌≡◌, ℕ, Err, Some, None, [], ap, sym, subst, map, codes, arith, rules, unwrap_or, List}
 use Rattle.std.specs.Str.Parse.{ExplainsUnsignedError, HasUnsignedDigitsIfOk, ParsesUnsigned}
 use Rattle.clap.specs.Faults.{is_simple_and_free}
-use Rattle.clap.specs.Kinds.{HasKind}
+use Rattle.clap.specs.Kinds.{FailsBy, HasKind}
 use Rattle.clap.specs.Matches.{found_of}
 use Rattle.clap.specs.Words.{Text, app_of, fault_of, is_simple, matches_of, rows_of}
 use Rattle.nfsd_options.specs.Given.{IsNumber, connections_unsaid, given}
-use Rattle.nfsd_options.specs.Mistakes.{kind_at}
 use Rattle.nfsd_options.specs.Simple.{nfsd}
-use Rattle.nfsd_options.proofs.Rules.{bare_stands, concurrent_stands, connections_stands, port_stands, privileged_stands, stamped_stands}
-use Rattle.nfsd_options.proofs.Said.{fails_so, flag_said, kinds_said, mistake_said, mistaken_so, number_said, text_said}
-use Rattle.nfsd_options.proofs.options.Options.read.Goals as goal
+use Rattle.nfsd_options.proofs.Rules.{bare_stands, concurrent_stands, connections_stands, leases_stands, port_stands, privileged_stands, stamped_stands}
+use Rattle.nfsd_options.proofs.Said.{flag_said, number_said, text_said}
+use Rattle.nfsd_options.proofs.options.Options.taken.Goals as goal
 
 pub returns-in_err-matches-clause-refused : goal.returns-in_err-matches-clause-refused
 returns-in_err-matches-clause-refused g c =
     let words : List Text = map g.S.AsStr.text c.args.words.now in
     let is : app_of c.in_ok-command.field-0 ≡ nfsd = c.in_ok-command.ensures in
     let err : c.from_residual-in_err-matches.result ≡ Err c.in_err-matches.field-0.0 = search rules in
-    fails_so words c.from_residual-in_err-matches.result c.in_err-matches.field-0.0 err
+    subst (λ r. FailsBy (fault_of nfsd words) r) (sym err)
     (subst (λ a. HasKind (fault_of a words) c.in_err-matches.field-0.0) is (c.in_err-matches.ensures.kinds (ap is_simple_and_free is)))
-
-pub returns-in-Some-clause-refused : goal.returns-in-Some-clause-refused
-returns-in-Some-clause-refused g c =
-    let words : List Text = map g.S.AsStr.text c.args.words.now in
-    let old = c.in_ok-command.field-0 in
-    let m = c.in_ok-matches.matches in
-    let is : app_of old ≡ nfsd = c.in_ok-command.ensures in
-    let parsed = c.in_ok-matches.ensures.parsed in
-    let rows : rows_of (found_of m) ≡ matches_of nfsd words =
-    (c.in_ok-matches.ensures.matches (ap is_simple is)).0 ∙ ap (λ a. matches_of a words) is in
-    let none : fault_of nfsd words ≡ [] = ap (λ a. fault_of a words) (sym is) ∙ c.in_ok-matches.ensures.kinds (ap is_simple_and_free is) in
-    let bare = c.get_flag-bare.ensures in
-    let stamped = c.get_flag-stamped.ensures in
-    let ports = c.get_flag-privileged_ports.ensures in
-    let mistaken = mistake_said old m parsed is words rows c.get_flag-bare.result c.get_flag-stamped.result c.get_flag-privileged_ports.result _ c.get_str-trail.result c.get_str-store.result
-    (flag_said old m parsed is words rows 1 _ bare_stands c.get_flag-bare.result bare.none bare.value bare.other) c.get_str-trail.ensures
-    (flag_said old m parsed is words rows 6 _ stamped_stands c.get_flag-stamped.result stamped.none stamped.value stamped.other)
-    (flag_said old m parsed is words rows 7 _ privileged_stands c.get_flag-privileged_ports.result ports.none ports.value ports.other) c.get_str-store.ensures in
-    mistaken_so words c.in_ok-error.field-0 (kind_at c.in-Some.mistake) (kinds_said words (Some (kind_at c.in-Some.mistake)) none (mistaken ∙ sym c.in-Some.ensures)) c.in_ok-error.ensures
 
 pub returns-clause-said : goal.returns-clause-said
 returns-clause-said g c =
@@ -51,6 +31,7 @@ returns-clause-said g c =
     let concurrent = c.get_flag-concurrent.ensures in
     let stamped = c.get_flag-stamped.ensures in
     let ports = c.get_flag-privileged_ports.ensures in
+    let leases = c.get_flag-leases.ensures in
     let unsaid = connections_unsaid c.get_flag-concurrent.result in
     record {
       book = c.get_str.ensures ∙ text_said old m parsed is words rows (codes "book");
@@ -68,23 +49,12 @@ returns-clause-said g c =
       stamped = flag_said old m parsed is words rows 6 _ stamped_stands c.get_flag-stamped.result stamped.none stamped.value stamped.other;
       privileged_ports = flag_said old m parsed is words rows 7 _ privileged_stands c.get_flag-privileged_ports.result ports.none ports.value ports.other;
       store = c.get_str-store.ensures ∙ text_said old m parsed is words rows (codes "store");
+      leases = flag_said old m parsed is words rows 9 _ leases_stands c.get_flag-leases.result leases.none leases.value leases.other;
+      home = c.get_str-home.ensures ∙ text_said old m parsed is words rows (codes "home");
     }
 
 pub returns-clause-refused : goal.returns-clause-refused
 returns-clause-refused g c =
     let words : List Text = map g.S.AsStr.text c.args.words.now in
-    let old = c.in_ok-command.field-0 in
-    let m = c.in_ok-matches.matches in
-    let is : app_of old ≡ nfsd = c.in_ok-command.ensures in
-    let parsed = c.in_ok-matches.ensures.parsed in
-    let rows : rows_of (found_of m) ≡ matches_of nfsd words =
-    (c.in_ok-matches.ensures.matches (ap is_simple is)).0 ∙ ap (λ a. matches_of a words) is in
-    let none : fault_of nfsd words ≡ [] = ap (λ a. fault_of a words) (sym is) ∙ c.in_ok-matches.ensures.kinds (ap is_simple_and_free is) in
-    let bare = c.get_flag-bare.ensures in
-    let stamped = c.get_flag-stamped.ensures in
-    let ports = c.get_flag-privileged_ports.ensures in
-    let mistaken = mistake_said old m parsed is words rows c.get_flag-bare.result c.get_flag-stamped.result c.get_flag-privileged_ports.result _ c.get_str-trail.result c.get_str-store.result
-    (flag_said old m parsed is words rows 1 _ bare_stands c.get_flag-bare.result bare.none bare.value bare.other) c.get_str-trail.ensures
-    (flag_said old m parsed is words rows 6 _ stamped_stands c.get_flag-stamped.result stamped.none stamped.value stamped.other)
-    (flag_said old m parsed is words rows 7 _ privileged_stands c.get_flag-privileged_ports.result ports.none ports.value ports.other) c.get_str-store.ensures in
-    kinds_said words None none (mistaken ∙ sym c.in_default.ensures)
+    let is : app_of c.in_ok-command.field-0 ≡ nfsd = c.in_ok-command.ensures in
+    ap (λ a. fault_of a words) (sym is) ∙ c.in_ok-matches.ensures.kinds (ap is_simple_and_free is)
