@@ -1,5 +1,5 @@
 //! The options of the words of `nfsd`.
-ghost use Rattle.std.specs.Prelude.{◌≡◌, IfOk, map};
+ghost use Rattle.std.specs.Prelude.{◌≡◌, ◌||◌, IfOk, is_some, map};
 ghost use Rattle.clap.specs.Words.{FailsBy, fault_of};
 ghost use Rattle.nfsd_options.specs.Given.{OptionsOf, connections_unsaid, kinds_of};
 ghost use Rattle.nfsd_options.specs.Simple.{nfsd};
@@ -28,7 +28,7 @@ pub struct Options<'a> {
     pub bare: bool,
     /// The port to listen on, 1 to 65535.
     pub port: u16,
-    /// How many connections are served in all.
+    /// How many connections are served in all. Where no number is given: 1, or the most with `concurrent` or `home`.
     pub connections: u32,
     /// Whether several connections are served at the same time.
     pub concurrent: bool,
@@ -57,6 +57,13 @@ fn connections_of(concurrent: bool) -> u32
     }
 }
 
+/// Whether several connections are served at the same time, also since a home means it.
+fn are_many(concurrent: bool, home: Option<&str>) -> bool
+    ensures { result ≡ (concurrent || is_some home.entry) }
+{
+    concurrent || home.is_some()
+}
+
 impl<'a> Options<'a> {
     /// Takes what `clap` reads of the words, whether or not it can be given together.
     fn taken<S: AsStr>(alloc: Global, words: &'a [S]) -> Result<Options<'a>, Error>
@@ -66,13 +73,14 @@ impl<'a> Options<'a> {
         let matches = command(alloc)?.try_get_matches_from(words)?;
         let bare = matches.get_flag("bare");
         let concurrent = matches.get_flag("concurrent");
-        let unsaid = connections_of(concurrent);
         let stamped = matches.get_flag("stamped");
         let privileged_ports = matches.get_flag("privileged-ports");
         let leases = matches.get_flag("leases");
         let trail = matches.get_str("trail");
         let store = matches.get_str("store");
         let home = matches.get_str("home");
+        let many = are_many(concurrent, home);
+        let unsaid = connections_of(many);
         Ok(Options {
             book: matches.get_str("book"),
             bare,

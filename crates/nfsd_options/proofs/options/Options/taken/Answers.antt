@@ -1,4 +1,4 @@
-use Rattle.std.proofs.Common.{◌∙◌, ◌≡◌, ℕ, Err, Some, None, [], ap, sym, subst, map, codes, arith, rules, unwrap_or, List}
+use Rattle.std.proofs.Common.{◌∙◌, ◌≡◌, ℕ, Bool, Err, Some, None, [], ap, sym, subst, map, codes, arith, rules, unwrap_or, List}
 use Rattle.std.specs.Str.Parse.{ExplainsUnsignedError, HasUnsignedDigitsIfOk, ParsesUnsigned}
 use Rattle.clap.specs.Faults.{is_simple_and_free}
 use Rattle.clap.specs.Kinds.{FailsBy, HasKind}
@@ -32,18 +32,19 @@ returns-clause-said g c =
     let stamped = c.get_flag-stamped.ensures in
     let ports = c.get_flag-privileged_ports.ensures in
     let leases = c.get_flag-leases.ensures in
-    let unsaid = connections_unsaid c.get_flag-concurrent.result in
+    let unsaid = connections_unsaid c.are_many-many.result in
     record {
       book = c.get_str.ensures ∙ text_said old m parsed is words rows (codes "book");
       bare = flag_said old m parsed is words rows 1 _ bare_stands c.get_flag-bare.result bare.none bare.value bare.other;
       port = subst (IsNumber 2049 1 65535 (given (codes "port") words)) (sym c.unwrap_or.ensures)
           (number_said old m parsed is words rows (λ bs r. ParsesUnsigned 16 10 bs r × ExplainsUnsignedError 10 bs r × HasUnsignedDigitsIfOk bs r)
           16 2049 1 65535 2 _ port_stands c.get_one.result c.get_one.ensures.none c.get_one.ensures.value (λ t x gives. gives.0) (omega arith));
-      connections = subst (IsNumber unsaid 0 4294967295 (given (codes "connections") words)) (sym c.unwrap_or-2.ensures)
+      connections = subst (λ (many : Bool). IsNumber (connections_unsaid many) 0 4294967295 (given (codes "connections") words) c.unwrap_or-2.result) c.are_many-many.ensures
+          (subst (IsNumber unsaid 0 4294967295 (given (codes "connections") words)) (sym c.unwrap_or-2.ensures)
           (subst (λ (n : ℕ). IsNumber unsaid 0 4294967295 (given (codes "connections") words) (unwrap_or c.get_one-2.result n))
           (sym c.connections_of-unsaid.ensures)
           (number_said old m parsed is words rows (λ bs r. ParsesUnsigned 32 10 bs r × ExplainsUnsignedError 10 bs r × HasUnsignedDigitsIfOk bs r)
-          32 unsaid 0 4294967295 3 _ connections_stands c.get_one-2.result c.get_one-2.ensures.none c.get_one-2.ensures.value (λ t x gives. gives.0) (omega arith)));
+          32 unsaid 0 4294967295 3 _ connections_stands c.get_one-2.result c.get_one-2.ensures.none c.get_one-2.ensures.value (λ t x gives. gives.0) (omega arith))));
       concurrent = flag_said old m parsed is words rows 4 _ concurrent_stands c.get_flag-concurrent.result concurrent.none concurrent.value concurrent.other;
       trail = c.get_str-trail.ensures ∙ text_said old m parsed is words rows (codes "trail");
       stamped = flag_said old m parsed is words rows 6 _ stamped_stands c.get_flag-stamped.result stamped.none stamped.value stamped.other;
