@@ -63,7 +63,7 @@ fn limits(options: &Options<'_>) -> Limits {
         reads: TURNS,
         turns: u64::MAX,
         makes_room: options.concurrent,
-        leases: false,
+        leases: options.leases,
     }
 }
 

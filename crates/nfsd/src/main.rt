@@ -8,6 +8,7 @@
 mod book_file;
 mod book_rule;
 mod clock;
+mod home;
 mod listening;
 mod slips;
 mod sockets;
@@ -19,6 +20,7 @@ mod words;
 use anyhow::Result;
 use book_file::BookFile;
 use clock::SystemClock;
+use home::Home;
 use listening::serve_options;
 use nfs_hub::{Hub, HubFault, ServeEnd, serve};
 use nfsd_options::Options;
@@ -156,13 +158,22 @@ fn status<R: Files + Alloc + Eprint>(
     }
 }
 
+/// Serves by the options. The status of the program.
+fn run_options(rt: &HostRuntime, alloc: Global, options: &Options<'_>) -> Result<ExitCode> {
+    let served = serve_hub(rt, alloc, options)?;
+    Ok(status(rt, alloc, options, served))
+}
+
 /// Serves by the words of the command line.
 fn run_words(rt: &HostRuntime, alloc: Global, words: &[String]) -> Result<ExitCode> {
     match Options::read(alloc, words) {
-        Ok(options) => {
-            let served = serve_hub(rt, alloc, &options)?;
-            Ok(status(rt, alloc, &options, served))
-        }
+        Ok(options) => match options.home {
+            Some(folder) => {
+                let home = Home::open(rt, folder)?;
+                run_options(rt, alloc, &home.options(options))
+            }
+            None => run_options(rt, alloc, &options),
+        },
         Err(error) => {
             let _ = rt.eprint(&error);
             Ok(ExitCode::from(2))

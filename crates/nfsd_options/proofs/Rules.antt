@@ -1,4 +1,4 @@
--- The nine options by their places, and the rules of each that building keeps.
+-- The eleven options by their places, and the rules of each that building keeps.
 use Rattle.std.proofs.Common.{◌≡◌, ◌∙◌, ◌<◌, ap, ap₂, ℕ, true, false, List, [], length, zero, suc, Some, refl, sym, inl, inr, arith, codes}
 use Rattle.std.specs.List.{slice_index_or}
 use Rattle.std.specs.Str.{bytes_eq}
@@ -14,7 +14,7 @@ use Rattle.clap.specs.declared.builder.value_parser.ValueParser.TheVariants as v
 use Rattle.clap.specs.declared.parser.matches.ArgMatches.{ArgMatches}
 use Rattle.clap.proofs.CallerLemmas.{same_rules_by_id}
 use Rattle.std.specs.Prelude.{pos}
-use Rattle.nfsd_options.specs.Simple.{bare_rule, concurrent_rule, connections_rule, nfsd, port_rule, privileged_rule, stamped_rule}
+use Rattle.nfsd_options.specs.Simple.{bare_rule, concurrent_rule, connections_rule, leases_rule, nfsd, port_rule, privileged_rule, stamped_rule}
 
 abbrev pub nfsd_rules : List Rule
 nfsd_rules = nfsd.top.rules
@@ -27,16 +27,16 @@ differ a b other same =
 
 -- the option at place k has the rule r and the parser q, and an id that no other argument of the command has
 pub record StandsAt (k : ℕ) (r : Rule) (q : ValueParser) : Type 0 where
-  pub here : k < 9
+  pub here : k < 11
   pub place : (e : Rule) → slice_index_or nfsd_rules k e ≡ r
   pub parser : r.parser ≡ Some q
   pub exact : r.ignore_case ≡ false
-  pub alone : (j : ℕ) (e : Rule) → j < 9 → bytes_eq (slice_index_or nfsd_rules j e).id r.id ≡ true → j ≡ k
+  pub alone : (j : ℕ) (e : Rule) → j < 11 → bytes_eq (slice_index_or nfsd_rules j e).id r.id ≡ true → j ≡ k
   pub named : bytes_eq r.id [] ≡ false
   pub no_help : bytes_eq r.id (codes "help") ≡ false
   pub no_version : bytes_eq r.id (codes "version") ≡ false
 
-bare_alone : (j : ℕ) (e : Rule) → j < 9 → bytes_eq (slice_index_or nfsd_rules j e).id (codes "bare") ≡ true → j ≡ 1
+bare_alone : (j : ℕ) (e : Rule) → j < 11 → bytes_eq (slice_index_or nfsd_rules j e).id (codes "bare") ≡ true → j ≡ 1
 bare_alone zero e lt same = cc
 bare_alone (suc zero) e lt same = refl
 bare_alone (suc (suc zero)) e lt same = cc
@@ -46,9 +46,11 @@ bare_alone (suc (suc (suc (suc (suc zero))))) e lt same = cc
 bare_alone (suc (suc (suc (suc (suc (suc zero)))))) e lt same = cc
 bare_alone (suc (suc (suc (suc (suc (suc (suc zero))))))) e lt same = cc
 bare_alone (suc (suc (suc (suc (suc (suc (suc (suc zero)))))))) e lt same = cc
-bare_alone (suc (suc (suc (suc (suc (suc (suc (suc (suc j))))))))) e lt same = absurd (omega arith)
+bare_alone (suc (suc (suc (suc (suc (suc (suc (suc (suc zero))))))))) e lt same = cc
+bare_alone (suc (suc (suc (suc (suc (suc (suc (suc (suc (suc zero)))))))))) e lt same = cc
+bare_alone (suc (suc (suc (suc (suc (suc (suc (suc (suc (suc (suc j))))))))))) e lt same = absurd (omega arith)
 
-port_alone : (j : ℕ) (e : Rule) → j < 9 → bytes_eq (slice_index_or nfsd_rules j e).id (codes "port") ≡ true → j ≡ 2
+port_alone : (j : ℕ) (e : Rule) → j < 11 → bytes_eq (slice_index_or nfsd_rules j e).id (codes "port") ≡ true → j ≡ 2
 port_alone zero e lt same = cc
 port_alone (suc zero) e lt same = cc
 port_alone (suc (suc zero)) e lt same = refl
@@ -58,9 +60,11 @@ port_alone (suc (suc (suc (suc (suc zero))))) e lt same = cc
 port_alone (suc (suc (suc (suc (suc (suc zero)))))) e lt same = cc
 port_alone (suc (suc (suc (suc (suc (suc (suc zero))))))) e lt same = cc
 port_alone (suc (suc (suc (suc (suc (suc (suc (suc zero)))))))) e lt same = cc
-port_alone (suc (suc (suc (suc (suc (suc (suc (suc (suc j))))))))) e lt same = absurd (omega arith)
+port_alone (suc (suc (suc (suc (suc (suc (suc (suc (suc zero))))))))) e lt same = cc
+port_alone (suc (suc (suc (suc (suc (suc (suc (suc (suc (suc zero)))))))))) e lt same = cc
+port_alone (suc (suc (suc (suc (suc (suc (suc (suc (suc (suc (suc j))))))))))) e lt same = absurd (omega arith)
 
-connections_alone : (j : ℕ) (e : Rule) → j < 9 → bytes_eq (slice_index_or nfsd_rules j e).id (codes "connections") ≡ true → j ≡ 3
+connections_alone : (j : ℕ) (e : Rule) → j < 11 → bytes_eq (slice_index_or nfsd_rules j e).id (codes "connections") ≡ true → j ≡ 3
 connections_alone zero e lt same = cc
 connections_alone (suc zero) e lt same = cc
 connections_alone (suc (suc zero)) e lt same = cc
@@ -70,9 +74,11 @@ connections_alone (suc (suc (suc (suc (suc zero))))) e lt same = cc
 connections_alone (suc (suc (suc (suc (suc (suc zero)))))) e lt same = cc
 connections_alone (suc (suc (suc (suc (suc (suc (suc zero))))))) e lt same = cc
 connections_alone (suc (suc (suc (suc (suc (suc (suc (suc zero)))))))) e lt same = cc
-connections_alone (suc (suc (suc (suc (suc (suc (suc (suc (suc j))))))))) e lt same = absurd (omega arith)
+connections_alone (suc (suc (suc (suc (suc (suc (suc (suc (suc zero))))))))) e lt same = cc
+connections_alone (suc (suc (suc (suc (suc (suc (suc (suc (suc (suc zero)))))))))) e lt same = cc
+connections_alone (suc (suc (suc (suc (suc (suc (suc (suc (suc (suc (suc j))))))))))) e lt same = absurd (omega arith)
 
-concurrent_alone : (j : ℕ) (e : Rule) → j < 9 → bytes_eq (slice_index_or nfsd_rules j e).id (codes "concurrent") ≡ true → j ≡ 4
+concurrent_alone : (j : ℕ) (e : Rule) → j < 11 → bytes_eq (slice_index_or nfsd_rules j e).id (codes "concurrent") ≡ true → j ≡ 4
 concurrent_alone zero e lt same = cc
 concurrent_alone (suc zero) e lt same = cc
 concurrent_alone (suc (suc zero)) e lt same = cc
@@ -82,9 +88,11 @@ concurrent_alone (suc (suc (suc (suc (suc zero))))) e lt same = cc
 concurrent_alone (suc (suc (suc (suc (suc (suc zero)))))) e lt same = cc
 concurrent_alone (suc (suc (suc (suc (suc (suc (suc zero))))))) e lt same = cc
 concurrent_alone (suc (suc (suc (suc (suc (suc (suc (suc zero)))))))) e lt same = cc
-concurrent_alone (suc (suc (suc (suc (suc (suc (suc (suc (suc j))))))))) e lt same = absurd (omega arith)
+concurrent_alone (suc (suc (suc (suc (suc (suc (suc (suc (suc zero))))))))) e lt same = cc
+concurrent_alone (suc (suc (suc (suc (suc (suc (suc (suc (suc (suc zero)))))))))) e lt same = cc
+concurrent_alone (suc (suc (suc (suc (suc (suc (suc (suc (suc (suc (suc j))))))))))) e lt same = absurd (omega arith)
 
-stamped_alone : (j : ℕ) (e : Rule) → j < 9 → bytes_eq (slice_index_or nfsd_rules j e).id (codes "stamped") ≡ true → j ≡ 6
+stamped_alone : (j : ℕ) (e : Rule) → j < 11 → bytes_eq (slice_index_or nfsd_rules j e).id (codes "stamped") ≡ true → j ≡ 6
 stamped_alone zero e lt same = cc
 stamped_alone (suc zero) e lt same = cc
 stamped_alone (suc (suc zero)) e lt same = cc
@@ -94,9 +102,11 @@ stamped_alone (suc (suc (suc (suc (suc zero))))) e lt same = cc
 stamped_alone (suc (suc (suc (suc (suc (suc zero)))))) e lt same = refl
 stamped_alone (suc (suc (suc (suc (suc (suc (suc zero))))))) e lt same = cc
 stamped_alone (suc (suc (suc (suc (suc (suc (suc (suc zero)))))))) e lt same = cc
-stamped_alone (suc (suc (suc (suc (suc (suc (suc (suc (suc j))))))))) e lt same = absurd (omega arith)
+stamped_alone (suc (suc (suc (suc (suc (suc (suc (suc (suc zero))))))))) e lt same = cc
+stamped_alone (suc (suc (suc (suc (suc (suc (suc (suc (suc (suc zero)))))))))) e lt same = cc
+stamped_alone (suc (suc (suc (suc (suc (suc (suc (suc (suc (suc (suc j))))))))))) e lt same = absurd (omega arith)
 
-privileged_alone : (j : ℕ) (e : Rule) → j < 9 → bytes_eq (slice_index_or nfsd_rules j e).id (codes "privileged-ports") ≡ true → j ≡ 7
+privileged_alone : (j : ℕ) (e : Rule) → j < 11 → bytes_eq (slice_index_or nfsd_rules j e).id (codes "privileged-ports") ≡ true → j ≡ 7
 privileged_alone zero e lt same = cc
 privileged_alone (suc zero) e lt same = cc
 privileged_alone (suc (suc zero)) e lt same = cc
@@ -106,7 +116,23 @@ privileged_alone (suc (suc (suc (suc (suc zero))))) e lt same = cc
 privileged_alone (suc (suc (suc (suc (suc (suc zero)))))) e lt same = cc
 privileged_alone (suc (suc (suc (suc (suc (suc (suc zero))))))) e lt same = refl
 privileged_alone (suc (suc (suc (suc (suc (suc (suc (suc zero)))))))) e lt same = cc
-privileged_alone (suc (suc (suc (suc (suc (suc (suc (suc (suc j))))))))) e lt same = absurd (omega arith)
+privileged_alone (suc (suc (suc (suc (suc (suc (suc (suc (suc zero))))))))) e lt same = cc
+privileged_alone (suc (suc (suc (suc (suc (suc (suc (suc (suc (suc zero)))))))))) e lt same = cc
+privileged_alone (suc (suc (suc (suc (suc (suc (suc (suc (suc (suc (suc j))))))))))) e lt same = absurd (omega arith)
+
+leases_alone : (j : ℕ) (e : Rule) → j < 11 → bytes_eq (slice_index_or nfsd_rules j e).id (codes "leases") ≡ true → j ≡ 9
+leases_alone zero e lt same = cc
+leases_alone (suc zero) e lt same = cc
+leases_alone (suc (suc zero)) e lt same = cc
+leases_alone (suc (suc (suc zero))) e lt same = cc
+leases_alone (suc (suc (suc (suc zero)))) e lt same = cc
+leases_alone (suc (suc (suc (suc (suc zero))))) e lt same = cc
+leases_alone (suc (suc (suc (suc (suc (suc zero)))))) e lt same = cc
+leases_alone (suc (suc (suc (suc (suc (suc (suc zero))))))) e lt same = cc
+leases_alone (suc (suc (suc (suc (suc (suc (suc (suc zero)))))))) e lt same = cc
+leases_alone (suc (suc (suc (suc (suc (suc (suc (suc (suc zero))))))))) e lt same = refl
+leases_alone (suc (suc (suc (suc (suc (suc (suc (suc (suc (suc zero)))))))))) e lt same = cc
+leases_alone (suc (suc (suc (suc (suc (suc (suc (suc (suc (suc (suc j))))))))))) e lt same = absurd (omega arith)
 
 pub bare_stands : StandsAt 1 bare_rule vp.Bool
 bare_stands = record {
@@ -180,8 +206,20 @@ privileged_stands = record {
   no_version = refl;
 }
 
-nine : (c : Command) → app_of c ≡ nfsd → length (args_of c) ≡ 9
-nine c is = sym (length-map (args_of c) rule_of) ∙ ap (λ (a : App). length a.top.rules) is
+pub leases_stands : StandsAt 9 leases_rule vp.Bool
+leases_stands = record {
+  here = omega arith;
+  place = λ e. refl;
+  parser = refl;
+  exact = refl;
+  alone = leases_alone;
+  named = refl;
+  no_help = refl;
+  no_version = refl;
+}
+
+eleven : (c : Command) → app_of c ≡ nfsd → length (args_of c) ≡ 11
+eleven c is = sym (length-map (args_of c) rule_of) ∙ ap (λ (a : App). length a.top.rules) is
 
 rule_at : (c : Command) → app_of c ≡ nfsd → (k : ℕ) (d : Arg) (e : Rule) → k < length (args_of c)
     → rule_of (slice_index_or (args_of c) k d) ≡ slice_index_or nfsd_rules k e
@@ -192,7 +230,7 @@ pub own_parser : (old : Command) (m : ArgMatches) (p : IsParsedFrom old m) → a
     → (j : ℕ) (x : Arg) → j < length (args_of p.built) → slice_index_or (args_of p.built) j x ≡ x → bytes_eq x.id.now r.id ≡ true
     → (parser_of x ≡ q) × (x.ignore_case ≡ false)
 own_parser old m p is k r q s j x lt at same =
-    let count = nine old is in
+    let count = eleven old is in
     let few = s.here in
     let here : k < length (args_of old) = omega arith in
     let mine : rule_of (slice_index_or (args_of old) k x) ≡ r = rule_at old is k x r here ∙ s.place r in

@@ -14,8 +14,9 @@ use Rattle.clap.specs.declared.error.Error.{Error}
 use Rattle.clap.specs.declared.error.kind.ErrorKind.{ErrorKind}
 use Rattle.clap.specs.declared.parser.matches.ArgMatches.{ArgMatches}
 use Rattle.clap.proofs.WalkLemmas.{first_value-rows}
-use Rattle.nfsd_options.specs.Given.{IsNumber, given, is_set, kinds_of, mistake, mistake_in}
+use Rattle.nfsd_options.specs.Given.{IsNumber, OptionsOf, given, is_set, kinds_of, mistake, mistake_in, together}
 use Rattle.nfsd_options.specs.Simple.{nfsd}
+use Rattle.nfsd_options.specs.declared.options.Options.{Options}
 use Rattle.nfsd_options.proofs.Answers.{flag_held, number_held, or_else-empty, or_else-first}
 use Rattle.nfsd_options.proofs.Numbers.{number_read}
 use Rattle.nfsd_options.proofs.Rules.{StandsAt}
@@ -46,19 +47,18 @@ module _ (old : Command) (m : ArgMatches) (parsed : IsParsedFrom old m) (is : ap
       let taken = value_taken old m parsed is k r (vp.Signed (pos low) (pos high)) stands t (text_said r.id ∙ e) in
       (taken.0, number_read _ G bits low high t o (reads (without_minus t) taken.1) only fits taken.0))
 
-  -- the mistake of the words, by the values of the getters
-  pub mistake_said : {X : Type 0} (bare stamped ports : Bool) (f : X → Text) (o : Option X) (s : Option X) → bare ≡ is_set (given (codes "bare") words)
-      → option_map f o ≡ first_value (found_of m) (codes "trail") → stamped ≡ is_set (given (codes "stamped") words)
-      → ports ≡ is_set (given (codes "privileged-ports") words) → option_map f s ≡ first_value (found_of m) (codes "store")
-      → mistake_in words ≡ mistake bare (is_some o) stamped ports (is_some s)
-  mistake_said {X = X} bare stamped ports f o s is_bare file is_stamped is_privileged folder =
-      let trail : is_some o ≡ is_some (given (codes "trail") words) = sym (some o) ∙ ap is_some (file ∙ text_said (codes "trail")) in
-      let store : is_some s ≡ is_some (given (codes "store") words) = sym (some s) ∙ ap is_some (folder ∙ text_said (codes "store")) in
-      rw is_bare (rw trail (rw is_stamped (rw is_privileged (rw store refl))))
-    where
-      some : (o : Option X) → is_some (option_map f o) ≡ is_some o
-      some None = refl
-      some (Some x) = refl
+some_said : {X : Type 0} (f : X → Text) (o : Option X) (t : Option Text) → option_map f o ≡ t → is_some o ≡ is_some t
+some_said f None t is = ap is_some is
+some_said f (Some x) t is = ap is_some is
+
+-- the mistake of the words is that of their options
+pub mistake_said : (words : List Text) (o : Options) → OptionsOf words o → mistake_in words ≡ mistake (together o)
+mistake_said words o is =
+    let trail = some_said (λ file. file.now) o.trail (given (codes "trail") words) is.trail in
+    let store = some_said (λ folder. folder.now) o.store (given (codes "store") words) is.store in
+    let book = some_said (λ file. file.now) o.book (given (codes "book") words) is.book in
+    let home = some_said (λ folder. folder.now) o.home (given (codes "home") words) is.home in
+    rw is.bare (rw trail (rw is.stamped (rw is.privileged_ports (rw store (rw book (rw is.concurrent (rw is.leases (rw home refl))))))))
 
 -- where the words have a reading, the kinds are the kind of the mistake or none
 pub kinds_said : (words : List Text) (kind : Option ErrorKind) → fault_of nfsd words ≡ [] → mistake_in words ≡ kind

@@ -32,26 +32,70 @@ pub record OptionsOf (words : List Text) (o : Options) : Type 0 where
   pub book : option_map (λ file. file.now) o.book ≡ given (codes "book") words
   pub bare : o.bare ≡ is_set (given (codes "bare") words)
   pub port : IsNumber 2049 1 65535 (given (codes "port") words) o.port
-  pub connections : IsNumber (connections_unsaid o.concurrent) 0 4294967295 (given (codes "connections") words) o.connections
+  pub connections : IsNumber (connections_unsaid (o.concurrent || is_some o.home)) 0 4294967295 (given (codes "connections") words) o.connections
   pub concurrent : o.concurrent ≡ is_set (given (codes "concurrent") words)
   pub trail : option_map (λ file. file.now) o.trail ≡ given (codes "trail") words
   pub stamped : o.stamped ≡ is_set (given (codes "stamped") words)
   pub privileged_ports : o.privileged_ports ≡ is_set (given (codes "privileged-ports") words)
   pub store : option_map (λ folder. folder.now) o.store ≡ given (codes "store") words
+  pub leases : o.leases ≡ is_set (given (codes "leases") words)
+  pub home : option_map (λ folder. folder.now) o.home ≡ given (codes "home") words
 
--- Options that can't be given together, by whether each of them is given: the sample tree has no file of the trail, no ports and no
--- store; and the lines of a trail that goes to no file have no moments.
-abbrev pub mistake : Bool → Bool → Bool → Bool → Bool → Option ErrorKind
-mistake bare trail stamped privileged_ports store =
-    if bare && (trail || (privileged_ports || store)) then Some ArgumentConflict
-    else if stamped && not trail then Some MissingRequiredArgument
+-- the options that were given, of those that can't all be given together
+pub record Together : Type 0 where
+  pub bare : Bool
+  pub trail : Bool
+  pub stamped : Bool
+  pub ports : Bool
+  pub store : Bool
+  pub book : Bool
+  pub concurrent : Bool
+  pub leases : Bool
+  pub home : Bool
+
+-- a home means these options
+abbrev pub is_meant : Together → Bool
+is_meant t = t.book || (t.concurrent || (t.trail || (t.stamped || (t.store || t.leases))))
+
+-- Options that can't be given together: a home isn't that of the sample tree, and goes with none of the options that it means; the sample tree
+-- has no file of the trail, no ports and no store; and the lines of a trail that goes to no file have no moments.
+abbrev pub mistake : Together → Option ErrorKind
+mistake t =
+    if t.home && (t.bare || is_meant t) then Some ArgumentConflict
+    else if t.bare && (t.trail || (t.ports || t.store)) then Some ArgumentConflict
+    else if t.stamped && not t.trail then Some MissingRequiredArgument
     else None
+
+abbrev pub together : Options → Together
+together o = record {
+  bare = o.bare;
+  trail = is_some o.trail;
+  stamped = o.stamped;
+  ports = o.privileged_ports;
+  store = is_some o.store;
+  book = is_some o.book;
+  concurrent = o.concurrent;
+  leases = o.leases;
+  home = is_some o.home;
+}
+
+-- those that the words give
+abbrev pub together_in : List Text → Together
+together_in words = record {
+  bare = is_set (given (codes "bare") words);
+  trail = is_some (given (codes "trail") words);
+  stamped = is_set (given (codes "stamped") words);
+  ports = is_set (given (codes "privileged-ports") words);
+  store = is_some (given (codes "store") words);
+  book = is_some (given (codes "book") words);
+  concurrent = is_set (given (codes "concurrent") words);
+  leases = is_set (given (codes "leases") words);
+  home = is_some (given (codes "home") words);
+}
 
 -- the mistake of the words, if they have one
 abbrev pub mistake_in : List Text → Option ErrorKind
-mistake_in words =
-    mistake (is_set (given (codes "bare") words)) (is_some (given (codes "trail") words)) (is_set (given (codes "stamped") words))
-    (is_set (given (codes "privileged-ports") words)) (is_some (given (codes "store") words))
+mistake_in words = mistake (together_in words)
 
 -- the kinds of the errors that the words may have: those of `clap`'s reading, and else the kind of their mistake
 abbrev pub kinds_of : List Text → Kinds

@@ -1,5 +1,5 @@
 -- The command of `nfsd` as `clap` sees a simple command:
--- `nfsd [--book FILE] [--bare] [--port N] [--connections N] [--concurrent] [--trail FILE] [--stamped] [--privileged-ports] [--store FOLDER]`.
+-- `nfsd [--book FILE] [--bare] [--port N] [--connections N] [--concurrent] [--trail FILE] [--stamped] [--privileged-ports] [--store FOLDER] [--leases] [--home FOLDER]`.
 use Rattle.std.specs.Prelude.{codes, Some, pos}
 use Rattle.clap.specs.Words.{App, Rule, Text, new_app, new_rule, with_rule}
 use Rattle.clap.specs.declared.builder.action.ArgAction.TheVariants.{SetTrue}
@@ -52,9 +52,18 @@ privileged_rule = flag_rule (codes "privileged-ports")
 abbrev pub store_rule : Rule
 store_rule = file_rule (codes "store")
 
+-- `--leases`
+abbrev pub leases_rule : Rule
+leases_rule = flag_rule (codes "leases")
+
+-- `--home FOLDER`
+abbrev pub home_rule : Rule
+home_rule = file_rule (codes "home")
+
 abbrev pub nfsd : App
 nfsd =
     let front = with_rule (with_rule (new_app (codes "nfsd")) book_rule) bare_rule in
     let numbers = with_rule (with_rule front port_rule) connections_rule in
     let serving = with_rule (with_rule numbers concurrent_rule) trail_rule in
-    with_rule (with_rule (with_rule serving stamped_rule) privileged_rule) store_rule
+    let keeping = with_rule (with_rule (with_rule serving stamped_rule) privileged_rule) store_rule in
+    with_rule (with_rule keeping leases_rule) home_rule

@@ -1,7 +1,7 @@
 //! The command of `nfsd`, with its help.
 ghost use Rattle.std.specs.Prelude.{◌≡◌, IfOk, false};
 ghost use Rattle.clap.specs.Words.{app_of, rule_of};
-ghost use Rattle.nfsd_options.specs.Simple.{bare_rule, book_rule, concurrent_rule, connections_rule, file_rule, flag_rule, nfsd, port_rule, privileged_rule, stamped_rule, store_rule, trail_rule};
+ghost use Rattle.nfsd_options.specs.Simple.{bare_rule, book_rule, concurrent_rule, connections_rule, file_rule, flag_rule, home_rule, leases_rule, nfsd, port_rule, privileged_rule, stamped_rule, store_rule, trail_rule};
 
 use clap::{Arg, ArgAction, Command, value_parser};
 use std::alloc::{AllocError, Global};
@@ -49,7 +49,11 @@ and any number, up to 16 at the same time, until it is stopped:
 
 and the same with files that are there again after a restart:
 
-    nfsd --concurrent --trail trail.txt --store tree";
+    nfsd --concurrent --trail trail.txt --store tree
+
+and all of it in one folder, with the book where it is there:
+
+    nfsd --home office";
 
 /// The command of `nfsd`, as `clap` reads it.
 pub(crate) fn command<'a>(alloc: Global) -> Result<Command<'a>, AllocError>
@@ -66,7 +70,9 @@ pub(crate) fn command<'a>(alloc: Global) -> Result<Command<'a>, AllocError>
         .arg(trail(alloc))?
         .arg(stamped(alloc))?
         .arg(privileged_ports(alloc))?
-        .arg(store(alloc))?;
+        .arg(store(alloc))?
+        .arg(leases(alloc))?
+        .arg(home(alloc))?;
     Ok(command)
 }
 
@@ -176,5 +182,26 @@ fn store<'a>(alloc: Global) -> Arg<'a>
         .value_name("FOLDER")
         .help(
             "Keeps the files in this folder, which is made where it isn't there, before the replies go out; not with --bare",
+        )
+}
+
+fn leases<'a>(alloc: Global) -> Arg<'a>
+    ensures { (rule_of result ≡ leases_rule) × (result.global ≡ false) }
+{
+    flag(
+        alloc,
+        "leases",
+        "Lets a client go of which nothing was heard for more than 90 seconds, where more than half of the clients, sessions or open files that may be there are",
+    )
+}
+
+fn home<'a>(alloc: Global) -> Arg<'a>
+    ensures { (rule_of result ≡ home_rule) × (result.global ≡ false) }
+{
+    Arg::new(alloc, "home")
+        .long("home")
+        .value_name("FOLDER")
+        .help(
+            "One folder for all: stands for '--concurrent --leases --store FOLDER/store --trail FOLDER/trail.txt --stamped', and '--book FOLDER/book.toml' where that file is there",
         )
 }

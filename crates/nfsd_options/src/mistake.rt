@@ -1,10 +1,11 @@
 //! Options that can't be given together.
-ghost use Rattle.std.specs.Prelude.{◌≡◌, IfOk, is_some, option_map};
+ghost use Rattle.std.specs.Prelude.{◌≡◌, IfOk, option_map};
 ghost use Rattle.clap.specs.Words.{kind_of};
-ghost use Rattle.nfsd_options.specs.Given.{mistake};
+ghost use Rattle.nfsd_options.specs.Given.{is_meant, mistake, together};
 ghost use Rattle.nfsd_options.specs.Mistakes.{kind_at};
 
 use crate::command::command;
+use crate::options::Options;
 use clap::Error;
 use clap::error::ErrorKind;
 use std::alloc::{AllocError, Global};
@@ -12,6 +13,8 @@ use std::alloc::{AllocError, Global};
 /// Options that can't be given together.
 #[derive(Clone, Copy, Debug, PartialEq, Eq)]
 pub(crate) enum Mistake {
+    /// `--home` with `--bare`, or with an option that it means.
+    HomeWithOthers,
     /// `--trail` with `--bare`.
     TrailOfBare,
     /// `--privileged-ports` with `--bare`.
@@ -22,24 +25,32 @@ pub(crate) enum Mistake {
     NothingToStamp,
 }
 
+/// Whether an option is given that a home means.
+fn is_meant(options: &Options<'_>) -> bool
+    ensures { result ≡ is_meant (together options.now) }
+{
+    options.book.is_some()
+        || (options.concurrent
+            || (options.trail.is_some()
+                || (options.stamped || (options.store.is_some() || options.leases))))
+}
+
 impl Mistake {
     /// The first mistake of the options, if there is one.
-    pub(crate) fn of(
-        bare: bool,
-        trail: Option<&str>,
-        stamped: bool,
-        privileged_ports: bool,
-        store: Option<&str>,
-    ) -> Option<Mistake>
-        ensures { option_map kind_at result ≡ mistake bare (is_some trail.entry) stamped privileged_ports (is_some store.entry) }
+    pub(crate) fn of(options: &Options<'_>) -> Option<Mistake>
+        ensures { option_map kind_at result ≡ mistake (together options.now) }
     {
-        if bare && trail.is_some() {
+        let bare = options.bare;
+        let trail = options.trail;
+        if options.home.is_some() && (bare || is_meant(options)) {
+            Some(Mistake::HomeWithOthers)
+        } else if bare && trail.is_some() {
             Some(Mistake::TrailOfBare)
-        } else if bare && privileged_ports {
+        } else if bare && options.privileged_ports {
             Some(Mistake::PortsOfBare)
-        } else if bare && store.is_some() {
+        } else if bare && options.store.is_some() {
             Some(Mistake::StoreOfBare)
-        } else if stamped && trail.is_none() {
+        } else if options.stamped && trail.is_none() {
             Some(Mistake::NothingToStamp)
         } else {
             None
@@ -50,9 +61,10 @@ impl Mistake {
         ensures { result ≡ kind_at self }
     {
         match self {
-            Mistake::TrailOfBare | Mistake::PortsOfBare | Mistake::StoreOfBare => {
-                ErrorKind::ArgumentConflict
-            }
+            Mistake::HomeWithOthers
+            | Mistake::TrailOfBare
+            | Mistake::PortsOfBare
+            | Mistake::StoreOfBare => ErrorKind::ArgumentConflict,
             Mistake::NothingToStamp => ErrorKind::MissingRequiredArgument,
         }
     }
@@ -60,6 +72,9 @@ impl Mistake {
     /// The text for the user.
     fn text(self) -> &'static str {
         match self {
+            Mistake::HomeWithOthers => {
+                "the argument '--home <FOLDER>' stands for '--concurrent', '--leases', '--store', '--trail', '--stamped' and '--book', and goes with none of them, nor with '--bare'"
+            }
             Mistake::TrailOfBare => {
                 "the argument '--trail <FILE>' cannot be used with '--bare', whose trail goes to no file"
             }

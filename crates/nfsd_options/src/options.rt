@@ -1,7 +1,8 @@
 //! The options of the words of `nfsd`.
-ghost use Rattle.std.specs.Prelude.{◌≡◌, IfOk, map};
-ghost use Rattle.clap.specs.Words.{FailsBy};
+ghost use Rattle.std.specs.Prelude.{◌≡◌, ◌||◌, IfOk, is_some, map};
+ghost use Rattle.clap.specs.Words.{FailsBy, fault_of};
 ghost use Rattle.nfsd_options.specs.Given.{OptionsOf, connections_unsaid, kinds_of};
+ghost use Rattle.nfsd_options.specs.Simple.{nfsd};
 
 use crate::command::command;
 use crate::mistake::Mistake;
@@ -27,7 +28,7 @@ pub struct Options<'a> {
     pub bare: bool,
     /// The port to listen on, 1 to 65535.
     pub port: u16,
-    /// How many connections are served in all.
+    /// How many connections are served in all. Where no number is given: 1, or the most with `concurrent` or `home`.
     pub connections: u32,
     /// Whether several connections are served at the same time.
     pub concurrent: bool,
@@ -39,6 +40,10 @@ pub struct Options<'a> {
     pub privileged_ports: bool,
     /// The folder of the store, in which all is kept that outlives a restart.
     pub store: Option<&'a str>,
+    /// Whether a client that is silent for longer than a lease is let go where many are known.
+    pub leases: bool,
+    /// The folder of all: of the store, the trail and the book.
+    pub home: Option<&'a str>,
 }
 
 /// How many connections are served where the words have no number.
@@ -52,26 +57,30 @@ fn connections_of(concurrent: bool) -> u32
     }
 }
 
+/// Whether several connections are served at the same time, also since a home means it.
+fn are_many(concurrent: bool, home: Option<&str>) -> bool
+    ensures { result ≡ (concurrent || is_some home.entry) }
+{
+    concurrent || home.is_some()
+}
+
 impl<'a> Options<'a> {
-    /// Reads the words, of which the first is the program's name, as in `env::args`.
-    ///
-    /// An error is `clap`'s own: a mistake in the words, a call for help, options that can't be given together (`--bare` with `--trail`,
-    /// `--privileged-ports` or `--store`, `--stamped` without `--trail`), or want of memory. Its `Display` is the text for the user.
-    pub fn read<S: AsStr>(alloc: Global, words: &'a [S]) -> Result<Options<'a>, Error>
+    /// Takes what `clap` reads of the words, whether or not it can be given together.
+    fn taken<S: AsStr>(alloc: Global, words: &'a [S]) -> Result<Options<'a>, Error>
         ensures said { IfOk result (OptionsOf (map S.text words.entry.now)) }
-        ensures refused { FailsBy (kinds_of (map S.text words.entry.now)) result }
+        ensures refused { FailsBy (fault_of nfsd (map S.text words.entry.now)) result }
     {
         let matches = command(alloc)?.try_get_matches_from(words)?;
         let bare = matches.get_flag("bare");
         let concurrent = matches.get_flag("concurrent");
-        let unsaid = connections_of(concurrent);
-        let trail = matches.get_str("trail");
         let stamped = matches.get_flag("stamped");
         let privileged_ports = matches.get_flag("privileged-ports");
+        let leases = matches.get_flag("leases");
+        let trail = matches.get_str("trail");
         let store = matches.get_str("store");
-        if let Some(mistake) = Mistake::of(bare, trail, stamped, privileged_ports, store) {
-            return Err(mistake.error(alloc)?);
-        }
+        let home = matches.get_str("home");
+        let many = are_many(concurrent, home);
+        let unsaid = connections_of(many);
         Ok(Options {
             book: matches.get_str("book"),
             bare,
@@ -82,6 +91,24 @@ impl<'a> Options<'a> {
             stamped,
             privileged_ports,
             store,
+            leases,
+            home,
         })
+    }
+
+    /// Reads the words, of which the first is the program's name, as in `env::args`.
+    ///
+    /// An error is `clap`'s own: a mistake in the words, a call for help, options that can't be given together (`--home` with an option that it
+    /// means or with `--bare`, `--bare` with `--trail`, `--privileged-ports` or `--store`, `--stamped` without `--trail`), or want of memory. Its
+    /// `Display` is the text for the user.
+    pub fn read<S: AsStr>(alloc: Global, words: &'a [S]) -> Result<Options<'a>, Error>
+        ensures said { IfOk result (OptionsOf (map S.text words.entry.now)) }
+        ensures refused { FailsBy (kinds_of (map S.text words.entry.now)) result }
+    {
+        let options = Options::taken(alloc, words)?;
+        if let Some(mistake) = Mistake::of(&options) {
+            return Err(mistake.error(alloc)?);
+        }
+        Ok(options)
     }
 }

@@ -15,4 +15,6 @@ returns c =
     let sixth = c.in_ok-arg-6.ensures.shape c.trail.ensures.1 ∙ ap₂ with_rule fifth c.trail.ensures.0 in
     let seventh = c.in_ok-arg-7.ensures.shape c.stamped.ensures.1 ∙ ap₂ with_rule sixth c.stamped.ensures.0 in
     let eighth = c.in_ok-arg-8.ensures.shape c.privileged_ports.ensures.1 ∙ ap₂ with_rule seventh c.privileged_ports.ensures.0 in
-    c.in_ok-command.ensures.shape c.store.ensures.1 ∙ ap₂ with_rule eighth c.store.ensures.0
+    let ninth = c.in_ok-arg-9.ensures.shape c.store.ensures.1 ∙ ap₂ with_rule eighth c.store.ensures.0 in
+    let tenth = c.in_ok-arg-10.ensures.shape c.leases.ensures.1 ∙ ap₂ with_rule ninth c.leases.ensures.0 in
+    c.in_ok-command.ensures.shape c.home.ensures.1 ∙ ap₂ with_rule tenth c.home.ensures.0

@@ -25,7 +25,7 @@ fn between<'a>(text: &'a str, front: &str, back: &str) -> Option<&'a str> {
 }
 
 /// Texts of help: the files that are served, the address, the options with their ranges and defaults, and an example.
-static TEXTS: [&str; 30] = [
+static TEXTS: [&str; 33] = [
     "NFS version 4.1",
     "access control lists",
     "127.0.0.1",
@@ -56,6 +56,9 @@ static TEXTS: [&str; 30] = [
     "made where it isn't there, before the replies go out; not with --bare",
     "nothing that was answered is lost, whatever ends it.",
     "nfsd --concurrent --trail trail.txt --store tree\n",
+    "--leases ",
+    "--home <FOLDER>",
+    "nfsd --home office\n",
 ];
 
 fn texts() -> &'static [&'static str] {

@@ -13,7 +13,7 @@ fn refusal(alloc: Global, line: &str) -> Result<Option<ErrorKind>, AllocError> {
     }
 }
 
-static ROWS: [(&str, ErrorKind); 44] = [
+static ROWS: [(&str, ErrorKind); 51] = [
     ("nfsd --port 0", ErrorKind::ValueValidation),
     ("nfsd --port 65536", ErrorKind::ValueValidation),
     ("nfsd --port=-1", ErrorKind::ValueValidation),
@@ -78,6 +78,13 @@ static ROWS: [(&str, ErrorKind); 44] = [
     ("nfsd --stamped --port 0", ErrorKind::ValueValidation),
     ("nfsd --store", ErrorKind::InvalidValue),
     ("nfsd --store a --store b", ErrorKind::ArgumentConflict),
+    ("nfsd --home h --bare", ErrorKind::ArgumentConflict),
+    ("nfsd --home h --store s", ErrorKind::ArgumentConflict),
+    ("nfsd --home h --trail t", ErrorKind::ArgumentConflict),
+    ("nfsd --home h --leases", ErrorKind::ArgumentConflict),
+    ("nfsd --home h --concurrent", ErrorKind::ArgumentConflict),
+    ("nfsd --home h --book b", ErrorKind::ArgumentConflict),
+    ("nfsd --stamped --home h", ErrorKind::ArgumentConflict),
     ("nfsd --store s --bare", ErrorKind::ArgumentConflict),
     (
         "nfsd --bare --stamped --store s",

@@ -77,6 +77,8 @@ fn lines_are_taken(rt: HostRuntime) -> Result<(), Fail> {
             stamped: false,
             privileged_ports: false,
             store: None,
+            leases: false,
+            home: None,
         };
         let said = says(rt.alloc(), line, &want)?;
         assert!(rt; said, "{line}");
@@ -124,6 +126,8 @@ fn lines_of_later_options_are_taken(rt: HostRuntime) -> Result<(), Fail> {
             stamped: false,
             privileged_ports: false,
             store: None,
+            leases: false,
+            home: None,
         };
         let said = says(rt.alloc(), line, &want)?;
         assert!(rt; said, "{line}");
@@ -222,4 +226,50 @@ fn no_word_is_needed(rt: HostRuntime) {
             && options.store.is_none()
     });
     assert!(rt; said);
+}
+
+/// A line, and whether its words let silent clients go, the folder of all, and how many connections are served.
+type HomeRow = (&'static str, bool, Option<&'static str>, u32);
+
+static HOMES: [HomeRow; 5] = [
+    ("nfsd --leases", true, None, 1),
+    ("nfsd --leases --concurrent", true, None, 4_294_967_295),
+    ("nfsd --home office", false, Some("office"), 4_294_967_295),
+    (
+        "nfsd --home office --connections 3",
+        false,
+        Some("office"),
+        3,
+    ),
+    (
+        "nfsd --port 2050 --home h --privileged-ports",
+        false,
+        Some("h"),
+        4_294_967_295,
+    ),
+];
+
+fn home_rows() -> &'static [HomeRow] {
+    &HOMES
+}
+
+fn home_of(alloc: Global, line: &str) -> Result<Option<(bool, bool, u32)>, AllocError> {
+    let words: Vec<&str> = line.split_whitespace().collect(alloc)?;
+    match Options::read(alloc, words.as_slice()) {
+        Ok(options) => Ok(Some((options.leases, options.home.is_some(), options.connections))),
+        Err(_) => Ok(None),
+    }
+}
+
+#[test]
+fn homes_are_taken(rt: HostRuntime) -> Result<(), Fail> {
+    for row in home_rows() {
+        let (line, leases, home, connections) = *row;
+        let got = home_of(rt.alloc(), line)?;
+        assert!(rt;
+            got == Some((leases, home.is_some(), connections)),
+            "{line}"
+        );
+    }
+    Ok(())
 }
