@@ -1,6 +1,6 @@
 //! One folder for all: the store, the trail and the book.
 use nfsd_options::Options;
-use std::alloc::AllocError;
+use std::alloc::{AllocError, Global};
 use std::fs;
 use std::fs::DirBuilder;
 use std::os::unix::fs::DirBuilderExt;
@@ -21,9 +21,8 @@ pub(crate) struct Home {
 
 impl Home {
     /// The home of a folder, which is made where it isn't there. One that can't be made shows when its store is opened.
-    pub(crate) fn open<R: Files + Alloc>(rt: &R, folder: &str) -> Result<Self, AllocError> {
+    pub(crate) fn open<R: Files>(rt: &R, alloc: Global, folder: &str) -> Result<Self, AllocError> {
         let _ = DirBuilder::new().mode(MODE).create(rt, folder);
-        let alloc = rt.alloc();
         let book = format!(in alloc; "{folder}/book.toml")?;
         let has_book = fs::exists(rt, book.as_str()).unwrap_or(true);
         Ok(Home {

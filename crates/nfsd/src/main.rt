@@ -169,7 +169,7 @@ fn run_words(rt: &HostRuntime, alloc: Global, words: &[String]) -> Result<ExitCo
     match Options::read(alloc, words) {
         Ok(options) => match options.home {
             Some(folder) => {
-                let home = Home::open(rt, folder)?;
+                let home = Home::open(rt, alloc, folder)?;
                 run_options(rt, alloc, &home.options(options))
             }
             None => run_options(rt, alloc, &options),
