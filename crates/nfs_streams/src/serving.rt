@@ -1,10 +1,12 @@
 //! Serving all streams, one turn after another.
 ghost use Rattle.std.specs.Prelude.{◌≡◌, ◌≤◌, ℕ, List, Option, length, IfOk};
 ghost use Rattle.journal.specs.Disk.{Act as DiskAct};
+ghost use Rattle.client_changes.specs.Comparing.{lent_view};
 ghost use Rattle.tree_store.specs.Kept.{Kept};
 ghost use Rattle.nfs_hub.specs.Answer.{Served as ServedState};
 ghost use Rattle.nfs_hub.specs.Machine.{Event};
 ghost use Rattle.nfs_hub.specs.Hub.{LeadsTo};
+ghost use Rattle.nfs_streams.specs.Lasting.{known_of};
 ghost use Rattle.nfs_streams.specs.Acts.{Act};
 ghost use Rattle.nfs_streams.specs.Seats.{taken};
 ghost use Rattle.nfs_streams.specs.Keeping.{IsOpen, KeepsTree};
@@ -14,8 +16,10 @@ ghost use Rattle.nfs_streams.specs.All.{ServesAll};
 use crate::peer::Peer;
 use crate::places::{Door, answer_all, are_served, give_all, listen_all, make_room, shut_all};
 use crate::streams::{Streams, Wait};
+use client_changes::Lent;
 use nfs_hub::{Clock, Hub, MAX_CONNECTIONS};
 use std::alloc::{AllocError, Allocator};
+use compound_run::Server;
 use tree_store::Store;
 
 /// How far streams are served.
@@ -86,12 +90,23 @@ fn expire<A: Allocator + Copy, C: Clock>(hub: &mut Hub<A>, clock: &C, limits: Li
     let _ = hub.let_go(clock.now());
 }
 
-/// Keeps the tree and the numbers that come next in the store, if there is one. Whether they are kept.
+/// What a server knows of clients, lent.
+fn known_of<A: Allocator + Copy>(server: &Server<A>) -> Lent<'_, A>
+    ensures { lent_view result ≡ known_of server.now }
+{
+    Lent {
+        clients: server.clients(),
+        opens: server.opens(),
+        next_open: server.next_numbers().open_file,
+    }
+}
+
+/// Keeps the tree and what is known of clients in the store, if there is one. Whether they are kept.
 fn keep_tree<A: Allocator + Copy, S: Streams<A>>(
     hub: &Hub<A>,
     streams: &mut S,
     alloc: A,
-    store: &mut Option<Store>,
+    store: &mut Option<Store<A>>,
 ) -> bool
     ensures { KeepsTree S.adds hub.now store.old result store.new streams.old streams.new }
 {
@@ -99,7 +114,7 @@ fn keep_tree<A: Allocator + Copy, S: Streams<A>>(
         return true;
     };
     let server = hub.server();
-    let done = store.keep(streams, alloc, server.tree(), server.next_numbers());
+    let done = store.keep(streams, alloc, server.tree(), known_of(server));
     done.is_ok()
 }
 
@@ -235,7 +250,7 @@ pub fn serve_all<A: Allocator + Copy, S: Streams<A>, C: Clock>(
     hub: &mut Hub<A>,
     streams: &mut S,
     clock: &C,
-    store: Option<Store>,
+    store: Option<Store<A>>,
     limits: Limits,
 ) -> AllEnd
     ensures { (first : ServedState) (events : List Event) → LeadsTo first events hub.old → (history : List DiskAct) (kept : Kept) → IsOpen store history kept hub.old → ServesAll first events store history result limits hub.new (S.acts streams.old) (S.acts streams.new) }

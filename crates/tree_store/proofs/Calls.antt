@@ -5,7 +5,9 @@ use Rattle.xdr_wire.specs.Reading.{read_at}
 use Rattle.node_tree.specs.World.{World}
 use Rattle.node_tree.specs.Forms.{change, step_value}
 use Rattle.node_tree.specs.Steps.{Step}
-use Rattle.session_slots.specs.declared.restoring.NextNumbers.{NextNumbers}
+use Rattle.client_changes.specs.Known.{Known}
+use Rattle.client_changes.specs.Comparing.{AreSame, AreNear}
+use Rattle.client_changes.proofs.Alike.{same_is_near, same_itself}
 use Rattle.tree_changes.specs.Noting.{bare}
 use Rattle.tree_changes.specs.Stepped.{Leads}
 use Rattle.tree_changes.specs.Replays.{ReadsAs, Replays}
@@ -20,12 +22,12 @@ use Rattle.tree_store.specs.declared.fault.StoreFault.{StoreFault}
 use Rattle.tree_store.specs.declared.fault.StoreFault.TheVariants.{Failed, Version, Damaged, Memory}
 use Rattle.tree_store.specs.declared.opening.Base.{Base}
 use Rattle.tree_store.specs.declared.opening.Found.{Found}
-use Rattle.tree_store.specs.declared.store.Store.{Store}
+use Rattle.tree_store.specs.Running.{Store}
 use Rattle.tree_store.specs.Kept.{Kept, kept_with, Covers, Follows}
 use Rattle.tree_store.specs.Holds.{IsFoundOr, IsHeldOr}
 use Rattle.tree_store.specs.Leaving.{Does}
 use Rattle.tree_store.specs.Standing.{Stands}
-use Rattle.tree_store.specs.Keeping.{ReadsSo, OpensSo, Opens, both_found, BegunSo, Starts, KeptSo}
+use Rattle.tree_store.specs.Keeping.{ReadsSo, OpensSo, Opens, both_found, BegunSo, StartsSo, KeptSo}
 use Rattle.tree_store.specs.Writing.{IfDone, Checkpoints, GoesOn, IsIdle}
 use Rattle.tree_store.proofs.Doing.{does_also}
 use Rattle.tree_store.proofs.GoingOn.{nothing_done}
@@ -57,7 +59,7 @@ begun_so key acts aim (Err Version) so = so
 begun_so key acts aim (Err Damaged) so = so
 begun_so key acts aim (Err Memory) so = tt
 
-pub starts : {D : Type 0} (adds : Adding D) (base : Base) (aim : Kept) (result : Result Store StoreFault) (old new : D) → Checkpoints adds base.key base.slot base.generation aim result old new → Starts adds base aim result old new
+pub starts : {D : Type 0} (adds : Adding D) (base : Base) (aim : Kept) (result : Result Store StoreFault) (old new : D) → Checkpoints adds base.key base.slot base.generation aim result old new → StartsSo adds base aim result old new
 starts adds base aim result old new does a b content chosen =
     does_also adds base.key (both_found a b) (IsFoundOr content aim) (IsFoundOr content aim) (λ acts. IfDone (λ store. Stands base.key acts store aim) acts result) (λ acts. BegunSo base.key acts result aim) old new
     (λ c is. is) (λ acts so. begun_so base.key acts aim result so)
@@ -84,20 +86,25 @@ same_fault so also acts Memory it = tt
 
 -- ---- keeping
 
-kept_all : (aim : Kept) → Covers aim aim
-kept_all aim = record { world_is = refl; client_is = refl; session_is = refl; no_later = omega arith; near = omega arith }
+kept_all : (w : World) (known now : Known) → AreSame known now → Covers (kept_with w now) (kept_with w known)
+kept_all w known now same = record { world_is = refl; clients_are = same_is_near known now same }
 
-kept_so : (key : ℕ) (acts : List Act) (result : Result (Unit {0}) StoreFault) (store : Store) (aim : Kept) → OnErr result (store.journal.has_failed ≡ true) → IfDone (λ done. Stands key acts store aim) acts result → KeptSo key acts result store aim
-kept_so key acts (Ok done) store aim failed so = (aim, so, kept_all aim)
-kept_so key acts (Err Failed) store aim failed so = (so, failed)
-kept_so key acts (Err Version) store aim failed so = so
-kept_so key acts (Err Damaged) store aim failed so = so
-kept_so key acts (Err Memory) store aim failed so = failed
+module _ (w : World) (known now : Known) (same : AreSame known now) where
+  abbrev aim : Kept
+  aim = kept_with w known
 
-pub keeps : {D : Type 0} (adds : Adding D) (store store' : Store) (kept aim : Kept) (result : Result (Unit {0}) StoreFault) (old new : D) (history : List Act) → Stands store.journal.key history store kept → GoesOn adds store kept aim result store' old new → OnErr result (store'.journal.has_failed ≡ true) → Does adds store.journal.key history (IsHeldOr kept aim) (λ acts. KeptSo store.journal.key acts result store' aim) old new
-keeps adds store store' kept aim result old new history s does failed =
-    does_also adds store.journal.key history (IsHeldOr kept aim) (IsHeldOr kept aim) (λ acts. IfDone (λ done. Stands store.journal.key acts store' aim) acts result) (λ acts. KeptSo store.journal.key acts result store' aim) old new
-    (λ c is. is) (λ acts so. kept_so store.journal.key acts result store' aim failed so) (does history s)
+  kept_so : (key : ℕ) (acts : List Act) (result : Result (Unit {0}) StoreFault) (store : Store) (kept : Kept) → OnErr result (store.journal.has_failed ≡ true) → IfDone (λ done. Stands key acts store aim) acts result → KeptSo key acts result store kept aim (kept_with w now)
+  kept_so key acts (Ok done) store kept failed so = (aim, so, inr refl, kept_all w known now same)
+  kept_so key acts (Err Failed) store kept failed so = (so, failed)
+  kept_so key acts (Err Version) store kept failed so = so
+  kept_so key acts (Err Damaged) store kept failed so = so
+  kept_so key acts (Err Memory) store kept failed so = failed
+
+  pub keeps : {D : Type 0} (adds : Adding D) (store store' : Store) (kept : Kept) (result : Result (Unit {0}) StoreFault) (old new : D) (history : List Act) → Stands store.journal.key history store kept → GoesOn adds store kept aim result store' old new → OnErr result (store'.journal.has_failed ≡ true)
+      → Does adds store.journal.key history (IsHeldOr kept aim) (λ acts. KeptSo store.journal.key acts result store' kept aim (kept_with w now)) old new
+  keeps adds store store' kept result old new history s does failed =
+      does_also adds store.journal.key history (IsHeldOr kept aim) (IsHeldOr kept aim) (λ acts. IfDone (λ done. Stands store.journal.key acts store' aim) acts result) (λ acts. KeptSo store.journal.key acts result store' kept aim (kept_with w now)) old new
+      (λ c is. is) (λ acts so. kept_so store.journal.key acts result store' kept failed so) (does history s)
 
 -- what was noted leads from what is kept
 pub follows : (kept : Kept) (w : World) (notes : Bytes) → Follows kept w → w.notes.is_lost ≡ false → notes ≡ w.notes.bytes → Replays kept.0 notes (bare w)
@@ -112,16 +119,15 @@ unchanged : (old new : World) (steps : List Step) → ReadsAs [] steps → Leads
 unchanged old new [] read leads = leads
 unchanged old new (s ∷ steps) read leads = absurd (none_read s read.0 read.1)
 
-pub idle : {D : Type 0} (adds : Adding D) (store : Store) (kept : Kept) (w : World) (next : NextNumbers) (notes : Bytes) (old new : D) (history : List Act) → Stands store.journal.key history store kept → Replays kept.0 notes (bare w) → IsIdle store notes next → new ≡ old → Does adds store.journal.key history (IsHeldOr kept (kept_with w next)) (λ acts. KeptSo store.journal.key acts (Ok tt) store (kept_with w next)) old new
-idle adds store kept w next notes old new history s replays i same =
-    nothing_done adds store kept (kept_with w next) history s (λ acts. KeptSo store.journal.key acts (Ok tt) store (kept_with w next)) old new same (
+pub idle : {D : Type 0} (adds : Adding D) (store : Store) (kept : Kept) (w : World) (now : Known) (notes : Bytes) (old new : D) (history : List Act) → Stands store.journal.key history store kept → Replays kept.0 notes (bare w) → IsIdle store notes now → new ≡ old
+    → Does adds store.journal.key history (IsHeldOr kept (kept_with w now)) (λ acts. KeptSo store.journal.key acts (Ok tt) store kept (kept_with w now) (kept_with w now)) old new
+idle adds store kept w now notes old new history s replays i same =
+    nothing_done adds store kept (kept_with w now) history s (λ acts. KeptSo store.journal.key acts (Ok tt) store kept (kept_with w now) (kept_with w now)) old new same (
       kept,
       s,
+      inl refl,
       record {
         world_is = unchanged kept.0 (bare w) replays.steps (subst (λ (b : Bytes). ReadsAs b replays.steps) i.none replays.read) replays.leads;
-        client_is = ap (λ (n : NextNumbers). n.client) (sym s.next_is) ∙ i.client_is;
-        session_is = ap (λ (n : NextNumbers). n.session) (sym s.next_is) ∙ i.session_is;
-        no_later = subst (λ (n : NextNumbers). n.open_file ≤ next.open_file) s.next_is i.no_later;
-        near = subst (λ (n : NextNumbers). next.open_file < n.open_file + 2 ^ 31) s.next_is i.near;
+        clients_are = subst (λ (k : Known). AreNear k now) s.known_is i.near;
       },
     )

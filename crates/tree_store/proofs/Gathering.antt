@@ -11,11 +11,12 @@ use Rattle.tree_changes.specs.Parts.{part}
 use Rattle.tree_changes.specs.Taken.{Takes, TakesAll}
 use Rattle.journal.specs.Frames.{Bytes}
 use Rattle.tree_store.specs.Kept.{Kept}
-use Rattle.tree_store.specs.Holds.{ReadsParts, Restores, Begins, LeadsOn, LeadsThrough, Holds}
+use Rattle.client_changes.specs.Known.{Known}
+use Rattle.tree_store.specs.Holds.{ReadsParts, Restores, BeginsClients, Begins, LeadsOn, LeadsThrough, Holds}
 use Rattle.tree_store.specs.declared.fault.StoreFault.{StoreFault}
 use Rattle.tree_store.specs.declared.fault.StoreFault.TheVariants.{Failed, Version, Damaged, Memory}
 use Rattle.tree_store.specs.Keeping.{ReadsSo}
-use Rattle.tree_store.specs.Reading.{TakesBytes, TakesSo, RestoresSo, BeginsSo, LeadsSo, content_of}
+use Rattle.tree_store.specs.Reading.{TakesBytes, TakesSo, RestoresSo, BeginsSo, BeginsClientsSo, LeadsSo, content_of}
 use Rattle.tree_store.proofs.One.{one_reading, takes_one, begins_one, leads_on_one}
 use Rattle.tree_store.proofs.Quiet.{IsQuiet, bare_is, replays_quiet, restores_quiet}
 
@@ -146,7 +147,9 @@ pub record IsReadingOn (parts records : List Bytes) (found : Kept) (left : List 
 
 pub reading_begun : (parts records left : List Bytes) (base : Kept) → Begins parts base → left ≡ records → IsReadingOn parts records base left
 reading_begun [] records left base begins same = elim begins [ ]
-reading_begun (first ∷ parts) records left base begins same = record { base = base; begins = begins; led = led_begun base records left same (restores_quiet parts base.0 begins.1) }
+reading_begun (first ∷ []) records left base begins same = elim begins [ ]
+reading_begun (first ∷ second ∷ []) records left base begins same = elim begins [ ]
+reading_begun (first ∷ second ∷ third ∷ parts) records left base begins same = record { base = base; begins = begins; led = led_begun base records left same (restores_quiet parts base.0 begins.1) }
 
 pub reading_more : (parts records : List Bytes) (found : Kept) (all : List Bytes) (bytes : Bytes) (left : List Bytes) (next : Kept) → IsReadingOn parts records found all → all ≡ bytes ∷ left → LeadsOn found bytes next → IsReadingOn parts records next left
 reading_more parts records found all bytes left next r is on = record { base = r.base; begins = r.begins; led = led_more r.base records found all bytes left next r.led is on }
@@ -173,14 +176,23 @@ restored_fault parts so_far all bytes left Version t is it = it
 restored_fault parts so_far all bytes left Damaged t is it = taking_not parts so_far all bytes left t is it
 restored_fault parts so_far all bytes left Memory t is it = tt
 
-pub begins_not : (parts : List Bytes) (first : Bytes) (others : List Bytes) → parts ≡ first ∷ others → ((w : World) → Restores None others w → ⊥) → (k : Kept) → Begins parts k → ⊥
-begins_not parts first others is not k b = not k.0 (subst (λ (l : List Bytes). Begins l k) is b).1
+pub begins_not : (parts : List Bytes) (first second third : Bytes) (others : List Bytes) → parts ≡ first ∷ second ∷ third ∷ others → ((w : World) → Restores None others w → ⊥) → (k : Kept) → Begins parts k → ⊥
+begins_not parts first second third others is not k b = not k.0 (subst (λ (l : List Bytes). Begins l k) is b).1
 
-pub begun_fault : (A : Type 0) (parts : List Bytes) (first : Bytes) (others : List Bytes) (fault : StoreFault) → parts ≡ first ∷ others → RestoresSo others (Err fault) → BeginsSo {A = A} parts (Err fault)
-begun_fault A parts first others Failed is it = it
-begun_fault A parts first others Version is it = it
-begun_fault A parts first others Damaged is it = begins_not parts first others is it
-begun_fault A parts first others Memory is it = tt
+pub clients_not : (parts : List Bytes) (first second third : Bytes) (others : List Bytes) → parts ≡ first ∷ second ∷ third ∷ others → ((known : Known) → BeginsClients first second third known → ⊥) → (k : Kept) → Begins parts k → ⊥
+clients_not parts first second third others is not k b = not k.1 (subst (λ (l : List Bytes). Begins l k) is b).0
+
+pub begun_fault : (A : Type 0) (parts : List Bytes) (first second third : Bytes) (others : List Bytes) (fault : StoreFault) → parts ≡ first ∷ second ∷ third ∷ others → RestoresSo others (Err fault) → BeginsSo {A = A} parts (Err fault)
+begun_fault A parts first second third others Failed is it = it
+begun_fault A parts first second third others Version is it = it
+begun_fault A parts first second third others Damaged is it = begins_not parts first second third others is it
+begun_fault A parts first second third others Memory is it = tt
+
+pub clients_fault : (A : Type 0) (parts : List Bytes) (first second third : Bytes) (others : List Bytes) (fault : StoreFault) → parts ≡ first ∷ second ∷ third ∷ others → BeginsClientsSo first second third (Err fault) → BeginsSo {A = A} parts (Err fault)
+clients_fault A parts first second third others Failed is it = it
+clients_fault A parts first second third others Version is it = it
+clients_fault A parts first second third others Damaged is it = clients_not parts first second third others is it
+clients_fault A parts first second third others Memory is it = tt
 
 pub content_fault : (A : Type 0) (parts records : List Bytes) (found new : Kept) (all : List Bytes) (bytes : Bytes) (left : List Bytes) (fault : StoreFault) → IsReadingOn parts records found all → all ≡ bytes ∷ left → LeadsSo found bytes (Err fault) new → ReadsSo {A = A} (content_of parts records) (Err fault)
 content_fault A parts records found new all bytes left Failed r is it = it

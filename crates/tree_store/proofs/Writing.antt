@@ -17,7 +17,7 @@ use Rattle.journal.specs.Keeping.{Adding, FrameGives, BeginGives, FinishGives, e
 use Rattle.journal.proofs.Replacing.{start_law, renew_law}
 use Rattle.tree_store.specs.declared.fault.StoreFault.{StoreFault}
 use Rattle.tree_store.specs.declared.fault.StoreFault.TheVariants.{Failed, Version, Damaged, Memory}
-use Rattle.tree_store.specs.declared.store.Store.{Store}
+use Rattle.tree_store.specs.Running.{Store}
 use Rattle.tree_store.specs.Said.{said}
 use Rattle.tree_store.specs.Kept.{Kept}
 use Rattle.tree_store.specs.Holds.{Holds, IsFoundOr}
@@ -242,7 +242,7 @@ module _ {D : Type 0} (adds : Adding D) (c : Checkpoint) (key generation : ℕ) 
         (steps.written_end_synced key generation s content (part_frames parts) history b.replaced b.written (length parts) end_place end_frame fit refl)
         (λ front it. inr (content_of parts ([] ++ bodies front), refl, subst (λ (d : Content). Holds d aim) (same_content (content_of parts []) front it) holds))
 
-    end_stands : (store : Store) → store.journal ≡ record { key = key; slot = other s; generation = generation + 1; number = length parts + 1; safe = length parts + 1; has_failed = false } → store.next ≡ aim.1 → Stands key (Synced (other s) ∷ Appended (other s) end_bytes ∷ history) store aim
+    end_stands : (store : Store) → store.journal ≡ record { key = key; slot = other s; generation = generation + 1; number = length parts + 1; safe = length parts + 1; has_failed = false } → store.known ≡ aim.1 → Stands key (Synced (other s) ∷ Appended (other s) end_bytes ∷ history) store aim
     end_stands store is next =
         let count : length parts + 1 ≡ length (part_frames parts ++ end_frame ∷ []) = omega (arith, end_place, length-append (part_frames parts) (end_frame ∷ [])) in
         stands_of key (Synced (other s) ∷ Appended (other s) end_bytes ∷ history) store aim (record { key = key; slot = other s; generation = generation + 1; number = length parts + 1; safe = length parts + 1; has_failed = false })
@@ -250,7 +250,7 @@ module _ {D : Type 0} (adds : Adding D) (c : Checkpoint) (key generation : ℕ) 
         (steps.none_loose_end key generation s content (part_frames parts) history b.replaced b.written (length parts) end_place end_frame fit refl)
         holds refl count count refl
 
-  pub finish_goes : (j : Journal) (store : Store) (old new : D) → FinishGives adds c (Ok j) old new → store.journal ≡ j → store.next ≡ aim.1 → Does adds key history (IsFoundOr content aim) (λ acts. Stands key acts store aim) old new
+  pub finish_goes : (j : Journal) (store : Store) (old new : D) → FinishGives adds c (Ok j) old new → store.journal ≡ j → store.known ≡ aim.1 → Does adds key history (IsFoundOr content aim) (λ acts. Stands key acts store aim) old new
   finish_goes j store old new gives is next =
       let g = end_gives (Ok j) old new gives in
       does_two adds key history (IsFoundOr content aim) (λ acts. Stands key acts store aim) old g.0.mid new (Appended (other s) end_bytes) (Synced (other s)) before g.0.one (end_appended g.1) g.0.two (end_kept g.1)
@@ -319,7 +319,7 @@ module _ {D : Type 0} (adds : Adding D) (key generation : ℕ) (s : Slot) (conte
           (does_then adds key history (λ o. o ≡ content) (IsBegun key generation s content c []) (IsBegun key generation s content c' all) old mid end
           (begin_goes key generation s content history counts adds c old mid begins) (λ acts b. appends key generation s content [] acts b))
 
-      pub checkpoint_done : (j : Journal) (store : Store) (new : D) → FinishGives adds c' (Ok j) end new → store.journal ≡ j → store.next ≡ aim.1 → Does adds key history (IsFoundOr content aim) (λ acts. Stands key acts store aim) old new
+      pub checkpoint_done : (j : Journal) (store : Store) (new : D) → FinishGives adds c' (Ok j) end new → store.journal ≡ j → store.known ≡ aim.1 → Does adds key history (IsFoundOr content aim) (λ acts. Stands key acts store aim) old new
       checkpoint_done j store new gives is next =
           does_then adds key history (IsFoundOr content aim) (IsBegun key generation s content c' all) (λ acts. Stands key acts store aim) old end new whole
           (λ acts b. finish_goes adds c' key generation s content all aim holds acts b j store end new gives is next)

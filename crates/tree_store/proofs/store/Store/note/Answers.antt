@@ -1,20 +1,30 @@
-use Rattle.std.proofs.Common.{◌≡◌, ◌∙◌, true, refl, Ok, Err}
+use Rattle.std.proofs.Common.{◌≡◌, ◌∙◌, true, refl, Ok, Err, subst, sym}
+use Rattle.client_changes.specs.Applying.{Leads}
+use Rattle.client_changes.specs.Comparing.{lent_view}
+use Rattle.client_changes.proofs.Alike.{same_itself}
+use Rattle.journal.specs.Frames.{Bytes}
 use Rattle.tree_store.specs.Holds.{LeadsOn}
 use Rattle.tree_store.proofs.GoingOn.{goes_on, nothing_done, record_leads}
 use Rattle.tree_store.proofs.store.Store.note.Goals as goal
 
 pub returns-in_default-clause-goes_on : goal.returns-in_default-clause-goes_on
-returns-in_default-clause-goes_on g c kept w replays history s = nothing_done g.D.Disk.adds c.args.self.now kept (w, c.args.next) history s _ _ _ refl tt
+returns-in_default-clause-goes_on g c =
+    let now = lent_view c.args.now.entry in
+    (now, same_itself now, λ kept w replays history s. nothing_done g.D.Disk.adds c.args.self.now kept (w, now) history s _ _ _ refl tt)
 
 pub returns-in-Err-clause-goes_on : goal.returns-in-Err-clause-goes_on
-returns-in-Err-clause-goes_on g c kept w replays history s =
-    let leads : LeadsOn kept c.deref.result.now (w, c.args.next) = record_leads kept w c.args.next c.args.notes.now c.deref.result.now (c.deref.ensures.value ∙ c.in-Ok.ensures.bytes) c.in-Ok.ensures.has_spelling replays in
-    goes_on g.D.Disk.adds c.args.self.now (record c.args.self.now { journal = record c.args.self.now.journal { has_failed = true } }) kept (w, c.args.next) c.deref.result.now leads history s (Err c.in-Err.fault) c.keep_record.new.journal _ _ c.in-Err.ensures (λ is. absurd (never is))
+returns-in-Err-clause-goes_on g c =
+    let known = c.record_of.new.known in
+    (known, c.in-Ok.ensures.same, λ kept w replays history s.
+    let leads : LeadsOn kept c.deref.result.now (w, known) = record_leads kept w c.args.self.now.known known c.args.notes.now c.deref.result.now s.known_is (subst (λ (b : Bytes). Leads c.args.self.now.known b known c.args.notes.now) (sym c.deref.ensures.value) c.in-Ok.ensures.leads) replays in
+    goes_on g.D.Disk.adds c.args.self.now _ kept (w, known) c.deref.result.now leads history s (Err c.in-Err.fault) c.keep_record.new.journal _ _ c.in-Err.ensures (λ is. absurd (never is)))
   where
     never : Err c.in-Err.fault ≡ Ok (tt {0}) → ⊥
     never e = cc
 
 pub returns-clause-goes_on : goal.returns-clause-goes_on
-returns-clause-goes_on g c kept w replays history s =
-    let leads : LeadsOn kept c.deref.result.now (w, c.args.next) = record_leads kept w c.args.next c.args.notes.now c.deref.result.now (c.deref.ensures.value ∙ c.in-Ok.ensures.bytes) c.in-Ok.ensures.has_spelling replays in
-    goes_on g.D.Disk.adds c.args.self.now _ kept (w, c.args.next) c.deref.result.now leads history s (Ok tt) c.keep_record.new.journal _ _ c.in-Ok-keep_record.ensures (λ is. (refl, refl))
+returns-clause-goes_on g c =
+    let known = c.record_of.new.known in
+    (known, c.in-Ok.ensures.same, λ kept w replays history s.
+    let leads : LeadsOn kept c.deref.result.now (w, known) = record_leads kept w c.args.self.now.known known c.args.notes.now c.deref.result.now s.known_is (subst (λ (b : Bytes). Leads c.args.self.now.known b known c.args.notes.now) (sym c.deref.ensures.value) c.in-Ok.ensures.leads) replays in
+    goes_on g.D.Disk.adds c.args.self.now _ kept (w, known) c.deref.result.now leads history s (Ok tt) c.keep_record.new.journal _ _ c.in-Ok-keep_record.ensures (λ is. (refl, refl)))

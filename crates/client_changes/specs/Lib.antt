@@ -1,0 +1,6 @@
+pub mod Opened
+pub mod Known
+pub mod Forms
+pub mod Faults
+pub mod Applying
+pub mod Comparing
