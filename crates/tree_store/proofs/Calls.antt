@@ -20,6 +20,7 @@ use Rattle.journal.specs.Opening.{Chooses}
 use Rattle.journal.specs.Keeping.{Adding, BothFound}
 use Rattle.tree_store.specs.declared.fault.StoreFault.{StoreFault}
 use Rattle.tree_store.specs.declared.fault.StoreFault.TheVariants.{Failed, Version, Damaged, Memory}
+use Rattle.tree_store.specs.declared.checkpoint.Written.{Written}
 use Rattle.tree_store.specs.declared.opening.Base.{Base}
 use Rattle.tree_store.specs.declared.opening.Found.{Found}
 use Rattle.tree_store.specs.Running.{Store}
@@ -28,7 +29,7 @@ use Rattle.tree_store.specs.Holds.{IsFoundOr, IsHeldOr}
 use Rattle.tree_store.specs.Leaving.{Does}
 use Rattle.tree_store.specs.Standing.{Stands}
 use Rattle.tree_store.specs.Keeping.{ReadsSo, OpensSo, Opens, both_found, BegunSo, StartsSo, KeptSo}
-use Rattle.tree_store.specs.Writing.{IfDone, Checkpoints, GoesOn, IsIdle}
+use Rattle.tree_store.specs.Writing.{IfDone, Checkpoints, written_store, GoesOn, IsIdle}
 use Rattle.tree_store.proofs.Doing.{does_also}
 use Rattle.tree_store.proofs.GoingOn.{nothing_done}
 use Rattle.tree_store.proofs.Writing.{chosen_counts, standing_counts}
@@ -52,30 +53,36 @@ opened_fault A key a b slot generation content Memory chosen it = tt
 
 -- ---- starting
 
-begun_so : (key : ℕ) (acts : List Act) (aim : Kept) (result : Result Store StoreFault) → IfDone (λ store. Stands key acts store aim) acts result → BegunSo key acts result aim
-begun_so key acts aim (Ok store) so = so
-begun_so key acts aim (Err Failed) so = so
-begun_so key acts aim (Err Version) so = so
-begun_so key acts aim (Err Damaged) so = so
-begun_so key acts aim (Err Memory) so = tt
+pub starts : {A D : Type 0} (adds : Adding D) (base : Base) (aim : Kept) (written : Written A) (old new : D) → Checkpoints adds base.key base.slot base.generation aim (Ok written) old new → StartsSo adds base aim (Ok (written_store written)) old new
+starts adds base aim written old new does a b content chosen = does content (both_found a b) (chosen_counts base.key a b base.slot base.generation content chosen)
 
-pub starts : {D : Type 0} (adds : Adding D) (base : Base) (aim : Kept) (result : Result Store StoreFault) (old new : D) → Checkpoints adds base.key base.slot base.generation aim result old new → StartsSo adds base aim result old new
-starts adds base aim result old new does a b content chosen =
-    does_also adds base.key (both_found a b) (IsFoundOr content aim) (IsFoundOr content aim) (λ acts. IfDone (λ store. Stands base.key acts store aim) acts result) (λ acts. BegunSo base.key acts result aim) old new
-    (λ c is. is) (λ acts so. begun_so base.key acts aim result so)
+begun_so : (A : Type 0) (key : ℕ) (acts : List Act) (aim : Kept) (so : Written A → Type 0) (fault : StoreFault) → IfDone so acts (Err fault) → BegunSo key acts (Err fault) aim
+begun_so A key acts aim so Failed it = it
+begun_so A key acts aim so Version it = it
+begun_so A key acts aim so Damaged it = it
+begun_so A key acts aim so Memory it = tt
+
+pub starts_not : (A : Type 0) {D : Type 0} (adds : Adding D) (base : Base) (aim : Kept) (fault : StoreFault) (old new : D) → Checkpoints {A = A} adds base.key base.slot base.generation aim (Err fault) old new → StartsSo adds base aim (Err fault) old new
+starts_not A adds base aim fault old new does a b content chosen =
+    does_also adds base.key (both_found a b) (IsFoundOr content aim) (IsFoundOr content aim) (λ acts. IfDone {X = Written A} (λ w. Stands base.key acts (written_store w) aim) acts (Err fault)) (λ acts. BegunSo base.key acts (Err fault) aim) old new
+    (λ c is. is) (λ acts so. begun_so A base.key acts aim (λ w. Stands base.key acts (written_store w) aim) fault so)
     (does content (both_found a b) (chosen_counts base.key a b base.slot base.generation content chosen))
 
 -- ---- a checkpoint of a store that goes on
 
-pub renews : {D : Type 0} (adds : Adding D) (store store' : Store) (kept aim : Kept) (result : Result Store StoreFault) (said : Result (Unit {0}) StoreFault) (old new : D) → Checkpoints adds store.journal.key store.journal.slot store.journal.generation aim result old new → ((acts : List Act) → IfDone (λ it. Stands store.journal.key acts it aim) acts result → IfDone (λ done. Stands store.journal.key acts store' aim) acts said) → GoesOn adds store kept aim said store' old new
+pub renews : {A D : Type 0} (adds : Adding D) (store store' : Store) (kept aim : Kept) (result : Result (Written A) StoreFault) (said : Result (Unit {0}) StoreFault) (old new : D) → Checkpoints adds store.journal.key store.journal.slot store.journal.generation aim result old new → ((acts : List Act) → IfDone (λ it. Stands store.journal.key acts (written_store it) aim) acts result → IfDone (λ done. Stands store.journal.key acts store' aim) acts said) → GoesOn adds store kept aim said store' old new
 renews adds store store' kept aim result said old new does same history s =
-    does_also adds store.journal.key history (IsFoundOr (Some s.content) aim) (IsHeldOr kept aim) (λ acts. IfDone (λ it. Stands store.journal.key acts it aim) acts result) (λ acts. IfDone (λ done. Stands store.journal.key acts store' aim) acts said) old new
+    does_also adds store.journal.key history (IsFoundOr (Some s.content) aim) (IsHeldOr kept aim) (λ acts. IfDone (λ it. Stands store.journal.key acts (written_store it) aim) acts result) (λ acts. IfDone (λ done. Stands store.journal.key acts store' aim) acts said) old new
     (λ c is. held c is) same
     (does (Some s.content) history (standing_counts store.journal.key history store kept s))
   where
     held : (c : _) → IsFoundOr (Some s.content) aim c → IsHeldOr kept aim c
     held c (inl is) = inl (s.content, is, s.holds)
     held c (inr it) = inr it
+
+-- of a store that is the same
+pub goes_on_as : {D : Type 0} (adds : Adding D) (store same : Store) (kept aim : Kept) (result : Result (Unit {0}) StoreFault) (store' : Store) (old new : D) → store ≡ same → GoesOn adds store kept aim result store' old new → GoesOn adds same kept aim result store' old new
+goes_on_as adds store same kept aim result store' old new is does = subst (λ (s : Store). GoesOn adds s kept aim result store' old new) is does
 
 -- a fault is one, whatever would stand after success
 pub same_fault : {X Y : Type 0} (so : X → Type 0) (also : Y → Type 0) (acts : List Act) (fault : StoreFault) → IfDone {X = X} so acts (Err fault) → IfDone {X = Y} also acts (Err fault)

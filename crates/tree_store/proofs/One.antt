@@ -11,8 +11,8 @@ use Rattle.node_tree.specs.Forms as forms
 use Rattle.node_tree.specs.Forms.{change, step_value}
 use Rattle.node_tree.specs.Steps.{Step}
 use Rattle.client_changes.specs.Known.{Known, unknown}
-use Rattle.client_changes.specs.Applying.{Leads}
-use Rattle.client_changes.proofs.Led.{leads_one}
+use Rattle.client_changes.specs.Applying as changing
+use Rattle.client_changes.proofs.Led.{leads_one as front_one}
 use Rattle.tree_changes.specs.Parts as parts_of
 use Rattle.tree_changes.specs.Parts.{part, object_value, name_value}
 use Rattle.tree_changes.specs.Taken.{Takes, TakesAll}
@@ -38,14 +38,20 @@ one_reading r v w x y a b = (ap (value_in v) (sym a ∙ b), ap (rest_in x) (sym 
 
 -- ---- clients
 
-whole_one : (old : Known) (bytes : Bytes) (a b : Known) → LeadsWhole old bytes a → LeadsWhole old bytes b → a ≡ b
-whole_one old bytes a b r q = (leads_one old bytes a b [] [] r q).0
+abbrev LeadsFront : Known → Bytes → Known → Bytes → Type 0
+LeadsFront = changing.Leads
+
+pub whole_one : (old : Known) (bytes : Bytes) (a b : Known) → LeadsWhole old bytes a → LeadsWhole old bytes b → a ≡ b
+whole_one old bytes a b r q = (front_one old bytes a b [] [] r q).0
 
 pub clients_one : (first second third : Bytes) (a b : Known) → BeginsClients first second third a → BeginsClients first second third b → a ≡ b
 clients_one first second third a b r q =
     let heads : r.heads ≡ q.heads = whole_one unknown first r.heads q.heads r.leads_first q.leads_first in
     let half : r.half ≡ q.half = whole_one q.heads second r.half q.half (subst (λ (k : Known). LeadsWhole k second r.half) heads r.leads_second) q.leads_second in
     whole_one q.half third a b (subst (λ (k : Known). LeadsWhole k third a) half r.leads_third) q.leads_third
+
+pub whole_not : (old : Known) (bytes reader : Bytes) (a : Known) (rest : Bytes) → reader ≡ bytes → LeadsFront old reader a rest → (rest ≡ [] → ⊥) → (known : Known) → LeadsWhole old bytes known → ⊥
+whole_not old bytes reader a rest same it some known l = some (front_one old bytes a known rest [] (subst (λ (b : Bytes). LeadsFront old b a rest) same it) l).1
 
 -- ---- parts
 
@@ -154,9 +160,15 @@ replays_one old bytes v w r q = leads_one old q.steps v w (subst (λ (l : List S
 
 pub leads_on_one : (old : Kept) (bytes : Bytes) (j k : Kept) → LeadsOn old bytes j → LeadsOn old bytes k → j ≡ k
 leads_on_one old bytes j k r q =
-    let next = leads_one old.1 bytes j.1 k.1 r.rest q.rest r.clients q.clients in
+    let next = front_one old.1 bytes j.1 k.1 r.rest q.rest r.clients q.clients in
     ap (λ (w : World). both w j.1) (replays_one old.0 q.rest j.0 k.0 (subst (λ (b : Bytes). Replays old.0 b j.0) next.1 r.replays) q.replays)
     ∙ ap (λ (n : Known). both k.0 n) next.0
+
+-- where the changes after those of clients aren't replayed, a record leads nowhere
+pub lead_on_not : (old : Kept) (bytes reader : Bytes) (a : Known) (rest now : Bytes) → reader ≡ bytes → LeadsFront old.1 reader a rest → now ≡ rest → ((w : World) → Replays old.0 now w → ⊥) → (kept : Kept) → LeadsOn old bytes kept → ⊥
+lead_on_not old bytes reader a rest now same it is not kept l =
+    let rests : rest ≡ l.rest = (front_one old.1 bytes a kept.1 rest l.rest (subst (λ (b : Bytes). LeadsFront old.1 b a rest) same it) l.clients).1 in
+    not kept.0 (subst (λ (b : Bytes). Replays old.0 b kept.0) (sym (is ∙ rests)) l.replays)
 
 through_one : (old : Kept) (records : List Bytes) (j k : Kept) → LeadsThrough old records j → LeadsThrough old records k → j ≡ k
 through_one old [] j k r q = r ∙ sym q

@@ -15,6 +15,7 @@ use Rattle.client_changes.specs.Known.{Known}
 use Rattle.client_changes.specs.Comparing.{AreSame, AreNear}
 use Rattle.tree_changes.specs.Parts.{part, parts, object_value, name_value}
 use Rattle.tree_store.specs.declared.checkpoint.Fronts as checkpoints
+use Rattle.tree_store.specs.declared.checkpoint.Written.{Written}
 use Rattle.tree_store.specs.declared.fault.StoreFault.{StoreFault}
 use Rattle.tree_store.specs.declared.fault.StoreFault.TheVariants.{Failed, Version, Damaged, Memory}
 use Rattle.tree_store.specs.Running.{Store}
@@ -119,13 +120,16 @@ pub record Counts (key generation : ℕ) (s : Slot) (content : Option Content) (
   pub base : IsBase key generation s content bytes
   pub leaves : Leaves key history (λ o. o ≡ content)
 
--- Over a file that counts: a crash at any moment leaves what it has, or what was to be kept; and at the end a store
--- stands for that.
-abbrev pub Checkpoints : {D : Type 0} → Adding D → ℕ → Slot → ℕ → Kept → Result Store StoreFault → D → D → Type 0
+abbrev pub written_store : {A : Type 0} → Written A → Store
+written_store w = record { journal = w.journal; known = w.known }
+
+-- Over a file that counts: a crash at any moment leaves what it has, or what was to be kept; and at the end a store of what
+-- was written stands for that.
+abbrev pub Checkpoints : {A D : Type 0} → Adding D → ℕ → Slot → ℕ → Kept → Result (Written A) StoreFault → D → D → Type 0
 Checkpoints adds key s generation aim result old new =
     (content : Option Content) (history : List Act) → Counts key generation s content history
     → Does adds key history (IsFoundOr content aim)
-    (λ acts. IfDone (λ store. Stands key acts store aim) acts result) old new
+    (λ acts. IfDone (λ w. Stands key acts (written_store w) aim) acts result) old new
 
 -- ---- a store that goes on
 

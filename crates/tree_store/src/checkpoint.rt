@@ -1,5 +1,5 @@
 //! A checkpoint of a tree, part by part.
-ghost use Rattle.std.specs.Prelude.{◌≡◌, ◌∷◌, [], map, OnOk};
+ghost use Rattle.std.specs.Prelude.{◌≡◌, ◌∷◌, [], map, IfOk, OnOk};
 ghost use Rattle.std.specs.List.{AllByRecursion};
 ghost use Rattle.xdr_wire.specs.Xdr.{HasSpelling, spelling};
 ghost use Rattle.node_tree.specs.Sound.{IsSound};
@@ -11,9 +11,8 @@ ghost use Rattle.tree_store.specs.Writing.{Appends, Checkpoints, FrontsLead, all
 
 use crate::fault::{StoreFault, said};
 use crate::reading::known_of;
-use crate::store::Store;
 use client_changes::{Closeness, Known, Lent, are_close, write_calls, write_clients};
-use journal::{Checkpoint, Disk, Slot};
+use journal::{Checkpoint, Disk, Journal, Slot};
 use node_tree::{ROOT, Tree};
 use std::alloc::{AllocError, Allocator};
 use tree_changes::{write_counters, write_name, write_object};
@@ -55,12 +54,17 @@ impl<A: Allocator + Copy> Parts<A> {
     }
 
     /// Appends a part that is written already.
-    fn put_bytes<D: Disk>(&mut self, disk: &mut D, alloc: A, bytes: &[u8]) -> Result<(), StoreFault>
-        ensures appends { Appends D.adds self.old.checkpoint (bytes.now ∷ []) result self.new.checkpoint disk.old disk.new }
+    fn put_bytes<D: Disk>(
+        &mut self,
+        disk: &mut D,
+        alloc: A,
+        bytes: &Vec<u8, A>,
+    ) -> Result<(), StoreFault>
+        ensures appends { Appends D.adds self.old.checkpoint (bytes.now.items ∷ []) result self.new.checkpoint disk.old disk.new }
         ensures stays { self.new.writer ≡ self.old.writer }
     {
         self.size = self.size.saturating_add(bytes.len() as u64);
-        match self.checkpoint.part(disk, alloc, bytes) {
+        match self.checkpoint.part(disk, alloc, bytes.as_slice()) {
             Ok(()) => Ok(()),
             Err(fault) => Err(said(fault)),
         }
@@ -76,15 +80,15 @@ impl<A: Allocator + Copy> Parts<A> {
         ensures appends { Appends D.adds self.old.checkpoint (fronts_list (fronts_of fronts.now)) result self.new.checkpoint disk.old disk.new }
         ensures stays { self.new.writer ≡ self.old.writer }
     {
-        match self.put_bytes(disk, alloc, fronts.first.as_slice()) {
+        match self.put_bytes(disk, alloc, &fronts.first) {
             Ok(()) => {}
             Err(fault) => return Err(fault),
         }
-        match self.put_bytes(disk, alloc, fronts.second.as_slice()) {
+        match self.put_bytes(disk, alloc, &fronts.second) {
             Ok(()) => {}
             Err(fault) => return Err(fault),
         }
-        self.put_bytes(disk, alloc, fronts.third.as_slice())
+        self.put_bytes(disk, alloc, &fronts.third)
     }
 
     /// Appends the counters.
@@ -222,6 +226,16 @@ impl<A: Allocator + Copy> Fronts<A> {
     }
 }
 
+/// A checkpoint that was written.
+#[derive(Drop)]
+pub(crate) struct Written<A: Allocator> {
+    pub(crate) journal: Journal,
+    /// What it says of clients.
+    pub(crate) known: Known<A>,
+    /// The bytes of its parts.
+    pub(crate) size: u64,
+}
+
 /// Writes the parts of a checkpoint into the other file than the one that counts, and syncs it: all of it after its fronts
 /// were written, which say what is kept of clients.
 fn write_parts<D: Disk, A: Allocator + Copy>(
@@ -231,7 +245,7 @@ fn write_parts<D: Disk, A: Allocator + Copy>(
     tree: &Tree<A>,
     fronts: &Fronts<A>,
     known: Known<A>,
-) -> Result<Store<A>, StoreFault>
+) -> Result<Written<A>, StoreFault>
     requires { FrontsLead (fronts_of fronts.now) known }
     ensures { Checkpoints D.adds place.key place.slot place.generation (kept_with tree.now known) result disk.old disk.new }
 {
@@ -257,11 +271,10 @@ fn write_parts<D: Disk, A: Allocator + Copy>(
         Ok(journal) => journal,
         Err(fault) => return Err(said(fault)),
     };
-    Ok(Store {
+    Ok(Written {
         journal,
         known,
-        checkpoint: parts.size,
-        records: 0,
+        size: parts.size,
     })
 }
 
@@ -272,7 +285,7 @@ pub(crate) fn write_checkpoint<D: Disk, A: Allocator + Copy>(
     place: Place,
     tree: &Tree<A>,
     now: Lent<'_, A>,
-) -> Result<Store<A>, StoreFault>
+) -> Result<Written<A>, StoreFault>
     ensures { (known : KnownSo) × AreSame known (lent_view now.entry) × Checkpoints D.adds place.key place.slot place.generation (kept_with tree.now known) result disk.old disk.new }
 {
     let Ok(fronts) = Fronts::written(alloc, now) else {

@@ -1,5 +1,5 @@
 //! A record of one turn.
-ghost use Rattle.std.specs.Prelude.{◌≡◌, OnOk, IfOk};
+ghost use Rattle.std.specs.Prelude.{◌≡◌, ◌↔◌, IsTrue, OnOk, IfOk};
 ghost use Rattle.client_changes.specs.Applying.{Leads};
 ghost use Rattle.client_changes.specs.Comparing.{AreSame, lent_view};
 ghost use Rattle.tree_store.specs.Writing.{RecordGives};
@@ -9,6 +9,13 @@ use client_changes::{Closeness, Known, Lent, are_close, lead, write_changes};
 use journal::{Disk, Journal};
 use std::alloc::{AllocError, Allocator};
 use xdr_wire::Reader;
+
+/// Whether bytes are the same.
+fn are_same(a: &[u8], b: &[u8]) -> bool
+    ensures { IsTrue result ↔ (a.now ≡ b.now) }
+{
+    a == b
+}
 
 /// Leads on by the bytes of a record, and sees that it comes to what is known of clients now, and that these notes are
 /// left. What is kept of clients isn't to go on with where it doesn't.
@@ -26,7 +33,10 @@ fn leads_to<A: Allocator + Copy>(
     let Ok(()) = lead(known, alloc, &mut reader) else {
         return Err(AllocError);
     };
-    if reader.rest() != notes || !are_close(Closeness::Same, known.lend(), now) {
+    if !are_same(reader.rest(), notes) {
+        return Err(AllocError);
+    }
+    if !are_close(Closeness::Same, known.lend(), now) {
         return Err(AllocError);
     }
     Ok(())

@@ -64,7 +64,15 @@ impl<A: Allocator + Copy> Store<A> {
             slot: base.slot,
             generation: base.generation,
         };
-        write_checkpoint(disk, alloc, place, tree, now)
+        match write_checkpoint(disk, alloc, place, tree, now) {
+            Ok(written) => Ok(Store {
+                journal: written.journal,
+                known: written.known,
+                checkpoint: written.size,
+                records: 0,
+            }),
+            Err(fault) => Err(fault),
+        }
     }
 
     /// Whether what is to be kept is kept, but for slots, on each of which fewer than 2^20 calls came.
@@ -98,10 +106,15 @@ impl<A: Allocator + Copy> Store<A> {
         };
         self.journal.has_failed = true;
         match write_checkpoint(disk, alloc, place, tree, now) {
-            Ok(store) => *self = store,
-            Err(fault) => return Err(fault),
+            Ok(written) => {
+                self.journal = written.journal;
+                self.known = written.known;
+                self.checkpoint = written.size;
+                self.records = 0;
+                Ok(())
+            }
+            Err(fault) => Err(fault),
         }
-        Ok(())
     }
 
     /// Keeps a record.
