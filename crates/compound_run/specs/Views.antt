@@ -46,7 +46,7 @@ opens_view opens = map open_view opens
 
 -- the realm that is served
 abbrev pub realm_of : {A : Type 0} → realms.Realm A → Realm
-realm_of e = record { world = e.tree.world; opens = opens_view e.opens.items; next_open = e.next_open; registry = e.clients }
+realm_of e = record { world = e.tree.world; opens = opens_view e.opens.items; next_open = e.next_open; registry = e.clients; lasting = e.lasting }
 
 -- the settings of a server
 abbrev pub settings_in : Guarded → Settings
