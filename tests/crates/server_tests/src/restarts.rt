@@ -25,12 +25,16 @@ const PERSISTENT: [u32; 22] = [
 /// The places in the record of a reply: the status of a COMPOUND, the flags of a CREATE_SESSION that is alone, and, behind
 /// SEQUENCE, PUTROOTFH and LOOKUP, the bytes of a READ.
 const STATUS: usize = 28;
+
 const FLAGS: usize = 68;
+
 const BYTES: usize = 116;
 
 /// NFS4_OK, NFS4ERR_BAD_STATEID and NFS4ERR_BADSESSION.
 const OK: u32 = 0;
+
 const BAD_STATEID: u32 = 10_025;
+
 const BADSESSION: u32 = 10_052;
 
 const CHANNEL: Channel = Channel {
@@ -149,21 +153,15 @@ fn restored(
     hasher: RandomState,
 ) -> Result<Result<Hub, RestoreFault>, Fail> {
     let tree = Tree::sample(alloc)?;
-    Ok(Hub::restored(
-        alloc,
-        tree,
-        kept,
-        Book::default(alloc),
-        hasher,
-    ))
+    Ok(Hub::restored(alloc, tree, kept, Book::default(alloc), hasher))
 }
 
 /// SEQUENCE of a session, PUTROOTFH, LOOKUP of `notes`, and READ by an open with seqid 2, as one COMPOUND.
 fn reading(session: u32, number: u32, open: u32) -> [u32; 22] {
     let notes = [0x6e6f_7465, 0x7300_0000];
     [
-        4, 53, 0, 0, 0, session, number, 0, 0, 0, 24, 15, 5, notes[0], notes[1], 25, 2, 0, 0,
-        open, 0, 0,
+        4, 53, 0, 0, 0, session, number, 0, 0, 0, 24, 15, 5, notes[0], notes[1], 25, 2, 0, 0, open,
+        0, 0,
     ]
 }
 
@@ -185,9 +183,13 @@ fn a_session_and_an_open_go_on_after_a_restart(rt: HostRuntime) -> Result<(), Fa
         let mut compound = Vec::from_slice(alloc, &reading(session, number, open))?;
         compound.push(16)?;
         let bytes = reply(alloc, &mut hub, conn, &compound)?;
-        assert_eq!(rt; word(&bytes, STATUS), Some(status), "{session} {number} {open}");
+        assert_eq!(rt;
+            word(&bytes, STATUS),
+            Some(status),
+            "{session} {number} {open}"
+        );
         if status == OK {
-            assert_eq!(rt; bytes[BYTES..BYTES + 2], *b"hi");
+            assert_eq!(rt; &bytes[BYTES..BYTES + 2], b"hi".as_slice());
         }
     }
     Ok(())
@@ -229,7 +231,11 @@ fn an_open_that_cannot_stand_is_a_misfit(rt: HostRuntime) -> Result<(), Fail> {
             Err(RestoreFault::Misfit) => false,
             Err(RestoreFault::Memory) => return Err(Fail::new("there is no memory")),
         };
-        assert_eq!(rt; told, fits, "{number} {client} {object} {access} {seqid} {next_open}");
+        assert_eq!(rt;
+            told,
+            fits,
+            "{number} {client} {object} {access} {seqid} {next_open}"
+        );
     }
     Ok(())
 }
