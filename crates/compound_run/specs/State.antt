@@ -1,5 +1,5 @@
 -- The state that a server keeps from one COMPOUND to the next, and its change by a COMPOUND.
-use Rattle.std.specs.Prelude.{◌≡◌, ◌≤◌, ℕ, List, [], length, Option, Some, None}
+use Rattle.std.specs.Prelude.{◌≡◌, ◌≤◌, ℕ, true, List, [], length, Option, Some, None}
 use Rattle.xdr_wire.specs.Buffer.{Buffer, Appends}
 use Rattle.xdr_wire.specs.Reading.{read_at}
 use Rattle.xdr_wire.specs.Xdr.{Value}
@@ -11,13 +11,13 @@ use Rattle.nfs_types.specs.declared.status.Status.{Status}
 use Rattle.node_tree.specs.Notes.{Notes, no_notes}
 use Rattle.node_tree.specs.World.{World}
 use Rattle.session_slots.specs.Letting.{let_go}
-use Rattle.session_slots.specs.Restoring.{nothing_yet}
+use Rattle.session_slots.specs.Registry.{Registry}
 use Rattle.session_slots.specs.declared.restoring.NextNumbers.{NextNumbers}
 use Rattle.access_guard.specs.declared.line.Line.{Line}
 use Rattle.compound_run.specs.declared.server.RunEnd.{RunEnd}
 use Rattle.compound_run.specs.declared.server.RunEnd.TheVariants.{Replied, Garbage}
 use Rattle.compound_run.specs.Limits.{MAX_OPERATIONS, MAX_REPLY, MAX_RESULTS}
-use Rattle.compound_run.specs.Realm.{Realm, unopened}
+use Rattle.compound_run.specs.Realm.{Realm, Opened, unopened}
 use Rattle.compound_run.specs.Context.{Context, no_handles}
 use Rattle.compound_run.specs.Sessions.{opens_without}
 use Rattle.compound_run.specs.Settings.{Settings, first_settings, reloaded_settings}
@@ -36,11 +36,11 @@ pub record State : Type 0 where
 abbrev pub fresh : World → Content → ℕ → State
 fresh w book capacity = record { realm = unopened w; trail = []; total = 0; settings = first_settings capacity book }
 
--- A server that goes on over a world of before a restart: no client, no session and no open file of then is known, and none of their numbers
--- is given again.
-abbrev pub restored : World → NextNumbers → Content → ℕ → State
-restored w next book capacity = record {
-  realm = record { world = w; opens = []; next_open = next.open_file; registry = nothing_yet next.client next.session };
+-- A server that goes on after a restart over what was kept: this world, these clients with their sessions, these open
+-- files, and this number of the next one. Its sessions outlive the next restart too (RFC 8881, section 2.10.6.5).
+abbrev pub restored : World → Registry → List Opened → ℕ → Content → ℕ → State
+restored w registry opens next_open book capacity = record {
+  realm = record { world = w; opens = opens; next_open = next_open; registry = registry; lasting = true };
   trail = [];
   total = 0;
   settings = first_settings capacity book;

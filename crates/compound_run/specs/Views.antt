@@ -1,5 +1,5 @@
 -- The values of the code, as the definitions see them.
-use Rattle.std.specs.Prelude.{◌≡◌, ◌≢◌, ◌≤◌, ℕ, ◌+◌, Bool, true, false, List, length, map, Option, Some, Result, Ok, Err, OnOk, OnErr}
+use Rattle.std.specs.Prelude.{◌≡◌, ◌≢◌, ◌≤◌, ℕ, ◌+◌, Bool, true, false, List, length, map, Result, Ok, Err, OnOk, OnErr}
 use Rattle.xdr_wire.specs.Buffer.{Buffer, Appends}
 use Rattle.xdr_wire.specs.Xdr.{Value}
 use Rattle.rpc_record.specs.Identity.{Identity}
@@ -46,7 +46,7 @@ opens_view opens = map open_view opens
 
 -- the realm that is served
 abbrev pub realm_of : {A : Type 0} → realms.Realm A → Realm
-realm_of e = record { world = e.tree.world; opens = opens_view e.opens.items; next_open = e.next_open; registry = e.clients }
+realm_of e = record { world = e.tree.world; opens = opens_view e.opens.items; next_open = e.next_open; registry = e.clients; lasting = e.lasting }
 
 -- the settings of a server
 abbrev pub settings_in : Guarded → Settings
