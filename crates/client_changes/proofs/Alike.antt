@@ -8,8 +8,9 @@ use Rattle.session_slots.specs.Limits.{END}
 use Rattle.session_slots.specs.Orderly.{IsIn, IsOrderly}
 use Rattle.session_slots.specs.Restoring.{held_of, kept_at}
 use Rattle.std.proofs.lemmas.Option.{slice_get-map, slice_get-get_or}
-use Rattle.client_changes.specs.declared.open.Open.{Open}
-use Rattle.client_changes.specs.Opened.{Opened, open_view, opens_view}
+use Rattle.compound_run.specs.declared.opens.Open.{Open}
+use Rattle.compound_run.specs.Realm.{Opened}
+use Rattle.compound_run.specs.Views.{open_view, opens_view}
 use Rattle.client_changes.specs.Known.{Known}
 use Rattle.client_changes.specs.Comparing.{IsClose, IsSessionClose, AreClose, AreSame, AreNear}
 use Rattle.client_changes.specs.declared.comparing.Closeness.{Closeness}

@@ -9,7 +9,7 @@ use Rattle.session_slots.specs.Forms.{client, call, creation, client_value, crea
 use Rattle.session_slots.specs.Registry.{Client, Registry, session_at}
 use Rattle.session_slots.specs.Restoring.{record_fits, with_record, slot_fits, with_kept}
 use Rattle.session_slots.specs.Slots.{Kept}
-use Rattle.client_changes.specs.Opened.{Opened}
+use Rattle.compound_run.specs.Realm.{Opened}
 use Rattle.client_changes.specs.Known.{Known}
 use Rattle.client_changes.specs.Applying.{AppliesRecord, AppliesCall}
 

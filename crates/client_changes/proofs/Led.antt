@@ -12,7 +12,7 @@ use Rattle.session_slots.specs.Registry.{Client, Registry, client_at, confirmed_
 use Rattle.session_slots.specs.Restoring.{record_fits, with_record, with_restored, with_kept}
 use Rattle.session_slots.specs.Slots.{Kept}
 use Rattle.session_slots.proofs.Told.{one_client, one_session, one_call}
-use Rattle.client_changes.specs.Opened.{Opened}
+use Rattle.compound_run.specs.Realm.{Opened}
 use Rattle.client_changes.specs.Known.{Known}
 use Rattle.client_changes.specs.Forms.{change, front}
 use Rattle.client_changes.specs.Applying.{Applies, AppliesRecord, AppliesSession, AppliesCall, LeadsOne, LeadsAll, Leads, with_registry}

@@ -7,7 +7,7 @@ use Rattle.session_slots.specs.Registry.{Registry, client_at, session_at}
 use Rattle.session_slots.specs.Restoring.{held_of, kept_at}
 use Rattle.session_slots.specs.Slots.{Kept, number_of}
 use Rattle.client_changes.specs.Known.{Known}
-use Rattle.client_changes.specs.Opened.{opens_view}
+use Rattle.compound_run.specs.Views.{opens_view}
 use Rattle.client_changes.specs.declared.comparing.Closeness.{Closeness}
 use Rattle.client_changes.specs.declared.comparing.Closeness.TheVariants as closeness
 use Rattle.client_changes.specs.declared.known.Lent.{Lent}

@@ -4,7 +4,7 @@ use Rattle.std.proofs.Common.{inl, inr}
 use Rattle.xdr_wire.specs.Xdr.{Xdr, Value, void, uint, hyper, opaque, union, arm, no_more, fields}
 use Rattle.session_slots.specs.Forms.{client, session, call, client_value, session_value}
 use Rattle.session_slots.specs.FormViews.{form_client, form_call}
-use Rattle.client_changes.specs.Opened.{Opened}
+use Rattle.compound_run.specs.Realm.{Opened}
 use Rattle.client_changes.specs.declared.change.SaidChange.{SaidChange}
 use Rattle.client_changes.specs.declared.change.SaidChange.TheVariants as said
 

@@ -1,4 +1,3 @@
-pub mod Opened
 pub mod Known
 pub mod Forms
 pub mod Faults

@@ -12,7 +12,7 @@ ghost use Rattle.client_changes.specs.declared.applying.ChangeFault.TheVariants.
 
 use crate::change::{SaidChange, SaidOpen};
 use crate::known::Known;
-use crate::open::Open;
+use compound_run::Open;
 use nfs_types::Status;
 use session_slots::{CallForm, Clients, Creation, KeptCall, RecordForm, RestoreFault, SessionForm};
 use std::alloc::{AllocError, Allocator};

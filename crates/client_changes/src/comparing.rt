@@ -7,10 +7,10 @@ ghost use Rattle.session_slots.specs.Restoring.{kept_at};
 ghost use Rattle.session_slots.specs.Slots.{number_of};
 ghost use Rattle.session_slots.specs.Views.{client_of, kept_of};
 ghost use Rattle.client_changes.specs.Comparing.{first_of, lent_view, IsClose, IsSessionClose, AreClose};
-ghost use Rattle.client_changes.specs.Opened.{open_view, opens_view};
+ghost use Rattle.compound_run.specs.Views.{open_view, opens_view};
 
 use crate::known::Lent;
-use crate::open::Open;
+use compound_run::Open;
 use nfs_types::Status;
 use session_slots::{Channel, Clients, Created, Creation, KeptCall, Record};
 use std::alloc::Allocator;

@@ -1,12 +1,15 @@
 //! What is known of clients.
 ghost use Rattle.std.specs.Prelude.{◌≡◌};
-ghost use Rattle.client_changes.specs.Known.{unknown};
+ghost use Rattle.client_changes.specs.Known.{known_of, unknown};
 ghost use Rattle.client_changes.specs.Comparing.{lent_view};
 
-use crate::open::Open;
+use compound_run::{Open, Server};
 use session_slots::Clients;
 use std::alloc::{Allocator, Global};
 use std::marker::Model;
+
+/// The most clients.
+const MOST: u32 = 64;
 
 /// What is known of clients: their records with their sessions and slots, the open files, and the number that the next
 /// one gets.
@@ -22,7 +25,7 @@ pub struct Known<A: Allocator = Global> {
 
 impl<A: Allocator> Model for Known<A> {
     ghost use Rattle.client_changes.specs.Known.{Known};
-    ghost use Rattle.client_changes.specs.Opened.{opens_view};
+    ghost use Rattle.compound_run.specs.Views.{opens_view};
 
     ghost Value = { Known };
 
@@ -62,6 +65,33 @@ impl<A: Allocator + Copy> Known<A> {
             clients: &self.clients,
             opens: &self.opens,
             next_open: self.next_open,
+        }
+    }
+
+    /// All clients were heard in this second, which is no part of the model: so a client that is restored has a lease again.
+    pub fn hear_all(&mut self, now: u64)
+        ensures { self.new ≡ self.old }
+    {
+        let mut at = 0;
+        for _client in 0..MOST {
+            let Some(number) = self.clients.client_from(at) else {
+                return;
+            };
+            self.clients.hear(number, now);
+            at = number.saturating_add(1);
+        }
+    }
+}
+
+impl<'a, A: Allocator + Copy> Lent<'a, A> {
+    /// What a server knows of its clients.
+    pub fn of(server: &'a Server<A>) -> Self
+        ensures { lent_view result ≡ known_of server.now }
+    {
+        Lent {
+            clients: server.clients(),
+            opens: server.opens(),
+            next_open: server.next_numbers().open_file,
         }
     }
 }

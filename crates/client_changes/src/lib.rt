@@ -7,7 +7,6 @@ mod change;
 mod comparing;
 mod known;
 mod leading;
-mod open;
 mod writing;
 
 pub use applying::{ChangeFault, apply};
@@ -15,5 +14,4 @@ pub use change::{SaidChange, SaidOpen};
 pub use comparing::{Closeness, are_close};
 pub use known::{Known, Lent};
 pub use leading::lead;
-pub use open::Open;
 pub use writing::{write_calls, write_changes, write_clients};

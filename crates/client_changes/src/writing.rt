@@ -3,7 +3,7 @@
 use crate::change::SaidOpen;
 use crate::comparing::{Closeness, are_calls_same, are_close, are_opens_same};
 use crate::known::Lent;
-use crate::open::Open;
+use compound_run::Open;
 use session_slots::{Clients, KeptCall, Record, RecordForm, SessionForm, write_call};
 use std::alloc::{AllocError, Allocator};
 use xdr_wire::{Full, Opaque, Spell, Writer};

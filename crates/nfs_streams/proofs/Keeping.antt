@@ -18,7 +18,8 @@ use Rattle.access_guard.specs.declared.line.Line.{Line}
 use Rattle.node_tree.specs.World.{World}
 use Rattle.tree_changes.specs.Noting.{Noted}
 use Rattle.compound_run.specs.State.{State as ServerState}
-use Rattle.nfs_streams.specs.Lasting.{known_of, kept_of}
+use Rattle.client_changes.specs.Known.{known_of}
+use Rattle.nfs_streams.specs.Lasting.{kept_of}
 use Rattle.hub_laws.specs.Notes.{world_of}
 use Rattle.nfs_hub.specs.declared.hub.Hub.{Hub}
 use Rattle.nfs_hub.specs.Answer.{Served as ServedState}

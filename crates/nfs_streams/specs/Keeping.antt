@@ -15,7 +15,8 @@ use Rattle.nfs_hub.specs.declared.hub.Hub.{Hub}
 use Rattle.nfs_hub.specs.Machine.{State}
 use Rattle.nfs_hub.specs.Hub.{IsHub}
 use Rattle.nfs_streams.specs.declared.serving.Limits.{Limits}
-use Rattle.nfs_streams.specs.Lasting.{known_of, kept_of}
+use Rattle.client_changes.specs.Known.{known_of}
+use Rattle.nfs_streams.specs.Lasting.{kept_of}
 use Rattle.nfs_streams.specs.Acts.{Act, OnDisk, Told, Unwritten}
 use Rattle.nfs_streams.specs.Runs.{Runs}
 

@@ -1,10 +1,7 @@
 -- What outlives a restart of a server: the world, but for the notes of its changes, and what is known of clients.
-use Rattle.client_changes.specs.Known.{Known}
+use Rattle.client_changes.specs.Known.{known_of}
 use Rattle.tree_store.specs.Kept.{Kept, kept_with}
 use Rattle.compound_run.specs.State.{State}
-
-abbrev pub known_of : State → Known
-known_of s = record { registry = s.realm.registry; opens = s.realm.opens; next_open = s.realm.next_open }
 
 abbrev pub kept_of : State → Kept
 kept_of s = kept_with s.realm.world (known_of s)

@@ -1,12 +1,10 @@
 //! Serving all streams, one turn after another.
 ghost use Rattle.std.specs.Prelude.{◌≡◌, ◌≤◌, ℕ, List, Option, length, IfOk};
 ghost use Rattle.journal.specs.Disk.{Act as DiskAct};
-ghost use Rattle.client_changes.specs.Comparing.{lent_view};
 ghost use Rattle.tree_store.specs.Kept.{Kept};
 ghost use Rattle.nfs_hub.specs.Answer.{Served as ServedState};
 ghost use Rattle.nfs_hub.specs.Machine.{Event};
 ghost use Rattle.nfs_hub.specs.Hub.{LeadsTo};
-ghost use Rattle.nfs_streams.specs.Lasting.{known_of};
 ghost use Rattle.nfs_streams.specs.Acts.{Act};
 ghost use Rattle.nfs_streams.specs.Seats.{taken};
 ghost use Rattle.nfs_streams.specs.Keeping.{IsOpen, KeepsTree};
@@ -19,7 +17,6 @@ use crate::streams::{Streams, Wait};
 use client_changes::Lent;
 use nfs_hub::{Clock, Hub, MAX_CONNECTIONS};
 use std::alloc::{AllocError, Allocator};
-use compound_run::Server;
 use tree_store::Store;
 
 /// How far streams are served.
@@ -90,17 +87,6 @@ fn expire<A: Allocator + Copy, C: Clock>(hub: &mut Hub<A>, clock: &C, limits: Li
     let _ = hub.let_go(clock.now());
 }
 
-/// What a server knows of clients, lent.
-fn known_of<A: Allocator + Copy>(server: &Server<A>) -> Lent<'_, A>
-    ensures { lent_view result ≡ known_of server.now }
-{
-    Lent {
-        clients: server.clients(),
-        opens: server.opens(),
-        next_open: server.next_numbers().open_file,
-    }
-}
-
 /// Keeps the tree and what is known of clients in the store, if there is one. Whether they are kept.
 fn keep_tree<A: Allocator + Copy, S: Streams<A>>(
     hub: &Hub<A>,
@@ -114,7 +100,7 @@ fn keep_tree<A: Allocator + Copy, S: Streams<A>>(
         return true;
     };
     let server = hub.server();
-    let done = store.keep(streams, alloc, server.tree(), known_of(server));
+    let done = store.keep(streams, alloc, server.tree(), Lent::of(server));
     done.is_ok()
 }
 

@@ -1,7 +1,7 @@
 use Rattle.std.proofs.Common.{refl, sym, ap, ◌∙◌}
 use Rattle.session_slots.specs.Forms.{client_value}
 use Rattle.session_slots.specs.Views.{client_of}
-use Rattle.client_changes.specs.Opened.{opens_view}
+use Rattle.compound_run.specs.Views.{opens_view}
 use Rattle.client_changes.proofs.Applied.{record_applies, same_form}
 use Rattle.client_changes.proofs.applying.add_record.Goals as goal
 

@@ -2,7 +2,7 @@ use Rattle.std.proofs.Common.{sym, ap, subst}
 use Rattle.std.specs.List.Sorted.{IsStrictlyIncreasing}
 use Rattle.xdr_wire.specs.Xdr.{Value}
 use Rattle.session_slots.specs.Forms.{caller}
-use Rattle.client_changes.specs.Opened.{opens_view}
+use Rattle.compound_run.specs.Views.{opens_view}
 use Rattle.client_changes.proofs.Applied.{call_applies}
 use Rattle.client_changes.proofs.applying.set_call.Goals as goal
 

@@ -1,5 +1,5 @@
 use Rattle.std.proofs.Common.{◌≡◌, take}
-use Rattle.client_changes.specs.Opened.{opens_view}
+use Rattle.compound_run.specs.Views.{opens_view}
 use Rattle.client_changes.proofs.comparing.are_opens_same.Given as goal
 
 abbrev pub invariant-loop-at : goal.invariant-loop-at

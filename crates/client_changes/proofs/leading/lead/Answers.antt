@@ -1,4 +1,4 @@
-use Rattle.client_changes.specs.Opened.{opens_view}
+use Rattle.compound_run.specs.Views.{opens_view}
 use Rattle.client_changes.proofs.Led.{front_leads}
 use Rattle.client_changes.proofs.leading.lead.Goals as goal
 
