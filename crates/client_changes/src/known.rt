@@ -56,6 +56,20 @@ pub struct Lent<'a, A: Allocator = Global> {
     pub next_open: u64,
 }
 
+/// All clients were heard in this second.
+fn hear_all<A: Allocator + Copy>(clients: &mut Clients<A>, now: u64)
+    ensures { clients.new ≡ clients.old }
+{
+    let mut at = 0;
+    for _client in 0..MOST {
+        let Some(number) = clients.client_from(at) else {
+            return;
+        };
+        clients.hear(number, now);
+        at = number.saturating_add(1);
+    }
+}
+
 impl<A: Allocator + Copy> Known<A> {
     /// All of it, lent.
     pub fn lend(&self) -> Lent<'_, A>
@@ -72,14 +86,7 @@ impl<A: Allocator + Copy> Known<A> {
     pub fn hear_all(&mut self, now: u64)
         ensures { self.new ≡ self.old }
     {
-        let mut at = 0;
-        for _client in 0..MOST {
-            let Some(number) = self.clients.client_from(at) else {
-                return;
-            };
-            self.clients.hear(number, now);
-            at = number.saturating_add(1);
-        }
+        hear_all(&mut self.clients, now);
     }
 }
 
