@@ -3,7 +3,7 @@ import os
 import subprocess
 
 # the most seconds that the probe may take
-PATIENCE = 300
+PATIENCE = 900
 
 # two of the checks that `rt try` builds in are left out, which a quarter of the time would go into: that no memory of a function that returned is
 # used, and that what is filled or copied as a whole has room
