@@ -1,4 +1,4 @@
-"""The crates of tests/crates, which are built and run and not proved, in a repository of their own with the crates that they use."""
+"""The crates of tests/crates, which are run and not proved, in a repository with the crates that they use."""
 import filecmp
 import os
 import re
@@ -17,7 +17,7 @@ def name_of(line):
 
 
 def make_room(tree, room, listed):
-    """A repository of the crates of `tree` and of those of tests/crates that a file lists; gives the names of the latter."""
+    """A repository of the crates of `tree` and of those of tests/crates that a file lists; gives their names."""
     own, others = lines_of(f"{tree}/crates.txt"), lines_of(f"{tree}/{listed}")
     os.mkdir(f"{room}/crates")
     for line in own:
