@@ -57,7 +57,8 @@ fn step<R: Print, A: Allocator + Copy>(
         return Ok(());
     }
     course.last = answer(alloc, house, course.skips, line)?;
-    println!(rt; "{}", course.last)?;
+    rt.write_all(course.last.as_bytes())?;
+    rt.write_all(b"\n")?;
     Ok(())
 }
 

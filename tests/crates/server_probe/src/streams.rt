@@ -1,5 +1,6 @@
 //! Streams of a hub, each on a new connection, in pieces.
 
+use crate::digits::bytes_in;
 use crate::plain::{close, connect, consume, feed, number_of, pending};
 use crate::split_word;
 use nfs_hub::{ConnId, Hub};
@@ -9,7 +10,7 @@ use std::test::Fail;
 /// The size of a piece, and the bytes of a stream.
 fn pieces_in(alloc: Global, words: &str) -> Result<(usize, Vec<u8>), Fail> {
     let (size, digits) = split_word(words);
-    Ok((size.parse()?, hex::decode(alloc, digits)?))
+    Ok((size.parse()?, bytes_in(alloc, digits)?))
 }
 
 /// Appends the pending bytes of a connection, which are dropped there.

@@ -1,5 +1,6 @@
 //! The connections of a hub, which have their places in the order in which they were opened.
 
+use crate::digits::bytes_in;
 use crate::plain::{close, connect, consume, feed, is_broken, number_of, pending, take_out};
 use crate::split_word;
 use nfs_hub::{ConnId, Hub};
@@ -39,7 +40,7 @@ fn send<A: Allocator + Copy>(
     rest: &str,
 ) -> Result<String, Fail> {
     let (second, digits) = split_word(rest);
-    let bytes = hex::decode(alloc, digits)?;
+    let bytes = bytes_in(alloc, digits)?;
     let fault = number_of(feed(hub, conn, &bytes, second.parse()?));
     Ok(format!(in alloc; "{fault}")?)
 }
@@ -79,7 +80,7 @@ fn exchange<A: Allocator + Copy>(
     rest: &str,
 ) -> Result<String, Fail> {
     let (second, digits) = split_word(rest);
-    let (second, bytes) = (second.parse()?, hex::decode(alloc, digits)?);
+    let (second, bytes) = (second.parse()?, bytes_in(alloc, digits)?);
     let fault = number_of(feed(hub, conn, &bytes, second));
     let replies = hex::encode(alloc, pending(hub, conn))?;
     let _ = consume(hub, conn, usize::MAX);

@@ -17,7 +17,7 @@ use std::test::Fail;
 /// Plays the scenes of a text, and prints what comes of each.
 fn play_all(rt: &impl Print, alloc: Global, text: &str) -> Result<(), Fail> {
     for scene in text.split("\n\n") {
-        rt.print(&scene_said(alloc, scene)?)?;
+        rt.write_all(scene_said(alloc, scene)?.as_bytes())?;
     }
     Ok(())
 }

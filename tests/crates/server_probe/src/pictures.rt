@@ -66,12 +66,13 @@ fn put_names<A: Allocator + Copy>(
     directory: u64,
     limit: u64,
 ) -> Result<(), AllocError> {
-    for cookie in 2..limit {
-        if let Some(entry) = tree.list_after(directory, cookie) {
-            if entry.cookie() == cookie + 1 {
-                put_name(alloc, text, entry)?;
-            }
+    let mut last = 2;
+    while let Some(entry) = tree.list_after(directory, last) {
+        if entry.cookie() > limit {
+            return Ok(());
         }
+        put_name(alloc, text, entry)?;
+        last = entry.cookie();
     }
     Ok(())
 }

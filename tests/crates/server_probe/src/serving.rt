@@ -1,5 +1,6 @@
 //! Serving over readers and writers in memory, which give and take pieces, and fail where they are to.
 
+use crate::digits::bytes_in;
 use crate::split_word;
 use nfs_hub::{Clock, Hub, ServeEnd, serve};
 use nfs_types::Moment;
@@ -179,6 +180,6 @@ pub fn serve_stream<A: Allocator + Copy>(
     let Some((way, digits)) = way_in(words) else {
         return Err(Fail::new("serve how?"));
     };
-    let stream = hex::decode(alloc, digits)?;
+    let stream = bytes_in(alloc, digits)?;
     served(alloc, hub, way, &stream)
 }

@@ -1,5 +1,6 @@
 //! Trees, line by line. Names stand there in hexadecimal digits.
 
+use crate::digits::bytes_in;
 use crate::objects::{add, link, set_list};
 use crate::split_word;
 use acl_list::Kind;
@@ -24,7 +25,7 @@ fn add_line(alloc: Global, tree: &mut Tree, words: &str) -> Result<(), Fail> {
     let Some(kind) = kind_of(kind) else {
         return Err(Fail::new("no kind"));
     };
-    let name = hex::decode(alloc, name)?;
+    let name = bytes_in(alloc, name)?;
     add(alloc, tree, directory.parse()?, &name, kind, list)?;
     Ok(())
 }
@@ -32,13 +33,13 @@ fn add_line(alloc: Global, tree: &mut Tree, words: &str) -> Result<(), Fail> {
 /// `name NAME NUMBER`: a link has one more name in the root.
 fn name_line(alloc: Global, tree: &mut Tree, words: &str) -> Result<(), Fail> {
     let (name, number) = split_word(words);
-    link(tree, &hex::decode(alloc, name)?, number.parse()?)
+    link(tree, &bytes_in(alloc, name)?, number.parse()?)
 }
 
 /// `set NAME LIST`: the list of the object that has a name in the root.
 fn set_line(alloc: Global, tree: &mut Tree, words: &str) -> Result<(), Fail> {
     let (name, list) = split_word(words);
-    set_list(alloc, tree, &hex::decode(alloc, name)?, list)
+    set_list(alloc, tree, &bytes_in(alloc, name)?, list)
 }
 
 /// Whether a line grows a tree.

@@ -1,5 +1,6 @@
 //! Calls that a server answers.
 
+use crate::digits::bytes_in;
 use crate::split_word;
 use compound_run::{Args, MAX_RESULTS, RunEnd, Server};
 use nfs_types::Moment;
@@ -128,7 +129,7 @@ pub fn run_call<A: Allocator + Copy>(
     let Some(call) = call_in(words) else {
         return Err(Fail::new("no call"));
     };
-    let bytes = hex::decode(alloc, call.digits)?;
+    let bytes = bytes_in(alloc, call.digits)?;
     let end = make(site, in_session, call, &bytes);
     said(alloc, site, end)
 }

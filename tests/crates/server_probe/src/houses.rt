@@ -2,6 +2,7 @@
 
 use crate::calls::{Site, run_call};
 use crate::connections::{Hall, ask_connection, is_of_one};
+use crate::digits::bytes_in;
 use crate::looks::look;
 use crate::plain::reload;
 use crate::servers::{book_of, reload as reload_server};
@@ -37,7 +38,7 @@ pub fn results_writer<A: Allocator + Copy>(alloc: A) -> Result<Writer<A>, AllocE
 
 /// The book whose text these hexadecimal digits are; without digits, one without names.
 pub fn book_in(alloc: Global, digits: &str) -> Result<Book, Fail> {
-    let text = String::from_utf8(hex::decode(alloc, digits)?)?;
+    let text = String::from_utf8(bytes_in(alloc, digits)?)?;
     book_of(alloc, text.as_str())
 }
 

@@ -4,6 +4,7 @@
 mod calls;
 mod connections;
 mod courses;
+mod digits;
 mod houses;
 mod looks;
 mod making;
