@@ -44,7 +44,7 @@ fits_form r c h = last_of (nat_lt c.number r.next_client) (nat_lt (length r.clie
 record_one : (old : Known) (v : Value client) (a b : Known) → AppliesRecord old v a → AppliesRecord old v b → a ≡ b
 record_one old v a b r q =
     r.is ∙ ap (λ (c : Client). with_registry (with_record old.registry c) old)
-        (one_client r.restored q.restored (fits_form old.registry r.restored r.fits) (fits_form old.registry q.restored q.fits) (sym r.said ∙ q.said)) ∙ sym q.is
+    (one_client r.restored q.restored (fits_form old.registry r.restored r.fits) (fits_form old.registry q.restored q.fits) (sym r.said ∙ q.said)) ∙ sym q.is
 
 session_one : (old : Known) (v : Value session) (a b : Known) → AppliesSession old v a → AppliesSession old v b → a ≡ b
 session_one old v a b r q =

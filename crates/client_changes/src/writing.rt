@@ -19,6 +19,7 @@ const ROOM: usize = 2_048;
 
 /// The most bytes of arguments, and of results.
 const MOST_ARGUMENTS: usize = 65_536;
+
 const MOST_RESULTS: usize = 65_512;
 
 /// Changes, and how many there are.

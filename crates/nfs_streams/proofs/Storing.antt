@@ -179,8 +179,7 @@ module _ {A D : Type 0} (acts_of : D → Option (List Act)) (adds : Adding D) (l
         fewer = w.fewer;
         always = w.always;
         stood = λ well.
-            let t = kept_well key (does.acts ++ history) k.0 store' was.kept aim now (sym k.1.0 ∙ well) does.so in
-            (
+            let t = kept_well key (does.acts ++ history) k.0 store' was.kept aim now (sym k.1.0 ∙ well) does.so in (
               t.0,
               subst (λ (d : List DiskAct). StandsFor key d store' t.0) (sym w.files) t.1,
               ⊎_elim (λ (is : t.0 ≡ was.kept). subst (WasSo o.limits w.acts o.start machine w.run) (sym is) w.kept_was) (λ (is : t.0 ≡ aim). subst (WasSo o.limits w.acts o.start machine w.run) (sym is) w.aim_was) t.2,

@@ -21,19 +21,28 @@ returns-in_default-clause-keeps g c =
 
 pub returns-then-is_idle-clause-keeps : goal.returns-then-is_idle-clause-keeps
 returns-then-is_idle-clause-keeps g c =
-    let now = lent_view c.args.now in
-    (now, same_itself now, λ history kept s f.
-    idle g.D.Disk.adds c.args.self.now kept c.args.tree.now now c.in-Some.notes.now _ _ history s (follows kept c.args.tree.now c.in-Some.notes.now f c.in-Some.ensures.0 c.in-Some.ensures.1) (c.is_idle.ensures.0 c.if-is_idle.true) refl)
+    let now = lent_view c.args.now in (
+      now,
+      same_itself now,
+      λ history kept s f.
+          idle g.D.Disk.adds c.args.self.now kept c.args.tree.now now c.in-Some.notes.now _ _ history s (follows kept c.args.tree.now c.in-Some.notes.now f c.in-Some.ensures.0 c.in-Some.ensures.1) (c.is_idle.ensures.0 c.if-is_idle.true) refl,
+    )
 
 pub returns-then-is_long-clause-keeps : goal.returns-then-is_long-clause-keeps
 returns-then-is_long-clause-keeps g c =
-    let e = c.renew-then-is_long.ensures.goes_on in
-    (e.0, e.1, λ history kept s f.
-    keeps c.args.tree.now e.0 (lent_view c.args.now) e.1 g.D.Disk.adds c.args.self.now c.renew-then-is_long.new.self kept c.renew-then-is_long.result c.args.disk.now c.renew-then-is_long.new.disk history s (e.2 kept) c.renew-then-is_long.ensures.failed)
+    let e = c.renew-then-is_long.ensures.goes_on in (
+      e.0,
+      e.1,
+      λ history kept s f.
+          keeps c.args.tree.now e.0 (lent_view c.args.now) e.1 g.D.Disk.adds c.args.self.now c.renew-then-is_long.new.self kept c.renew-then-is_long.result c.args.disk.now c.renew-then-is_long.new.disk history s (e.2 kept) c.renew-then-is_long.ensures.failed,
+    )
 
 pub returns-clause-keeps : goal.returns-clause-keeps
 returns-clause-keeps g c =
-    let e = c.note.ensures.goes_on in
-    (e.0, e.1, λ history kept s f.
-    keeps c.args.tree.now e.0 (lent_view c.args.now) e.1 g.D.Disk.adds c.args.self.now c.note.new.self kept c.note.result c.args.disk.now c.note.new.disk history s
-    (e.2 kept (bare c.args.tree.now) (follows kept c.args.tree.now c.in-Some.notes.now f c.in-Some.ensures.0 c.in-Some.ensures.1)) c.note.ensures.failed)
+    let e = c.note.ensures.goes_on in (
+      e.0,
+      e.1,
+      λ history kept s f.
+          keeps c.args.tree.now e.0 (lent_view c.args.now) e.1 g.D.Disk.adds c.args.self.now c.note.new.self kept c.note.result c.args.disk.now c.note.new.disk history s
+          (e.2 kept (bare c.args.tree.now) (follows kept c.args.tree.now c.in-Some.notes.now f c.in-Some.ensures.0 c.in-Some.ensures.1)) c.note.ensures.failed,
+    )
