@@ -1,5 +1,5 @@
 -- What outlives a restart is kept in the store, whose acts on the disk are acts of serving.
-use Rattle.std.proofs.Common.{◌≡◌, inl, inr, ⊎_elim, ℕ, ◌+◌, Bool, true, false, List, [], ◌∷◌, ◌++◌, Option, Some, None, Ok, Err, refl, sym, ◌∙◌, ap, subst, arith}
+use Rattle.std.proofs.Common.{◌≡◌, ◌⊎◌, inl, inr, ⊎_elim, ℕ, ◌+◌, Bool, true, false, List, [], ◌∷◌, ◌++◌, Option, Some, None, Ok, Err, refl, sym, ◌∙◌, ap, subst, arith}
 use Rattle.std.specs.Prelude.{Result, is_ok}
 use Rattle.journal.specs.Disk.{Act as DiskAct}
 use Rattle.journal.specs.Keeping.{Adding}
@@ -25,7 +25,7 @@ use Rattle.nfs_hub.specs.Hub.{IsHub, Goes, notes_of}
 use Rattle.nfs_streams.specs.declared.peer.Peer.{Peer}
 use Rattle.nfs_streams.specs.declared.serving.AllEnd.TheVariants.{Store}
 use Rattle.nfs_streams.specs.Acts.{Act, OnDisk, Stored, Unstored, Adds, IsSettled, of_streams, waits, admitted}
-use Rattle.nfs_streams.specs.Runs.{Runs, IsKept}
+use Rattle.nfs_streams.specs.Runs.{Runs, IsKept, Allowed, Does as MachineDoes}
 use Rattle.nfs_streams.specs.Seats.{Stands}
 use Rattle.nfs_streams.specs.Keeping.{IsShown, WasSo, HoldsShown, AlwaysSurvives, SurvivesIn, KeepsTree, disk_of}
 use Rattle.nfs_streams.specs.Standing.{Origin, Left, Giving, Answering, Stopped, Standing, StoringIn}
@@ -146,7 +146,7 @@ module _ {A D : Type 0} (acts_of : D → Option (List Act)) (adds : Adding D) (l
       let history = disk_of acts ++ o.history in
       let now : Kept = kept_of machine.served.state in
       let k = keeps machine stands.is in
-      let s = k.1.1 in
+      let s = k.2 in
       let aim : Kept = kept_with machine.served.state.realm.world s.0 in
       let same : store.journal.key ≡ key = was.stands.key_is in
       let does : Does adds key history (IsHeldOr was.kept aim) (λ done. KeptSo key done k.0 store' was.kept aim now) old new =
@@ -179,7 +179,7 @@ module _ {A D : Type 0} (acts_of : D → Option (List Act)) (adds : Adding D) (l
         fewer = w.fewer;
         always = w.always;
         stood = λ well.
-            let t = kept_well key (does.acts ++ history) k.0 store' was.kept aim now (sym k.1.0 ∙ well) does.so in (
+            let t = kept_well key (does.acts ++ history) k.0 store' was.kept aim now (sym k.1 ∙ well) does.so in (
               t.0,
               subst (λ (d : List DiskAct). StandsFor key d store' t.0) (sym w.files) t.1,
               ⊎_elim (λ (is : t.0 ≡ was.kept). subst (WasSo o.limits w.acts o.start machine w.run) (sym is) w.kept_was) (λ (is : t.0 ≡ aim). subst (WasSo o.limits w.acts o.start machine w.run) (sym is) w.aim_was) t.2,
@@ -191,19 +191,19 @@ module _ {A D : Type 0} (acts_of : D → Option (List Act)) (adds : Adding D) (l
 abbrev noted_anew : State → State
 noted_anew s = record s { served = noting (cleared s.served.state.realm.world.notes) s.served }
 
-stored_in : (first store : Option TreeStore) (o : Origin) (acts : List Act) (machine : State) (run : Runs o.limits (Stored machine.served.state ∷ acts) o.start (noted_anew machine))
-    → SurvivesIn first o.history o.limits acts o.start run.0 run.1 → StoodIn first store o acts run.0 run.1 → StoringIn first store o (Stored machine.served.state ∷ acts) (noted_anew machine) run
-stored_in None None o acts machine run always stood = tt
-stored_in None (Some store) o acts machine run always stood = absurd stood
-stored_in (Some first) None o acts machine run always stood = absurd stood
-stored_in (Some first) (Some store) o acts machine run always stood = record {
+stored_in : (first store : Option TreeStore) (o : Origin) (acts : List Act) (machine : State) (run : Runs o.limits acts o.start machine) (allowed : Allowed o.limits acts (Stored machine.served.state) machine) (does : MachineDoes acts (Stored machine.served.state) machine (noted_anew machine))
+    → SurvivesIn first o.history o.limits acts o.start machine run → StoodIn first store o acts machine run → StoringIn first store o (Stored machine.served.state ∷ acts) (noted_anew machine) (machine, run, allowed, does)
+stored_in None None o acts machine run allowed does always stood = tt
+stored_in None (Some store) o acts machine run allowed does always stood = absurd stood
+stored_in (Some first) None o acts machine run allowed does always stood = absurd stood
+stored_in (Some first) (Some store) o acts machine run allowed does always stood = record {
   kept = stood.0;
   stands = stood.1;
   follows = (world_of machine, sym stood.3.world_is, noted_cleared (world_of machine));
   shown = inl stood.3;
   was = inr stood.2;
   last = λ state stored. subst (λ (k : Kept). Covers k stood.0) stored stood.3;
-  always = always_on first.journal.key o.history o.limits (Stored machine.served.state) acts o.start (noted_anew machine) run tt refl always;
+  always = always_on first.journal.key o.history o.limits (Stored machine.served.state) acts o.start (noted_anew machine) (machine, run, allowed, does) tt refl always;
 }
 
 module _ {A D : Type 0} {n : ℕ} {o : Origin} {hub : Hub A} {places : List (Option (Peer A))} {left : Left} (acts_of : D → Option (List Act)) (adds : Adding D) (law : DiskLaw acts_of adds) (old new : D) (st : Standing (Giving n) o hub places left (acts_of old)) (store : Option TreeStore) (result : Bool) (keeps : KeepsTree adds hub left.store result store old new) where
@@ -236,7 +236,7 @@ module _ {A D : Type 0} {n : ℕ} {o : Origin} {hub : Hub A} {places : List (Opt
         acts = acts';
         machine = s';
         way = (run, r.count, tt, still_kept r.trail, refl);
-        keeping = stored_in o.store store o r.acts s run r.always (r.stood well);
+        keeping = stored_in o.store store o r.acts s r.run (r.settled, refl) refl r.always (r.stood well);
         stands = stands_as acts' (λ j. refl) (λ j. (refl, refl, refl)) refl now;
         adds = r.adds;
         fewer = r.fewer;
