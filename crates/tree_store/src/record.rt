@@ -1,5 +1,5 @@
 //! A record of one turn.
-ghost use Rattle.std.specs.Prelude.{◌≡◌, ◌↔◌, IsTrue, OnOk, IfOk};
+ghost use Rattle.std.specs.Prelude.{◌≡◌, ◌↔◌, IsTrue, OnOk};
 ghost use Rattle.client_changes.specs.Applying.{Leads};
 ghost use Rattle.client_changes.specs.Comparing.{AreSame, lent_view};
 ghost use Rattle.tree_store.specs.Writing.{RecordGives};
@@ -19,7 +19,7 @@ fn are_same(a: &[u8], b: &[u8]) -> bool
 
 /// Leads on by the bytes of a record, and sees that it comes to what is known of clients now, and that these notes are
 /// left. What is kept of clients isn't to go on with where it doesn't.
-fn leads_to<A: Allocator + Copy>(
+pub(crate) fn leads_to<A: Allocator + Copy>(
     alloc: A,
     known: &mut Known<A>,
     now: Lent<'_, A>,
@@ -42,20 +42,16 @@ fn leads_to<A: Allocator + Copy>(
     Ok(())
 }
 
-/// The bytes of a record: changes of what is known of clients, which is kept so from now on, and after them the changes of
-/// the tree as they were noted.
+/// The bytes of a record: changes of what is known of clients, and after them the changes of the tree as they were noted.
+/// No contract says so: [`leads_to`] sees to it.
 pub(crate) fn record_of<A: Allocator + Copy>(
     alloc: A,
-    known: &mut Known<A>,
+    old: Lent<'_, A>,
     now: Lent<'_, A>,
     notes: &[u8],
-) -> Result<Vec<u8, A>, AllocError>
-    ensures leads { IfOk result (λ bytes. Leads known.old bytes.items known.new notes.now) }
-    ensures same { OnOk result (AreSame known.new (lent_view now.entry)) }
-{
-    let mut bytes = write_changes(alloc, known.lend(), now)?;
+) -> Result<Vec<u8, A>, AllocError> {
+    let mut bytes = write_changes(alloc, old, now)?;
     bytes.extend_from_slice(notes)?;
-    leads_to(alloc, known, now, &bytes, notes)?;
     Ok(bytes)
 }
 

@@ -12,7 +12,7 @@ ghost use Rattle.tree_store.specs.declared.fault.StoreFault.TheVariants.{Failed}
 use crate::checkpoint::{Place, write_checkpoint};
 use crate::fault::StoreFault;
 use crate::opening::Base;
-use crate::record::{keep_record, record_of};
+use crate::record::{keep_record, leads_to, record_of};
 use client_changes::{Closeness, Known, Lent, are_close};
 use journal::{Disk, Journal};
 use node_tree::Tree;
@@ -117,11 +117,12 @@ impl<A: Allocator + Copy> Store<A> {
         }
     }
 
-    /// Keeps a record.
+    /// Keeps a record of these bytes, which end in the notes.
     fn note<D: Disk>(
         &mut self,
         disk: &mut D,
         alloc: A,
+        bytes: &[u8],
         notes: &[u8],
         now: Lent<'_, A>,
     ) -> Result<(), StoreFault>
@@ -130,10 +131,10 @@ impl<A: Allocator + Copy> Store<A> {
     {
         let mut journal = self.journal;
         self.journal.has_failed = true;
-        let Ok(bytes) = record_of(alloc, &mut self.known, now, notes) else {
+        let Ok(()) = leads_to(alloc, &mut self.known, now, bytes, notes) else {
             return Err(StoreFault::Memory);
         };
-        match keep_record(&mut journal, disk, alloc, &bytes) {
+        match keep_record(&mut journal, disk, alloc, bytes) {
             Ok(()) => {}
             Err(fault) => return Err(fault),
         }
@@ -170,9 +171,13 @@ impl<A: Allocator + Copy> Store<A> {
         if self.is_idle(notes, now) {
             return Ok(());
         }
-        if self.is_long(notes.len()) {
+        let Ok(bytes) = record_of(alloc, self.known.lend(), now, notes) else {
+            self.journal.has_failed = true;
+            return Err(StoreFault::Memory);
+        };
+        if self.is_long(bytes.len()) {
             return self.renew(disk, alloc, tree, now);
         }
-        self.note(disk, alloc, notes, now)
+        self.note(disk, alloc, &bytes, notes, now)
     }
 }

@@ -3,6 +3,8 @@ use Rattle.client_changes.specs.Comparing.{lent_view}
 use Rattle.client_changes.proofs.Alike.{same_itself}
 use Rattle.tree_changes.specs.Noting.{bare}
 use Rattle.tree_store.specs.Running.{Store}
+use Rattle.tree_store.specs.Kept.{kept_with}
+use Rattle.tree_store.proofs.GoingOn.{nothing_done}
 use Rattle.tree_store.proofs.Calls.{keeps, idle, follows}
 use Rattle.tree_store.proofs.store.Store.keep.Goals as goal
 
@@ -27,6 +29,11 @@ returns-then-is_idle-clause-keeps g c =
       λ history kept s f.
           idle g.D.Disk.adds c.args.self.now kept c.args.tree.now now c.in-Some.notes.now _ _ history s (follows kept c.args.tree.now c.in-Some.notes.now f c.in-Some.ensures.0 c.in-Some.ensures.1) (c.is_idle.ensures.0 c.if-is_idle.true) refl,
     )
+
+pub returns-in_default-record_of-clause-keeps : goal.returns-in_default-record_of-clause-keeps
+returns-in_default-record_of-clause-keeps g c =
+    let now = lent_view c.args.now in
+    (now, same_itself now, λ history kept s f. nothing_done g.D.Disk.adds c.args.self.now kept (kept_with c.args.tree.now now) history s _ _ _ refl refl)
 
 pub returns-then-is_long-clause-keeps : goal.returns-then-is_long-clause-keeps
 returns-then-is_long-clause-keeps g c =

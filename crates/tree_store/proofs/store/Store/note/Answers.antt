@@ -19,15 +19,15 @@ returns-in_default-clause-goes_on g c =
 
 pub returns-in-Err-clause-goes_on : goal.returns-in-Err-clause-goes_on
 returns-in-Err-clause-goes_on g c =
-    let known = c.record_of.new.known in
+    let known = c.leads_to.new.known in
     let store : Store = record { journal = c.self.inside.journal; known = c.self.inside.known } in
     let failed : Store = record { journal = record c.self.inside.journal { has_failed = true }; known = known } in (
       known,
       c.in-Ok.ensures.same,
       subst (λ (t : Store). (kept : Kept) (w : World) → Replays kept.0 c.args.notes.now w → GoesOn g.D.Disk.adds t kept (w, known) (Err c.in-Err.fault) failed c.args.disk.now c.keep_record.new.disk) c.self.view_is
           (λ kept w replays history s.
-          let leads : LeadsOn kept c.deref.result.now (w, known) = record_leads kept w store.known known c.args.notes.now c.deref.result.now s.known_is (subst (λ (b : Bytes). Leads store.known b known c.args.notes.now) (sym c.deref.ensures.value) c.in-Ok.ensures.leads) replays in
-          goes_on g.D.Disk.adds store failed kept (w, known) c.deref.result.now leads history s (Err c.in-Err.fault) c.keep_record.new.journal c.args.disk.now c.keep_record.new.disk c.in-Err.ensures (λ is. absurd (never is))),
+          let leads : LeadsOn kept c.args.bytes.now (w, known) = record_leads kept w store.known known c.args.notes.now c.args.bytes.now s.known_is c.in-Ok.ensures.leads replays in
+          goes_on g.D.Disk.adds store failed kept (w, known) c.args.bytes.now leads history s (Err c.in-Err.fault) c.keep_record.new.journal c.args.disk.now c.keep_record.new.disk c.in-Err.ensures (λ is. absurd (never is))),
     )
   where
     never : Err c.in-Err.fault ≡ Ok (tt {0}) → ⊥
@@ -35,13 +35,13 @@ returns-in-Err-clause-goes_on g c =
 
 pub returns-clause-goes_on : goal.returns-clause-goes_on
 returns-clause-goes_on g c =
-    let known = c.record_of.new.known in
+    let known = c.leads_to.new.known in
     let store : Store = record { journal = c.self.inside.journal; known = c.self.inside.known } in
     let then : Store = record { journal = c.keep_record.new.journal; known = known } in (
       known,
       c.in-Ok.ensures.same,
       subst (λ (t : Store). (kept : Kept) (w : World) → Replays kept.0 c.args.notes.now w → GoesOn g.D.Disk.adds t kept (w, known) (Ok tt) then c.args.disk.now c.keep_record.new.disk) c.self.view_is
           (λ kept w replays history s.
-          let leads : LeadsOn kept c.deref.result.now (w, known) = record_leads kept w store.known known c.args.notes.now c.deref.result.now s.known_is (subst (λ (b : Bytes). Leads store.known b known c.args.notes.now) (sym c.deref.ensures.value) c.in-Ok.ensures.leads) replays in
-          goes_on g.D.Disk.adds store then kept (w, known) c.deref.result.now leads history s (Ok tt) c.keep_record.new.journal c.args.disk.now c.keep_record.new.disk c.in-Ok-keep_record.ensures (λ is. (refl, refl))),
+          let leads : LeadsOn kept c.args.bytes.now (w, known) = record_leads kept w store.known known c.args.notes.now c.args.bytes.now s.known_is c.in-Ok.ensures.leads replays in
+          goes_on g.D.Disk.adds store then kept (w, known) c.args.bytes.now leads history s (Ok tt) c.keep_record.new.journal c.args.disk.now c.keep_record.new.disk c.in-Ok-keep_record.ensures (λ is. (refl, refl))),
     )
