@@ -74,8 +74,8 @@ def archive(tree, busybox, path):
         subprocess.run(words, cwd=tree, stdin=names.stdout, stdout=it, stderr=subprocess.DEVNULL, check=True)
 
 
-def made(room):
-    """The kernel and the initramfs: Debian's part, which is made once in a room, and after it what stands in guest/."""
+def made(room, nfsd):
+    """The kernel and the initramfs: Debian's part, which is made once in a room, then what stands in guest/, and nfsd."""
     kernel, debian, busybox = (f"{room}/{name}" for name in ("vmlinuz", "debian.cpio", "busybox"))
     if not os.path.exists(debian):
         tree = f"{room}/tree"
@@ -91,8 +91,11 @@ def made(room):
         os.rename(f"{debian}.new", debian)
         shutil.rmtree(tree)
     archive(f"{HERE}/guest", busybox, f"{room}/own.cpio")
+    os.makedirs(f"{room}/served/usr/bin", exist_ok=True)
+    shutil.copy(nfsd, f"{room}/served/usr/bin/nfsd")
+    archive(f"{room}/served", busybox, f"{room}/served.cpio")
     with open(f"{room}/initramfs", "wb") as whole:
-        for part in (debian, f"{room}/own.cpio"):
+        for part in (debian, f"{room}/own.cpio", f"{room}/served.cpio"):
             with open(part, "rb") as it:
                 shutil.copyfileobj(it, whole)
     return kernel, f"{room}/initramfs"
