@@ -27,8 +27,10 @@ def packages():
     with open(f"{HERE}/packages.txt", encoding="utf-8") as it:
         kernel, *others = [word for line in it if not line.startswith("#") for word in line.split()]
     words = ["apt-cache", "depends", "--important", kernel]
-    said = subprocess.run(words, capture_output=True, text=True, check=True).stdout
-    return [said.split("Depends:")[1].split()[0], *others]
+    ran = subprocess.run(words, capture_output=True, text=True, check=False)
+    if ran.returncode:
+        raise SystemExit(f"mount: apt doesn't know {kernel}; `apt-get update` may do")
+    return [ran.stdout.split("Depends:")[1].split()[0], *others]
 
 
 def downloaded(folder):
@@ -37,6 +39,7 @@ def downloaded(folder):
     wanted = packages()
     missing = [name for name in wanted if not glob.glob(f"{folder}/{name}_*.deb")]
     if missing:
+        print(f"{len(missing)} packages of Debian are fetched into {folder}", flush=True)
         words = ["apt-get", "-qq", "-o", "APT::Sandbox::User=root", "download", *missing]
         subprocess.run(words, cwd=folder, check=True, stdout=subprocess.DEVNULL)
     return [glob.glob(f"{folder}/{name}_*.deb")[0] for name in wanted]
