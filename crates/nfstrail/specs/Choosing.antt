@@ -5,7 +5,7 @@ use Rattle.std.specs.BTreeSet.{BTreeSet, contains}
 use Rattle.access_guard.specs.declared.line.Line.{Line}
 use Rattle.nfstrail.specs.declared.choice.Choice.{Choice}
 use Rattle.nfstrail.specs.declared.notice.Notice.{Notice}
-use Rattle.nfstrail.specs.declared.notice.Notice.TheVariants.{Start, Lost, Told}
+use Rattle.nfstrail.specs.declared.notice.Notice.TheVariants.{Start, Lost, Kept}
 use Rattle.nfstrail.specs.declared.notice.Stamped.{Stamped}
 
 -- a number fits where none is asked for, or this one is
@@ -35,7 +35,7 @@ takes_line c line = fits c.user line.uid && fits c.op line.op && is_among c.obje
 abbrev pub takes_notice : Choice → Notice → Bool
 takes_notice c Start = takes_all c
 takes_notice c (Lost count) = true
-takes_notice c (Told line) = takes_line c line
+takes_notice c (Kept line) = takes_line c line
 
 abbrev pub takes : Choice → Stamped → Bool
 takes c stamped = takes_notice c stamped.notice && is_since c.since stamped.second

@@ -3,14 +3,14 @@ use Rattle.std.specs.Prelude.{◌≡◌, ℕ, List, ◌++◌, codes, decimal, ta
 use Rattle.access_guard.specs.Text.{line_text}
 use Rattle.trail_keeper.specs.Dates.{IsMoment}
 use Rattle.nfstrail.specs.declared.notice.Notice.{Notice}
-use Rattle.nfstrail.specs.declared.notice.Notice.TheVariants.{Start, Lost, Told}
+use Rattle.nfstrail.specs.declared.notice.Notice.TheVariants.{Start, Lost, Kept}
 use Rattle.nfstrail.specs.declared.notice.Stamped.{Stamped}
 
--- what a line says after its moment: a start, so many lines that are missing, or a line of the trail
+-- the part of a line after its moment: a start, the number of lines that are missing, or a line of the trail
 abbrev pub notice_text : Notice → List ℕ
 notice_text Start = codes "START"
 notice_text (Lost count) = codes "LOST lines=" ++ decimal count
-notice_text (Told line) = line_text line
+notice_text (Kept line) = line_text line
 
 -- without a moment the text is the notice's alone; else its first 21 bytes are the moment, and the others the notice
 abbrev pub IsTextSince : Option ℕ → Notice → List ℕ → Type 0

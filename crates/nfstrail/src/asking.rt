@@ -1,4 +1,4 @@
-//! What the words ask for.
+//! The choice that the words ask for.
 use crate::choice::Choice;
 use crate::fields::operation_of;
 use crate::moment::{MOMENT, read_moment};
@@ -136,7 +136,7 @@ fn objects_of<'a>(
     }
 }
 
-/// What is asked for without a name or a path.
+/// The choice by words that need no book and no tree.
 fn plain_choice<'a>(options: &Options<'a>) -> Result<Choice, Refusal<'a>> {
     let op = match options.op {
         Some(word) => Some(op_of(word)?),
@@ -154,7 +154,7 @@ fn plain_choice<'a>(options: &Options<'a>) -> Result<Choice, Refusal<'a>> {
     })
 }
 
-/// What the words ask for.
+/// The choice that the words ask for.
 pub(crate) fn choice_of<'a>(
     alloc: Global,
     options: &Options<'a>,

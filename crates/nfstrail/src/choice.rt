@@ -6,7 +6,7 @@ use crate::notice::{Notice, Stamped};
 use access_guard::Line;
 use std::collections::BTreeSet;
 
-/// What is asked for. `None` asks for nothing in particular.
+/// The lines that are asked for. `None` asks for nothing in particular.
 #[derive(Drop)]
 pub(crate) struct Choice {
     /// The user of a line.
@@ -71,7 +71,7 @@ impl Choice {
         let is_asked = match &stamped.notice {
             Notice::Start => self.takes_all(),
             Notice::Lost(_) => true,
-            Notice::Told(line) => self.takes_line(line),
+            Notice::Kept(line) => self.takes_line(line),
         };
         is_asked && is_since(self.since, stamped.second)
     }

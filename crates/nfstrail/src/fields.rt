@@ -5,7 +5,7 @@ use nfs_ops::operation_name;
 /// The numbers of operations are below this one (RFC 8881, section 18).
 const OPERATIONS: u32 = 64;
 
-/// What stands before the number of lines that are missing.
+/// The words before the number of lines that are missing.
 pub(crate) const LOST: &str = "LOST lines=";
 
 fn kind_of(word: &str) -> Option<LineKind> {

@@ -16,10 +16,10 @@ mod names;
 mod notice;
 mod options;
 mod places;
+mod printing;
 mod reading;
 mod rights;
 mod store_now;
-mod telling;
 mod words;
 
 use asking::{Refusal, choice_of};
@@ -28,6 +28,7 @@ use home::{Home, Part};
 use names::{Names, read_names};
 use options::Options;
 use places::Places;
+use printing::{Broken, Printing, print_lines};
 use std::alloc::Global;
 use std::fs::File;
 use std::io::{BufReader, BufWriter};
@@ -35,10 +36,9 @@ use std::process::ExitCode;
 use std::rt::Files;
 use std::{env, io};
 use store_now::{Unknown, read_tree};
-use telling::{Broken, Telling, tell_all};
 use words::Meanings;
 
-/// What a home says beside its trail, and whether all of it is known.
+/// The book and the tree of a home, and whether all of both is known.
 #[derive(Drop)]
 struct Known {
     names: Names,
@@ -70,7 +70,7 @@ fn places_of<R: Files<File = File>>(home: &Home<'_, R>) -> Result<Option<Places>
     }
 }
 
-/// What a home says beside its trail. What isn't known is said.
+/// Reads the book and the tree of a home. On standard error it says which isn't known.
 fn know<R: Files<File = File> + Eprint>(home: &Home<'_, R>) -> Known {
     let names = known_names(home);
     let has_names = !matches!(names, Names::Unknown);
@@ -122,14 +122,14 @@ fn say_broken<R: Eprint>(home: &Home<'_, R>, broken: &Broken) {
 }
 
 /// Prints what is asked for.
-fn print<R: Print>(rt: &R, telling: &Telling<'_>, trail: File) -> Result<(), Broken> {
-    let alloc = telling.meanings.alloc;
+fn print<R: Print>(rt: &R, printing: &Printing<'_>, trail: File) -> Result<(), Broken> {
+    let alloc = printing.meanings.alloc;
     let mut out = match BufWriter::new(alloc, io::writer(rt)) {
         Ok(out) => out,
         Err(error) => return Err(Broken::Writing(error)),
     };
     match BufReader::new(alloc, trail) {
-        Ok(mut reader) => tell_all(alloc, telling, &mut reader, &mut out),
+        Ok(mut reader) => print_lines(alloc, printing, &mut reader, &mut out),
         Err(error) => Err(Broken::Reading(error)),
     }
 }
@@ -146,7 +146,7 @@ fn print_asked<R: Files<File = File> + Print + Eprint>(
         Ok(choice) => choice,
         Err(refusal) => return say_refusal(home.rt, &refusal),
     };
-    let telling = Telling {
+    let printing = Printing {
         choice: &choice,
         meanings: Meanings {
             alloc: home.alloc,
@@ -155,7 +155,7 @@ fn print_asked<R: Files<File = File> + Print + Eprint>(
         },
         raw: options.raw,
     };
-    match print(home.rt, &telling, trail) {
+    match print(home.rt, &printing, trail) {
         Ok(()) if known.is_whole => ExitCode::SUCCESS,
         Ok(()) => ExitCode::FAILURE,
         Err(broken) => {

@@ -1,7 +1,7 @@
-//! What the lines of a trail's file say.
+//! The notices of a trail's file.
 use access_guard::Line;
 
-/// What a line of the file says, after its moment.
+/// The part of a line after its moment.
 #[derive(Clone, Copy, Debug, PartialEq, Eq)]
 pub(crate) enum Notice {
     /// A server started.
@@ -9,7 +9,7 @@ pub(crate) enum Notice {
     /// This number of lines of AUDIT and ALARM entries isn't in the file.
     Lost(u64),
     /// A line of the trail.
-    Told(Line),
+    Kept(Line),
 }
 
 /// A line of the file.

@@ -2,7 +2,7 @@
 use clap::{Arg, ArgAction, Command, Error, value_parser};
 use std::alloc::{AllocError, Global};
 
-/// What it does.
+/// The text of help.
 const ABOUT: &str = "\
 Prints the trail of a home, which 'nfsd --home FOLDER' keeps, for people: users by the names of the book, objects by their paths in the store as
 it is now, rights by their names, and why. It writes nothing, and takes no lock: the server may run.

@@ -15,7 +15,7 @@ pub(crate) struct Places {
     first: BTreeMap<u64, u64>,
 }
 
-/// What is known of an object's place.
+/// Whether an object is in the tree.
 #[derive(Clone, Copy, Debug, PartialEq, Eq)]
 pub(crate) enum Place {
     /// It is in the tree.

@@ -2,7 +2,7 @@
 ghost use Rattle.std.specs.Prelude.{◌≡◌, IfSome, Some, codes};
 ghost use Rattle.std.specs.Bool.{OnTrue};
 ghost use Rattle.nfstrail.specs.Reading.{IsTextOf, notice_text};
-ghost use Rattle.nfstrail.specs.declared.notice.Notice.TheVariants.{Start, Lost, Told};
+ghost use Rattle.nfstrail.specs.declared.notice.Notice.TheVariants.{Start, Lost, Kept};
 
 use crate::fields::{LOST, line_in, lost_in};
 use crate::moment::{MOMENT, read_moment};
@@ -34,8 +34,8 @@ fn read_lost(text: &[u8]) -> Option<u64>
 }
 
 /// The line of the trail that a text is.
-fn read_told(text: &[u8]) -> Option<Line>
-    ensures { IfSome result (λ line. notice_text (Told line) ≡ text.now) }
+fn read_kept(text: &[u8]) -> Option<Line>
+    ensures { IfSome result (λ line. notice_text (Kept line) ≡ text.now) }
 {
     let line = line_in(str::from_utf8(text).ok()?)?;
     if write_line(&line).as_bytes() == text {
@@ -45,7 +45,7 @@ fn read_told(text: &[u8]) -> Option<Line>
     }
 }
 
-/// What a text says. `None`: it isn't the text of anything that a trail's file has.
+/// The notice of a text. `None`: it isn't the text of anything that a trail's file has.
 pub(crate) fn read_notice(text: &[u8]) -> Option<Notice>
     ensures read { IfSome result (λ notice. notice_text notice ≡ text.now) }
     ensures start { text.now ≡ codes "START" → result ≡ Some Start }
@@ -55,14 +55,14 @@ pub(crate) fn read_notice(text: &[u8]) -> Option<Notice>
     }
     match read_lost(text) {
         Some(count) => Some(Notice::Lost(count)),
-        None => match read_told(text) {
-            Some(line) => Some(Notice::Told(line)),
+        None => match read_kept(text) {
+            Some(line) => Some(Notice::Kept(line)),
             None => None,
         },
     }
 }
 
-/// What a line of the file says, without its newline. `None`: it is no line of a trail's file.
+/// Reads a line of the file, given without its newline. `None`: it is no line of a trail's file.
 pub(crate) fn read_line(text: &[u8]) -> Option<Stamped>
     ensures { IfSome result (λ stamped. IsTextOf stamped text.now) }
 {

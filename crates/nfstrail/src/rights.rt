@@ -74,7 +74,7 @@ pub(crate) fn write_right<W: Write>(out: &mut W, right: u32, kind: Option<Kind>)
     }
 }
 
-/// What stands before the next right of a mask, where some were written.
+/// The text before a right of a mask, by whether it is the first or the last one.
 fn joint(is_first: bool, is_last: bool) -> &'static str {
     if is_first {
         ""

@@ -60,7 +60,7 @@ struct Copies {
     b: Option<File>,
 }
 
-/// Appends what a file has from its beginning on, at most so many bytes.
+/// Appends what a file has from its beginning on, at most this number of bytes.
 fn read_all<A: Allocator>(
     file: &mut Option<File>,
     most: u64,

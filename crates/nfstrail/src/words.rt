@@ -1,4 +1,4 @@
-//! What lines say, in words.
+//! Lines in words.
 use crate::names::Names;
 use crate::notice::{Notice, Stamped};
 use crate::places::{Place, Places};
@@ -17,7 +17,7 @@ const ABOUT_NAMES: u32 = mask::ADD_FILE
     | mask::EXECUTE
     | mask::DELETE_CHILD;
 
-/// What numbers mean.
+/// The meanings of numbers: the names of users, and the places of objects.
 #[derive(Clone, Copy)]
 pub(crate) struct Meanings<'a> {
     pub(crate) alloc: Global,
@@ -102,7 +102,7 @@ fn write_lost<W: Write>(out: &mut W, count: u64) -> io::Result<()> {
     )
 }
 
-/// What stands before a line that isn't a refusal's alone.
+/// The word before a line that an entry asks for.
 fn kind_word(kind: LineKind) -> &'static str {
     match kind {
         LineKind::Deny => "",
@@ -167,7 +167,7 @@ impl<'a> Meanings<'a> {
         match notice {
             Notice::Start => out.write_all(b"the server started"),
             Notice::Lost(count) => write_lost(out, *count),
-            Notice::Told(line) => self.write_line(out, line),
+            Notice::Kept(line) => self.write_line(out, line),
         }
     }
 

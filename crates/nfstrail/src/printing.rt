@@ -2,7 +2,7 @@
 ghost use Rattle.std.specs.Prelude.{◌∷◌, [], ◌++◌, OnOk};
 ghost use Rattle.std.specs.Bool.{OnTrue};
 ghost use Rattle.std.specs.Io.KnownBytes.{Appends};
-ghost use Rattle.nfstrail.specs.Fates.{IsTold, marked, torn};
+ghost use Rattle.nfstrail.specs.Fates.{IsPrinted, marked, torn};
 
 use crate::choice::Choice;
 use crate::fate::{Fate, fate_of};
@@ -13,9 +13,9 @@ use std::fs::File;
 use std::io;
 use std::io::{BufRead, BufReader, Write};
 
-/// What is printed of the lines.
+/// The lines that are printed, and how.
 #[derive(Clone, Copy)]
-pub(crate) struct Telling<'a> {
+pub(crate) struct Printing<'a> {
     pub(crate) choice: &'a Choice,
     pub(crate) meanings: Meanings<'a>,
     /// Whether lines are printed as they stand.
@@ -50,7 +50,7 @@ fn write_torn<W: Write>(out: &mut W, raw: bool, text: &[u8]) -> io::Result<()>
     write_marked(out, raw, "not ended: ", text)
 }
 
-impl<'a> Telling<'a> {
+impl<'a> Printing<'a> {
     /// Writes a line that is asked for: as it stands, or what it says in words.
     fn write_chosen<W: Write>(&self, out: &mut W, text: &[u8], stamped: &Stamped) -> io::Result<()>
         ensures { OnTrue self.now.raw (OnOk result (Appends (W.contents out.old) (W.contents out.new) (text.now ++ 10 ∷ []))) }
@@ -63,8 +63,8 @@ impl<'a> Telling<'a> {
     }
 
     /// Writes a line that is ended, given without its newline, if it is to be printed.
-    fn tell_ended<W: Write>(&self, out: &mut W, text: &[u8]) -> io::Result<()>
-        ensures { OnOk result (IsTold self.now.raw self.now.choice.now text.now (W.contents out.old) (W.contents out.new)) }
+    fn print_ended<W: Write>(&self, out: &mut W, text: &[u8]) -> io::Result<()>
+        ensures { OnOk result (IsPrinted self.now.raw self.now.choice.now text.now (W.contents out.old) (W.contents out.new)) }
     {
         let fate = fate_of(self.choice, text);
         match &fate {
@@ -75,9 +75,9 @@ impl<'a> Telling<'a> {
     }
 
     /// Writes a line, if it is to be printed.
-    fn tell<W: Write>(&self, out: &mut W, line: &[u8]) -> io::Result<()> {
+    fn print_line<W: Write>(&self, out: &mut W, line: &[u8]) -> io::Result<()> {
         match line.strip_suffix(b"\n".as_slice()) {
-            Some(text) => self.tell_ended(out, text),
+            Some(text) => self.print_ended(out, text),
             None => write_torn(out, self.raw, line),
         }
     }
@@ -102,9 +102,9 @@ fn next_line(reader: &mut BufReader<File>, line: &mut Vec<u8>) -> Result<bool, B
 }
 
 /// Prints the lines of a file.
-pub(crate) fn tell_all<W: Write>(
+pub(crate) fn print_lines<W: Write>(
     alloc: Global,
-    telling: &Telling<'_>,
+    printing: &Printing<'_>,
     reader: &mut BufReader<File>,
     out: &mut W,
 ) -> Result<(), Broken> {
@@ -113,7 +113,7 @@ pub(crate) fn tell_all<W: Write>(
         if !next_line(reader, &mut line)? {
             break;
         }
-        if let Err(error) = telling.tell(out, line.as_slice()) {
+        if let Err(error) = printing.print_line(out, line.as_slice()) {
             return Err(Broken::Writing(error));
         }
     }
