@@ -27,8 +27,10 @@ def packages():
     with open(f"{HERE}/packages.txt", encoding="utf-8") as it:
         kernel, *others = [word for line in it if not line.startswith("#") for word in line.split()]
     words = ["apt-cache", "depends", "--important", kernel]
-    said = subprocess.run(words, capture_output=True, text=True, check=True).stdout
-    return [said.split("Depends:")[1].split()[0], *others]
+    ran = subprocess.run(words, capture_output=True, text=True, check=False)
+    if ran.returncode:
+        raise SystemExit(f"mount: apt doesn't know {kernel}; `apt-get update` may do")
+    return [ran.stdout.split("Depends:")[1].split()[0], *others]
 
 
 def downloaded(folder):
@@ -37,6 +39,7 @@ def downloaded(folder):
     wanted = packages()
     missing = [name for name in wanted if not glob.glob(f"{folder}/{name}_*.deb")]
     if missing:
+        print(f"{len(missing)} packages of Debian are fetched into {folder}", flush=True)
         words = ["apt-get", "-qq", "-o", "APT::Sandbox::User=root", "download", *missing]
         subprocess.run(words, cwd=folder, check=True, stdout=subprocess.DEVNULL)
     return [glob.glob(f"{folder}/{name}_*.deb")[0] for name in wanted]
@@ -74,8 +77,8 @@ def archive(tree, busybox, path):
         subprocess.run(words, cwd=tree, stdin=names.stdout, stdout=it, stderr=subprocess.DEVNULL, check=True)
 
 
-def made(room):
-    """The kernel and the initramfs: Debian's part, which is made once in a room, and after it what stands in guest/."""
+def made(room, nfsd):
+    """The kernel and the initramfs: Debian's part, which is made once in a room, then what stands in guest/, and nfsd."""
     kernel, debian, busybox = (f"{room}/{name}" for name in ("vmlinuz", "debian.cpio", "busybox"))
     if not os.path.exists(debian):
         tree = f"{room}/tree"
@@ -91,8 +94,11 @@ def made(room):
         os.rename(f"{debian}.new", debian)
         shutil.rmtree(tree)
     archive(f"{HERE}/guest", busybox, f"{room}/own.cpio")
+    os.makedirs(f"{room}/served/usr/bin", exist_ok=True)
+    shutil.copy(nfsd, f"{room}/served/usr/bin/nfsd")
+    archive(f"{room}/served", busybox, f"{room}/served.cpio")
     with open(f"{room}/initramfs", "wb") as whole:
-        for part in (debian, f"{room}/own.cpio"):
+        for part in (debian, f"{room}/own.cpio", f"{room}/served.cpio"):
             with open(part, "rb") as it:
                 shutil.copyfileobj(it, whole)
     return kernel, f"{room}/initramfs"

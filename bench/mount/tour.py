@@ -40,7 +40,10 @@ class Step:
 @dataclass
 class Scene:
     title: str
-    files: dict = field(default_factory=dict)
+    # "memory" or "home", where the scene is for one of them alone
+    over: str = ""
+    # the lines of the server's book, where it has one
+    book: list = field(default_factory=list)
     options: list = field(default_factory=list)
     steps: list = field(default_factory=list)
     seconds: float = 0
@@ -61,7 +64,7 @@ def fits_line(wanted, came):
 
 def read(path):
     """The scenes of a text."""
-    scenes, lacks, file = [], "", None
+    scenes, lacks = [], ""
     with open(path, encoding="utf-8") as it:
         for number, line in enumerate(it.read().splitlines(), 1):
             found = STEP.match(line)
@@ -74,12 +77,14 @@ def read(path):
                 lacks = ""
             elif word == "lacks":
                 lacks = rest
-            elif word == "file":
-                file = scenes[-1].files.setdefault(rest, [])
+            elif word == "over":
+                scenes[-1].over = rest
+            elif word == "book":
+                scenes[-1].book.append(rest)
             elif word == "options":
                 scenes[-1].options = rest.split()
             elif line.startswith("|"):
-                (scenes[-1].steps[-1].said if scenes[-1].steps else file).append(line[2:])
+                scenes[-1].steps[-1].said.append(line[2:])
             elif word == ">":
                 scenes[-1].steps[-1].command += f"\n{rest}"
             elif word == "=":

@@ -1,0 +1,34 @@
+-- The fate of a line of a trail's file: it isn't understood, it is left out, or it is chosen.
+use Rattle.std.specs.Prelude.{◌≡◌, ⊤, ℕ, Bool, true, false, if◌then◌else◌, List, [], ◌∷◌, ◌++◌, codes, Option}
+use Rattle.std.specs.Bool.{OnTrue}
+use Rattle.std.specs.Io.KnownBytes.{Appends}
+use Rattle.nfstrail.specs.Reading.{IsTextOf}
+use Rattle.nfstrail.specs.Choosing.{takes}
+use Rattle.nfstrail.specs.declared.choice.Choice.{Choice}
+use Rattle.nfstrail.specs.declared.fate.Fate.{Fate}
+use Rattle.nfstrail.specs.declared.fate.Fate.TheVariants.{Unread, LeftOut, Chosen}
+
+-- a line is left out only where it is the text of something that isn't asked for, and chosen only as something that it is the text of
+abbrev pub IsFate : Choice → List ℕ → Fate → Type 0
+IsFate choice text Unread = ⊤
+IsFate choice text (LeftOut stamped) = IsTextOf stamped text × (takes choice stamped ≡ false)
+IsFate choice text (Chosen stamped) = IsTextOf stamped text × (takes choice stamped ≡ true)
+
+-- a text after these words, and as it stands without them
+abbrev pub marked : Bool → List ℕ → List ℕ → List ℕ
+marked raw words text = if raw then text else words ++ text
+
+-- the bytes after the last newline, which are no line, are written whole, after a mark; as they stand, without a newline
+abbrev pub torn : Bool → List ℕ → List ℕ
+torn raw text = if raw then text else marked raw (codes "not ended: ") text ++ 10 ∷ []
+
+-- a line is given without its newline: one that isn't understood is written whole, after its mark; one that is left out isn't written; one
+-- that is asked for is written as it stands, where that is wanted
+abbrev pub IsWritten : Bool → Fate → List ℕ → Option (List ℕ) → Option (List ℕ) → Type 0
+IsWritten raw Unread text held held' = Appends held held' (marked raw (codes "not understood: ") text ++ 10 ∷ [])
+IsWritten raw (LeftOut stamped) text held held' = held' ≡ held
+IsWritten raw (Chosen stamped) text held held' = OnTrue raw (Appends held held' (text ++ 10 ∷ []))
+
+-- it has one of these fates, and is written so
+abbrev pub IsPrinted : Bool → Choice → List ℕ → Option (List ℕ) → Option (List ℕ) → Type 0
+IsPrinted raw choice text held held' = (fate : Fate) × IsFate choice text fate × IsWritten raw fate text held held'

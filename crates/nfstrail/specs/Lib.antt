@@ -1,0 +1,4 @@
+pub mod Reading
+pub mod Choosing
+pub mod Rights
+pub mod Fates

@@ -1,0 +1,77 @@
+//! The files of a home.
+use crate::fault::Fault;
+use std::alloc::{AllocError, Global};
+use std::fmt::{Display, Formatter};
+use std::fs::File;
+use std::rt::Files;
+use std::{fmt, fs};
+
+/// A file of a home.
+#[derive(Clone, Copy, Debug, PartialEq, Eq)]
+pub(crate) enum Part {
+    /// The trail.
+    Trail,
+    /// The book of names.
+    Book,
+    /// The key of the store.
+    Key,
+    /// The first file of the store.
+    A,
+    /// The second one.
+    B,
+}
+
+impl Display for Part {
+    fn fmt<W: fmt::Write>(&self, f: &mut Formatter<W>) -> fmt::Result {
+        f.write_str(match self {
+            Part::Trail => "trail.txt",
+            Part::Book => "book.toml",
+            Part::Key => "store/tree.key",
+            Part::A => "store/tree.a",
+            Part::B => "store/tree.b",
+        })
+    }
+}
+
+/// The folder of a home.
+#[derive(Clone, Copy)]
+pub(crate) struct Home<'a, R> {
+    pub(crate) rt: &'a R,
+    pub(crate) alloc: Global,
+    pub(crate) folder: &'a str,
+}
+
+impl<'a, R: Files<File = File>> Home<'a, R> {
+    /// The path of a file.
+    pub(crate) fn path_of(&self, part: Part) -> Result<String, AllocError> {
+        let folder = self.folder;
+        format!(in self.alloc; "{folder}/{part}")
+    }
+
+    /// Opens a file to be read.
+    pub(crate) fn open(&self, part: Part) -> Result<File, Fault> {
+        let path = self.path_of(part)?;
+        open_regular(self.rt, path.as_str())
+    }
+
+    /// Opens a file to be read, if it is there.
+    pub(crate) fn find(&self, part: Part) -> Result<Option<File>, Fault> {
+        match self.open(part) {
+            Ok(file) => Ok(Some(file)),
+            Err(fault) if fault.is_missing() => Ok(None),
+            Err(fault) => Err(fault),
+        }
+    }
+}
+
+/// Opens a regular file to be read.
+fn open_regular<R: Files<File = File>>(rt: &R, path: &str) -> Result<File, Fault> {
+    let told = fs::metadata(rt, path)?;
+    if !told.is_file() {
+        return Err(Fault::Irregular);
+    }
+    match File::open(rt, path) {
+        Ok(file) => Ok(file),
+        Err(error) => Err(Fault::from(error)),
+    }
+}

@@ -1,0 +1,209 @@
+//! `nfstrail`: prints the trail of a home for people.
+//!
+//! The status is 0; 2 where the words aren't understood, with a text on standard error; and else 1, with what is wrong and where on standard
+//! error. Nothing is written but that.
+#![tactic(auto)]
+
+mod asking;
+mod choice;
+mod escaped;
+mod fate;
+mod fault;
+mod fields;
+mod home;
+mod moment;
+mod names;
+mod notice;
+mod options;
+mod places;
+mod printing;
+mod reading;
+mod rights;
+mod store_now;
+mod words;
+
+use asking::{Refusal, choice_of};
+use fault::Fault;
+use home::{Home, Part};
+use names::{Names, read_names};
+use options::Options;
+use places::Places;
+use printing::{Broken, Printing, print_lines};
+use std::alloc::Global;
+use std::fs::File;
+use std::io::{BufReader, BufWriter};
+use std::process::ExitCode;
+use std::rt::Files;
+use std::{env, io};
+use store_now::{Unknown, read_tree};
+use words::Meanings;
+
+/// The book and the tree of a home, and whether all of both is known.
+#[derive(Drop)]
+struct Known {
+    names: Names,
+    places: Option<Places>,
+    is_whole: bool,
+}
+
+/// The names of a home. What is wrong with its book is said.
+fn known_names<R: Files<File = File> + Eprint>(home: &Home<'_, R>) -> Names {
+    match read_names(home) {
+        Ok(names) => names,
+        Err(fault) => {
+            let (rt, folder, book) = (home.rt, home.folder, Part::Book);
+            let _ = eprintln!(rt; "nfstrail: {folder}/{book}: {fault}; users are numbers here");
+            Names::Unknown
+        }
+    }
+}
+
+/// The places of a home's tree.
+fn places_of<R: Files<File = File>>(home: &Home<'_, R>) -> Result<Option<Places>, Unknown> {
+    match read_tree(home) {
+        Ok(Some(tree)) => match Places::new(home.alloc, tree) {
+            Ok(places) => Ok(Some(places)),
+            Err(_) => Err(Unknown::Memory),
+        },
+        Ok(None) => Ok(None),
+        Err(unknown) => Err(unknown),
+    }
+}
+
+/// Reads the book and the tree of a home. On standard error it says which isn't known.
+fn know<R: Files<File = File> + Eprint>(home: &Home<'_, R>) -> Known {
+    let names = known_names(home);
+    let has_names = !matches!(names, Names::Unknown);
+    match places_of(home) {
+        Ok(places) => Known {
+            names,
+            places,
+            is_whole: has_names,
+        },
+        Err(unknown) => {
+            let (rt, folder) = (home.rt, home.folder);
+            let _ = eprintln!(rt; "nfstrail: {folder}/{unknown}; objects are numbers here");
+            Known {
+                names,
+                places: None,
+                is_whole: false,
+            }
+        }
+    }
+}
+
+/// Says why a file of the home can't be read.
+fn say_fault<R: Eprint>(home: &Home<'_, R>, part: Part, fault: &Fault) {
+    let (rt, folder) = (home.rt, home.folder);
+    let _ = if fault.is_missing() {
+        eprintln!(rt; "nfstrail: {folder} is no home of nfsd: it has no {part}")
+    } else {
+        eprintln!(rt; "nfstrail: {folder}/{part}: {fault}")
+    };
+}
+
+/// Says why the words aren't followed.
+fn say_refusal<R: Eprint>(rt: &R, refusal: &Refusal<'_>) -> ExitCode {
+    let _ = eprintln!(rt; "nfstrail: {refusal}");
+    if refusal.is_of_words() {
+        ExitCode::from(2)
+    } else {
+        ExitCode::FAILURE
+    }
+}
+
+/// Says why printing stopped.
+fn say_broken<R: Eprint>(home: &Home<'_, R>, broken: &Broken) {
+    let (rt, folder, part) = (home.rt, home.folder, Part::Trail);
+    let _ = match broken {
+        Broken::Reading(error) => eprintln!(rt; "nfstrail: {folder}/{part}: {error}"),
+        Broken::Writing(error) => eprintln!(rt; "nfstrail: standard output: {error}"),
+    };
+}
+
+/// Prints what is asked for.
+fn print<R: Print>(rt: &R, printing: &Printing<'_>, trail: File) -> Result<(), Broken> {
+    let alloc = printing.meanings.alloc;
+    let mut out = match BufWriter::new(alloc, io::writer(rt)) {
+        Ok(out) => out,
+        Err(error) => return Err(Broken::Writing(error)),
+    };
+    match BufReader::new(alloc, trail) {
+        Ok(mut reader) => print_lines(alloc, printing, &mut reader, &mut out),
+        Err(error) => Err(Broken::Reading(error)),
+    }
+}
+
+/// Prints what the words ask for of a trail.
+fn print_asked<R: Files<File = File> + Print + Eprint>(
+    home: &Home<'_, R>,
+    options: &Options<'_>,
+    known: &Known,
+    trail: File,
+) -> ExitCode {
+    let places = known.places.as_ref();
+    let choice = match choice_of(home.alloc, options, &known.names, places) {
+        Ok(choice) => choice,
+        Err(refusal) => return say_refusal(home.rt, &refusal),
+    };
+    let printing = Printing {
+        choice: &choice,
+        meanings: Meanings {
+            alloc: home.alloc,
+            names: &known.names,
+            places,
+        },
+        raw: options.raw,
+    };
+    match print(home.rt, &printing, trail) {
+        Ok(()) if known.is_whole => ExitCode::SUCCESS,
+        Ok(()) => ExitCode::FAILURE,
+        Err(broken) => {
+            say_broken(home, &broken);
+            ExitCode::FAILURE
+        }
+    }
+}
+
+/// The trail of a home. `None`: the folder is no home, or its trail can't be read, which is said.
+fn trail_of<R: Files<File = File> + Eprint>(home: &Home<'_, R>) -> Option<File> {
+    if let Err(fault) = home.open(Part::Key) {
+        if fault.is_missing() {
+            say_fault(home, Part::Key, &fault);
+            return None;
+        }
+    }
+    match home.open(Part::Trail) {
+        Ok(trail) => Some(trail),
+        Err(fault) => {
+            say_fault(home, Part::Trail, &fault);
+            None
+        }
+    }
+}
+
+/// Does what the words of the command line ask for.
+fn run_words(rt: &HostRuntime, alloc: Global, words: &[String]) -> ExitCode {
+    let options = match Options::read(alloc, words) {
+        Ok(options) => options,
+        Err(error) => {
+            let _ = rt.eprint(&error);
+            return ExitCode::from(2);
+        }
+    };
+    let home = Home {
+        rt,
+        alloc,
+        folder: options.folder,
+    };
+    match trail_of(&home) {
+        Some(trail) => print_asked(&home, &options, &know(&home), trail),
+        None => ExitCode::FAILURE,
+    }
+}
+
+fn main(rt: HostRuntime) -> io::Result<ExitCode> {
+    let alloc = rt.alloc();
+    let words: Vec<String> = env::args(&rt)?.collect(alloc)?;
+    Ok(run_words(&rt, alloc, words.as_slice()))
+}

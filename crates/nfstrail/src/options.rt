@@ -1,0 +1,91 @@
+//! The words of `nfstrail`.
+use clap::{Arg, ArgAction, Command, Error, value_parser};
+use std::alloc::{AllocError, Global};
+
+/// The text of help.
+const ABOUT: &str = "\
+Prints the trail of a home, which 'nfsd --home FOLDER' keeps, for people: users by the names of the book, objects by their paths in the store as
+it is now, rights by their names, and why. It writes nothing, and takes no lock: the server may run.
+
+A line that can't be read is printed as it is, after 'not understood: ', whatever is asked for; a last line without its end after 'not ended: '.
+
+    nfstrail office --user carol --since 2026-11-26";
+
+/// The words of `nfstrail`, where they are taken.
+#[derive(Clone, Copy, Debug)]
+pub(crate) struct Options<'a> {
+    /// The home.
+    pub(crate) folder: &'a str,
+    /// The name or the number of a user.
+    pub(crate) user: Option<&'a str>,
+    /// The path of an object.
+    pub(crate) path: Option<&'a str>,
+    /// A moment.
+    pub(crate) since: Option<&'a str>,
+    /// The name of an operation.
+    pub(crate) op: Option<&'a str>,
+    /// Whether lines are printed as they stand.
+    pub(crate) raw: bool,
+}
+
+const USER: &str = "Only lines of this user, by its name in the book or its number";
+
+const PATH: &str =
+    "Only lines of the object at this path in the store as it is now, and of those below it";
+
+const SINCE: &str =
+    "Only lines from this moment in UTC on, as 2026-11-26T20:28:01Z, or from this day on, as 2026-11-26";
+
+const OP: &str = "Only lines of this operation, by its name, as WRITE";
+
+const RAW: &str = "Prints the chosen lines as they stand in the file";
+
+fn command<'a>(alloc: Global) -> Result<Command<'a>, AllocError> {
+    let command = Command::new(alloc, "nfstrail")
+        .about(ABOUT)
+        .arg(folder(alloc))?
+        .arg(valued(alloc, "user", "NAME|UID", USER))?
+        .arg(valued(alloc, "path", "PATH", PATH))?
+        .arg(valued(alloc, "since", "MOMENT", SINCE))?
+        .arg(valued(alloc, "op", "NAME", OP))?
+        .arg(raw(alloc))?;
+    Ok(command)
+}
+
+fn folder<'a>(alloc: Global) -> Arg<'a> {
+    Arg::new(alloc, "FOLDER")
+        .required(true)
+        .action(ArgAction::Set)
+        .help("The home")
+}
+
+fn raw<'a>(alloc: Global) -> Arg<'a> {
+    Arg::new(alloc, "raw")
+        .long("raw")
+        .value_parser(value_parser!(bool))
+        .action(ArgAction::SetTrue)
+        .help(RAW)
+}
+
+/// An option with a value.
+fn valued<'a>(alloc: Global, name: &'a str, value: &'a str, help: &'a str) -> Arg<'a> {
+    Arg::new(alloc, name)
+        .long(name)
+        .value_name(value)
+        .help(help)
+}
+
+impl<'a> Options<'a> {
+    /// Reads the words, of which the first is the program's name. An error is `clap`'s own, with the text for the user.
+    pub(crate) fn read(alloc: Global, words: &'a [String]) -> Result<Options<'a>, Error> {
+        let matches = command(alloc)?.try_get_matches_from(words)?;
+        Ok(Options {
+            folder: matches.get_str("FOLDER").unwrap_or(""),
+            user: matches.get_str("user"),
+            path: matches.get_str("path"),
+            since: matches.get_str("since"),
+            op: matches.get_str("op"),
+            raw: matches.get_flag("raw"),
+        })
+    }
+}
