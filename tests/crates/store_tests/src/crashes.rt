@@ -60,7 +60,7 @@ fn each_crash_leaves_what_was_kept_or_all(rt: HostRuntime) -> Result<(), Fail> {
     assert_eq!(rt; disk.kept, TURNS);
     let mut bad = 0u32;
     for count in 0..disk.events.len().saturating_add(1) {
-        bad = bad.saturating_add(bad_after(alloc, &disk, &turns, count, 4, 397)?);
+        bad = bad.saturating_add(bad_after(alloc, &disk, &turns, count, 3, 797)?);
     }
     assert_eq!(rt; bad, 0);
     Ok(())
@@ -78,7 +78,7 @@ fn each_call_that_fails_too(rt: HostRuntime) -> Result<(), Fail> {
         assert!(rt; matches!(run(alloc, &mut disk, &mut turns), Err(StoreFault::Failed)));
         assert_eq!(rt; disk.late, 0);
         let count = disk.events.len();
-        assert_eq!(rt; bad_after(alloc, &disk, &turns, count, 3, 797)?, 0);
+        assert_eq!(rt; bad_after(alloc, &disk, &turns, count, 2, 1597)?, 0);
     }
     Ok(())
 }

@@ -149,8 +149,8 @@ fn a_bit_that_is_turned_makes_no_other_tree(rt: HostRuntime) -> Result<(), Fail>
     let a = left_of(alloc, &disk.events, Slot::A)?;
     let b = left_of(alloc, &disk.events, Slot::B)?;
     let mut bad = 0u32;
-    for step in 0..a.whole.len().max(b.whole.len()) / 7 {
-        let place = 7 * step;
+    for step in 0..a.whole.len().max(b.whole.len()) / 13 {
+        let place = 13 * step;
         let mut first = a.whole.clone()?;
         let mut second = b.whole.clone()?;
         let bit = 1u8 << (step % 8);

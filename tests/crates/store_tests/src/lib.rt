@@ -3,6 +3,8 @@
 #![tactic(auto)]
 
 #[cfg(test)]
+mod changes;
+#[cfg(test)]
 mod clients;
 #[cfg(test)]
 mod crashes;
@@ -11,8 +13,12 @@ mod files;
 #[cfg(test)]
 mod heap;
 #[cfg(test)]
+mod large;
+#[cfg(test)]
 mod memory;
 #[cfg(test)]
 mod script;
+#[cfg(test)]
+mod slots;
 #[cfg(test)]
 mod starts;

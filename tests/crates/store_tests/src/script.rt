@@ -124,7 +124,7 @@ fn come(alloc: Global, known: &mut Known<Global>, turn: u64) -> Result<bool, All
         // a call that changes the tree, and one that opens a file
         5 => {
             opens(alloc, known, 2, 2)?;
-            call(known, 1, 0, 2, &[3; 200], &[4; 2000]) && call(known, 1, 1, 1, b"c", b"three")
+            call(known, 1, 0, 2, &[3; 40], &[4; 200]) && call(known, 1, 1, 1, b"c", b"three")
         }
         // calls that change nothing
         6 => call(known, 1, 1, 2, b"d", b"four") && call(known, 1, 1, 3, b"e", b""),
@@ -152,6 +152,17 @@ fn come(alloc: Global, known: &mut Known<Global>, turn: u64) -> Result<bool, All
         }
         _ => true,
     })
+}
+
+/// What is known of clients after so many turns.
+pub(crate) fn known_after(alloc: Global, turns: u64) -> Result<Known<Global>, AllocError> {
+    let mut known = Known::nothing(alloc);
+    for turn in 1..turns + 1 {
+        if !come(alloc, &mut known, turn)? {
+            return Err(AllocError);
+        }
+    }
+    Ok(known)
 }
 
 /// Whether nothing is to be kept after a turn: nothing changed, or slots alone.
