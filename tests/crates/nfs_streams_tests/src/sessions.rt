@@ -249,8 +249,8 @@ fn owners_that_vanish_are_let_go(rt: HostRuntime) -> Result<(), Fail> {
     let (alloc, hasher) = (rt.alloc(), RandomState::new(&rt)?);
     assert_eq!(rt; after_silence(alloc, hasher, false, 300)?, (Some(NOSPC), 64));
     assert_eq!(rt; after_silence(alloc, hasher, true, 10)?, (Some(NOSPC), 64));
-    // as many go as there are more than 32, and then the 65th comes
-    assert_eq!(rt; after_silence(alloc, hasher, true, 300)?, (Some(OK), 33));
+    // as many go as there are more than 32; then the 65th comes, and one more goes
+    assert_eq!(rt; after_silence(alloc, hasher, true, 300)?, (Some(OK), 32));
     Ok(())
 }
 
