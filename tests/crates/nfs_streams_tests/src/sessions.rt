@@ -10,9 +10,7 @@ use std::process::Abort;
 use std::test::Fail;
 
 /// The call of a COMPOUND by a user, up to the number of its operations: the first word is the call's number, the tenth the user's.
-const CALL: [u32; 17] = [
-    0, 0, 2, 100_003, 4, 1, 1, 20, 0, 0, 0, 0, 0, 0, 0, 0, 1,
-];
+const CALL: [u32; 17] = [0, 0, 2, 100_003, 4, 1, 1, 20, 0, 0, 0, 0, 0, 0, 0, 0, 1];
 
 /// EXCHANGE_ID of the owner `alice`.
 const EXCHANGE_ID: [u32; 10] = [1, 42, 0, 7, 5, 0x616c_6963, 0x6500_0000, 0, 0, 0];
@@ -33,7 +31,22 @@ const REMOVE: [u32; 4] = [24, 28, 4, 0x6d61_6465];
 
 /// PUTROOTFH, and OPEN of the new file `file`.
 const OPEN: [u32; 16] = [
-    24, 18, 0, 3, 0, 0, 1, 1, 0x6f00_0000, 1, 0, 0, 0, 0, 4, 0x6669_6c65,
+    24,
+    18,
+    0,
+    3,
+    0,
+    0,
+    1,
+    1,
+    0x6f00_0000,
+    1,
+    0,
+    0,
+    0,
+    0,
+    4,
+    0x6669_6c65,
 ];
 
 /// PUTROOTFH, LOOKUP of `file`, and CLOSE of the open 1.
@@ -92,7 +105,13 @@ fn calls(alloc: Global) -> Result<Vec<Vec<u8>>, AllocError> {
     let mut calls = Vec::new(alloc);
     calls.push(record(alloc, 1, 0, &[&EXCHANGE_ID])?)?;
     calls.push(record(alloc, 2, 0, &[&CREATE_SESSION])?)?;
-    let steps: [(&[u32], u32); 5] = [(&MAKE, 2), (&LOOK, 2), (&REMOVE, 2), (&OPEN, 2), (&CLOSE, 3)];
+    let steps: [(&[u32], u32); 5] = [
+        (&MAKE, 2),
+        (&LOOK, 2),
+        (&REMOVE, 2),
+        (&OPEN, 2),
+        (&CLOSE, 3),
+    ];
     let mut number = 0;
     for (step, count) in steps {
         number += 1;
@@ -178,12 +197,18 @@ fn a_call_that_is_sent_again_acts_once(rt: HostRuntime) -> Result<(), Fail> {
     let whole = undisturbed(alloc, hasher, &time, &calls)?;
     for first in 1..calls.len() {
         let files = &whole.replies[first].files;
-        assert!(rt; goes_on(alloc, hasher, files, &whole, &calls, first)?, "{first}");
+        assert!(rt;
+            goes_on(alloc, hasher, files, &whole, &calls, first)?,
+            "{first}"
+        );
     }
     // and where the reply was written
     for first in 1..calls.len() {
         let files = &whole.replies[first - 1].files;
-        assert!(rt; goes_on(alloc, hasher, files, &whole, &calls, first)?, "after {first}");
+        assert!(rt;
+            goes_on(alloc, hasher, files, &whole, &calls, first)?,
+            "after {first}"
+        );
     }
     Ok(())
 }
@@ -196,10 +221,16 @@ fn a_call_whose_record_fails_acts_once(rt: HostRuntime) -> Result<(), Fail> {
     let whole = undisturbed(alloc, hasher, &time, &calls)?;
     for fails in 3..13u64 {
         let mut talk = Talk::new(alloc, &time, Disks::new(alloc), &calls);
-        assert_eq!(rt; serve_talk(alloc, hasher, &mut talk, false, fails)?, AllEnd::Store);
+        assert_eq!(rt;
+            serve_talk(alloc, hasher, &mut talk, false, fails)?,
+            AllEnd::Store
+        );
         let first = talk.replies.len();
         assert!(rt; 1 <= first && first < calls.len());
-        assert!(rt; goes_on(alloc, hasher, &talk.files, &whole, &calls, first)?, "{fails}");
+        assert!(rt;
+            goes_on(alloc, hasher, &talk.files, &whole, &calls, first)?,
+            "{fails}"
+        );
     }
     Ok(())
 }
@@ -240,14 +271,20 @@ fn after_silence(
     talk.silent = silent;
     serve_talk(alloc, hasher, &mut talk, leases, 0)?;
     let (records, _) = found_in(alloc, &talk.files)?.known.clients.counts();
-    Ok((talk.replies.last().and_then(|reply| word(reply, STATUS)), records))
+    Ok((
+        talk.replies.last().and_then(|reply| word(reply, STATUS)),
+        records,
+    ))
 }
 
 /// 64 owners fill the server. With leases the first of them is let go more than 90 seconds after it came, and its record in the store.
 #[test]
 fn owners_that_vanish_are_let_go(rt: HostRuntime) -> Result<(), Fail> {
     let (alloc, hasher) = (rt.alloc(), RandomState::new(&rt)?);
-    assert_eq!(rt; after_silence(alloc, hasher, false, 300)?, (Some(NOSPC), 64));
+    assert_eq!(rt;
+        after_silence(alloc, hasher, false, 300)?,
+        (Some(NOSPC), 64)
+    );
     assert_eq!(rt; after_silence(alloc, hasher, true, 10)?, (Some(NOSPC), 64));
     // as many go as there are more than 32; then the 65th comes, and one more goes
     assert_eq!(rt; after_silence(alloc, hasher, true, 300)?, (Some(OK), 32));

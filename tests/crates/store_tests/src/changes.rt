@@ -19,8 +19,36 @@ const FORGET: [u32; 5] = [0, 0, 6, 0, 10];
 /// Client 5, the owner `alice` with the verifier 7, user 1001, confirmed; its first CREATE_SESSION made session 9 and
 /// granted CREATE_SESSION4_FLAG_PERSIST; RECLAIM_COMPLETE has come.
 const RECORD: [u32; 30] = [
-    1, 0, 5, 5, 0x616c_6963, 0x6500_0000, 0, 7, 1001, 1, 1, 1, 0, 0, 9, 1, 1, 0, 512, 4096, 4096,
-    8, 2, 0, 512, 4096, 4096, 8, 2, 1,
+    1,
+    0,
+    5,
+    5,
+    0x616c_6963,
+    0x6500_0000,
+    0,
+    7,
+    1001,
+    1,
+    1,
+    1,
+    0,
+    0,
+    9,
+    1,
+    1,
+    0,
+    512,
+    4096,
+    4096,
+    8,
+    2,
+    0,
+    512,
+    4096,
+    4096,
+    8,
+    2,
+    1,
 ];
 
 /// Session 9 of client 5.
@@ -28,15 +56,26 @@ const SESSION: [u32; 11] = [2, 0, 9, 0, 5, 0, 512, 4096, 4096, 8, 2];
 
 /// Call 6 on slot 1 of session 9, by user 1001 in the groups 6 and 100, with the arguments `abc` and the results `two!`.
 const CALL: [u32; 14] = [
-    3, 0, 9, 1, 6, 1001, 100, 2, 6, 100, 3, 0x6162_6300, 4, 0x7477_6f21,
+    3,
+    0,
+    9,
+    1,
+    6,
+    1001,
+    100,
+    2,
+    6,
+    100,
+    3,
+    0x6162_6300,
+    4,
+    0x7477_6f21,
 ];
 
 const CLOSE: [u32; 1] = [4];
 
 /// Open 3 of client 5, the owner `someone`, of object 2, to read, with seqid 2.
-const OPEN: [u32; 12] = [
-    5, 0, 3, 0, 5, 7, 0x736f_6d65, 0x6f6e_6500, 0, 2, 1, 2,
-];
+const OPEN: [u32; 12] = [5, 0, 3, 0, 5, 7, 0x736f_6d65, 0x6f6e_6500, 0, 2, 1, 2];
 
 /// These changes, after the number 8 of the next open and how many they are.
 fn bytes_of(alloc: Global, changes: &[&[u32]]) -> Result<Vec<u8>, AllocError> {
@@ -107,7 +146,10 @@ fn each_change_is_applied(rt: HostRuntime) -> Result<(), Fail> {
     let Some(kept) = known.clients.kept(9, 1) else {
         panic!(rt; "no call");
     };
-    assert_eq!(rt; (kept.number, kept.caller.uid(), kept.caller.gid()), (6, 1001, 100));
+    assert_eq!(rt;
+        (kept.number, kept.caller.uid(), kept.caller.gid()),
+        (6, 1001, 100)
+    );
     assert_eq!(rt; kept.caller.groups(), [6, 100].as_slice());
     assert_eq!(rt; kept.arguments, b"abc".as_slice());
     assert_eq!(rt; kept.results, b"two!".as_slice());
@@ -130,10 +172,16 @@ fn what_is_known_is_written_so(rt: HostRuntime) -> Result<(), Fail> {
     let clients = bytes_of(alloc, &[&FORGET, &RECORD, &SESSION, &CLOSE, &OPEN])?;
     assert_eq!(rt; write_clients(alloc, now)?.as_slice(), clients.as_slice());
     let calls = bytes_of(alloc, &[&CALL])?;
-    assert_eq!(rt; write_calls(alloc, now, false)?.as_slice(), calls.as_slice());
+    assert_eq!(rt;
+        write_calls(alloc, now, false)?.as_slice(),
+        calls.as_slice()
+    );
     let none = bytes_of(alloc, &[])?;
     assert_eq!(rt; write_calls(alloc, now, true)?.as_slice(), none.as_slice());
-    assert_eq!(rt; write_changes(alloc, nothing.lend(), now)?.as_slice(), all.as_slice());
+    assert_eq!(rt;
+        write_changes(alloc, nothing.lend(), now)?.as_slice(),
+        all.as_slice()
+    );
     assert_eq!(rt; write_changes(alloc, now, now)?.as_slice(), none.as_slice());
     Ok(())
 }
@@ -160,7 +208,10 @@ fn a_front_of_changes_is_refused(rt: HostRuntime) -> Result<(), Fail> {
     let alloc = rt.alloc();
     let bytes = bytes_of(alloc, &[&FORGET, &RECORD, &SESSION, &CALL, &CLOSE, &OPEN])?;
     for len in 0..bytes.len() {
-        assert!(rt; matches!(led(alloc, &bytes[..len]), Err(ChangeFault::Unfit)), "{len}");
+        assert!(rt;
+            matches!(led(alloc, &bytes[..len]), Err(ChangeFault::Unfit)),
+            "{len}"
+        );
     }
     let mut longer = bytes.clone()?;
     longer.push(0)?;
@@ -191,32 +242,63 @@ fn records_and_numbers_that_misfit(rt: HostRuntime) {
     // its number wasn't given, or is there
     assert_eq!(rt; leads(alloc, &[&RECORD]), Some(false));
     assert_eq!(rt; leads(alloc, &[&FORGET, &with(RECORD, 2, 6)]), Some(false));
-    assert_eq!(rt; leads(alloc, &[&FORGET, &RECORD, &with(RECORD, 4, 1)]), Some(false));
+    assert_eq!(rt;
+        leads(alloc, &[&FORGET, &RECORD, &with(RECORD, 4, 1)]),
+        Some(false)
+    );
     // its owner has a confirmed record, and may have another one
     let second = with(RECORD, 2, 4);
     assert_eq!(rt; leads(alloc, &[&FORGET, &RECORD, &second]), Some(false));
-    assert_eq!(rt; leads(alloc, &[&FORGET, &RECORD, &with(second, 9, 0)]), Some(true));
+    assert_eq!(rt;
+        leads(alloc, &[&FORGET, &RECORD, &with(second, 9, 0)]),
+        Some(true)
+    );
     // no truth is 2, and no result of CREATE_SESSION is kept but a session and three refusals
     for place in [9, 10, 16, 29] {
-        assert_eq!(rt; leads(alloc, &[&FORGET, &with(RECORD, place, 2)]), Some(false));
+        assert_eq!(rt;
+            leads(alloc, &[&FORGET, &with(RECORD, place, 2)]),
+            Some(false)
+        );
     }
     for (status, is_kept) in [(28, true), (10005, true), (10017, true), (10008, false)] {
         let refused = [1, 0, 5, 0, 0, 7, 1001, 1, 1, 1, status, 1];
-        assert_eq!(rt; leads(alloc, &[&FORGET, &refused]), Some(is_kept), "{status}");
+        assert_eq!(rt;
+            leads(alloc, &[&FORGET, &refused]),
+            Some(is_kept),
+            "{status}"
+        );
     }
 }
 
 #[test]
 fn sessions_calls_and_opens_that_misfit(rt: HostRuntime) {
     let alloc = rt.alloc();
-    assert_eq!(rt; leads(alloc, &[&FORGET, &RECORD, &SESSION, &CALL]), Some(true));
+    assert_eq!(rt;
+        leads(alloc, &[&FORGET, &RECORD, &SESSION, &CALL]),
+        Some(true)
+    );
     // of a session: its number, its client, and the sizes that are granted
-    for (at, word) in [(2, 10), (4, 4), (6, 65_537), (7, 4095), (7, 65_537), (9, 17), (10, 0), (10, 9)] {
+    for (at, word) in [
+        (2, 10),
+        (4, 4),
+        (6, 65_537),
+        (7, 4095),
+        (7, 65_537),
+        (9, 17),
+        (10, 0),
+        (10, 9),
+    ] {
         let misfit = leads(alloc, &[&FORGET, &RECORD, &with(SESSION, at, word)]);
         assert_eq!(rt; misfit, Some(false), "{at} {word}");
     }
-    assert_eq!(rt; leads(alloc, &[&FORGET, &RECORD, &SESSION, &SESSION]), Some(false));
-    assert_eq!(rt; leads(alloc, &[&FORGET, &with(RECORD, 9, 0), &SESSION]), Some(false));
+    assert_eq!(rt;
+        leads(alloc, &[&FORGET, &RECORD, &SESSION, &SESSION]),
+        Some(false)
+    );
+    assert_eq!(rt;
+        leads(alloc, &[&FORGET, &with(RECORD, 9, 0), &SESSION]),
+        Some(false)
+    );
     // of a call: its session, its slot, how many groups there are, groups that don't rise, and the length of its arguments
     for (at, word) in [(2, 8), (3, 2), (7, 3), (8, 100), (8, 101), (10, 5)] {
         let misfit = leads(alloc, &[&FORGET, &RECORD, &SESSION, &with(CALL, at, word)]);
@@ -295,7 +377,11 @@ fn what_differs_is_seen(rt: HostRuntime) -> Result<(), Fail> {
         other[4 * at + 3] ^= 1;
         if let Ok((changed, 0)) = led(alloc, &other) {
             let is_same = are_close(Closeness::Same, known.lend(), changed.lend());
-            assert_eq!(rt; is_same, picture_of(alloc, known.lend())? == picture_of(alloc, changed.lend())?, "{at}");
+            assert_eq!(rt;
+                is_same,
+                picture_of(alloc, known.lend())? == picture_of(alloc, changed.lend())?,
+                "{at}"
+            );
             assert!(rt; !is_same, "{at}");
             seen += 1;
         }
@@ -305,7 +391,12 @@ fn what_differs_is_seen(rt: HostRuntime) -> Result<(), Fail> {
 }
 
 /// What a small heap gives: 0 no memory, 1 what is to be.
-fn in_heap(alloc: Global, heap: &LocalHeap, bytes: &[u8], wanted: &[&[u8]; 4]) -> Result<u32, Fail> {
+fn in_heap(
+    alloc: Global,
+    heap: &LocalHeap,
+    bytes: &[u8],
+    wanted: &[&[u8]; 4],
+) -> Result<u32, Fail> {
     let known = match led(heap, bytes) {
         Ok((known, 0)) => known,
         Err(ChangeFault::Memory) => return Ok(0),

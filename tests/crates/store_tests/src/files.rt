@@ -83,11 +83,17 @@ fn files_that_hold_a_tree_or_none(rt: HostRuntime) {
     assert_eq!(rt; tree_outcome(alloc, &[&COUNTERS], None), 1);
     // a part that isn't whole, one that comes twice, and one that doesn't fit the counters
     assert_eq!(rt; tree_outcome(alloc, &[&COUNTERS, &ROOT[..72]], None), 1);
-    assert_eq!(rt; tree_outcome(alloc, &[&COUNTERS, &COUNTERS, &ROOT], None), 1);
+    assert_eq!(rt;
+        tree_outcome(alloc, &[&COUNTERS, &COUNTERS, &ROOT], None),
+        1
+    );
     assert_eq!(rt; tree_outcome(alloc, &[&COUNTERS, &ROOT, &ROOT], None), 1);
     assert_eq!(rt; tree_outcome(alloc, &[&EARLY, &ROOT], None), 1);
     // a record that isn't whole, and one with changes that are none
-    assert_eq!(rt; tree_outcome(alloc, &[&COUNTERS, &ROOT], Some(&NOTHING[..8])), 1);
+    assert_eq!(rt;
+        tree_outcome(alloc, &[&COUNTERS, &ROOT], Some(&NOTHING[..8])),
+        1
+    );
     assert_eq!(rt; tree_outcome(alloc, &[&COUNTERS, &ROOT], Some(&ROOT)), 1);
 }
 

@@ -111,7 +111,13 @@ fn a_slot_is_written_after_2_20_calls(rt: HostRuntime) -> Result<(), Fail> {
 fn how_far_ahead_a_slot_that_lags_goes(rt: HostRuntime) -> Result<(), Fail> {
     let alloc = rt.alloc();
     for number in [0, 1, u32::MAX, u32::MAX - MANY + 1] {
-        for (ahead, is_new) in [(0, false), (1, true), (2, true), (MANY, true), (MANY + 1, false)] {
+        for (ahead, is_new) in [
+            (0, false),
+            (1, true),
+            (2, true),
+            (MANY, true),
+            (MANY + 1, false),
+        ] {
             let mut known = restored(alloc, number)?;
             let came = call(&mut known, 9, 0, number.wrapping_add(ahead), b"a", b"b");
             assert_eq!(rt; came, is_new, "{number} {ahead}");
@@ -148,25 +154,43 @@ fn a_slot_is_written_with_the_next_record(rt: HostRuntime) -> Result<(), Fail> {
     let (mut store, mut tree) = begun(alloc, &mut disk, &known)?;
     for number in 6..10u32 {
         assert!(rt; call(&mut known, 9, 0, number, b"a", b"b"));
-        assert_eq!(rt; keep_more(alloc, &mut disk, &mut store, &mut tree, &known)?, 0);
+        assert_eq!(rt;
+            keep_more(alloc, &mut disk, &mut store, &mut tree, &known)?,
+            0
+        );
     }
     assert_eq!(rt; number_in(alloc, &mut disk), Some(5));
     // a file is opened, by a call on the other slot
     opens(alloc, &mut known, 5, 2)?;
     assert!(rt; call(&mut known, 9, 1, 1, b"c", b"d"));
-    assert_eq!(rt; keep_more(alloc, &mut disk, &mut store, &mut tree, &known)?, 2);
+    assert_eq!(rt;
+        keep_more(alloc, &mut disk, &mut store, &mut tree, &known)?,
+        2
+    );
     assert_eq!(rt; number_in(alloc, &mut disk), Some(9));
     // and so with the record of a client
     assert!(rt; call(&mut known, 9, 0, 10, b"a", b"b"));
     assert!(rt; known.clients.reclaim_complete(5).is_err());
-    assert_eq!(rt; keep_more(alloc, &mut disk, &mut store, &mut tree, &known)?, 0);
+    assert_eq!(rt;
+        keep_more(alloc, &mut disk, &mut store, &mut tree, &known)?,
+        0
+    );
     assert!(rt; crate::clients::exchange(&mut known, b"bob") == Some(6));
-    assert_eq!(rt; keep_more(alloc, &mut disk, &mut store, &mut tree, &known)?, 2);
+    assert_eq!(rt;
+        keep_more(alloc, &mut disk, &mut store, &mut tree, &known)?,
+        2
+    );
     assert_eq!(rt; number_in(alloc, &mut disk), Some(10));
     // open files that come and go in one turn are a record, since their numbers aren't given again
     opens(alloc, &mut known, 5, 2)?;
     known.opens.remove(1);
-    assert_eq!(rt; keep_more(alloc, &mut disk, &mut store, &mut tree, &known)?, 2);
-    assert_eq!(rt; keep_more(alloc, &mut disk, &mut store, &mut tree, &known)?, 0);
+    assert_eq!(rt;
+        keep_more(alloc, &mut disk, &mut store, &mut tree, &known)?,
+        2
+    );
+    assert_eq!(rt;
+        keep_more(alloc, &mut disk, &mut store, &mut tree, &known)?,
+        0
+    );
     Ok(())
 }
