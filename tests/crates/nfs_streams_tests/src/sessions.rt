@@ -9,7 +9,8 @@ use std::hash::RandomState;
 use std::process::Abort;
 use std::test::Fail;
 
-/// The call of a COMPOUND by a user, up to the number of its operations: the first word is the call's number, the tenth the user's.
+/// The call of a COMPOUND by a user, up to the number of its operations: the first word is the call's number, the
+/// tenth the user's.
 const CALL: [u32; 17] = [0, 0, 2, 100_003, 4, 1, 1, 20, 0, 0, 0, 0, 0, 0, 0, 0, 1];
 
 /// EXCHANGE_ID of the owner `alice`.
@@ -100,7 +101,8 @@ fn sequence(number: u32, count: u32) -> [u32; 10] {
     [1 + count, 53, 0, 0, 0, 1, number, 0, 1, 0]
 }
 
-/// A client comes, makes a directory, looks, removes it, opens a new file and closes it. The fourth call changes nothing.
+/// A client comes, makes a directory, looks, removes it, opens a new file and closes it. The fourth call changes
+/// nothing.
 fn calls(alloc: Global) -> Result<Vec<Vec<u8>>, AllocError> {
     let mut calls = Vec::new(alloc);
     calls.push(record(alloc, 1, 0, &[&EXCHANGE_ID])?)?;
@@ -135,7 +137,8 @@ fn undisturbed<'a>(
     Ok(talk)
 }
 
-/// CREATE_SESSION4_FLAG_PERSIST is granted, and each call that changes anything is kept before its reply is written: a record and a sync.
+/// CREATE_SESSION4_FLAG_PERSIST is granted, and each call that changes anything is kept before its reply is written: a
+/// record and a sync.
 #[test]
 fn what_is_kept_of_calls(rt: HostRuntime) -> Result<(), Fail> {
     let (alloc, hasher) = (rt.alloc(), RandomState::new(&rt)?);
@@ -159,8 +162,8 @@ fn what_is_kept_of_calls(rt: HostRuntime) -> Result<(), Fail> {
     Ok(())
 }
 
-/// Whether calls that are sent after a start over these files get the replies of the undisturbed talk, and the files have what they have after
-/// it.
+/// Whether calls that are sent after a start over these files get the replies of the undisturbed talk, and the files
+/// have what they have after it.
 fn goes_on(
     alloc: Global,
     hasher: RandomState,
@@ -188,8 +191,8 @@ fn goes_on(
     Ok(is_same && is_known && is_tree)
 }
 
-/// The server is killed just before it writes a reply, and started again: the same call again gets the same reply, and has acted once. The first
-/// call isn't sent again, since EXCHANGE_ID has no kept reply.
+/// The server is killed just before it writes a reply, and started again: the same call again gets the same reply, and
+/// has acted once. The first call isn't sent again, since EXCHANGE_ID has no kept reply.
 #[test]
 fn a_call_that_is_sent_again_acts_once(rt: HostRuntime) -> Result<(), Fail> {
     let (alloc, hasher) = (rt.alloc(), RandomState::new(&rt)?);
@@ -277,7 +280,8 @@ fn after_silence(
     ))
 }
 
-/// 64 owners fill the server. With leases the first of them is let go more than 90 seconds after it came, and its record in the store.
+/// 64 owners fill the server. With leases the first of them is let go more than 90 seconds after it came, and its
+/// record in the store.
 #[test]
 fn owners_that_vanish_are_let_go(rt: HostRuntime) -> Result<(), Fail> {
     let (alloc, hasher) = (rt.alloc(), RandomState::new(&rt)?);

@@ -233,7 +233,8 @@ fn hub_over(
     Ok(Hub::restored(alloc, tree, kept, book, hasher)?)
 }
 
-/// A server starts over the files of a talk, and serves it; the act of the files of this number fails, from when serving begins.
+/// A server starts over the files of a talk, and serves it; the act of the files of this number fails, from when
+/// serving begins.
 pub fn serve_talk(
     alloc: Global,
     hasher: RandomState,

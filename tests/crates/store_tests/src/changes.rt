@@ -54,7 +54,8 @@ const RECORD: [u32; 30] = [
 /// Session 9 of client 5.
 const SESSION: [u32; 11] = [2, 0, 9, 0, 5, 0, 512, 4096, 4096, 8, 2];
 
-/// Call 6 on slot 1 of session 9, by user 1001 in the groups 6 and 100, with the arguments `abc` and the results `two!`.
+/// Call 6 on slot 1 of session 9, by user 1001 in the groups 6 and 100, with the arguments `abc` and the results
+/// `two!`.
 const CALL: [u32; 14] = [
     3,
     0,
@@ -299,7 +300,8 @@ fn sessions_calls_and_opens_that_misfit(rt: HostRuntime) {
         leads(alloc, &[&FORGET, &with(RECORD, 9, 0), &SESSION]),
         Some(false)
     );
-    // of a call: its session, its slot, how many groups there are, groups that don't rise, and the length of its arguments
+    // of a call: its session, its slot, how many groups there are, groups that don't rise, and the length of its
+    // arguments
     for (at, word) in [(2, 8), (3, 2), (7, 3), (8, 100), (8, 101), (10, 5)] {
         let misfit = leads(alloc, &[&FORGET, &RECORD, &SESSION, &with(CALL, at, word)]);
         assert_eq!(rt; misfit, Some(false), "{at} {word}");
@@ -334,8 +336,8 @@ fn a_call_has_room_in_its_slot(rt: HostRuntime) {
     assert_eq!(rt; has_room(alloc, 65_536, 65_540, 0), Some(false));
 }
 
-/// Whether the changes from what is known after one turn to what is known after another one lead there, and how many they
-/// are.
+/// Whether the changes from what is known after one turn to what is known after another one lead there, and how many
+/// they are.
 fn leads_on(alloc: Global, from: u64, to: u64) -> Result<(bool, u8), Fail> {
     let mut known = known_after(alloc, from)?;
     let new = known_after(alloc, to)?;

@@ -114,9 +114,9 @@ fn what_is_written(rt: HostRuntime) -> Result<(), Fail> {
         let turn = (event.all as usize).min(14);
         acts[turn] += 1;
     }
-    // the first checkpoint: two acts, three parts of clients, the counters, three objects, two names, the end and a sync;
-    // then a record, nothing, a record of a client, a checkpoint of six objects and five names, a record, nothing where
-    // slots alone change, six records, of which two are of open files alone, and nothing
+    // the first checkpoint: two acts, three parts of clients, the counters, three objects, two names, the end and a
+    // sync; then a record, nothing, a record of a client, a checkpoint of six objects and five names, a record,
+    // nothing where slots alone change, six records, of which two are of open files alone, and nothing
     assert_eq!(rt; acts, [13, 2, 0, 2, 19, 2, 0, 2, 2, 2, 2, 2, 2, 0, 0]);
     Ok(())
 }

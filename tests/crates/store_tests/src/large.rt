@@ -75,8 +75,8 @@ fn has(alloc: Global, disk: &mut Memory, known: &Known) -> bool {
     }
 }
 
-/// A checkpoint has the calls in its second and its third part, 32 sessions and 4; a record has what has changed: an open
-/// file, one call, or all of them where a client's record changes.
+/// A checkpoint has the calls in its second and its third part, 32 sessions and 4; a record has what has changed: an
+/// open file, one call, or all of them where a client's record changes.
 #[test]
 fn many_calls_are_kept(rt: HostRuntime) -> Result<(), Fail> {
     let alloc = rt.alloc();

@@ -1,5 +1,5 @@
-//! Tests of `client_changes`, and of `tree_store`: a disk in memory that drops, cuts and spoils what wasn't synced, after
-//! each act and after each call that fails.
+//! Tests of `client_changes`, and of `tree_store`: a disk in memory that drops, cuts and spoils what wasn't synced,
+//! after each act and after each call that fails.
 #![tactic(auto)]
 
 #[cfg(test)]
