@@ -20,11 +20,11 @@ pub returns-clause-ok : goal.returns-clause-ok
 returns-clause-ok g c =
     let kept = c.none.ensures in
     subst (λ (k : World × Registry × List Opened × ℕ). IfOk c.restored.result (λ service. service ≡ answers.restored k.0 k.1 k.2 k.3 c.args.book))
-    (λ i. (c.in_ok-tree.ensures i, kept.clients i, opens_view (kept.opens i), kept.next i)) c.restored.ensures.ok
+    (λ i. (c.in_ok-root.ensures i, kept.clients i, opens_view (kept.opens i), kept.next i)) c.restored.ensures.ok
 
 pub returns-clause-err : goal.returns-clause-err
 returns-clause-err g c =
     let kept = c.none.ensures in
-    let fits : opens_fit c.in_ok-tree.tree c.none.result.clients (opens_view c.none.result.opens.items) c.none.result.next_open ≡ true =
-        λ i. opens_fit (c.in_ok-tree.ensures i) (kept.clients i) (opens_view (kept.opens i)) (kept.next i) in
+    let fits : opens_fit c.in_ok-root.root c.none.result.clients (opens_view c.none.result.opens.items) c.none.result.next_open ≡ true =
+        λ i. opens_fit (c.in_ok-root.ensures i) (kept.clients i) (opens_view (kept.opens i)) (kept.next i) in
     wants_memory c.restored.result (λ misfit. let no = c.restored.ensures.misfit misfit in cc (fits, no))
