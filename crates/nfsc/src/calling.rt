@@ -1,19 +1,18 @@
 //! Running what is wished by a client of its own.
 use crate::fault::Fault;
+use crate::link::Link;
 use crate::starting::{owner, verifier};
 use crate::wish::Wish;
 use crate::{bytes, facl};
-use nfs_client::{Answer, Client};
+use nfs_client::{Answer, Client, ToolFault};
 use nfsc_options::Options;
 use std::alloc::Global;
-use std::io::{Read, Write};
-use std::net::{Ipv4Addr, Net, SocketAddrV4, TcpStream};
+use std::cell::Cell;
+use std::io::{ErrorKind, Read, Write};
+use std::net::{Ipv4Addr, Net, SocketAddr, SocketAddrV4, TcpStream};
 use std::random::RandomSource;
 use std::rt::{Clock, Files};
 use std::time::Duration;
-
-/// The most seconds that a reply may take.
-pub(crate) const PATIENCE: u64 = 30;
 
 /// A wish, whose bytes of this system were read.
 #[derive(Drop)]
@@ -53,11 +52,11 @@ fn done<S: Read + Write>(
     }
 }
 
-/// Runs a task over a stream, by a client of this owner and this start of it. Its session and the client are ended after the task, also where
-/// that was refused.
-fn run(
+/// Runs a task by a client of this owner and this start of it. Its session and the client are ended after the task, also
+/// where that was refused.
+fn run<S: Read + Write + Drop>(
     alloc: Global,
-    stream: TcpStream,
+    stream: S,
     options: &Options<'_>,
     (owner, verifier): ([u8; 20], [u8; 8]),
     task: Task<'_>,
@@ -67,6 +66,19 @@ fn run(
     let told = done(&mut client, alloc, task);
     let _ = client.end();
     told
+}
+
+/// The fault of a run on whose stream an answer was late, if one was.
+fn judged(told: Result<Answer, Fault>, is_late: bool) -> Result<Answer, Fault> {
+    match told {
+        Err(Fault::Tool(fault)) if is_late && is_of_stream(fault) => Err(Fault::Late(fault)),
+        told => told,
+    }
+}
+
+/// Whether a fault is one of reading or writing.
+fn is_of_stream(fault: ToolFault) -> bool {
+    matches!(fault, ToolFault::Read | ToolFault::Write)
 }
 
 /// The file of this system that an answer goes to, if it goes to one.
@@ -86,15 +98,20 @@ fn task_of<'a, R: Files + Input>(rt: &R, alloc: Global, wish: Wish<'a>) -> Resul
 }
 
 /// Connects to the server. A call isn't held back to be sent with the next call.
-fn connect<R: Net<Stream = TcpStream>>(rt: &R, port: u16) -> Result<TcpStream, Fault> {
-    let server = SocketAddrV4::new(Ipv4Addr::LOCALHOST, port);
-    let Ok(stream) = TcpStream::connect(rt, server) else {
-        return Err(Fault::Socket);
-    };
-    let _ = stream.set_nodelay(true);
-    let _ = stream.set_read_timeout(Some(Duration::from_secs(PATIENCE)));
-    let _ = stream.set_write_timeout(Some(Duration::from_secs(PATIENCE)));
-    Ok(stream)
+fn connect<R: Net<Stream = TcpStream>>(
+    rt: &R,
+    port: u16,
+    patience: Duration,
+) -> Result<TcpStream, Fault> {
+    let server = SocketAddr::V4(SocketAddrV4::new(Ipv4Addr::LOCALHOST, port));
+    match TcpStream::connect_timeout(rt, &server, patience) {
+        Ok(stream) => {
+            let _ = stream.set_nodelay(true);
+            Ok(stream)
+        }
+        Err(error) if matches!(error.kind(), ErrorKind::TimedOut) => Err(Fault::LateSocket),
+        Err(_) => Err(Fault::Socket),
+    }
 }
 
 /// Connects to the server, and does what is wished.
@@ -109,8 +126,12 @@ pub(crate) fn call<R: Net<Stream = TcpStream> + Clock + RandomSource + Files + I
     let Ok(owner) = owner(rt) else {
         return Err(Fault::Random);
     };
-    let stream = connect(rt, options.port)?;
-    let told = run(alloc, stream, options, (owner, verifier(rt)), task)?;
+    let patience = Duration::from_secs(u64::from(options.timeout));
+    let stream = connect(rt, options.port, patience)?;
+    let is_late = Cell::new(false);
+    let link = Link::new(rt, stream, patience, &is_late);
+    let told = run(alloc, link, options, (owner, verifier(rt)), task);
+    let told = judged(told, is_late.get())?;
     match file {
         Some(file) => {
             bytes::write(rt, file, told.as_bytes())?;

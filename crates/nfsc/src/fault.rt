@@ -10,6 +10,9 @@ pub(crate) enum Fault {
     /// The server can't be connected to.
     #[error("socket")]
     Socket,
+    /// The server takes no connection in time.
+    #[error("socket")]
+    LateSocket,
     /// The system gives no random bytes, of which the owner of this run is made.
     #[error("random")]
     Random,
@@ -34,6 +37,9 @@ pub(crate) enum Fault {
     /// The command has a fault.
     #[error("{0}")]
     Tool(ToolFault),
+    /// An answer was late, which the command has for this fault.
+    #[error("{0}")]
+    Late(ToolFault),
 }
 
 impl From<ToolFault> for Fault {
@@ -88,7 +94,7 @@ fn sentence_of(fault: ToolFault) -> &'static str {
         ToolFault::Path => "a path is '/', or names each with '/' in front, as in /docs/notes",
         ToolFault::Refused(_, status) => refusal(status),
         ToolFault::Reply => "what the server sent is no reply, or it is longer than is taken",
-        ToolFault::Read => "the server closed the connection, or didn't answer in time",
+        ToolFault::Read => "the server closed the connection",
         ToolFault::Write => "the server takes no more bytes",
         ToolFault::Memory => "there is no memory left here, or the words are too long for a call",
         ToolFault::Entry => {
@@ -103,6 +109,7 @@ impl Fault {
     pub(crate) fn sentence(self) -> &'static str {
         match self {
             Fault::Socket => "nothing listens there, or it takes no connection",
+            Fault::LateSocket | Fault::Late(_) => "no answer in time",
             Fault::Random => "the system gives no random bytes",
             Fault::Unread => "the file can't be read",
             Fault::Unwritten => "the file can't be written",

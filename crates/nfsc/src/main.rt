@@ -11,6 +11,7 @@ mod facl;
 mod fault;
 mod given;
 mod helping;
+mod link;
 mod starting;
 mod wish;
 
@@ -52,18 +53,26 @@ fn tell<R: Print + Eprint>(rt: &R, told: Result<Answer, Fault>) -> io::Result<Ex
             io::writer(rt).write_all(answer.as_bytes())?;
             return Ok(ExitCode::SUCCESS);
         }
-        Err(Fault::Tool(fault)) => tell_fault(rt, fault)?,
+        Err(Fault::Tool(fault) | Fault::Late(fault)) => tell_fault(rt, fault)?,
         Err(fault) => eprintln!(rt; "nfsc: {fault}")?,
     }
     Ok(ExitCode::FAILURE)
 }
 
 /// Tells what was wrong, and what would do.
-fn explain<R: Eprint>(rt: &R, told: &Result<Answer, Fault>) -> io::Result<()> {
-    if let Err(fault) = told {
-        eprintln!(rt; "nfsc: {}", fault.sentence())?;
+fn explain<R: Eprint>(
+    rt: &R,
+    options: &Options<'_>,
+    told: &Result<Answer, Fault>,
+) -> io::Result<()> {
+    match told {
+        Ok(_) => Ok(()),
+        Err(Fault::Late(_) | Fault::LateSocket) => {
+            let (port, seconds) = (options.port, options.timeout);
+            eprintln!(rt; "nfsc: no answer from 127.0.0.1:{port} in {seconds} seconds")
+        }
+        Err(fault) => eprintln!(rt; "nfsc: {}", fault.sentence()),
     }
-    Ok(())
 }
 
 /// The help that a call asks for whose words have no options.
@@ -96,7 +105,7 @@ fn run<R: Net<Stream = TcpStream> + Clock + RandomSource + Files + Input + Print
     match Wish::read(words, said.as_slice()) {
         Some(wish) => {
             let told = calling::call(rt, alloc, options, wish);
-            explain(rt, &told)?;
+            explain(rt, options, &told)?;
             Ok(tell(rt, told)?)
         }
         None => refuse(rt, alloc, words.first().copied().unwrap_or("")),

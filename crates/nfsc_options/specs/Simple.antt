@@ -1,4 +1,5 @@
--- The commands of the client's programs as `clap` sees simple commands: `nfsc --port N --uid N --gid N COMMAND ..`, and `nfslab [--book FILE]`.
+-- The commands of the client's programs as `clap` sees simple commands: `nfsc --port N --uid N --gid N [--timeout SECONDS] COMMAND ..`, and
+-- `nfslab [--book FILE]`.
 use Rattle.std.specs.Prelude.{codes, Some, pos, true}
 use Rattle.clap.specs.Lexer.{usize_max}
 use Rattle.clap.specs.Words.{App, Rule, new_app, new_rule, with_rule}
@@ -45,8 +46,19 @@ command_rule = record (new_rule (codes "command")) {
   trailing_var_arg = true;
 }
 
+-- `--timeout SECONDS`: a number from 1 to 86400, which may be left out
+abbrev pub timeout_rule : Rule
+timeout_rule = record (new_rule (codes "timeout")) {
+  long = Some (codes "timeout");
+  value_names = 1;
+  action = Some Set;
+  parser = Some (vp.Signed (pos 1) (pos 86400));
+}
+
 abbrev pub nfsc : App
-nfsc = with_rule (with_rule (with_rule (with_rule (new_app (codes "nfsc")) port_rule) uid_rule) gid_rule) command_rule
+nfsc =
+    let asked = with_rule (with_rule (with_rule (with_rule (new_app (codes "nfsc")) port_rule) uid_rule) gid_rule) command_rule in
+    with_rule asked timeout_rule
 
 -- `--book FILE`: any text
 abbrev pub book_rule : Rule

@@ -1,7 +1,7 @@
 //! The command of `nfsc`, with its help.
 ghost use Rattle.std.specs.Prelude.{◌≡◌, IfOk, false};
 ghost use Rattle.clap.specs.Words.{app_of, rule_of};
-ghost use Rattle.nfsc_options.specs.Simple.{command_rule, gid_rule, nfsc, port_rule, uid_rule};
+ghost use Rattle.nfsc_options.specs.Simple.{command_rule, gid_rule, nfsc, port_rule, timeout_rule, uid_rule};
 
 use crate::commands::COMMANDS;
 use clap::{Arg, ArgAction, Command, value_parser};
@@ -26,7 +26,8 @@ pub(crate) fn command<'a>(alloc: Global) -> Result<Command<'a>, AllocError>
         .arg(port(alloc))?
         .arg(uid(alloc))?
         .arg(gid(alloc))?
-        .arg(words(alloc))?;
+        .arg(words(alloc))?
+        .arg(timeout(alloc))?;
     Ok(command)
 }
 
@@ -77,4 +78,15 @@ fn words<'a>(alloc: Global) -> Arg<'a>
         .num_args(1..)
         .trailing_var_arg(true)
         .help("The command and its words, with the options before it")
+}
+
+fn timeout<'a>(alloc: Global) -> Arg<'a>
+    ensures { (rule_of result ≡ timeout_rule) × (result.global ≡ false) }
+{
+    Arg::new(alloc, "timeout")
+        .long("timeout")
+        .value_name("SECONDS")
+        .action(ArgAction::Set)
+        .value_parser(value_parser!(u32).range(1..=86400))
+        .help("How long an answer may take, from 1 to 86400 seconds [default: 30]")
 }

@@ -9,6 +9,9 @@ use clap::Error;
 use std::alloc::Global;
 use std::convert::AsStr;
 
+/// How many seconds an answer may take, where the words don't say.
+const TIMEOUT: u32 = 30;
+
 /// The options of the words of `nfsc`.
 #[derive(Debug, Drop)]
 pub struct Options<'a> {
@@ -18,6 +21,8 @@ pub struct Options<'a> {
     pub uid: u32,
     /// The group's number.
     pub gid: u32,
+    /// How many seconds an answer may take, 1 to 86400.
+    pub timeout: u32,
     /// The words of the command, its name first.
     pub words: Vec<&'a str>,
 }
@@ -36,6 +41,7 @@ impl<'a> Options<'a> {
             port: matches.get_one::<u16>("port").unwrap(),
             uid: matches.get_one::<u32>("uid").unwrap(),
             gid: matches.get_one::<u32>("gid").unwrap(),
+            timeout: matches.get_one::<u32>("timeout").unwrap_or(TIMEOUT),
             words,
         })
     }

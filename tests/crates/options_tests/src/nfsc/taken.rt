@@ -90,6 +90,17 @@ static ROWS: [Row; 15] = [
     ("nfsc --port 1 --uid 0 --gid 0 put /f ", 1, 0, 0, "put /f "),
 ];
 
+/// Lines, and how many seconds an answer may take.
+static TIMES: [(&str, u32); 7] = [
+    ("nfsc --port 1 --uid 0 --gid 0 ls /", 30),
+    ("nfsc --port 1 --uid 0 --gid 0 --timeout 1 ls /", 1),
+    ("nfsc --timeout=86400 --port 1 --uid 0 --gid 0 ls /", 86400),
+    ("nfsc --port 1 --timeout 007 --uid 0 --gid 0 ls /", 7),
+    ("nfsc --port 1 --uid 5 --gid 6 --timeout +31 ls /", 31),
+    ("nfsc --port 1 --uid 0 --gid 0 ls --timeout 5", 30),
+    ("nfsc --port 1 --uid 0 --gid 0 -- --timeout 5", 30),
+];
+
 fn rows() -> &'static [Row] {
     &ROWS
 }
@@ -114,6 +125,29 @@ fn lines_are_taken(rt: HostRuntime) -> Result<(), Fail> {
     for row in rows() {
         let said = says(rt.alloc(), row)?;
         assert!(rt; said, "{}", row.0);
+    }
+    Ok(())
+}
+
+fn times() -> &'static [(&'static str, u32)] {
+    &TIMES
+}
+
+/// Whether the words of a line, split at spaces, give an answer this time.
+fn gives(alloc: Global, line: &str, seconds: u32) -> Result<bool, AllocError> {
+    let words: Vec<&str> = line.split(' ').collect(alloc)?;
+    match Options::read(alloc, words.as_slice()) {
+        Ok(options) => Ok(options.timeout == seconds),
+        Err(_) => Ok(false),
+    }
+}
+
+#[test]
+fn lines_give_an_answer_its_time(rt: HostRuntime) -> Result<(), Fail> {
+    for row in times() {
+        let (line, seconds) = *row;
+        let given = gives(rt.alloc(), line, seconds)?;
+        assert!(rt; given, "{line}");
     }
     Ok(())
 }
