@@ -1,5 +1,6 @@
-//! Running what is wished by a client of its own.
+//! A session of its own with the server, and what is done in it.
 use crate::fault::Fault;
+use crate::grouped::Grouped;
 use crate::link::Link;
 use crate::starting::{owner, verifier};
 use crate::wish::Wish;
@@ -16,7 +17,7 @@ use std::time::Duration;
 
 /// A wish, whose bytes of this system were read.
 #[derive(Drop)]
-enum Task<'a> {
+pub(crate) enum Task<'a> {
     Wish(Wish<'a>),
     /// These bytes become those of a file.
     Put(&'a [u8], Vec<u8>),
@@ -52,35 +53,6 @@ fn done<S: Read + Write>(
     }
 }
 
-/// Runs a task by a client of this owner and this start of it. Its session and the client are ended after the task, also
-/// where that was refused.
-fn run<S: Read + Write + Drop>(
-    alloc: Global,
-    stream: S,
-    options: &Options<'_>,
-    (owner, verifier): ([u8; 20], [u8; 8]),
-    task: Task<'_>,
-) -> Result<Answer, Fault> {
-    let (uid, gid) = (options.uid, options.gid);
-    let mut client = Client::open(alloc, stream, uid, gid, &owner, verifier)?;
-    let told = done(&mut client, alloc, task);
-    let _ = client.end();
-    told
-}
-
-/// The fault of a run on whose stream an answer was late, if one was.
-fn judged(told: Result<Answer, Fault>, is_late: bool) -> Result<Answer, Fault> {
-    match told {
-        Err(Fault::Tool(fault)) if is_late && is_of_stream(fault) => Err(Fault::Late(fault)),
-        told => told,
-    }
-}
-
-/// Whether a fault is one of reading or writing.
-fn is_of_stream(fault: ToolFault) -> bool {
-    matches!(fault, ToolFault::Read | ToolFault::Write)
-}
-
 /// The file of this system that an answer goes to, if it goes to one.
 fn file_of<'a>(wish: &Wish<'a>) -> Option<&'a str> {
     match wish {
@@ -94,6 +66,17 @@ fn task_of<'a, R: Files + Input>(rt: &R, alloc: Global, wish: Wish<'a>) -> Resul
     match wish {
         Wish::Send { file, path } => Ok(Task::Put(path, bytes::read(rt, alloc, file)?)),
         wish => Ok(Task::Wish(wish)),
+    }
+}
+
+/// Writes an answer to its file, where it goes to one.
+fn kept<R: Files>(rt: &R, file: Option<&str>, answer: Answer) -> Result<Answer, Fault> {
+    match file {
+        Some(file) => {
+            bytes::write(rt, file, answer.as_bytes())?;
+            Ok(Answer::Done)
+        }
+        None => Ok(answer),
     }
 }
 
@@ -114,29 +97,76 @@ fn connect<R: Net<Stream = TcpStream>>(
     }
 }
 
-/// Connects to the server, and does what is wished.
+/// The fault of a session on whose stream an answer was late, if one was.
+fn judged(fault: Fault, is_late: bool) -> Fault {
+    match fault {
+        Fault::Tool(fault) if is_late && is_of_stream(fault) => Fault::Late(fault),
+        fault => fault,
+    }
+}
+
+/// Whether a fault is one of reading or writing.
+fn is_of_stream(fault: ToolFault) -> bool {
+    matches!(fault, ToolFault::Read | ToolFault::Write)
+}
+
+/// A client with a session of its own.
+#[derive(Drop)]
+pub(crate) struct Session<'a, R> {
+    client: Client<Grouped<'a, Link<'a, R>>>,
+    is_late: &'a Cell<bool>,
+}
+
+impl<'a, R: Net<Stream = TcpStream> + Clock + RandomSource> Session<'a, R> {
+    /// Connects to the server, and opens a session by an owner of its own. The cell is false at first.
+    pub(crate) fn open(
+        rt: &'a R,
+        alloc: Global,
+        options: &Options<'_>,
+        groups: &'a [u32],
+        is_late: &'a Cell<bool>,
+    ) -> Result<Self, Fault> {
+        let Ok(owner) = owner(rt) else {
+            return Err(Fault::Random);
+        };
+        let patience = Duration::from_secs(u64::from(options.timeout));
+        let stream = connect(rt, options.port, patience)?;
+        let link = Link::new(rt, stream, patience, is_late);
+        let calls = Grouped::new(alloc, link, groups);
+        let (uid, gid) = (options.uid, options.gid);
+        match Client::open(alloc, calls, uid, gid, &owner, verifier(rt)) {
+            Ok(client) => Ok(Session { client, is_late }),
+            Err(fault) => Err(judged(Fault::Tool(fault), is_late.get())),
+        }
+    }
+
+    /// What comes of a task.
+    fn run(&mut self, alloc: Global, task: Task<'_>) -> Result<Answer, Fault> {
+        match done(&mut self.client, alloc, task) {
+            Ok(answer) => Ok(answer),
+            Err(fault) => Err(judged(fault, self.is_late.get())),
+        }
+    }
+
+    /// Ends the session and its client. A refusal or a fault isn't said.
+    pub(crate) fn end(&mut self) {
+        let _ = self.client.end();
+    }
+}
+
+/// Does what is wished in a session of its own, which is ended also where the wish was refused.
 pub(crate) fn call<R: Net<Stream = TcpStream> + Clock + RandomSource + Files + Input>(
     rt: &R,
     alloc: Global,
     options: &Options<'_>,
+    groups: &[u32],
     wish: Wish<'_>,
 ) -> Result<Answer, Fault> {
     let file = file_of(&wish);
     let task = task_of(rt, alloc, wish)?;
-    let Ok(owner) = owner(rt) else {
-        return Err(Fault::Random);
-    };
-    let patience = Duration::from_secs(u64::from(options.timeout));
-    let stream = connect(rt, options.port, patience)?;
     let is_late = Cell::new(false);
-    let link = Link::new(rt, stream, patience, &is_late);
-    let told = run(alloc, link, options, (owner, verifier(rt)), task);
-    let told = judged(told, is_late.get())?;
-    match file {
-        Some(file) => {
-            bytes::write(rt, file, told.as_bytes())?;
-            Ok(Answer::Done)
-        }
-        None => Ok(told),
-    }
+    let mut session = Session::open(rt, alloc, options, groups, &is_late)?;
+    let told = session.run(alloc, task);
+    session.end();
+    kept(rt, file, told?)
 }

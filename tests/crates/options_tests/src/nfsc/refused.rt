@@ -13,7 +13,7 @@ fn refusal(alloc: Global, line: &str) -> Result<Option<ErrorKind>, AllocError> {
     }
 }
 
-static ROWS: [(&str, ErrorKind); 36] = [
+static ROWS: [(&str, ErrorKind); 43] = [
     ("nfsc", ErrorKind::MissingRequiredArgument),
     ("nfsc ls /", ErrorKind::MissingRequiredArgument),
     (
@@ -111,6 +111,34 @@ static ROWS: [(&str, ErrorKind); 36] = [
     (
         "nfsc --timeout 1 --port 1 --uid 0 --gid 0 --timeout 1 ls /",
         ErrorKind::ArgumentConflict,
+    ),
+    (
+        "nfsc --port 1 --as carol --book b ls /",
+        ErrorKind::MissingRequiredArgument,
+    ),
+    (
+        "nfsc --port 1 --uid 0 --gid 0 --groups",
+        ErrorKind::InvalidValue,
+    ),
+    (
+        "nfsc --port 1 --uid 0 --gid 0 --as",
+        ErrorKind::InvalidValue,
+    ),
+    (
+        "nfsc --port 1 --uid 0 --gid 0 --book",
+        ErrorKind::InvalidValue,
+    ),
+    (
+        "nfsc --groups 1 --port 1 --uid 0 --gid 0 --groups 2 ls /",
+        ErrorKind::ArgumentConflict,
+    ),
+    (
+        "nfsc --port 1 --uid 0 --gid 0 --user carol ls /",
+        ErrorKind::UnknownArgument,
+    ),
+    (
+        "nfsc --port 1 --uid 0 --gid 0 --group 5 ls /",
+        ErrorKind::UnknownArgument,
     ),
     ("nfsc --port", ErrorKind::InvalidValue),
     ("nfsc --port 1 --uid", ErrorKind::InvalidValue),

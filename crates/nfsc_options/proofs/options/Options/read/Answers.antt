@@ -1,9 +1,10 @@
-use Rattle.std.proofs.Common.{◌∙◌, ◌≡◌, ap, sym, subst, map, codes, arith, List, Some, refl}
+use Rattle.std.proofs.Common.{◌∙◌, ◌≡◌, Err, ap, sym, subst, map, codes, arith, rules, List, Some, refl}
 use Rattle.std.specs.Prelude.{option_map}
 use Rattle.std.specs.Str.Parse.{ExplainsUnsignedError, HasUnsignedDigitsIfOk, ParsesUnsigned}
 use Rattle.clap.specs.Matches.{first_value, found_of, raw_values}
 use Rattle.clap.specs.Words.{Text, all_of, app_of, fault_of, first_of, is_simple, matches_of, rows_of}
 use Rattle.clap.specs.Faults.{is_simple_and_free}
+use Rattle.clap.specs.Kinds.{FailsBy, HasKind}
 use Rattle.clap.proofs.CallerLemmas.{some_of_text}
 use Rattle.clap.proofs.WalkLemmas.{first_value-rows, raw_values-rows}
 use Rattle.nfsc_options.specs.Given.{IsNumber, IsNumberOr, given}
@@ -59,6 +60,14 @@ unwrap-requires-4 g c =
     32 0 4294967295 refl (omega arith) (λ u x gives. gives.0) c.get_one-3.result c.get_one-3.ensures.value in
     (read_some 0 4294967295 _ c.get_one-3.result (has_value old m parsed is _ _ gid_stands gid_asked) reads)
 
+pub returns-in_err-matches-clause-refused : goal.returns-in_err-matches-clause-refused
+returns-in_err-matches-clause-refused g c =
+    let words : List Text = map g.S.AsStr.text c.args.words.now in
+    let is : app_of c.in_ok-command.field-0 ≡ nfsc = c.in_ok-command.ensures in
+    let err : c.from_residual-in_err-matches.result ≡ Err c.in_err-matches.field-0.0 = search rules in
+    subst (λ r. FailsBy (fault_of nfsc words) r) (sym err)
+    (subst (λ a. HasKind (fault_of a words) c.in_err-matches.field-0.0) is (c.in_err-matches.ensures.kinds (ap is_simple_and_free is)))
+
 pub returns-clause-said : goal.returns-clause-said
 returns-clause-said g c =
     let words : List Text = map g.S.AsStr.text c.args.words.now in
@@ -92,6 +101,9 @@ returns-clause-said g c =
       timeout = subst (IsNumberOr 30 1 86400 c.unwrap_or.result) (value (codes "timeout"))
           (number_or_default 30 1 86400 c.unwrap_or.result (first_value f (codes "timeout")) c.get_one-4.result c.unwrap_or.ensures
           (λ e. c.get_one-4.ensures.none (nothing_read f (codes "timeout") e)) timeout_reads);
+      groups = c.get_str.ensures ∙ value (codes "groups");
+      person = c.get_str-2.ensures ∙ value (codes "as");
+      book = c.get_str-3.ensures ∙ value (codes "book");
       command = sym (raw_values-rows f (codes "command") ∙ ap (all_of (codes "command")) rows)
           ∙ (sym c.get_strs.ensures ∙ (ap (option_map (λ s. map (λ v. v.now) s.now)) c.unwrap.ensures
           ∙ ap (λ vs. Some (map (λ v. v.now) vs)) (sym (c.in_ok-words.ensures.items_if_clones_equal (λ x y same. same)))));
