@@ -1,10 +1,12 @@
 //! A session of its own with the server, and what is done in it.
+use crate::deep::Voice;
 use crate::fault::Fault;
 use crate::grouped::Grouped;
 use crate::link::Link;
 use crate::starting::{owner, verifier};
+use crate::telling::Place;
 use crate::wish::Wish;
-use crate::{bytes, facl};
+use crate::{bytes, deep, facl};
 use nfs_client::{Answer, Client, ToolFault};
 use nfsc_options::Options;
 use std::alloc::Global;
@@ -24,8 +26,9 @@ pub(crate) enum Task<'a> {
 }
 
 /// What a client does of a task. The answer is to be printed.
-fn done<S: Read + Write>(
+fn done<S: Read + Write, R: Print + Eprint>(
     client: &mut Client<S>,
+    voice: Voice<'_, R>,
     alloc: Global,
     task: Task<'_>,
 ) -> Result<Answer, Fault> {
@@ -44,6 +47,13 @@ fn done<S: Read + Write>(
         Task::Wish(Wish::DelFacl(path, numbers)) => {
             facl::remove(client, alloc, path, numbers)?;
             Ok(Answer::Done)
+        }
+        Task::Wish(Wish::MakeAll(path)) => {
+            deep::make_all(client, path)?;
+            Ok(Answer::Done)
+        }
+        Task::Wish(Wish::Deep { deep, is_dry, path }) => {
+            deep::run(client, voice, alloc, (deep, is_dry), path)
         }
         Task::Put(path, bytes) => {
             client.put(path, bytes.as_slice())?;
@@ -117,7 +127,10 @@ pub(crate) struct Session<'a, R> {
     is_late: &'a Cell<bool>,
 }
 
-impl<'a, R: Net<Stream = TcpStream> + Clock + RandomSource> Session<'a, R> {
+impl<
+    'a,
+    R: Net<Stream = TcpStream> + Clock + RandomSource + Files + Input + Print + Eprint,
+> Session<'a, R> {
     /// Connects to the server, and opens a session by an owner of its own. The cell is false at first.
     pub(crate) fn open(
         rt: &'a R,
@@ -141,11 +154,25 @@ impl<'a, R: Net<Stream = TcpStream> + Clock + RandomSource> Session<'a, R> {
     }
 
     /// What comes of a task.
-    fn run(&mut self, alloc: Global, task: Task<'_>) -> Result<Answer, Fault> {
-        match done(&mut self.client, alloc, task) {
+    fn act(&mut self, voice: Voice<'_, R>, alloc: Global, task: Task<'_>) -> Result<Answer, Fault> {
+        match done(&mut self.client, voice, alloc, task) {
             Ok(answer) => Ok(answer),
             Err(fault) => Err(judged(fault, self.is_late.get())),
         }
+    }
+
+    /// What comes of a wish.
+    pub(crate) fn run(
+        &mut self,
+        rt: &R,
+        alloc: Global,
+        place: Place,
+        wish: Wish<'_>,
+    ) -> Result<Answer, Fault> {
+        let file = file_of(&wish);
+        let task = task_of(rt, alloc, wish)?;
+        let answer = self.act(Voice { rt, place }, alloc, task)?;
+        kept(rt, file, answer)
     }
 
     /// Ends the session and its client. A refusal or a fault isn't said.
@@ -155,18 +182,25 @@ impl<'a, R: Net<Stream = TcpStream> + Clock + RandomSource> Session<'a, R> {
 }
 
 /// Does what is wished in a session of its own, which is ended also where the wish was refused.
-pub(crate) fn call<R: Net<Stream = TcpStream> + Clock + RandomSource + Files + Input>(
-    rt: &R,
+pub(crate) fn call<
+    'a,
+    R: Net<Stream = TcpStream> + Clock + RandomSource + Files + Input + Print + Eprint,
+>(
+    rt: &'a R,
     alloc: Global,
     options: &Options<'_>,
-    groups: &[u32],
+    groups: &'a [u32],
     wish: Wish<'_>,
 ) -> Result<Answer, Fault> {
     let file = file_of(&wish);
     let task = task_of(rt, alloc, wish)?;
     let is_late = Cell::new(false);
     let mut session = Session::open(rt, alloc, options, groups, &is_late)?;
-    let told = session.run(alloc, task);
+    let voice = Voice {
+        rt,
+        place: Place::Call,
+    };
+    let told = session.act(voice, alloc, task);
     session.end();
     kept(rt, file, told?)
 }

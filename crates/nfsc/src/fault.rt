@@ -34,6 +34,36 @@ pub(crate) enum Fault {
     /// No entry would be left.
     #[error("list")]
     NoneLeft,
+    /// Names of a directory can't be told apart.
+    #[error("name")]
+    Name,
+    /// There are more objects than a command takes.
+    #[error("tree")]
+    TooMany,
+    /// A directory can't be listed.
+    #[error("tree")]
+    Unlisted,
+    /// The root can't be removed.
+    #[error("root")]
+    Root,
+    /// This many objects were refused.
+    #[error("refused {0}")]
+    Partly(usize),
+    /// What is printed can't be written.
+    #[error("output")]
+    Unsaid,
+    /// A line of a batch wants standard input.
+    #[error("input")]
+    Input,
+    /// A line of a batch is a batch.
+    #[error("batch")]
+    Nested,
+    /// A line of a batch is no text.
+    #[error("text")]
+    Text,
+    /// A line of a batch ends in a quote.
+    #[error("quote")]
+    Quote,
     /// The command has a fault.
     #[error("{0}")]
     Tool(ToolFault),
@@ -117,6 +147,17 @@ impl Fault {
             Fault::Entry(_, field) => field.help(),
             Fault::NoSuch => "the list has no entry of this number; getfacl shows them from 1 on",
             Fault::NoneLeft => "a list has at least one entry",
+            Fault::Name =>
+                "a name below it has a line break, which this command doesn't take; nothing was changed",
+            Fault::TooMany => "there are more than 1,000,000 objects below it; nothing was changed",
+            Fault::Unlisted => "not all of it can be listed; nothing was changed",
+            Fault::Root => "the root has no name to be removed; name what is to go",
+            Fault::Partly(_) => "these were refused, and the others were done",
+            Fault::Unsaid => "what was to be printed can't be written",
+            Fault::Input => "standard input has the commands of the batch; name a file",
+            Fault::Nested => "a batch can't be a line of a batch",
+            Fault::Text => "a line is UTF-8",
+            Fault::Quote => "a quote is open at the end, or nothing comes after a backslash",
             Fault::Tool(fault) => sentence_of(fault),
         }
     }

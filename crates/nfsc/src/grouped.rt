@@ -85,11 +85,13 @@ fn in_groups(alloc: Global, record: &[u8], groups: &[u32]) -> io::Result<Option<
     let Some(content) = record.get(MARK..) else {
         return Ok(None);
     };
-    let Ok(Call {
-        xid,
-        arguments,
-        caller: Some(caller),
-    }) = read_call(content)
+    let Ok(
+        Call {
+            xid,
+            arguments,
+            caller: Some(caller),
+        },
+    ) = read_call(content)
     else {
         return Ok(None);
     };

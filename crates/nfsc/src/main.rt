@@ -5,8 +5,10 @@
 //! wrong, and what would do, is told on standard error too.
 #![tactic(auto)]
 
+mod batch;
 mod bytes;
 mod calling;
+mod deep;
 mod facl;
 mod fault;
 mod given;
@@ -14,17 +16,19 @@ mod grouped;
 mod helping;
 mod link;
 mod person;
+mod quoting;
+mod shown;
 mod starting;
 mod telling;
+mod tree;
 mod wish;
 
 use anyhow::Result;
 use grouped::groups_in;
-use helping::Help;
+use helping::{Help, Usages};
 use nfsc_options::{Options, wrong_command};
 use person::{NoPerson, Person};
 use std::alloc::{AllocError, Global};
-use std::io::Write;
 use std::net::{Net, TcpStream};
 use std::process::ExitCode;
 use std::random::RandomSource;
@@ -39,9 +43,17 @@ const GROUPS: &str =
 
 /// Tells that words are no command, and the words of the command of this name.
 fn refuse<R: Eprint>(rt: &R, alloc: Global, name: &str) -> Result<ExitCode> {
-    match helping::usage_of(name) {
-        Some(usage) => eprintln!(rt; "nfsc: the command '{name}' wants these words: {usage}")?,
-        None => rt.eprint(&wrong_command(alloc, name)?)?,
+    let usages = Usages::of(name);
+    match (usages.more, usages.deep) {
+        (Some(usage), _) => eprintln!(rt; "nfsc: the command '{name}' wants these words: {usage}")?,
+        (None, Some(deep)) if usages.plain.is_none() => {
+            eprintln!(rt; "nfsc: the command '{name}' wants these words: {deep}")?;
+            return Ok(ExitCode::from(2));
+        }
+        (None, _) => rt.eprint(&wrong_command(alloc, name)?)?,
+    }
+    if let Some(deep) = usages.deep {
+        eprintln!(rt; "nfsc: or these: {deep}")?;
     }
     Ok(ExitCode::from(2))
 }
@@ -58,10 +70,7 @@ fn asked(alloc: Global, words: &[String]) -> Result<Option<Help>, AllocError> {
 
 /// Prints help. The status with which the program ends.
 fn tell_help<R: Print>(rt: &R, help: Help) -> io::Result<ExitCode> {
-    let mut out = io::writer(rt);
-    for text in help.texts() {
-        out.write_all(text.as_bytes())?;
-    }
+    help.print(rt)?;
     Ok(ExitCode::SUCCESS)
 }
 
@@ -82,6 +91,9 @@ fn run<R: Net<Stream = TcpStream> + Clock + RandomSource + Files + Input + Print
     groups: &[u32],
 ) -> Result<ExitCode> {
     let words = options.words.as_slice();
+    if let ["batch"] = words {
+        return Ok(status(batch::run(rt, alloc, options, groups)?));
+    }
     let said: Vec<&[u8]> = words.iter().map(|word| word.as_bytes()).collect(alloc)?;
     match Wish::read(words, said.as_slice()) {
         Some(wish) => {

@@ -98,7 +98,7 @@ fn has_members(book: &Book) -> bool {
 }
 
 /// The user of this number in a book.
-fn person(book: &Book, uid: u32) -> Person {
+fn person_of(book: &Book, uid: u32) -> Person {
     let member = has_members(book).then_some(book.member(&Caller::new(uid, NOBODY, &[])));
     Person { uid, member }
 }
@@ -108,10 +108,10 @@ fn said_twice(words: &[String], person: &Person) -> Option<&'static str> {
     if value_of(words, "--uid").is_some() {
         return Some("--as says the user, so leave --uid out");
     }
-    let has_groups =
-        value_of(words, "--gid").is_some() || value_of(words, "--groups").is_some();
-    (has_groups && person.member.is_some())
-        .then_some("the book says the groups of its users, so leave --gid and --groups out")
+    let has_groups = value_of(words, "--gid").is_some() || value_of(words, "--groups").is_some();
+    (has_groups && person.member.is_some()).then_some(
+        "the book says the groups of its users, so leave --gid and --groups out",
+    )
 }
 
 impl Person {
@@ -131,7 +131,7 @@ impl Person {
         let Some(uid) = number_of(&book, name) else {
             return Err(NoPerson::Unknown(own(alloc, file)?, own(alloc, name)?));
         };
-        let person = person(&book, uid);
+        let person = person_of(&book, uid);
         match said_twice(words, &person) {
             Some(why) => Err(NoPerson::Words(why)),
             None => Ok(Some(person)),
