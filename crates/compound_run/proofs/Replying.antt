@@ -113,7 +113,7 @@ created_alone : {A : Type 0} (o : Option (Result Created Status)) (call : Call) 
 created_alone None call v tag e f bytes is others acts = (acts, of_clients e f others)
 created_alone (Some kept) call v tag e f bytes is others acts =
     let a = acts.1 in
-    let same = again_for (client_at e.clients v.0) kept e.clients (create_of call.caller v) a.made f.clients is a.creates in
+    let same = again_for (client_at e.clients v.0) kept e.clients (create_of e.lasting call.caller v) a.made f.clients is a.creates in
     let told = a.told ∙ ap (λ (m : Made). told_by session_made m.result) same.0 in
     let realm = a.others ∙ λ i. record (realm_of e) { registry = same.1 i; opens = opens_without (same.0 i).gone (realm_of e).opens } in (
       ap Some (acts.2 ∙ ap (given_alone tag (row kinds.CreateSession).number) told),

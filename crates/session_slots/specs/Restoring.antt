@@ -16,9 +16,14 @@ use Rattle.session_slots.specs.Registry.{Client, Session, Registry, client_at, s
 abbrev pub nothing_yet : ℕ → ℕ → Registry
 nothing_yet next_client next_session = record { clients = []; sessions = []; next_client = next_client; next_session = next_session }
 
--- numbers that the next client and the next session may get
-abbrev pub numbers_fit : ℕ → ℕ → Bool
-numbers_fit next_client next_session = if nat_lt END next_client || nat_lt END next_session then false else true
+-- Numbers that the next client and the next session may get: none is below that which would have been given, or above
+-- 2 ^ 63.
+abbrev pub numbers_fit : Registry → ℕ → ℕ → Bool
+numbers_fit r next_client next_session =
+    nat_le r.next_client next_client && (nat_le r.next_session next_session && (nat_le next_client END && nat_le next_session END))
+
+abbrev pub with_numbers : ℕ → ℕ → Registry → Registry
+with_numbers next_client next_session r = record r { next_client = next_client; next_session = next_session }
 
 -- ---- a record
 

@@ -40,9 +40,8 @@ fn kept<'a>(number: u32, caller: &'a Caller) -> KeptCall<'a> {
 
 /// Client 5, heard in second 100, with its session 9, whose slot 0 keeps this number.
 fn restored(rt: &impl Abort, alloc: Global, caller: &Caller, number: u32) -> Clients {
-    let Some(mut clients) = Clients::restoring(alloc, 6, 10) else {
-        return Clients::new(alloc);
-    };
+    let mut clients = Clients::new(alloc);
+    assert_eq!(rt; clients.restore_numbers(6, 10), true);
     assert_eq!(rt; clients.restore_session(9, HELD), Err(RestoreFault::Misfit));
     assert_eq!(rt; clients.restore_record(RECORD, 100), Ok(()));
     assert_eq!(rt;
@@ -77,18 +76,16 @@ fn is_new(begin: Begin) -> bool {
 
 #[test]
 fn next_numbers_of_before_a_restart(rt: HostRuntime) {
-    assert_eq!(rt;
-        Clients::restoring(rt.alloc(), 1 << 63, 1 << 63).is_some(),
-        true
-    );
-    assert_eq!(rt;
-        Clients::restoring(rt.alloc(), (1 << 63) + 1, 1).is_none(),
-        true
-    );
-    assert_eq!(rt;
-        Clients::restoring(rt.alloc(), 1, (1 << 63) + 1).is_none(),
-        true
-    );
+    let mut clients = Clients::new(rt.alloc());
+    let last = 1 << 63;
+    assert_eq!(rt; clients.restore_numbers(6, 10), true);
+    // none that was given is given again, and none is above 2^63
+    for (client, session) in [(5, 10), (6, 9), (last + 1, 10), (6, last + 1)] {
+        assert_eq!(rt; clients.restore_numbers(client, session), false);
+        assert_eq!(rt; clients.next_numbers(), (6, 10));
+    }
+    assert_eq!(rt; clients.restore_numbers(last, last), true);
+    assert_eq!(rt; clients.next_numbers(), (last, last));
 }
 
 #[test]
