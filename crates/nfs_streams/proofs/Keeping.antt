@@ -17,8 +17,7 @@ use Rattle.tree_store.specs.Standing.{Stands as StandsFor}
 use Rattle.access_guard.specs.declared.line.Line.{Line}
 use Rattle.node_tree.specs.World.{World}
 use Rattle.tree_changes.specs.Noting.{Noted}
-use Rattle.compound_run.specs.State.{State as ServerState}
-use Rattle.compound_run.specs.State.{known_of}
+use Rattle.compound_run.specs.State.{State as ServerState, known_of}
 use Rattle.nfs_streams.specs.Lasting.{kept_of}
 use Rattle.hub_laws.specs.Notes.{world_of}
 use Rattle.nfs_hub.specs.declared.hub.Hub.{Hub}

@@ -14,9 +14,8 @@ use Rattle.node_tree.specs.World.{World}
 use Rattle.node_tree.specs.Notes.{Notes, cleared}
 use Rattle.tree_changes.proofs.Noting.{noted_cleared}
 use Rattle.compound_run.specs.Known.{Known}
-use Rattle.compound_run.specs.State.{known_of}
 use Rattle.client_changes.proofs.Alike.{same_is_near}
-use Rattle.compound_run.specs.State.{State as ServerState}
+use Rattle.compound_run.specs.State.{known_of, State as ServerState}
 use Rattle.nfs_streams.specs.Lasting.{kept_of}
 use Rattle.hub_laws.specs.Notes.{world_of}
 use Rattle.nfs_hub.specs.declared.hub.Hub.{Hub}

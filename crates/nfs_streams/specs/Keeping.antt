@@ -10,12 +10,11 @@ use Rattle.tree_store.specs.Holds.{Holds}
 use Rattle.tree_store.specs.Leaving.{Leaves}
 use Rattle.tree_store.specs.Standing.{Stands as StandsFor}
 use Rattle.tree_store.specs.Keeping.{Keeps}
-use Rattle.compound_run.specs.State.{State as ServerState}
 use Rattle.nfs_hub.specs.declared.hub.Hub.{Hub}
 use Rattle.nfs_hub.specs.Machine.{State}
 use Rattle.nfs_hub.specs.Hub.{IsHub}
 use Rattle.nfs_streams.specs.declared.serving.Limits.{Limits}
-use Rattle.compound_run.specs.State.{known_of}
+use Rattle.compound_run.specs.State.{State as ServerState, known_of}
 use Rattle.nfs_streams.specs.Lasting.{kept_of}
 use Rattle.nfs_streams.specs.Acts.{Act, OnDisk, Told, Unwritten}
 use Rattle.nfs_streams.specs.Runs.{Runs}

@@ -146,7 +146,6 @@ impl<A: Allocator + Copy> Clients<A> {
 
     /// The next client and the next session get these numbers, which were kept over a restart. `false`: one of them is below that which
     /// would have been given, or above 2^63, and nothing changes.
-    #[tactic(auto, using(crate::proofs::Restored::numbered_orderly))]
     pub fn restore_numbers(&mut self, next_client: u64, next_session: u64) -> bool
         ensures fits { result ≡ numbers_fit self.old next_client next_session }
         ensures given { self.new ≡ (if result then with_numbers next_client next_session self.old else self.old) }

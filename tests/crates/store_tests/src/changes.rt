@@ -416,10 +416,13 @@ fn changes_lead_from_each_turn_to_each_later_one(rt: HostRuntime) -> Result<(), 
             assert!(rt; leads, "{from} {to}");
         }
     }
-    // slots alone, open files with them, all clients, and nothing
+    // a slot alone, a slot and two more open files, a client more with its session and a call, and nothing
     assert_eq!(rt; leads_on(alloc, 5, 6)?.1, 1);
-    assert_eq!(rt; leads_on(alloc, 6, 8)?.1, 5);
-    assert_eq!(rt; leads_on(alloc, 3, 4)?.1, 5);
+    assert_eq!(rt; leads_on(alloc, 6, 8)?.1, 3);
+    assert_eq!(rt; leads_on(alloc, 3, 4)?.1, 4);
+    // one open file of three is closed, and a client is let go with its session and all open files
+    assert_eq!(rt; leads_on(alloc, 9, 10)?.1, 3);
+    assert_eq!(rt; leads_on(alloc, 11, 12)?.1, 2);
     assert_eq!(rt; leads_on(alloc, 6, 7)?.1, 0);
     Ok(())
 }

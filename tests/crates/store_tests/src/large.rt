@@ -77,7 +77,7 @@ fn has(alloc: Global, disk: &mut Memory, known: &Known) -> bool {
 }
 
 /// A checkpoint has the calls in its second and its third part, 32 sessions and 4; a record has what has changed: an
-/// open file, one call, or all of them where a client's record changes.
+/// open file, one call, or a client with its session and its calls where its record changes.
 #[test]
 fn many_calls_are_kept(rt: HostRuntime) -> Result<(), Fail> {
     let alloc = rt.alloc();
@@ -103,7 +103,7 @@ fn many_calls_are_kept(rt: HostRuntime) -> Result<(), Fail> {
     assert_eq!(rt; lengths.len(), 6);
     assert!(rt; lengths[0] < 300 && lengths[2] < 500, "{lengths:?}");
     assert!(rt;
-        lengths[4] > 35 * calls && lengths[4] < 37 * calls,
+        lengths[4] > calls && lengths[4] < calls + 500,
         "{lengths:?}"
     );
     assert!(rt; has(alloc, &mut disk, &known));
