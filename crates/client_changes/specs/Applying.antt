@@ -60,7 +60,7 @@ Applies old (inr (inr (inr (inr (inr (inr (inr none))))))) new = ⊥
 abbrev pub LeadsOne : Known → List ℕ → Known → List ℕ → Type 0
 LeadsOne old bytes new rest = (v : Value change) × (read_at change bytes ≡ Ok (v, rest)) × Applies old v new
 
--- so many changes, one after the other
+-- N changes, one after the other
 abbrev pub LeadsAll : ℕ → Known → List ℕ → Known → List ℕ → Type 0
 LeadsAll zero old bytes new rest = (new ≡ old) × (rest ≡ bytes)
 LeadsAll (suc n) old bytes new rest = (mid : Known) × (after : List ℕ) × LeadsOne old bytes mid after × LeadsAll n mid after new rest

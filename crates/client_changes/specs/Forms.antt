@@ -16,8 +16,8 @@ numbers = fields (hyper ∷ hyper ∷ [])
 abbrev pub opened : Xdr
 opened = fields (hyper ∷ hyper ∷ opaque 1024 ∷ hyper ∷ uint ∷ uint ∷ [])
 
--- The next client and session get these numbers; a record, a session or a call is there; so many of the open files stay
--- open, the first ones; a file is open, after the others; or a client is gone, with its sessions.
+-- The next client and session get these numbers; a record, a session or a call is there; the first N of the open files
+-- stay open alone; a file is open, after the others; or a client is gone, with its sessions.
 abbrev pub change : Xdr
 change = union (arm 0 numbers (arm 1 client (arm 2 session (arm 3 call (arm 4 uint (arm 5 opened (arm 6 hyper no_more)))))))
 

@@ -110,7 +110,7 @@ fn let_go<A: Allocator + Copy>(known: &mut Known<A>, client: u64) -> Result<(), 
     Ok(())
 }
 
-/// So many of the open files stay open, the first ones.
+/// The first `count` of the open files stay open, and no other.
 fn keep_front<A: Allocator + Copy>(known: &mut Known<A>, count: u32)
     ensures { Applies known.old (said_value (SaidChange.Stay count)) known.new }
 {

@@ -17,7 +17,7 @@ pub enum SaidChange<'a> {
     Session(SessionForm),
     /// A slot keeps this call.
     Call(CallForm<'a>),
-    /// So many of the open files stay open, the first ones.
+    /// The first ones of the open files stay open, this many, and no other.
     Stay(u32),
     /// This file is open, after the others.
     Open(SaidOpen<'a>),

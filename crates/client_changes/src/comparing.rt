@@ -186,7 +186,7 @@ fn is_close(how: Closeness, old: Option<KeptCall<'_>>, new: Option<KeptCall<'_>>
     }
 }
 
-/// Whether so many slots of a session are close.
+/// Whether the first `slots` slots of a session are close.
 fn are_slots_close<A: Allocator + Copy>(
     how: Closeness,
     a: &Clients<A>,

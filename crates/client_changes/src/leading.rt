@@ -28,7 +28,7 @@ fn lead_one<A: Allocator + Copy>(
     }
 }
 
-/// Applies so many changes.
+/// Applies `count` changes, one after the other.
 fn lead_all<A: Allocator + Copy>(
     known: &mut Known<A>,
     alloc: A,
