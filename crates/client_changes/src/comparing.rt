@@ -101,7 +101,11 @@ fn is_same_record(a: Record<'_>, b: Record<'_>) -> bool
 }
 
 /// Whether a client has the same record, or none, in both.
-pub(crate) fn is_record_same<A: Allocator + Copy>(a: &Clients<A>, b: &Clients<A>, number: u64) -> bool
+pub(crate) fn is_record_same<A: Allocator + Copy>(
+    a: &Clients<A>,
+    b: &Clients<A>,
+    number: u64,
+) -> bool
     ensures { IsTrue result ↔ (client_at a.now number ≡ client_at b.now number) }
 {
     match (a.record(number), b.record(number)) {

@@ -14,7 +14,8 @@ ghost use Rattle.session_slots.specs.declared.restoring.RestoreFault.TheVariants
 use crate::changes::{add_client, add_session};
 use crate::client::{Client, Record};
 use crate::limits::{
-    END, LEAST_REPLY, MOST_BYTES, MOST_CLIENTS, MOST_OPERATIONS, MOST_OWNER, MOST_SESSIONS, MOST_SLOTS,
+    END, LEAST_REPLY, MOST_BYTES, MOST_CLIENTS, MOST_OPERATIONS, MOST_OWNER, MOST_SESSIONS,
+    MOST_SLOTS,
 };
 use crate::registry::Registry;
 use crate::session::{Channel, Held, Session};
