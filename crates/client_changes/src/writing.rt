@@ -65,17 +65,17 @@ impl<A: Allocator + Copy> Draft<A> {
     }
 
     /// The records of clients, but for those that are kept so.
-    fn put_records<'c>(
+    fn put_records(
         &mut self,
-        old: Option<&'c Clients<A>>,
-        new: &'c Clients<A>,
+        before: Option<Before<'_, A>>,
+        new: &Clients<A>,
     ) -> Result<(), AllocError> {
         let mut at = 0;
         for _record in 0..MOST {
             let Some(number) = new.client_from(at) else {
                 return Ok(());
             };
-            if !is_client_kept(old, new, number) {
+            if !is_client_kept(before, number) {
                 if let Some(record) = new.record(number) {
                     self.put_record(record)?;
                 }
@@ -86,17 +86,12 @@ impl<A: Allocator + Copy> Draft<A> {
     }
 
     /// The clients that are gone, and those that come again as others.
-    fn put_gone(&mut self, old: &Clients<A>, new: &Clients<A>) -> Result<(), AllocError> {
-        let mut at = 0;
-        for _record in 0..MOST {
-            let Some(number) = old.client_from(at) else {
-                return Ok(());
-            };
-            if !is_client_same(old, new, number) {
+    fn put_gone(&mut self, before: Before<'_, A>) -> Result<(), AllocError> {
+        for client in before.changed {
+            if before.clients.record(*client).is_some() {
                 self.grow(ROOM)?;
-                written((6u32, number).write(&mut self.writer))?;
+                written((6u32, *client).write(&mut self.writer))?;
             }
-            at = number.saturating_add(1);
         }
         Ok(())
     }
@@ -110,17 +105,17 @@ impl<A: Allocator + Copy> Draft<A> {
     }
 
     /// The sessions of clients, but for those that are kept so.
-    fn put_sessions<'c>(
+    fn put_sessions(
         &mut self,
-        old: Option<&'c Clients<A>>,
-        new: &'c Clients<A>,
+        before: Option<Before<'_, A>>,
+        new: &Clients<A>,
     ) -> Result<(), AllocError> {
         let mut at = 0;
         for _session in 0..MOST {
             let Some(number) = new.session_from(at) else {
                 return Ok(());
             };
-            if !is_client_kept(old, new, client_of(new, number)) {
+            if !is_client_kept(before, client_of(new, number)) {
                 self.put_session(new, number)?;
             }
             at = number.saturating_add(1);
@@ -139,19 +134,18 @@ impl<A: Allocator + Copy> Draft<A> {
     }
 
     /// The calls of a session's slots, but for those that are kept so.
-    fn put_calls_of<'c>(
+    fn put_calls_of(
         &mut self,
-        old: Option<&'c Clients<A>>,
-        new: &'c Clients<A>,
+        before: Option<Before<'_, A>>,
+        new: &Clients<A>,
         session: u64,
     ) -> Result<(), AllocError> {
         let Some(held) = new.held(session) else {
             return Ok(());
         };
-        let is_new = !is_client_kept(old, new, held.client);
         for slot in 0..held.granted.slots {
             if let Some(kept) = new.kept(session, slot) {
-                if is_new || !is_kept(old, new, session, slot) {
+                if !is_call_kept(before, held.client, session, slot, kept) {
                     self.put_call(session, slot, kept)?;
                 }
             }
@@ -160,10 +154,10 @@ impl<A: Allocator + Copy> Draft<A> {
     }
 
     /// The calls of the sessions from one place to another, but for those that are kept so.
-    fn put_calls<'c>(
+    fn put_calls(
         &mut self,
-        old: Option<&'c Clients<A>>,
-        new: &'c Clients<A>,
+        before: Option<Before<'_, A>>,
+        new: &Clients<A>,
         first: u32,
         end: u32,
     ) -> Result<(), AllocError> {
@@ -173,7 +167,7 @@ impl<A: Allocator + Copy> Draft<A> {
                 return Ok(());
             };
             if place >= first {
-                self.put_calls_of(old, new, number)?;
+                self.put_calls_of(before, new, number)?;
             }
             at = number.saturating_add(1);
         }
@@ -214,16 +208,35 @@ impl<A: Allocator + Copy> Draft<A> {
     }
 }
 
-/// Whether a slot keeps the same call in both.
-fn is_kept<'c, A: Allocator + Copy>(
-    old: Option<&'c Clients<A>>,
-    new: &'c Clients<A>,
+/// What is kept of clients.
+#[derive(Clone, Copy)]
+struct Before<'b, A: Allocator> {
+    clients: &'b Clients<A>,
+    /// The clients of which the record or a session is another one now.
+    changed: &'b [u64],
+}
+
+/// Whether a client is kept with the same record and the same sessions.
+fn is_client_kept<A: Allocator + Copy>(before: Option<Before<'_, A>>, client: u64) -> bool {
+    match before {
+        Some(before) => !before.changed.iter().any(|other| *other == client),
+        None => false,
+    }
+}
+
+/// Whether a slot of a client's session keeps the same call.
+fn is_call_kept<A: Allocator + Copy>(
+    before: Option<Before<'_, A>>,
+    client: u64,
     session: u64,
     slot: u32,
+    call: KeptCall<'_>,
 ) -> bool {
-    match old {
-        Some(old) => are_calls_same(old.kept(session, slot), new.kept(session, slot)),
-        None => false,
+    match before {
+        Some(old) if is_client_kept(before, client) => {
+            are_calls_same(old.clients.kept(session, slot), Some(call))
+        }
+        _ => false,
     }
 }
 
@@ -235,35 +248,58 @@ fn client_of<A: Allocator + Copy>(clients: &Clients<A>, session: u64) -> u64 {
     }
 }
 
-/// Whether a client has the same record and the same sessions in both.
-fn is_client_same<A: Allocator + Copy>(a: &Clients<A>, b: &Clients<A>, client: u64) -> bool {
-    if !is_record_same(a, b, client) {
-        return false;
-    }
+/// The clients of which the record is another one.
+fn put_other_records<A: Allocator + Copy>(
+    old: &Clients<A>,
+    new: &Clients<A>,
+    changed: &mut Vec<u64, A>,
+) -> Result<(), AllocError> {
     let mut at = 0;
-    for _session in 0..2 * MOST {
-        let Some(number) = first(a.session_from(at), b.session_from(at)) else {
-            return true;
+    for _record in 0..2 * MOST {
+        let Some(number) = first(old.client_from(at), new.client_from(at)) else {
+            return Ok(());
         };
-        let is_its = client_of(a, number) == client || client_of(b, number) == client;
-        if is_its && a.held(number) != b.held(number) {
-            return false;
+        if !is_record_same(old, new, number) {
+            changed.push(number)?;
         }
         at = number.saturating_add(1);
     }
-    true
+    Ok(())
 }
 
-/// Whether a client is kept with the same record and the same sessions.
-fn is_client_kept<'c, A: Allocator + Copy>(
-    old: Option<&'c Clients<A>>,
-    new: &'c Clients<A>,
-    client: u64,
-) -> bool {
-    match old {
-        Some(old) => is_client_same(old, new, client),
-        None => false,
+/// The clients of which a session is another one.
+fn put_other_sessions<A: Allocator + Copy>(
+    old: &Clients<A>,
+    new: &Clients<A>,
+    changed: &mut Vec<u64, A>,
+) -> Result<(), AllocError> {
+    let mut at = 0;
+    for _session in 0..2 * MOST {
+        let Some(number) = first(old.session_from(at), new.session_from(at)) else {
+            return Ok(());
+        };
+        if old.held(number) != new.held(number) {
+            for client in [client_of(old, number), client_of(new, number)] {
+                if client != 0 && !changed.iter().any(|other| *other == client) {
+                    changed.push(client)?;
+                }
+            }
+        }
+        at = number.saturating_add(1);
     }
+    Ok(())
+}
+
+/// The clients of which the record or a session is another one.
+fn changed_clients<A: Allocator + Copy>(
+    alloc: A,
+    old: &Clients<A>,
+    new: &Clients<A>,
+) -> Result<Vec<u64, A>, AllocError> {
+    let mut changed = Vec::new(alloc);
+    put_other_records(old, new, &mut changed)?;
+    put_other_sessions(old, new, &mut changed)?;
+    Ok(changed)
 }
 
 /// How many open files are the same in both, from the first one on.
@@ -285,14 +321,19 @@ pub fn write_changes<A: Allocator + Copy>(
     old: Lent<'_, A>,
     new: Lent<'_, A>,
 ) -> Result<Vec<u8, A>, AllocError> {
+    let changed = changed_clients(alloc, old.clients, new.clients)?;
+    let before = Before {
+        clients: old.clients,
+        changed: &changed,
+    };
     let mut draft = Draft::new(alloc);
     if old.clients.next_numbers() != new.clients.next_numbers() {
         draft.put_numbers(new.clients)?;
     }
-    draft.put_gone(old.clients, new.clients)?;
-    draft.put_records(Some(old.clients), new.clients)?;
-    draft.put_sessions(Some(old.clients), new.clients)?;
-    draft.put_calls(Some(old.clients), new.clients, 0, MOST)?;
+    draft.put_gone(before)?;
+    draft.put_records(Some(before), new.clients)?;
+    draft.put_sessions(Some(before), new.clients)?;
+    draft.put_calls(Some(before), new.clients, 0, MOST)?;
     draft.put_opens(old.opens, new.opens)?;
     draft.finish(alloc, new.next_open)
 }

@@ -2,7 +2,9 @@
 
 use crate::clients::{CHANNEL, picture_of};
 use crate::script::known_after;
-use client_changes::{ChangeFault, Closeness, SaidChange, are_close, lead, write_calls, write_changes, write_clients};
+use client_changes::{
+    ChangeFault, Closeness, SaidChange, are_close, lead, write_calls, write_changes, write_clients,
+};
 use compound_run::Known;
 use linked_list_allocator::LocalHeap;
 use session_slots::{Channel, Created, Creation, Held};
@@ -233,9 +235,7 @@ fn a_front_of_changes_is_refused(rt: HostRuntime) -> Result<(), Fail> {
     let alloc = rt.alloc();
     let bytes = bytes_of(
         alloc,
-        &[
-            &NUMBERS, &RECORD, &SESSION, &CALL, &NO_OPENS, &OPEN, &GONE,
-        ],
+        &[&NUMBERS, &RECORD, &SESSION, &CALL, &NO_OPENS, &OPEN, &GONE],
     )?;
     for len in 0..bytes.len() {
         assert!(rt;

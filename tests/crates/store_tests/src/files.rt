@@ -127,9 +127,9 @@ fn files_that_hold_clients_or_none(rt: HostRuntime) {
         assert_eq!(rt; outcome(alloc, &parts, None), 1);
         parts[place] = &[0, 0, 0, 0, 0, 0, 0, 1, 0, 0, 0, 0, 0, 0, 0, 4];
         assert_eq!(rt; outcome(alloc, &parts, None), 1);
-        parts[place] = &[0, 0, 0, 0, 0, 0, 0, 1, 0, 0, 0, 1, 0, 0, 0, 4];
+        parts[place] = &[0, 0, 0, 0, 0, 0, 0, 1, 0, 0, 0, 1, 0, 0, 0, 4, 0, 0, 0, 0];
         assert_eq!(rt; outcome(alloc, &parts, None), 0);
-        parts[place] = &[0, 0, 0, 0, 0, 0, 0, 1, 0, 0, 0, 1, 0, 0, 0, 6];
+        parts[place] = &[0, 0, 0, 0, 0, 0, 0, 1, 0, 0, 0, 1, 0, 0, 0, 7, 0, 0, 0, 0];
         assert_eq!(rt; outcome(alloc, &parts, None), 1);
     }
 }
