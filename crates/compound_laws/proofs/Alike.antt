@@ -98,7 +98,11 @@ alone_discloses_nothing caller (Known kinds.DestroySession v) viewer q r new out
 alone_discloses_nothing caller (Known kinds.DestroyClientId v) viewer q r new outcome same acts = goes_alike viewer v q r new outcome same acts
 alone_discloses_nothing caller op viewer q r new outcome same acts = absurd acts
 
-pub begins_alike : (call : Call) (count : ℕ) (v : Value sequence_args) → BeginsAlike call count v
-begins_alike call count v viewer q r same =
+pub begins_alike : (call : Call) (count : ℕ) (v : Value sequence_args) (operations : List ℕ) → BeginsAlike call count v operations
+begins_alike call count v operations viewer q r same =
     let registry = registries q r viewer same in
-    (ap (λ x. begin_in x call count v) registry, ap (λ x. begun_in x call count v) registry, ap (λ x. results_at x (session_of (sequence_session v)) (sequence_slot v)) registry)
+    let lasting = lastings q r viewer same in (
+      λ i. begin_in (record q { registry = registry i; lasting = lasting i }) call count v operations,
+      λ i. begun_in (record q { registry = registry i; lasting = lasting i }) call count v operations,
+      ap (λ x. results_at x (session_of (sequence_session v)) (sequence_slot v)) registry,
+    )

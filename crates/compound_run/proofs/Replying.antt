@@ -47,14 +47,14 @@ begins_so e registry settled = λ i. record {
 }
 
 on_slot : {A : Type 0} (call : Coming) (v : Value sequence_args) (operations : List ℕ) (new : NewCall) (e begun f : realms.Realm A) (bytes : List ℕ) → e.tree.log.held ≡ []
-    → begun ≡ record e { clients = begun_in e.clients (call_of call) call.compound.count v } → length bytes ≤ new.reply_size - 24
+    → begun ≡ record e { clients = begun_in (realm_of e) (call_of call) call.compound.count v operations } → length bytes ≤ new.reply_size - 24
     → SequencedKept (coming_behind e.tree.book call v new) call.compound.tag.now v (sequence_done v new.highest_slot) operations begun bytes f
     → RunsOnSlot (state_of e) (call_of call) call.compound.tag.now call.compound.count v operations new bytes (state_of f)
 on_slot call v operations new e begun f bytes settled is few kept =
     let context = coming_behind e.tree.book call v new in
     let tag = call.compound.tag.now in
     let done = sequence_done v new.highest_slot in
-    let registry = begun_in e.clients (call_of call) call.compound.count v in
+    let registry = begun_in (realm_of e) (call_of call) call.compound.count v operations in
     let end = point_at kept.0 kept.1.0 in
     let from : point_at begun no_handles ≡ start (in_registry registry (state_of e)) = ap (λ x. point_at x no_handles) is ∙ begins_so e registry settled in (
       end,
@@ -64,7 +64,7 @@ on_slot call v operations new e begun f bytes settled is few kept =
     )
 
 pub answers_new : {A : Type 0} (call : Coming) (v : Value sequence_args) (operations : List ℕ) (new : NewCall) (b : Begin) (e begun f : realms.Realm A) (before after : Buffer) → e.tree.log.held ≡ []
-    → begins.New new ≡ b → begun ≡ record e { clients = begun_in e.clients (call_of call) call.compound.count v } → new.reply_size ≤ 65536
+    → begins.New new ≡ b → begun ≡ record e { clients = begun_in (realm_of e) (call_of call) call.compound.count v operations } → new.reply_size ≤ 65536
     → WritesWithin (new.reply_size - 24) (λ bytes. SequencedKept (coming_behind e.tree.book call v new) call.compound.tag.now v (sequence_done v new.highest_slot) operations begun bytes f) before after
     → WritesWithin MAX_RESULTS (λ bytes. AnswersAs (fate_by call.compound.tag.now v e.clients b) (RunsBy b (call_of call) call.compound.tag.now call.compound.count v operations (state_of e)) (state_of e) bytes (state_of f)) before after
 answers_new {A} call v operations new b e begun f before after settled told is most w =

@@ -11,7 +11,7 @@ ghost use Rattle.session_slots.specs.Destroying.{destroy_session_refusal, withou
 ghost use Rattle.session_slots.specs.Orderly.{IsOrderly, has_form};
 ghost use Rattle.session_slots.specs.Restoring.{IsRising, number_from, numbers_fit, record_fits, with_record, session_fits, with_restored, slot_fits, with_kept, held_of, kept_at, with_numbers};
 ghost use Rattle.session_slots.specs.Letting.{let_go};
-ghost use Rattle.session_slots.specs.Views.{asked_of, exchanging_of, client_of, kept_of};
+ghost use Rattle.session_slots.specs.Views.{asked_of, bytes_of, exchanging_of, client_of, kept_of};
 
 use crate::client::Record;
 use crate::creating::{Create, Made};
@@ -111,7 +111,7 @@ impl<A: Allocator + Copy> Clients<A> {
     /// nothing. It takes no memory.
     #[tactic(auto, using(crate::proofs::Beginning::sequences_by_history, crate::proofs::Staying::stays))]
     pub fn begin(&mut self, session: u64, asked: Sequence<'_>) -> Begin
-        requires { length asked.arguments.now ≤ asked.record_len }
+        requires { length (bytes_of asked.arguments) ≤ asked.record_len }
         ensures answer { result ≡ sequence_begin self.old session (asked_of asked.entry) }
         ensures begun { self.new ≡ sequence_begun self.old session (asked_of asked.entry) }
         ensures by_history { SequencesByHistory self.old self.new session (asked_of asked.entry) result }

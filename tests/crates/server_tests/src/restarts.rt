@@ -37,6 +37,9 @@ const BAD_STATEID: u32 = 10_025;
 
 const BADSESSION: u32 = 10_052;
 
+/// NFS4ERR_SEQ_FALSE_RETRY.
+const FALSE_RETRY: u32 = 10_076;
+
 const CHANNEL: Channel = Channel {
     padding: 0,
     request_size: 4_096,
@@ -106,6 +109,54 @@ fn persistence_is_granted_where_sessions_outlive_a_restart(rt: HostRuntime) -> R
         hasher,
     )?;
     assert_eq!(rt; granted(alloc, restored)?, Some(1));
+    Ok(())
+}
+
+/// The statuses of a call of PUTROOTFH, and of the same call sent again: as it was, with another sa_highest_slotid, with
+/// another sa_cachethis, and with both.
+fn sent_again(alloc: Global, mut hub: Hub) -> Result<[Option<u32>; 5], Fail> {
+    let conn = hub.connect()?;
+    reply(alloc, &mut hub, conn, &EXCHANGE_ID)?;
+    reply(alloc, &mut hub, conn, &PERSISTENT)?;
+    let mut statuses = [None; 5];
+    let words = [(2, 0), (2, 0), (5, 0), (2, 1), (5, 1)];
+    for (status, (highest, keep)) in statuses.iter_mut().zip(words) {
+        let compound = [2, 53, 0, 0, 0, 1, 1, 0, highest, keep, 24];
+        *status = word(&reply(alloc, &mut hub, conn, &compound)?, STATUS);
+    }
+    Ok(statuses)
+}
+
+/// A client may send a call again with another sa_highest_slotid, as Linux does. That is a repeat where sessions outlive
+/// a restart. Else a repeat has all bytes of the call.
+#[test]
+fn the_highest_slot_of_a_call_sent_again(rt: HostRuntime) -> Result<(), Fail> {
+    let alloc = rt.alloc();
+    let hasher = RandomState::new(&rt)?;
+    let lasting = Hub::lasting(alloc, Book::default(alloc), hasher)?;
+    let statuses = sent_again(alloc, lasting)?;
+    assert_eq!(rt;
+        statuses,
+        [
+            Some(OK),
+            Some(OK),
+            Some(OK),
+            Some(FALSE_RETRY),
+            Some(FALSE_RETRY)
+        ]
+    );
+    let plain = Hub::new(alloc, Book::default(alloc), hasher)?;
+    let statuses = sent_again(alloc, plain)?;
+    assert_eq!(rt;
+        statuses,
+        [
+            Some(OK),
+            Some(OK),
+            Some(FALSE_RETRY),
+            Some(FALSE_RETRY),
+            Some(FALSE_RETRY)
+        ]
+    );
     Ok(())
 }
 

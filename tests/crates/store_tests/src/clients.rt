@@ -2,7 +2,9 @@
 
 use compound_run::{Known, Lent, Open};
 use rpc_record::Caller;
-use session_slots::{Begin, Channel, Create, Created, Creation, Exchange, KeptCall, Sequence};
+use session_slots::{
+    Begin, CallBytes, Channel, Create, Created, Creation, Exchange, KeptCall, Sequence,
+};
 use std::alloc::{AllocError, Allocator, Global};
 
 /// What a session asks for, and is granted.
@@ -77,7 +79,10 @@ pub(crate) fn call<A: Allocator + Copy>(
         highest: 0,
         count: 2,
         record_len: arguments.len(),
-        arguments,
+        arguments: CallBytes {
+            front: arguments,
+            back: &[],
+        },
         caller: &caller,
         now: 1,
     };

@@ -4,8 +4,8 @@ use crate::session::plain::{ALICE, SMALL, create, creation, exchange};
 use nfs_types::Status;
 use rpc_record::Caller;
 use session_slots::{
-    Begin, CallForm, Channel, Clients, Create, Created, Creation, Exchange, Held, KeptCall, Record,
-    RecordForm, RestoreFault, Sequence, SessionForm, is_written, write_call,
+    Begin, CallBytes, CallForm, Channel, Clients, Create, Created, Creation, Exchange, Held,
+    KeptCall, Record, RecordForm, RestoreFault, Sequence, SessionForm, is_written, write_call,
 };
 use std::alloc::Global;
 use std::process::Abort;
@@ -61,7 +61,10 @@ fn asked<'a>(slot: u32, number: u32, arguments: &'a [u8], caller: &'a Caller) ->
         highest: 0,
         count: 1,
         record_len: 64,
-        arguments,
+        arguments: CallBytes {
+            front: arguments,
+            back: &[],
+        },
         caller,
         now: 0,
     }
