@@ -10,7 +10,7 @@ SPAN = 600_000
 
 
 class Killer(threading.Thread):
-    """Kills a server and starts it anew, until it ends. What it aims at is in bytes that the store grows by from now on."""
+    """Kills a server and starts it anew, until it ends. It aims at a number of bytes that the store is to grow by."""
 
     def __init__(self, server, seed, often=False):
         super().__init__(daemon=True)
