@@ -65,10 +65,10 @@ impl<A: Allocator + Copy> Draft<A> {
     }
 
     /// The records of clients, but for those that are kept so.
-    fn put_records(
+    fn put_records<'c>(
         &mut self,
-        before: Option<Before<'_, A>>,
-        new: &Clients<A>,
+        before: Option<Before<'c, A>>,
+        new: &'c Clients<A>,
     ) -> Result<(), AllocError> {
         let mut at = 0;
         for _record in 0..MOST {
@@ -105,10 +105,10 @@ impl<A: Allocator + Copy> Draft<A> {
     }
 
     /// The sessions of clients, but for those that are kept so.
-    fn put_sessions(
+    fn put_sessions<'c>(
         &mut self,
-        before: Option<Before<'_, A>>,
-        new: &Clients<A>,
+        before: Option<Before<'c, A>>,
+        new: &'c Clients<A>,
     ) -> Result<(), AllocError> {
         let mut at = 0;
         for _session in 0..MOST {
@@ -134,10 +134,10 @@ impl<A: Allocator + Copy> Draft<A> {
     }
 
     /// The calls of a session's slots, but for those that are kept so.
-    fn put_calls_of(
+    fn put_calls_of<'c>(
         &mut self,
-        before: Option<Before<'_, A>>,
-        new: &Clients<A>,
+        before: Option<Before<'c, A>>,
+        new: &'c Clients<A>,
         session: u64,
     ) -> Result<(), AllocError> {
         let Some(held) = new.held(session) else {
@@ -154,10 +154,10 @@ impl<A: Allocator + Copy> Draft<A> {
     }
 
     /// The calls of the sessions from one place to another, but for those that are kept so.
-    fn put_calls(
+    fn put_calls<'c>(
         &mut self,
-        before: Option<Before<'_, A>>,
-        new: &Clients<A>,
+        before: Option<Before<'c, A>>,
+        new: &'c Clients<A>,
         first: u32,
         end: u32,
     ) -> Result<(), AllocError> {
@@ -185,11 +185,14 @@ impl<A: Allocator + Copy> Draft<A> {
     }
 
     /// The open files, but for the first ones that are kept so.
-    fn put_opens(&mut self, old: &[Open<A>], new: &[Open<A>]) -> Result<(), AllocError> {
+    fn put_opens<'c>(&mut self, old: &'c [Open<A>], new: &'c [Open<A>]) -> Result<(), AllocError> {
         let front = front_of(old, new);
         if front < old.len() {
+            let Ok(count) = u32::try_from(front) else {
+                return Err(AllocError);
+            };
             self.grow(ROOM)?;
-            written((4u32, front as u32).write(&mut self.writer))?;
+            written((4u32, count).write(&mut self.writer))?;
         }
         for open in new.iter().skip(front) {
             self.put_open(open)?;
