@@ -1,31 +1,34 @@
-//! Running what is wished by a client of its own.
+//! A session of its own with the server, and what is done in it.
+use crate::deep::Voice;
 use crate::fault::Fault;
+use crate::grouped::Grouped;
+use crate::link::Link;
 use crate::starting::{owner, verifier};
+use crate::telling::Place;
 use crate::wish::Wish;
-use crate::{bytes, facl};
-use nfs_client::{Answer, Client};
+use crate::{bytes, deep, facl};
+use nfs_client::{Answer, Client, ToolFault};
 use nfsc_options::Options;
 use std::alloc::Global;
-use std::io::{Read, Write};
-use std::net::{Ipv4Addr, Net, SocketAddrV4, TcpStream};
+use std::cell::Cell;
+use std::io::{ErrorKind, Read, Write};
+use std::net::{Ipv4Addr, Net, SocketAddr, SocketAddrV4, TcpStream};
 use std::random::RandomSource;
 use std::rt::{Clock, Files};
 use std::time::Duration;
 
-/// The most seconds that a reply may take.
-pub(crate) const PATIENCE: u64 = 30;
-
 /// A wish, whose bytes of this system were read.
 #[derive(Drop)]
-enum Task<'a> {
+pub(crate) enum Task<'a> {
     Wish(Wish<'a>),
     /// These bytes become those of a file.
     Put(&'a [u8], Vec<u8>),
 }
 
 /// What a client does of a task. The answer is to be printed.
-fn done<S: Read + Write>(
+fn done<S: Read + Write, R: Print + Eprint>(
     client: &mut Client<S>,
+    voice: Voice<'_, R>,
     alloc: Global,
     task: Task<'_>,
 ) -> Result<Answer, Fault> {
@@ -45,28 +48,19 @@ fn done<S: Read + Write>(
             facl::remove(client, alloc, path, numbers)?;
             Ok(Answer::Done)
         }
+        Task::Wish(Wish::MakeAll(path)) => {
+            deep::make_all(client, path)?;
+            Ok(Answer::Done)
+        }
+        Task::Wish(Wish::Deep { deep, is_dry, path }) => {
+            deep::run(client, voice, alloc, (deep, is_dry), path)
+        }
         Task::Put(path, bytes) => {
             client.put(path, bytes.as_slice())?;
             Ok(Answer::Done)
         }
         Task::Wish(Wish::Send { .. }) => Err(Fault::Unread),
     }
-}
-
-/// Runs a task over a stream, by a client of this owner and this start of it. Its session and the client are ended after the task, also where
-/// that was refused.
-fn run(
-    alloc: Global,
-    stream: TcpStream,
-    options: &Options<'_>,
-    (owner, verifier): ([u8; 20], [u8; 8]),
-    task: Task<'_>,
-) -> Result<Answer, Fault> {
-    let (uid, gid) = (options.uid, options.gid);
-    let mut client = Client::open(alloc, stream, uid, gid, &owner, verifier)?;
-    let told = done(&mut client, alloc, task);
-    let _ = client.end();
-    told
 }
 
 /// The file of this system that an answer goes to, if it goes to one.
@@ -85,37 +79,128 @@ fn task_of<'a, R: Files + Input>(rt: &R, alloc: Global, wish: Wish<'a>) -> Resul
     }
 }
 
-/// Connects to the server. A call isn't held back to be sent with the next call.
-fn connect<R: Net<Stream = TcpStream>>(rt: &R, port: u16) -> Result<TcpStream, Fault> {
-    let server = SocketAddrV4::new(Ipv4Addr::LOCALHOST, port);
-    let Ok(stream) = TcpStream::connect(rt, server) else {
-        return Err(Fault::Socket);
-    };
-    let _ = stream.set_nodelay(true);
-    let _ = stream.set_read_timeout(Some(Duration::from_secs(PATIENCE)));
-    let _ = stream.set_write_timeout(Some(Duration::from_secs(PATIENCE)));
-    Ok(stream)
+/// Writes an answer to its file, where it goes to one.
+fn kept<R: Files>(rt: &R, file: Option<&str>, answer: Answer) -> Result<Answer, Fault> {
+    match file {
+        Some(file) => {
+            bytes::write(rt, file, answer.as_bytes())?;
+            Ok(Answer::Done)
+        }
+        None => Ok(answer),
+    }
 }
 
-/// Connects to the server, and does what is wished.
-pub(crate) fn call<R: Net<Stream = TcpStream> + Clock + RandomSource + Files + Input>(
+/// Connects to the server. A call isn't held back to be sent with the next call.
+fn connect<R: Net<Stream = TcpStream>>(
     rt: &R,
+    port: u16,
+    patience: Duration,
+) -> Result<TcpStream, Fault> {
+    let server = SocketAddr::V4(SocketAddrV4::new(Ipv4Addr::LOCALHOST, port));
+    match TcpStream::connect_timeout(rt, &server, patience) {
+        Ok(stream) => {
+            let _ = stream.set_nodelay(true);
+            Ok(stream)
+        }
+        Err(error) if matches!(error.kind(), ErrorKind::TimedOut) => Err(Fault::LateSocket),
+        Err(_) => Err(Fault::Socket),
+    }
+}
+
+/// The fault of a session on whose stream an answer was late, if one was.
+fn judged(fault: Fault, is_late: bool) -> Fault {
+    match fault {
+        Fault::Tool(fault) if is_late && is_of_stream(fault) => Fault::Late(fault),
+        fault => fault,
+    }
+}
+
+/// Whether a fault is one of reading or writing.
+fn is_of_stream(fault: ToolFault) -> bool {
+    matches!(fault, ToolFault::Read | ToolFault::Write)
+}
+
+/// A client with a session of its own.
+#[derive(Drop)]
+pub(crate) struct Session<'a, R> {
+    client: Client<Grouped<'a, Link<'a, R>>>,
+    is_late: &'a Cell<bool>,
+}
+
+impl<
+    'a,
+    R: Net<Stream = TcpStream> + Clock + RandomSource + Files + Input + Print + Eprint,
+> Session<'a, R> {
+    /// Connects to the server, and opens a session by an owner of its own. The cell is false at first.
+    pub(crate) fn open(
+        rt: &'a R,
+        alloc: Global,
+        options: &Options<'_>,
+        groups: &'a [u32],
+        is_late: &'a Cell<bool>,
+    ) -> Result<Self, Fault> {
+        let Ok(owner) = owner(rt) else {
+            return Err(Fault::Random);
+        };
+        let patience = Duration::from_secs(u64::from(options.timeout));
+        let stream = connect(rt, options.port, patience)?;
+        let link = Link::new(rt, stream, patience, is_late);
+        let calls = Grouped::new(alloc, link, groups);
+        let (uid, gid) = (options.uid, options.gid);
+        match Client::open(alloc, calls, uid, gid, &owner, verifier(rt)) {
+            Ok(client) => Ok(Session { client, is_late }),
+            Err(fault) => Err(judged(Fault::Tool(fault), is_late.get())),
+        }
+    }
+
+    /// What comes of a task.
+    fn act(&mut self, voice: Voice<'_, R>, alloc: Global, task: Task<'_>) -> Result<Answer, Fault> {
+        match done(&mut self.client, voice, alloc, task) {
+            Ok(answer) => Ok(answer),
+            Err(fault) => Err(judged(fault, self.is_late.get())),
+        }
+    }
+
+    /// What comes of a wish.
+    pub(crate) fn run(
+        &mut self,
+        rt: &R,
+        alloc: Global,
+        place: Place,
+        wish: Wish<'_>,
+    ) -> Result<Answer, Fault> {
+        let file = file_of(&wish);
+        let task = task_of(rt, alloc, wish)?;
+        let answer = self.act(Voice { rt, place }, alloc, task)?;
+        kept(rt, file, answer)
+    }
+
+    /// Ends the session and its client. A refusal or a fault isn't said.
+    pub(crate) fn end(&mut self) {
+        let _ = self.client.end();
+    }
+}
+
+/// Does what is wished in a session of its own, which is ended also where the wish was refused.
+pub(crate) fn call<
+    'a,
+    R: Net<Stream = TcpStream> + Clock + RandomSource + Files + Input + Print + Eprint,
+>(
+    rt: &'a R,
     alloc: Global,
     options: &Options<'_>,
+    groups: &'a [u32],
     wish: Wish<'_>,
 ) -> Result<Answer, Fault> {
     let file = file_of(&wish);
     let task = task_of(rt, alloc, wish)?;
-    let Ok(owner) = owner(rt) else {
-        return Err(Fault::Random);
+    let is_late = Cell::new(false);
+    let mut session = Session::open(rt, alloc, options, groups, &is_late)?;
+    let voice = Voice {
+        rt,
+        place: Place::Call,
     };
-    let stream = connect(rt, options.port)?;
-    let told = run(alloc, stream, options, (owner, verifier(rt)), task)?;
-    match file {
-        Some(file) => {
-            bytes::write(rt, file, told.as_bytes())?;
-            Ok(Answer::Done)
-        }
-        None => Ok(told),
-    }
+    let told = session.act(voice, alloc, task);
+    session.end();
+    kept(rt, file, told?)
 }

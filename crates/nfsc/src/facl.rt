@@ -60,7 +60,7 @@ fn text_of(alloc: Global, object: Kind, number: usize, words: &[u8]) -> Result<V
 }
 
 /// The texts of entries in words, in their order.
-fn texts_of(alloc: Global, object: Kind, entries: &[&[u8]]) -> Result<Entries, Fault> {
+pub(crate) fn texts_of(alloc: Global, object: Kind, entries: &[&[u8]]) -> Result<Entries, Fault> {
     let mut texts = Vec::new(alloc);
     for (index, words) in entries.iter().enumerate() {
         let text = text_of(alloc, object, index.saturating_add(1), words)?;
@@ -69,18 +69,26 @@ fn texts_of(alloc: Global, object: Kind, entries: &[&[u8]]) -> Result<Entries, F
     Ok(texts)
 }
 
+/// Whether the object is a directory.
+pub(crate) fn is_directory<S: Read + Write>(
+    client: &mut Client<S>,
+    path: &[u8],
+) -> Result<bool, Fault> {
+    let rights = client.access(path)?;
+    Ok(rights.supported & LOOKUP != 0)
+}
+
 /// Whether the object is a directory or another. It matters to the letter `W` alone.
 fn kind_at<S: Read + Write>(client: &mut Client<S>, path: &[u8]) -> Result<Kind, Fault> {
-    let rights = client.access(path)?;
-    if rights.supported & LOOKUP == 0 {
-        Ok(Kind::File)
-    } else {
+    if is_directory(client, path)? {
         Ok(Kind::Directory)
+    } else {
+        Ok(Kind::File)
     }
 }
 
 /// Sets the list to entries as text.
-fn set<S: Read + Write>(
+pub(crate) fn set<S: Read + Write>(
     client: &mut Client<S>,
     alloc: Global,
     path: &[u8],

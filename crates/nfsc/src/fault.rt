@@ -10,6 +10,9 @@ pub(crate) enum Fault {
     /// The server can't be connected to.
     #[error("socket")]
     Socket,
+    /// The server takes no connection in time.
+    #[error("socket")]
+    LateSocket,
     /// The system gives no random bytes, of which the owner of this run is made.
     #[error("random")]
     Random,
@@ -31,9 +34,42 @@ pub(crate) enum Fault {
     /// No entry would be left.
     #[error("list")]
     NoneLeft,
+    /// Names of a directory can't be told apart.
+    #[error("name")]
+    Name,
+    /// There are more objects than a command takes.
+    #[error("tree")]
+    TooMany,
+    /// A directory can't be listed.
+    #[error("tree")]
+    Unlisted,
+    /// The root can't be removed.
+    #[error("root")]
+    Root,
+    /// This many objects were refused.
+    #[error("refused {0}")]
+    Partly(usize),
+    /// What is printed can't be written.
+    #[error("output")]
+    Unsaid,
+    /// A line of a batch wants standard input.
+    #[error("input")]
+    Input,
+    /// A line of a batch is a batch.
+    #[error("batch")]
+    Nested,
+    /// A line of a batch is no text.
+    #[error("text")]
+    Text,
+    /// A line of a batch ends in a quote.
+    #[error("quote")]
+    Quote,
     /// The command has a fault.
     #[error("{0}")]
     Tool(ToolFault),
+    /// An answer was late, which the command has for this fault.
+    #[error("{0}")]
+    Late(ToolFault),
 }
 
 impl From<ToolFault> for Fault {
@@ -88,7 +124,7 @@ fn sentence_of(fault: ToolFault) -> &'static str {
         ToolFault::Path => "a path is '/', or names each with '/' in front, as in /docs/notes",
         ToolFault::Refused(_, status) => refusal(status),
         ToolFault::Reply => "what the server sent is no reply, or it is longer than is taken",
-        ToolFault::Read => "the server closed the connection, or didn't answer in time",
+        ToolFault::Read => "the server closed the connection",
         ToolFault::Write => "the server takes no more bytes",
         ToolFault::Memory => "there is no memory left here, or the words are too long for a call",
         ToolFault::Entry => {
@@ -103,6 +139,7 @@ impl Fault {
     pub(crate) fn sentence(self) -> &'static str {
         match self {
             Fault::Socket => "nothing listens there, or it takes no connection",
+            Fault::LateSocket | Fault::Late(_) => "no answer in time",
             Fault::Random => "the system gives no random bytes",
             Fault::Unread => "the file can't be read",
             Fault::Unwritten => "the file can't be written",
@@ -110,6 +147,17 @@ impl Fault {
             Fault::Entry(_, field) => field.help(),
             Fault::NoSuch => "the list has no entry of this number; getfacl shows them from 1 on",
             Fault::NoneLeft => "a list has at least one entry",
+            Fault::Name =>
+                "a name below it has a line break, which this command doesn't take; nothing was changed",
+            Fault::TooMany => "there are more than 1,000,000 objects below it; nothing was changed",
+            Fault::Unlisted => "not all of it can be listed; nothing was changed",
+            Fault::Root => "the root has no name to be removed; name what is to go",
+            Fault::Partly(_) => "these were refused, and the others were done",
+            Fault::Unsaid => "what was to be printed can't be written",
+            Fault::Input => "standard input has the commands of the batch; name a file",
+            Fault::Nested => "a batch can't be a line of a batch",
+            Fault::Text => "a line is UTF-8",
+            Fault::Quote => "a quote is open at the end, or nothing comes after a backslash",
             Fault::Tool(fault) => sentence_of(fault),
         }
     }

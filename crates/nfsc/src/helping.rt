@@ -1,5 +1,9 @@
 //! Help: the commands, each with an example, and the words of lists.
+use crate::shown::Shown;
+use crate::telling::Place;
 use nfsc_options::COMMANDS;
+use std::io;
+use std::io::Write;
 
 /// The commands that `nfsc` has beside those of the client. The line of a command, and no other, begins with four spaces.
 const MORE_COMMANDS: &str = "\
@@ -11,6 +15,19 @@ Commands for files and lists in words:
     setfacl P ENTRY..      sets the list                                              setfacl /notes A::OWNER@:RW
     addfacl P [N] ENTRY..  puts entries before entry N, or before the first           addfacl /notes D::1002:r
     delfacl P N..          takes out the entries of these numbers, from 1 on          delfacl /notes 1
+";
+
+/// The commands over an object and all below it, and over many lines. The line of a command, and no other, begins with
+/// four spaces.
+const DEEP_COMMANDS: &str = "\
+Commands over an object and all below it, which '--dry-run' only lists, and over many commands:
+
+    list -R P                         lists what is below a directory, each with its path      list -R /docs
+    mkdir -p P                        makes a directory, and those above it that aren't there  mkdir -p /docs/2026/may
+    chmod -R [--dry-run] OCTAL P      sets the modes                                           chmod -R 0750 /docs
+    setfacl -R [--dry-run] P ENTRY..  sets the lists                                           setfacl -R /docs A::OWNER@:RWX
+    rm -R [--dry-run] P               removes them                                             rm -R --dry-run /docs
+    batch                             runs the commands of standard input, a line a command    batch
 
 'nfsc help lists' says what the words of an entry are, and 'nfsc COMMAND --help' what a command wants.
 ";
@@ -43,11 +60,56 @@ fn line_in(table: &'static str, name: &str) -> Option<&'static str> {
         .find(|line| line.split(' ').next() == Some(name))
 }
 
-/// The words of a command of this table, its name first, as `get P [FILE]`. `None`: there is no command of this name in it.
-pub(crate) fn usage_of(name: &str) -> Option<&'static str> {
-    let line = line_in(MORE_COMMANDS, name)?;
+/// The words of a command of this table, its name first, as `get P [FILE]`.
+fn usage_in(table: &'static str, name: &str) -> Option<&'static str> {
+    let line = line_in(table, name)?;
     let (usage, _) = line.split_once("  ")?;
     Some(usage)
+}
+
+/// The words that the commands of a name want: of the client's command, of one over several of them, and of one over an
+/// object and all below it.
+#[derive(Clone, Copy)]
+pub(crate) struct Usages {
+    pub(crate) plain: Option<&'static str>,
+    pub(crate) more: Option<&'static str>,
+    pub(crate) deep: Option<&'static str>,
+}
+
+impl Usages {
+    pub(crate) fn of(name: &str) -> Self {
+        Usages {
+            plain: usage_in(COMMANDS, name),
+            more: usage_in(MORE_COMMANDS, name),
+            deep: usage_in(DEEP_COMMANDS, name),
+        }
+    }
+
+    /// The words of the first of these commands. `None`: there is no command of this name.
+    fn first(&self) -> Option<&'static str> {
+        match self.plain {
+            Some(usage) => Some(usage),
+            None => self.more,
+        }
+    }
+
+    /// Says of a line of a batch that its words are no command, and which words a command of this name wants.
+    pub(crate) fn say<R: Eprint>(&self, rt: &R, place: Place, name: &str) -> io::Result<()> {
+        let name = Shown(name.as_bytes());
+        match (self.first(), self.deep) {
+            (Some(usage), Some(deep)) => {
+                eprintln!(rt;
+                    "nfsc: {place}the command '{name}' wants these words: {usage}, or {deep}"
+                )
+            }
+            (Some(usage), None) | (None, Some(usage)) => {
+                eprintln!(rt; "nfsc: {place}the command '{name}' wants these words: {usage}")
+            }
+            (None, None) => {
+                eprintln!(rt; "nfsc: {place}there is no command '{name}'; 'nfsc help' lists them")
+            }
+        }
+    }
 }
 
 /// What a call for help asks for.
@@ -57,15 +119,20 @@ pub(crate) enum Help {
     Commands,
     /// `help lists`: the words of lists.
     Lists,
-    /// `COMMAND --help` or `help COMMAND`: the line of the command.
-    Line(&'static str),
+    /// `COMMAND --help` or `help COMMAND`: the lines of the commands of a name.
+    Lines(&'static str, Option<&'static str>),
 }
 
-/// The line of a command.
-fn line_of(name: &str) -> Option<Help> {
-    match line_in(COMMANDS, name) {
-        Some(line) => Some(Help::Line(line)),
-        None => line_in(MORE_COMMANDS, name).map(Help::Line),
+/// The lines of the commands of a name.
+fn lines_of(name: &str) -> Option<Help> {
+    let deep = line_in(DEEP_COMMANDS, name);
+    let first = match line_in(COMMANDS, name) {
+        Some(line) => Some(line),
+        None => line_in(MORE_COMMANDS, name),
+    };
+    match first {
+        Some(line) => Some(Help::Lines(line, deep)),
+        None => deep.map(|line| Help::Lines(line, None)),
     }
 }
 
@@ -75,17 +142,27 @@ impl Help {
         match words {
             ["help"] => Some(Help::Commands),
             ["help", "lists"] => Some(Help::Lists),
-            ["help", name] | [name, "--help"] => line_of(name),
+            ["help", name] | [name, "--help"] => lines_of(name),
             _ => None,
         }
     }
 
     /// The texts that are printed one after the other.
-    pub(crate) fn texts(self) -> [&'static str; 3] {
+    fn texts(self) -> [&'static str; 5] {
         match self {
-            Help::Commands => [COMMANDS, "\n\n", MORE_COMMANDS],
-            Help::Lists => [LISTS, "", ""],
-            Help::Line(line) => [line, "\n", ""],
+            Help::Commands => [COMMANDS, "\n\n", MORE_COMMANDS, "\n", DEEP_COMMANDS],
+            Help::Lists => [LISTS, "", "", "", ""],
+            Help::Lines(line, None) => [line, "\n", "", "", ""],
+            Help::Lines(line, Some(deep)) => [line, "\n", deep, "\n", ""],
         }
+    }
+
+    /// Prints the help.
+    pub(crate) fn print<R: Print>(self, rt: &R) -> io::Result<()> {
+        let mut out = io::writer(rt);
+        for text in self.texts() {
+            out.write_all(text.as_bytes())?;
+        }
+        Ok(())
     }
 }

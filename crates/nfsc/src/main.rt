@@ -5,65 +5,57 @@
 //! wrong, and what would do, is told on standard error too.
 #![tactic(auto)]
 
+mod batch;
 mod bytes;
 mod calling;
+mod deep;
 mod facl;
 mod fault;
 mod given;
+mod grouped;
 mod helping;
+mod link;
+mod person;
+mod quoting;
+mod shown;
 mod starting;
+mod telling;
+mod tree;
 mod wish;
 
 use anyhow::Result;
-use fault::Fault;
-use helping::Help;
-use nfs_client::{Answer, ToolFault};
+use grouped::groups_in;
+use helping::{Help, Usages};
 use nfsc_options::{Options, wrong_command};
+use person::{NoPerson, Person};
 use std::alloc::{AllocError, Global};
-use std::io::Write;
 use std::net::{Net, TcpStream};
 use std::process::ExitCode;
 use std::random::RandomSource;
 use std::rt::{Clock, Files};
 use std::{env, io};
+use telling::{Place, tell};
 use wish::Wish;
+
+/// What `--groups` wants.
+const GROUPS: &str =
+    "--groups wants numbers from 0 to 4294967295, at most 16, with commas between them, as in 100,200";
 
 /// Tells that words are no command, and the words of the command of this name.
 fn refuse<R: Eprint>(rt: &R, alloc: Global, name: &str) -> Result<ExitCode> {
-    match helping::usage_of(name) {
-        Some(usage) => eprintln!(rt; "nfsc: the command '{name}' wants these words: {usage}")?,
-        None => rt.eprint(&wrong_command(alloc, name)?)?,
+    let usages = Usages::of(name);
+    match (usages.more, usages.deep) {
+        (Some(usage), _) => eprintln!(rt; "nfsc: the command '{name}' wants these words: {usage}")?,
+        (None, Some(deep)) if usages.plain.is_none() => {
+            eprintln!(rt; "nfsc: the command '{name}' wants these words: {deep}")?;
+            return Ok(ExitCode::from(2));
+        }
+        (None, _) => rt.eprint(&wrong_command(alloc, name)?)?,
+    }
+    if let Some(deep) = usages.deep {
+        eprintln!(rt; "nfsc: or these: {deep}")?;
     }
     Ok(ExitCode::from(2))
-}
-
-/// Prints a fault of the command.
-fn tell_fault<R: Print>(rt: &R, fault: ToolFault) -> io::Result<()> {
-    let text = fault.text();
-    let mut out = io::writer(rt);
-    out.write_all(text.as_bytes())?;
-    out.write_all(b"\n")
-}
-
-/// Prints the answer to the command. The status with which the program ends.
-fn tell<R: Print + Eprint>(rt: &R, told: Result<Answer, Fault>) -> io::Result<ExitCode> {
-    match told {
-        Ok(answer) => {
-            io::writer(rt).write_all(answer.as_bytes())?;
-            return Ok(ExitCode::SUCCESS);
-        }
-        Err(Fault::Tool(fault)) => tell_fault(rt, fault)?,
-        Err(fault) => eprintln!(rt; "nfsc: {fault}")?,
-    }
-    Ok(ExitCode::FAILURE)
-}
-
-/// Tells what was wrong, and what would do.
-fn explain<R: Eprint>(rt: &R, told: &Result<Answer, Fault>) -> io::Result<()> {
-    if let Err(fault) = told {
-        eprintln!(rt; "nfsc: {}", fault.sentence())?;
-    }
-    Ok(())
 }
 
 /// The help that a call asks for whose words have no options.
@@ -78,29 +70,69 @@ fn asked(alloc: Global, words: &[String]) -> Result<Option<Help>, AllocError> {
 
 /// Prints help. The status with which the program ends.
 fn tell_help<R: Print>(rt: &R, help: Help) -> io::Result<ExitCode> {
-    let mut out = io::writer(rt);
-    for text in help.texts() {
-        out.write_all(text.as_bytes())?;
-    }
+    help.print(rt)?;
     Ok(ExitCode::SUCCESS)
 }
 
-/// Runs the command of these options.
+/// The status with which the program ends, by whether all was answered.
+fn status(is_well: bool) -> ExitCode {
+    if is_well {
+        ExitCode::SUCCESS
+    } else {
+        ExitCode::FAILURE
+    }
+}
+
+/// Runs the command of these options, by a user in these further groups.
 fn run<R: Net<Stream = TcpStream> + Clock + RandomSource + Files + Input + Print + Eprint>(
     rt: &R,
     alloc: Global,
     options: &Options<'_>,
+    groups: &[u32],
 ) -> Result<ExitCode> {
     let words = options.words.as_slice();
+    if let ["batch"] = words {
+        return Ok(status(batch::run(rt, alloc, options, groups)?));
+    }
     let said: Vec<&[u8]> = words.iter().map(|word| word.as_bytes()).collect(alloc)?;
     match Wish::read(words, said.as_slice()) {
         Some(wish) => {
-            let told = calling::call(rt, alloc, options, wish);
-            explain(rt, &told)?;
-            Ok(tell(rt, told)?)
+            let told = calling::call(rt, alloc, options, groups, wish);
+            Ok(status(tell(rt, Place::Call, options, told)?))
         }
         None => refuse(rt, alloc, words.first().copied().unwrap_or("")),
     }
+}
+
+/// Runs the command of words, of which the first is the program's name.
+fn start<R: Net<Stream = TcpStream> + Clock + RandomSource + Files + Input + Print + Eprint>(
+    rt: &R,
+    alloc: Global,
+    words: &[String],
+) -> Result<ExitCode> {
+    let options = match Options::read(alloc, words) {
+        Ok(options) => options,
+        Err(error) => {
+            rt.eprint(&error)?;
+            return Ok(ExitCode::from(2));
+        }
+    };
+    if let Some(help) = Help::read(options.words.as_slice()) {
+        return Ok(tell_help(rt, help)?);
+    }
+    match groups_in(alloc, options.groups)? {
+        Some(groups) => run(rt, alloc, &options, groups.as_slice()),
+        None => {
+            eprintln!(rt; "nfsc: {GROUPS}")?;
+            Ok(ExitCode::from(2))
+        }
+    }
+}
+
+/// Tells why the words give no user of a book. The status with which the program ends.
+fn refuse_person<R: Eprint>(rt: &R, why: &NoPerson) -> io::Result<ExitCode> {
+    eprintln!(rt; "nfsc: {why}")?;
+    Ok(ExitCode::from(why.status()))
 }
 
 fn main(rt: HostRuntime) -> Result<ExitCode> {
@@ -109,16 +141,11 @@ fn main(rt: HostRuntime) -> Result<ExitCode> {
     if let Some(help) = asked(alloc, words.as_slice())? {
         return Ok(tell_help(&rt, help)?);
     }
-    let words = given::with_given(&rt, alloc, words)?;
-    let options = match Options::read(alloc, words.as_slice()) {
-        Ok(options) => options,
-        Err(error) => {
-            rt.eprint(&error)?;
-            return Ok(ExitCode::from(2));
+    match Person::read(&rt, alloc, words.as_slice()) {
+        Ok(person) => {
+            let words = given::with_given(&rt, alloc, words.as_slice(), person.as_ref())?;
+            start(&rt, alloc, words.as_slice())
         }
-    };
-    match Help::read(options.words.as_slice()) {
-        Some(help) => Ok(tell_help(&rt, help)?),
-        None => run(&rt, alloc, &options),
+        Err(why) => Ok(refuse_person(&rt, &why)?),
     }
 }

@@ -7,7 +7,7 @@ use Rattle.clap.specs.Matches.{first_value, matched_of}
 use Rattle.clap.specs.Words.{Text}
 use Rattle.clap.specs.declared.parser.matches.Found.{Found}
 use Rattle.clap.specs.declared.parser.matches.MatchedArg.{MatchedArg}
-use Rattle.nfsc_options.specs.Given.{IsNumber}
+use Rattle.nfsc_options.specs.Given.{IsNumber, IsNumberOr}
 
 -- a text that passed the range is read as the number that it spells
 abbrev pub Reads : ℕ → ℕ → Option ℕ → Option Text → Type 0
@@ -24,6 +24,14 @@ number_held low high n None read some is reads = cc
 number_held low high n (Some t) read some is reads =
     let got = reads t refl in
     (got.0, got.1.2 ∙ ap pos (ap (λ (x : Option ℕ). unwrap_or x n) (sym got.1.1 ∙ is)))
+
+-- the number is the number that the text spells, or the default where there is no text
+pub number_or_default : (default low high n : ℕ) (o : Option Text) (read : Option ℕ) → n ≡ unwrap_or read default → (o ≡ None → read ≡ None)
+    → Reads low high read o → IsNumberOr default low high n o
+number_or_default default low high n None read is none reads = is ∙ ap (λ (x : Option ℕ). unwrap_or x default) (none refl)
+number_or_default default low high n (Some t) read is none reads =
+    let got = reads t refl in
+    (got.0, got.1.2 ∙ ap pos (sym (is ∙ ap (λ (x : Option ℕ). unwrap_or x default) got.1.1)))
 
 -- an id with a first value has an entry
 pub entry_there : (f : Found) (id : Text) → is_some (first_value f id) ≡ true → is_some (matched_of f id) ≡ true

@@ -1,4 +1,4 @@
--- The four arguments by their places, and the rules of each that building keeps.
+-- The eight arguments by their places, and the rules of each that building keeps.
 use Rattle.std.proofs.Common.{◌≡◌, ◌∙◌, ◌<◌, ◌≤◌, ap, ap₂, ℕ, true, false, List, [], ◌∷◌, length, zero, suc, Option, Some, is_some}
 use Rattle.std.proofs.Common.{refl, sym, subst, inl, inr, arith, codes}
 use Rattle.std.specs.List.{slice_index_or}
@@ -17,7 +17,7 @@ use Rattle.clap.specs.declared.builder.value_parser.ValueParser.{ValueParser}
 use Rattle.clap.specs.declared.parser.matches.ArgMatches.{ArgMatches}
 use Rattle.clap.proofs.CallerLemmas.{required_has_value, same_rules_by_id}
 use Rattle.clap.proofs.SimpleLemmas.{plain_fields}
-use Rattle.nfsc_options.specs.Simple.{command_rule, gid_rule, nfsc, port_rule, uid_rule}
+use Rattle.nfsc_options.specs.Simple.{command_rule, gid_rule, nfsc, port_rule, timeout_rule, uid_rule}
 use Rattle.nfsc_options.proofs.Plain.{no_delimiter, plain_arg}
 
 abbrev pub nfsc_rules : List Rule
@@ -29,57 +29,83 @@ differ a b other same =
     let bad : false ≡ true = sym other ∙ equal in
     cc
 
--- the argument at place k has the rule r, which asks for a value, and an id that no other argument of the command has
+-- the argument at place k has the rule r, and an id that no other argument of the command has
 pub record StandsAt (k : ℕ) (r : Rule) : Type 0 where
-  pub here : k < 4
+  pub here : k < 8
   pub place : (e : Rule) → slice_index_or nfsc_rules k e ≡ r
-  pub required : r.required ≡ true
-  pub set : r.action ≡ Some Set
-  pub least : 1 ≤ (unwrap_or_range r.range).start_inclusive
   pub exact : r.ignore_case ≡ false
-  pub simple : r.is_simple ≡ true
-  pub alone : (j : ℕ) (e : Rule) → j < 4 → bytes_eq (slice_index_or nfsc_rules j e).id r.id ≡ true → j ≡ k
+  pub alone : (j : ℕ) (e : Rule) → j < 8 → bytes_eq (slice_index_or nfsc_rules j e).id r.id ≡ true → j ≡ k
   pub named : bytes_eq r.id [] ≡ false
   pub no_help : bytes_eq r.id (codes "help") ≡ false
   pub no_version : bytes_eq r.id (codes "version") ≡ false
 
-port_alone : (j : ℕ) (e : Rule) → j < 4 → bytes_eq (slice_index_or nfsc_rules j e).id (codes "port") ≡ true → j ≡ 0
+-- an argument with this rule can't be left out
+pub record IsAskedFor (r : Rule) : Type 0 where
+  pub required : r.required ≡ true
+  pub set : r.action ≡ Some Set
+  pub least : 1 ≤ (unwrap_or_range r.range).start_inclusive
+  pub simple : r.is_simple ≡ true
+
+port_alone : (j : ℕ) (e : Rule) → j < 8 → bytes_eq (slice_index_or nfsc_rules j e).id (codes "port") ≡ true → j ≡ 0
 port_alone zero e lt same = refl
 port_alone (suc zero) e lt same = cc
 port_alone (suc (suc zero)) e lt same = cc
 port_alone (suc (suc (suc zero))) e lt same = cc
-port_alone (suc (suc (suc (suc j)))) e lt same = absurd (omega arith)
+port_alone (suc (suc (suc (suc zero)))) e lt same = cc
+port_alone (suc (suc (suc (suc (suc zero))))) e lt same = cc
+port_alone (suc (suc (suc (suc (suc (suc zero)))))) e lt same = cc
+port_alone (suc (suc (suc (suc (suc (suc (suc zero))))))) e lt same = cc
+port_alone (suc (suc (suc (suc (suc (suc (suc (suc j)))))))) e lt same = absurd (omega arith)
 
-uid_alone : (j : ℕ) (e : Rule) → j < 4 → bytes_eq (slice_index_or nfsc_rules j e).id (codes "uid") ≡ true → j ≡ 1
+uid_alone : (j : ℕ) (e : Rule) → j < 8 → bytes_eq (slice_index_or nfsc_rules j e).id (codes "uid") ≡ true → j ≡ 1
 uid_alone zero e lt same = cc
 uid_alone (suc zero) e lt same = refl
 uid_alone (suc (suc zero)) e lt same = cc
 uid_alone (suc (suc (suc zero))) e lt same = cc
-uid_alone (suc (suc (suc (suc j)))) e lt same = absurd (omega arith)
+uid_alone (suc (suc (suc (suc zero)))) e lt same = cc
+uid_alone (suc (suc (suc (suc (suc zero))))) e lt same = cc
+uid_alone (suc (suc (suc (suc (suc (suc zero)))))) e lt same = cc
+uid_alone (suc (suc (suc (suc (suc (suc (suc zero))))))) e lt same = cc
+uid_alone (suc (suc (suc (suc (suc (suc (suc (suc j)))))))) e lt same = absurd (omega arith)
 
-gid_alone : (j : ℕ) (e : Rule) → j < 4 → bytes_eq (slice_index_or nfsc_rules j e).id (codes "gid") ≡ true → j ≡ 2
+gid_alone : (j : ℕ) (e : Rule) → j < 8 → bytes_eq (slice_index_or nfsc_rules j e).id (codes "gid") ≡ true → j ≡ 2
 gid_alone zero e lt same = cc
 gid_alone (suc zero) e lt same = cc
 gid_alone (suc (suc zero)) e lt same = refl
 gid_alone (suc (suc (suc zero))) e lt same = cc
-gid_alone (suc (suc (suc (suc j)))) e lt same = absurd (omega arith)
+gid_alone (suc (suc (suc (suc zero)))) e lt same = cc
+gid_alone (suc (suc (suc (suc (suc zero))))) e lt same = cc
+gid_alone (suc (suc (suc (suc (suc (suc zero)))))) e lt same = cc
+gid_alone (suc (suc (suc (suc (suc (suc (suc zero))))))) e lt same = cc
+gid_alone (suc (suc (suc (suc (suc (suc (suc (suc j)))))))) e lt same = absurd (omega arith)
 
-command_alone : (j : ℕ) (e : Rule) → j < 4 → bytes_eq (slice_index_or nfsc_rules j e).id (codes "command") ≡ true → j ≡ 3
+command_alone : (j : ℕ) (e : Rule) → j < 8 → bytes_eq (slice_index_or nfsc_rules j e).id (codes "command") ≡ true → j ≡ 3
 command_alone zero e lt same = cc
 command_alone (suc zero) e lt same = cc
 command_alone (suc (suc zero)) e lt same = cc
 command_alone (suc (suc (suc zero))) e lt same = refl
-command_alone (suc (suc (suc (suc j)))) e lt same = absurd (omega arith)
+command_alone (suc (suc (suc (suc zero)))) e lt same = cc
+command_alone (suc (suc (suc (suc (suc zero))))) e lt same = cc
+command_alone (suc (suc (suc (suc (suc (suc zero)))))) e lt same = cc
+command_alone (suc (suc (suc (suc (suc (suc (suc zero))))))) e lt same = cc
+command_alone (suc (suc (suc (suc (suc (suc (suc (suc j)))))))) e lt same = absurd (omega arith)
+
+timeout_alone : (j : ℕ) (e : Rule) → j < 8 → bytes_eq (slice_index_or nfsc_rules j e).id (codes "timeout") ≡ true → j ≡ 4
+timeout_alone zero e lt same = cc
+timeout_alone (suc zero) e lt same = cc
+timeout_alone (suc (suc zero)) e lt same = cc
+timeout_alone (suc (suc (suc zero))) e lt same = cc
+timeout_alone (suc (suc (suc (suc zero)))) e lt same = refl
+timeout_alone (suc (suc (suc (suc (suc zero))))) e lt same = cc
+timeout_alone (suc (suc (suc (suc (suc (suc zero)))))) e lt same = cc
+timeout_alone (suc (suc (suc (suc (suc (suc (suc zero))))))) e lt same = cc
+timeout_alone (suc (suc (suc (suc (suc (suc (suc (suc j)))))))) e lt same = absurd (omega arith)
 
 pub port_stands : StandsAt 0 port_rule
 port_stands = record {
   here = omega arith;
   place = λ e. refl;
-  required = refl;
-  set = refl;
-  least = omega arith;
   exact = refl;
-  simple = refl;
   alone = port_alone;
   named = refl;
   no_help = refl;
@@ -90,11 +116,7 @@ pub uid_stands : StandsAt 1 uid_rule
 uid_stands = record {
   here = omega arith;
   place = λ e. refl;
-  required = refl;
-  set = refl;
-  least = omega arith;
   exact = refl;
-  simple = refl;
   alone = uid_alone;
   named = refl;
   no_help = refl;
@@ -105,11 +127,7 @@ pub gid_stands : StandsAt 2 gid_rule
 gid_stands = record {
   here = omega arith;
   place = λ e. refl;
-  required = refl;
-  set = refl;
-  least = omega arith;
   exact = refl;
-  simple = refl;
   alone = gid_alone;
   named = refl;
   no_help = refl;
@@ -120,44 +138,71 @@ pub command_stands : StandsAt 3 command_rule
 command_stands = record {
   here = omega arith;
   place = λ e. refl;
-  required = refl;
-  set = refl;
-  least = omega arith;
   exact = refl;
-  simple = refl;
   alone = command_alone;
   named = refl;
   no_help = refl;
   no_version = refl;
 }
 
-four : (c : Command) → app_of c ≡ nfsc → length (args_of c) ≡ 4
-four c is = sym (length-map (args_of c) rule_of) ∙ ap (λ (a : App). length a.top.rules) is
+pub timeout_stands : StandsAt 4 timeout_rule
+timeout_stands = record {
+  here = omega arith;
+  place = λ e. refl;
+  exact = refl;
+  alone = timeout_alone;
+  named = refl;
+  no_help = refl;
+  no_version = refl;
+}
+
+pub port_asked : IsAskedFor port_rule
+port_asked = record { required = refl; set = refl; least = omega arith; simple = refl }
+
+pub uid_asked : IsAskedFor uid_rule
+uid_asked = record { required = refl; set = refl; least = omega arith; simple = refl }
+
+pub gid_asked : IsAskedFor gid_rule
+gid_asked = record { required = refl; set = refl; least = omega arith; simple = refl }
+
+pub command_asked : IsAskedFor command_rule
+command_asked = record { required = refl; set = refl; least = omega arith; simple = refl }
+
+eight : (c : Command) → app_of c ≡ nfsc → length (args_of c) ≡ 8
+eight c is = sym (length-map (args_of c) rule_of) ∙ ap (λ (a : App). length a.top.rules) is
 
 rule_at : (c : Command) → app_of c ≡ nfsc → (k : ℕ) (d : Arg) (e : Rule) → k < length (args_of c)
     → rule_of (slice_index_or (args_of c) k d) ≡ slice_index_or nfsc_rules k e
 rule_at c is k d e lt = sym (get_or-map rule_of (args_of c) k d e lt) ∙ ap (λ (a : App). slice_index_or a.top.rules k e) is
 
-simple_rules : (k : ℕ) (e : Rule) → k < 4 → (slice_index_or nfsc_rules k e).is_simple ≡ true
+simple_rules : (k : ℕ) (e : Rule) → k < 8 → (slice_index_or nfsc_rules k e).is_simple ≡ true
 simple_rules zero e lt = refl
 simple_rules (suc zero) e lt = refl
 simple_rules (suc (suc zero)) e lt = refl
 simple_rules (suc (suc (suc zero))) e lt = refl
-simple_rules (suc (suc (suc (suc k)))) e lt = absurd (omega arith)
+simple_rules (suc (suc (suc (suc zero)))) e lt = refl
+simple_rules (suc (suc (suc (suc (suc zero))))) e lt = refl
+simple_rules (suc (suc (suc (suc (suc (suc zero)))))) e lt = refl
+simple_rules (suc (suc (suc (suc (suc (suc (suc zero))))))) e lt = refl
+simple_rules (suc (suc (suc (suc (suc (suc (suc (suc k)))))))) e lt = absurd (omega arith)
 
-free_rules : (k : ℕ) (e : Rule) → k < 4 → (slice_index_or nfsc_rules k e).is_free ≡ true
+free_rules : (k : ℕ) (e : Rule) → k < 8 → (slice_index_or nfsc_rules k e).is_free ≡ true
 free_rules zero e lt = refl
 free_rules (suc zero) e lt = refl
 free_rules (suc (suc zero)) e lt = refl
 free_rules (suc (suc (suc zero))) e lt = refl
-free_rules (suc (suc (suc (suc k)))) e lt = absurd (omega arith)
+free_rules (suc (suc (suc (suc zero)))) e lt = refl
+free_rules (suc (suc (suc (suc (suc zero))))) e lt = refl
+free_rules (suc (suc (suc (suc (suc (suc zero)))))) e lt = refl
+free_rules (suc (suc (suc (suc (suc (suc (suc zero))))))) e lt = refl
+free_rules (suc (suc (suc (suc (suc (suc (suc (suc k)))))))) e lt = absurd (omega arith)
 
 -- no argument of the command excludes another
 plain : (c : Command) → app_of c ≡ nfsc → IsPlain c
 plain c is = (
   (λ k d lt.
-      let count = four c is in
-      let few : k < 4 = omega arith in
+      let count = eight c is in
+      let few : k < 8 = omega arith in
       let mine = rule_at c is k d (rule_of d) lt in
       plain_arg (slice_index_or (args_of c) k d)
       (ap (λ (r : Rule). r.is_simple) mine ∙ simple_rules k (rule_of d) few)
@@ -168,7 +213,7 @@ plain c is = (
 module _ (old : Command) (m : ArgMatches) (p : IsParsedFrom old m) (is : app_of old ≡ nfsc) (k : ℕ) (r : Rule) (s : StandsAt k r) where
   within : k < length (args_of old)
   within =
-      let count = four old is in
+      let count = eight old is in
       let few = s.here in
       omega arith
 
@@ -181,7 +226,7 @@ module _ (old : Command) (m : ArgMatches) (p : IsParsedFrom old m) (is : app_of 
   only : (d : Arg) (i : ℕ) (e : Arg) → i < length (args_of old)
       → bytes_eq (slice_index_or (args_of old) i e).id.now (slice_index_or (args_of old) k d).id.now ≡ true → i ≡ k
   only d i e low eq =
-      let count = four old is in
+      let count = eight old is in
       let other : (slice_index_or (args_of old) i e).id.now ≡ (slice_index_or nfsc_rules i r).id = ap (λ (a : Rule). a.id) (rule_at old is i e r low) in
       s.alone i r (omega arith) (sym (ap₂ bytes_eq other (id_of d)) ∙ eq)
 
@@ -200,14 +245,14 @@ module _ (old : Command) (m : ArgMatches) (p : IsParsedFrom old m) (is : app_of 
         kept.ignore_case ∙ (ap (λ (a : Rule). a.ignore_case) (mine x) ∙ s.exact),
       )
 
-  value_at : (d : Arg) → is_some (first_value (found_of m) r.id) ≡ true
-  value_at d =
+  value_at : (d : Arg) → IsAskedFor r → is_some (first_value (found_of m) r.id) ≡ true
+  value_at d asked =
       let has = required_has_value old m p (plain old is) (plain_fields old (ap (λ (a : App). a.top.is_plain) is)).globals
       (ap (λ (a : App). a.top.subcommand_negates_reqs) is) k d within
-      (ap (λ (a : Rule). a.required) (mine d) ∙ s.required)
-      (ap (λ (a : Rule). a.action) (mine d) ∙ s.set)
-      (no_delimiter (slice_index_or (args_of old) k d) (ap (λ (a : Rule). a.is_simple) (mine d) ∙ s.simple))
-      (subst (λ (x : Option ValueRange). 1 ≤ (unwrap_or_range x).start_inclusive) (sym (ap (λ (a : Rule). a.range) (mine d))) s.least)
+      (ap (λ (a : Rule). a.required) (mine d) ∙ asked.required)
+      (ap (λ (a : Rule). a.action) (mine d) ∙ asked.set)
+      (no_delimiter (slice_index_or (args_of old) k d) (ap (λ (a : Rule). a.is_simple) (mine d) ∙ asked.simple))
+      (subst (λ (x : Option ValueRange). 1 ≤ (unwrap_or_range x).start_inclusive) (sym (ap (λ (a : Rule). a.range) (mine d))) asked.least)
       (only d)
       (λ empty. differ r.id [] s.named (sym (id_of d) ∙ empty))
       (λ auto. elim auto [
@@ -217,12 +262,12 @@ module _ (old : Command) (m : ArgMatches) (p : IsParsedFrom old m) (is : app_of 
       rw (← id_of d) has
 
   -- the argument has a value
-  pub has_value : is_some (first_value (found_of m) r.id) ≡ true
-  has_value = go (args_of old) refl
+  pub has_value : IsAskedFor r → is_some (first_value (found_of m) r.id) ≡ true
+  has_value asked = go (args_of old) refl
     where
       go : (xs : List Arg) → args_of old ≡ xs → is_some (first_value (found_of m) r.id) ≡ true
       go [] e =
           let none : length (args_of old) ≡ 0 = ap length e in
           let some = within in
           absurd (omega arith)
-      go (x ∷ xs) e = value_at x
+      go (x ∷ xs) e = value_at x asked

@@ -18,6 +18,7 @@ use Rattle.clap.specs.declared.builder.value_parser.Reading.{Reading}
 use Rattle.clap.specs.declared.builder.value_parser.ValueParser.{ValueParser}
 use Rattle.clap.specs.declared.builder.value_parser.ValueParser.TheVariants as vp
 use Rattle.clap.specs.declared.parser.matches.ArgMatches.{ArgMatches}
+use Rattle.clap.specs.declared.parser.matches.Found.{Found}
 use Rattle.clap.specs.declared.parser.matches.MatchedArg.{MatchedArg}
 use Rattle.clap.proofs.CallerLemmas.{entry_by_id}
 use Rattle.clap.proofs.SimpleLemmas.{all_simple, plain_fields, simple_groups}
@@ -37,6 +38,10 @@ head_read : (how : Reading) (vs : List (Bor Text)) (t : Text) → first_text vs 
     → option_map (λ s. read_as how s.now) (slice_get vs 0) ≡ Some (read_as how t)
 head_read how [] t e = cc
 head_read how (v ∷ vs) t e = ap (option_map (read_as how)) e
+
+no_head : (how : Reading) (vs : List (Bor Text)) → first_text vs ≡ None → option_map (λ s. read_as how s.now) (slice_get vs 0) ≡ None
+no_head how [] e = refl
+no_head how (v ∷ vs) e = cc
 
 -- no argument has a group, so no entry of the built command is a group's
 no_groups : (old : Command) (m : ArgMatches) (p : IsParsedFrom old m) → app_of old ≡ nfsc → groups_of p.built ≡ []
@@ -110,3 +115,12 @@ pub option_reads : (old : Command) (m : ArgMatches) (p : IsParsedFrom old m) →
 option_reads old m p is k r s E G bits low high parser fits only o read t first =
     let taken = value_taken old m p is k r s (vp.Signed (pos low) (pos high)) parser t first in
     (taken.0, number_read E G bits low high t o (read (without_minus t) taken.1) only fits taken.0)
+
+-- where no text is given, none is read
+pub nothing_read : (f : Found) (id : Text) → first_value f id ≡ None → one_text f id ≡ None
+nothing_read f id first = go (matched_of f id) refl
+  where
+    go : (o : Option MatchedArg) → matched_of f id ≡ o → one_text f id ≡ None
+    go None none = ap (option_and_then (λ (a : MatchedArg). option_map (λ s. read_as a.reading s.now) (slice_get a.vals.items 0))) none
+    go (Some x) found = ap (option_and_then (λ (a : MatchedArg). option_map (λ s. read_as a.reading s.now) (slice_get a.vals.items 0))) found
+        ∙ no_head x.reading x.vals.items (sym (ap (option_and_then (λ (a : MatchedArg). first_text a.vals.items)) found) ∙ first)

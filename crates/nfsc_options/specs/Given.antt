@@ -15,11 +15,20 @@ abbrev pub IsNumber : ℕ → ℕ → ℕ → Option Text → Type 0
 IsNumber low high n None = ⊥
 IsNumber low high n (Some text) = IsSignedIn (pos low) (pos high) text × (signed_digits_value 10 text ≡ pos n)
 
+-- n is the number that the text spells, from low to high; where no text is given, n is the default
+abbrev pub IsNumberOr : ℕ → ℕ → ℕ → ℕ → Option Text → Type 0
+IsNumberOr default low high n None = n ≡ default
+IsNumberOr default low high n (Some text) = IsNumber low high n (Some text)
+
 -- o are the options of the words of `nfsc`
 pub record OptionsOf (words : List Text) (o : Options) : Type 0 where
   pub port : IsNumber 1 65535 o.port (given nfsc (codes "port") words)
   pub uid : IsNumber 0 4294967295 o.uid (given nfsc (codes "uid") words)
   pub gid : IsNumber 0 4294967295 o.gid (given nfsc (codes "gid") words)
+  pub timeout : IsNumberOr 30 1 86400 o.timeout (given nfsc (codes "timeout") words)
+  pub groups : option_map (λ text. text.now) o.groups ≡ given nfsc (codes "groups") words
+  pub person : option_map (λ name. name.now) o.person ≡ given nfsc (codes "as") words
+  pub book : option_map (λ file. file.now) o.book ≡ given nfsc (codes "book") words
   pub command : all_of (codes "command") (matches_of nfsc words) ≡ Some (map (λ word. word.now) o.words.items)
 
 -- o are the options of the words of `nfslab`

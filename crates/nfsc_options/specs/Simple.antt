@@ -1,7 +1,8 @@
--- The commands of the client's programs as `clap` sees simple commands: `nfsc --port N --uid N --gid N COMMAND ..`, and `nfslab [--book FILE]`.
+-- The commands of the client's programs as `clap` sees simple commands:
+-- `nfsc --port N --uid N --gid N [--timeout SECONDS] [--groups N,N] [--as NAME] [--book FILE] COMMAND ..`, and `nfslab [--book FILE]`.
 use Rattle.std.specs.Prelude.{codes, Some, pos, true}
 use Rattle.clap.specs.Lexer.{usize_max}
-use Rattle.clap.specs.Words.{App, Rule, new_app, new_rule, with_rule}
+use Rattle.clap.specs.Words.{App, Rule, Text, new_app, new_rule, with_rule}
 use Rattle.clap.specs.declared.builder.action.ArgAction.TheVariants.{Set}
 use Rattle.clap.specs.declared.builder.value_parser.ValueParser.TheVariants as vp
 
@@ -45,12 +46,35 @@ command_rule = record (new_rule (codes "command")) {
   trailing_var_arg = true;
 }
 
-abbrev pub nfsc : App
-nfsc = with_rule (with_rule (with_rule (with_rule (new_app (codes "nfsc")) port_rule) uid_rule) gid_rule) command_rule
+-- `--timeout SECONDS`: a number from 1 to 86400, which may be left out
+abbrev pub timeout_rule : Rule
+timeout_rule = record (new_rule (codes "timeout")) {
+  long = Some (codes "timeout");
+  value_names = 1;
+  action = Some Set;
+  parser = Some (vp.Signed (pos 1) (pos 86400));
+}
 
--- `--book FILE`: any text
+-- an option with any text, which may be left out
+abbrev pub text_rule : Text → Rule
+text_rule name = record (new_rule name) { long = Some name; value_names = 1 }
+
+-- `--groups N,N`
+abbrev pub groups_rule : Rule
+groups_rule = text_rule (codes "groups")
+
+-- `--as NAME`
+abbrev pub as_rule : Rule
+as_rule = text_rule (codes "as")
+
+-- `--book FILE`, of `nfsc` and of `nfslab`
 abbrev pub book_rule : Rule
-book_rule = record (new_rule (codes "book")) { long = Some (codes "book"); value_names = 1 }
+book_rule = text_rule (codes "book")
+
+abbrev pub nfsc : App
+nfsc =
+    let asked = with_rule (with_rule (with_rule (with_rule (new_app (codes "nfsc")) port_rule) uid_rule) gid_rule) command_rule in
+    with_rule (with_rule (with_rule (with_rule asked timeout_rule) groups_rule) as_rule) book_rule
 
 abbrev pub nfslab : App
 nfslab = with_rule (new_app (codes "nfslab")) book_rule

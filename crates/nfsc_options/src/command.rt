@@ -1,7 +1,7 @@
 //! The command of `nfsc`, with its help.
 ghost use Rattle.std.specs.Prelude.{◌≡◌, IfOk, false};
 ghost use Rattle.clap.specs.Words.{app_of, rule_of};
-ghost use Rattle.nfsc_options.specs.Simple.{command_rule, gid_rule, nfsc, port_rule, uid_rule};
+ghost use Rattle.nfsc_options.specs.Simple.{as_rule, book_rule, command_rule, gid_rule, groups_rule, nfsc, port_rule, text_rule, timeout_rule, uid_rule};
 
 use crate::commands::COMMANDS;
 use clap::{Arg, ArgAction, Command, value_parser};
@@ -14,7 +14,13 @@ Runs one command on the NFS version 4.1 server at 127.0.0.1, as this user in thi
 For example, on the server at port 2049:
 
     nfsc --port 2049 --uid 0 --gid 0 put /notes hi
-    nfsc --port 2049 --uid 0 --gid 0 ls /";
+    nfsc --port 2049 --uid 0 --gid 0 ls /
+
+With a book the user has a name in place of numbers, and the groups that the book says:
+
+    nfsc --port 2049 --as carol --book book.toml ls /
+
+Where the environment has NFSC_PORT, NFSC_UID or NFSC_GID, --port, --uid or --gid may be left out.";
 
 /// The command of `nfsc`, as `clap` reads it.
 pub(crate) fn command<'a>(alloc: Global) -> Result<Command<'a>, AllocError>
@@ -26,7 +32,11 @@ pub(crate) fn command<'a>(alloc: Global) -> Result<Command<'a>, AllocError>
         .arg(port(alloc))?
         .arg(uid(alloc))?
         .arg(gid(alloc))?
-        .arg(words(alloc))?;
+        .arg(words(alloc))?
+        .arg(timeout(alloc))?
+        .arg(groups(alloc))?
+        .arg(person(alloc))?
+        .arg(book(alloc))?;
     Ok(command)
 }
 
@@ -77,4 +87,58 @@ fn words<'a>(alloc: Global) -> Arg<'a>
         .num_args(1..)
         .trailing_var_arg(true)
         .help("The command and its words, with the options before it")
+}
+
+fn timeout<'a>(alloc: Global) -> Arg<'a>
+    ensures { (rule_of result ≡ timeout_rule) × (result.global ≡ false) }
+{
+    Arg::new(alloc, "timeout")
+        .long("timeout")
+        .value_name("SECONDS")
+        .action(ArgAction::Set)
+        .value_parser(value_parser!(u32).range(1..=86400))
+        .help("How long an answer may take, from 1 to 86400 seconds [default: 30]")
+}
+
+/// An option with any text.
+fn text<'a>(alloc: Global, name: &'a str, value: &'a str, help: &'a str) -> Arg<'a>
+    ensures { (rule_of result ≡ text_rule name.entry.now) × (result.global ≡ false) }
+{
+    Arg::new(alloc, name)
+        .long(name)
+        .value_name(value)
+        .help(help)
+}
+
+fn groups<'a>(alloc: Global) -> Arg<'a>
+    ensures { (rule_of result ≡ groups_rule) × (result.global ≡ false) }
+{
+    text(
+        alloc,
+        "groups",
+        "N,N",
+        "Further groups of the user, at most 16, with commas between them",
+    )
+}
+
+fn person<'a>(alloc: Global) -> Arg<'a>
+    ensures { (rule_of result ≡ as_rule) × (result.global ≡ false) }
+{
+    text(
+        alloc,
+        "as",
+        "NAME",
+        "The user of this name in the book, in place of --uid, and of --gid and --groups where the book has members",
+    )
+}
+
+fn book<'a>(alloc: Global) -> Arg<'a>
+    ensures { (rule_of result ≡ book_rule) × (result.global ≡ false) }
+{
+    text(
+        alloc,
+        "book",
+        "FILE",
+        "The book of --as, a file in TOML ('nfsd --help' tells of it)",
+    )
 }

@@ -9,6 +9,9 @@ use clap::Error;
 use std::alloc::Global;
 use std::convert::AsStr;
 
+/// How many seconds an answer may take, where the words don't say.
+const TIMEOUT: u32 = 30;
+
 /// The options of the words of `nfsc`.
 #[derive(Debug, Drop)]
 pub struct Options<'a> {
@@ -18,12 +21,21 @@ pub struct Options<'a> {
     pub uid: u32,
     /// The group's number.
     pub gid: u32,
+    /// How many seconds an answer may take, 1 to 86400.
+    pub timeout: u32,
+    /// The further groups of the user, as numbers with commas between them.
+    pub groups: Option<&'a str>,
+    /// The name of the user in a book.
+    pub person: Option<&'a str>,
+    /// The file of that book.
+    pub book: Option<&'a str>,
     /// The words of the command, its name first.
     pub words: Vec<&'a str>,
 }
 
 impl<'a> Options<'a> {
-    /// Reads the words, of which the first is the program's name, as in `env::args`. Whether the words make a command isn't looked at.
+    /// Reads the words, of which the first is the program's name, as in `env::args`. Whether the words make a command isn't looked at, nor whether
+    /// the groups are numbers and the book has the user.
     ///
     /// An error is `clap`'s own: a mistake in the words, a call for help, or want of memory. Its `Display` is the text for the user.
     pub fn read<S: AsStr>(alloc: Global, words: &'a [S]) -> Result<Options<'a>, Error>
@@ -36,6 +48,10 @@ impl<'a> Options<'a> {
             port: matches.get_one::<u16>("port").unwrap(),
             uid: matches.get_one::<u32>("uid").unwrap(),
             gid: matches.get_one::<u32>("gid").unwrap(),
+            timeout: matches.get_one::<u32>("timeout").unwrap_or(TIMEOUT),
+            groups: matches.get_str("groups"),
+            person: matches.get_str("as"),
+            book: matches.get_str("book"),
             words,
         })
     }

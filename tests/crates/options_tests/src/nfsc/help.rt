@@ -22,15 +22,21 @@ fn lab_help(alloc: Global) -> Result<String, AllocError> {
 }
 
 /// Texts of the help of `nfsc`: the command that is run, the address, the options with their ranges, and an example.
-static TEXTS: [&str; 10] = [
+static TEXTS: [&str; 16] = [
     "NFS version 4.1",
     "127.0.0.1",
-    "Usage: nfsc --port <N> --uid <N> --gid <N> <COMMAND>...\n",
+    "Usage: nfsc [OPTIONS] --port <N> --uid <N> --gid <N> <COMMAND>...\n",
     "--port <N>",
     "from 1 to 65535",
     "--uid <N>",
     "--gid <N>",
     "from 0 to 4294967295",
+    "--timeout <SECONDS>",
+    "from 1 to 86400 seconds [default: 30]",
+    "--groups <N,N>",
+    "--as <NAME>",
+    "--book <FILE>",
+    "    nfsc --port 2049 --as carol --book book.toml ls /\n",
     "-h, --help",
     "    nfsc --port 2049 --uid 0 --gid 0 put /notes hi\n",
 ];

@@ -13,7 +13,7 @@ fn refusal(alloc: Global, line: &str) -> Result<Option<ErrorKind>, AllocError> {
     }
 }
 
-static ROWS: [(&str, ErrorKind); 29] = [
+static ROWS: [(&str, ErrorKind); 43] = [
     ("nfsc", ErrorKind::MissingRequiredArgument),
     ("nfsc ls /", ErrorKind::MissingRequiredArgument),
     (
@@ -83,6 +83,62 @@ static ROWS: [(&str, ErrorKind); 29] = [
     (
         "nfsc --port 1 --uid 0 --gid wheel ls /",
         ErrorKind::ValueValidation,
+    ),
+    (
+        "nfsc --port 1 --uid 0 --gid 0 --timeout 0 ls /",
+        ErrorKind::ValueValidation,
+    ),
+    (
+        "nfsc --port 1 --uid 0 --gid 0 --timeout 86401 ls /",
+        ErrorKind::ValueValidation,
+    ),
+    (
+        "nfsc --port 1 --uid 0 --gid 0 --timeout=-1 ls /",
+        ErrorKind::ValueValidation,
+    ),
+    (
+        "nfsc --port 1 --uid 0 --gid 0 --timeout= ls /",
+        ErrorKind::ValueValidation,
+    ),
+    (
+        "nfsc --port 1 --uid 0 --gid 0 --timeout 1.5 ls /",
+        ErrorKind::ValueValidation,
+    ),
+    (
+        "nfsc --port 1 --uid 0 --gid 0 --timeout",
+        ErrorKind::InvalidValue,
+    ),
+    (
+        "nfsc --timeout 1 --port 1 --uid 0 --gid 0 --timeout 1 ls /",
+        ErrorKind::ArgumentConflict,
+    ),
+    (
+        "nfsc --port 1 --as carol --book b ls /",
+        ErrorKind::MissingRequiredArgument,
+    ),
+    (
+        "nfsc --port 1 --uid 0 --gid 0 --groups",
+        ErrorKind::InvalidValue,
+    ),
+    (
+        "nfsc --port 1 --uid 0 --gid 0 --as",
+        ErrorKind::InvalidValue,
+    ),
+    (
+        "nfsc --port 1 --uid 0 --gid 0 --book",
+        ErrorKind::InvalidValue,
+    ),
+    (
+        "nfsc --groups 1 --port 1 --uid 0 --gid 0 --groups 2 ls /",
+        ErrorKind::ArgumentConflict,
+    ),
+    (
+        "nfsc --port 1 --uid 0 --gid 0 --user carol ls /",
+        ErrorKind::UnknownArgument,
+    ),
+    (
+        "nfsc --port 1 --uid 0 --gid 0 --group 5 ls /",
+        ErrorKind::UnknownArgument,
     ),
     ("nfsc --port", ErrorKind::InvalidValue),
     ("nfsc --port 1 --uid", ErrorKind::InvalidValue),

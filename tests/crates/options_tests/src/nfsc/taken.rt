@@ -90,6 +90,65 @@ static ROWS: [Row; 15] = [
     ("nfsc --port 1 --uid 0 --gid 0 put /f ", 1, 0, 0, "put /f "),
 ];
 
+/// Lines, and how many seconds an answer may take.
+static TIMES: [(&str, u32); 7] = [
+    ("nfsc --port 1 --uid 0 --gid 0 ls /", 30),
+    ("nfsc --port 1 --uid 0 --gid 0 --timeout 1 ls /", 1),
+    ("nfsc --timeout=86400 --port 1 --uid 0 --gid 0 ls /", 86400),
+    ("nfsc --port 1 --timeout 007 --uid 0 --gid 0 ls /", 7),
+    ("nfsc --port 1 --uid 5 --gid 6 --timeout +31 ls /", 31),
+    ("nfsc --port 1 --uid 0 --gid 0 ls --timeout 5", 30),
+    ("nfsc --port 1 --uid 0 --gid 0 -- --timeout 5", 30),
+];
+
+/// A line, and the texts of its groups, its name and its book.
+type Texts = (
+    &'static str,
+    Option<&'static str>,
+    Option<&'static str>,
+    Option<&'static str>,
+);
+
+static TEXTS: [Texts; 7] = [
+    ("nfsc --port 1 --uid 0 --gid 0 ls /", None, None, None),
+    (
+        "nfsc --port 1 --uid 0 --gid 0 --groups 5,6 ls /",
+        Some("5,6"),
+        None,
+        None,
+    ),
+    (
+        "nfsc --groups= --port 1 --uid 0 --gid 0 ls /",
+        Some(""),
+        None,
+        None,
+    ),
+    (
+        "nfsc --port 1 --uid 0 --gid 0 --groups all ls /",
+        Some("all"),
+        None,
+        None,
+    ),
+    (
+        "nfsc --port 1 --uid 0 --gid 0 --as carol --book b.toml ls /",
+        None,
+        Some("carol"),
+        Some("b.toml"),
+    ),
+    (
+        "nfsc --book=b --as=c --port 1 --uid 0 --gid 0 --groups=d ls /",
+        Some("d"),
+        Some("c"),
+        Some("b"),
+    ),
+    (
+        "nfsc --port 1 --uid 0 --gid 0 put /f --as c --book b --groups d",
+        None,
+        None,
+        None,
+    ),
+];
+
 fn rows() -> &'static [Row] {
     &ROWS
 }
@@ -113,6 +172,54 @@ fn says(alloc: Global, row: &Row) -> Result<bool, AllocError> {
 fn lines_are_taken(rt: HostRuntime) -> Result<(), Fail> {
     for row in rows() {
         let said = says(rt.alloc(), row)?;
+        assert!(rt; said, "{}", row.0);
+    }
+    Ok(())
+}
+
+fn times() -> &'static [(&'static str, u32)] {
+    &TIMES
+}
+
+/// Whether the words of a line, split at spaces, give an answer this time.
+fn gives(alloc: Global, line: &str, seconds: u32) -> Result<bool, AllocError> {
+    let words: Vec<&str> = line.split(' ').collect(alloc)?;
+    match Options::read(alloc, words.as_slice()) {
+        Ok(options) => Ok(options.timeout == seconds),
+        Err(_) => Ok(false),
+    }
+}
+
+#[test]
+fn lines_give_an_answer_its_time(rt: HostRuntime) -> Result<(), Fail> {
+    for row in times() {
+        let (line, seconds) = *row;
+        let given = gives(rt.alloc(), line, seconds)?;
+        assert!(rt; given, "{line}");
+    }
+    Ok(())
+}
+
+fn texts() -> &'static [Texts] {
+    &TEXTS
+}
+
+/// Whether the words of a line, split at spaces, have these texts.
+fn names(alloc: Global, row: &Texts) -> Result<bool, AllocError> {
+    let (line, groups, person, book) = *row;
+    let words: Vec<&str> = line.split(' ').collect(alloc)?;
+    match Options::read(alloc, words.as_slice()) {
+        Ok(options) => {
+            Ok(options.groups == groups && options.person == person && options.book == book)
+        }
+        Err(_) => Ok(false),
+    }
+}
+
+#[test]
+fn lines_have_these_texts(rt: HostRuntime) -> Result<(), Fail> {
+    for row in texts() {
+        let said = names(rt.alloc(), row)?;
         assert!(rt; said, "{}", row.0);
     }
     Ok(())

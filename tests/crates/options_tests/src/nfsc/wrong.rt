@@ -41,7 +41,7 @@ fn tells(alloc: Global, name: &str, text: &str) -> Result<bool, Fail> {
     Ok(
         error.kind() == ErrorKind::InvalidSubcommand
             && told.contains(text)
-            && told.contains("Usage: nfsc --port <N> --uid <N> --gid <N> <COMMAND>...\n"),
+            && told.contains("Usage: nfsc [OPTIONS] --port <N> --uid <N> --gid <N> <COMMAND>...\n"),
     )
 }
 

@@ -1,16 +1,17 @@
-use Rattle.std.proofs.Common.{◌∙◌, ◌≡◌, ap, sym, subst, map, codes, arith, List, Some, refl}
+use Rattle.std.proofs.Common.{◌∙◌, ◌≡◌, Err, ap, sym, subst, map, codes, arith, rules, List, Some, refl}
 use Rattle.std.specs.Prelude.{option_map}
 use Rattle.std.specs.Str.Parse.{ExplainsUnsignedError, HasUnsignedDigitsIfOk, ParsesUnsigned}
 use Rattle.clap.specs.Matches.{first_value, found_of, raw_values}
 use Rattle.clap.specs.Words.{Text, all_of, app_of, fault_of, first_of, is_simple, matches_of, rows_of}
 use Rattle.clap.specs.Faults.{is_simple_and_free}
+use Rattle.clap.specs.Kinds.{FailsBy, HasKind}
 use Rattle.clap.proofs.CallerLemmas.{some_of_text}
 use Rattle.clap.proofs.WalkLemmas.{first_value-rows, raw_values-rows}
-use Rattle.nfsc_options.specs.Given.{IsNumber, given}
+use Rattle.nfsc_options.specs.Given.{IsNumber, IsNumberOr, given}
 use Rattle.nfsc_options.specs.Simple.{nfsc}
-use Rattle.nfsc_options.proofs.Answers.{entry_there, number_held, read_some, some_mapped}
-use Rattle.nfsc_options.proofs.Rules.{command_stands, gid_stands, has_value, port_stands, uid_stands}
-use Rattle.nfsc_options.proofs.Taken.{option_reads}
+use Rattle.nfsc_options.proofs.Answers.{entry_there, number_held, number_or_default, read_some, some_mapped}
+use Rattle.nfsc_options.proofs.Rules.{command_asked, command_stands, gid_asked, gid_stands, has_value, port_asked, port_stands, timeout_stands, uid_asked, uid_stands}
+use Rattle.nfsc_options.proofs.Taken.{nothing_read, option_reads}
 use Rattle.nfsc_options.proofs.options.Options.read.Goals as goal
 
 pub unwrap-requires : goal.unwrap-requires
@@ -20,7 +21,7 @@ unwrap-requires g c =
     let f = found_of m in
     let is : app_of old ≡ nfsc = c.in_ok-command.ensures in
     let parsed = c.in_ok-matches.ensures.parsed in
-    let there = entry_there f (codes "command") (has_value old m parsed is _ _ command_stands) in
+    let there = entry_there f (codes "command") (has_value old m parsed is _ _ command_stands command_asked) in
     (some_of_text (λ s. map (λ v. v.now) s.now) c.get_strs.result _ c.get_strs.ensures (some_mapped raw_values _ there))
 
 pub unwrap-requires-2 : goal.unwrap-requires-2
@@ -33,7 +34,7 @@ unwrap-requires-2 g c =
     let reads = option_reads old m parsed is _ _ port_stands _
     (λ bs r. ParsesUnsigned 16 10 bs r × ExplainsUnsignedError 10 bs r × HasUnsignedDigitsIfOk bs r)
     16 1 65535 refl (omega arith) (λ u x gives. gives.0) c.get_one.result c.get_one.ensures.value in
-    (read_some 1 65535 _ c.get_one.result (has_value old m parsed is _ _ port_stands) reads)
+    (read_some 1 65535 _ c.get_one.result (has_value old m parsed is _ _ port_stands port_asked) reads)
 
 pub unwrap-requires-3 : goal.unwrap-requires-3
 unwrap-requires-3 g c =
@@ -45,7 +46,7 @@ unwrap-requires-3 g c =
     let reads = option_reads old m parsed is _ _ uid_stands _
     (λ bs r. ParsesUnsigned 32 10 bs r × ExplainsUnsignedError 10 bs r × HasUnsignedDigitsIfOk bs r)
     32 0 4294967295 refl (omega arith) (λ u x gives. gives.0) c.get_one-2.result c.get_one-2.ensures.value in
-    (read_some 0 4294967295 _ c.get_one-2.result (has_value old m parsed is _ _ uid_stands) reads)
+    (read_some 0 4294967295 _ c.get_one-2.result (has_value old m parsed is _ _ uid_stands uid_asked) reads)
 
 pub unwrap-requires-4 : goal.unwrap-requires-4
 unwrap-requires-4 g c =
@@ -57,7 +58,15 @@ unwrap-requires-4 g c =
     let reads = option_reads old m parsed is _ _ gid_stands _
     (λ bs r. ParsesUnsigned 32 10 bs r × ExplainsUnsignedError 10 bs r × HasUnsignedDigitsIfOk bs r)
     32 0 4294967295 refl (omega arith) (λ u x gives. gives.0) c.get_one-3.result c.get_one-3.ensures.value in
-    (read_some 0 4294967295 _ c.get_one-3.result (has_value old m parsed is _ _ gid_stands) reads)
+    (read_some 0 4294967295 _ c.get_one-3.result (has_value old m parsed is _ _ gid_stands gid_asked) reads)
+
+pub returns-in_err-matches-clause-refused : goal.returns-in_err-matches-clause-refused
+returns-in_err-matches-clause-refused g c =
+    let words : List Text = map g.S.AsStr.text c.args.words.now in
+    let is : app_of c.in_ok-command.field-0 ≡ nfsc = c.in_ok-command.ensures in
+    let err : c.from_residual-in_err-matches.result ≡ Err c.in_err-matches.field-0.0 = search rules in
+    subst (λ r. FailsBy (fault_of nfsc words) r) (sym err)
+    (subst (λ a. HasKind (fault_of a words) c.in_err-matches.field-0.0) is (c.in_err-matches.ensures.kinds (ap is_simple_and_free is)))
 
 pub returns-clause-said : goal.returns-clause-said
 returns-clause-said g c =
@@ -79,13 +88,22 @@ returns-clause-said g c =
     let gid_reads = option_reads old m parsed is _ _ gid_stands _
     (λ bs r. ParsesUnsigned 32 10 bs r × ExplainsUnsignedError 10 bs r × HasUnsignedDigitsIfOk bs r)
     32 0 4294967295 refl (omega arith) (λ u x gives. gives.0) c.get_one-3.result c.get_one-3.ensures.value in
+    let timeout_reads = option_reads old m parsed is _ _ timeout_stands _
+    (λ bs r. ParsesUnsigned 32 10 bs r × ExplainsUnsignedError 10 bs r × HasUnsignedDigitsIfOk bs r)
+    32 1 86400 refl (omega arith) (λ u x gives. gives.0) c.get_one-4.result c.get_one-4.ensures.value in
     record {
       port = subst (IsNumber 1 65535 c.unwrap-2.result) (value (codes "port"))
-          (number_held 1 65535 c.unwrap-2.result _ c.get_one.result (has_value old m parsed is _ _ port_stands) c.unwrap-2.ensures port_reads);
+          (number_held 1 65535 c.unwrap-2.result _ c.get_one.result (has_value old m parsed is _ _ port_stands port_asked) c.unwrap-2.ensures port_reads);
       uid = subst (IsNumber 0 4294967295 c.unwrap-3.result) (value (codes "uid"))
-          (number_held 0 4294967295 c.unwrap-3.result _ c.get_one-2.result (has_value old m parsed is _ _ uid_stands) c.unwrap-3.ensures uid_reads);
+          (number_held 0 4294967295 c.unwrap-3.result _ c.get_one-2.result (has_value old m parsed is _ _ uid_stands uid_asked) c.unwrap-3.ensures uid_reads);
       gid = subst (IsNumber 0 4294967295 c.unwrap-4.result) (value (codes "gid"))
-          (number_held 0 4294967295 c.unwrap-4.result _ c.get_one-3.result (has_value old m parsed is _ _ gid_stands) c.unwrap-4.ensures gid_reads);
+          (number_held 0 4294967295 c.unwrap-4.result _ c.get_one-3.result (has_value old m parsed is _ _ gid_stands gid_asked) c.unwrap-4.ensures gid_reads);
+      timeout = subst (IsNumberOr 30 1 86400 c.unwrap_or.result) (value (codes "timeout"))
+          (number_or_default 30 1 86400 c.unwrap_or.result (first_value f (codes "timeout")) c.get_one-4.result c.unwrap_or.ensures
+          (λ e. c.get_one-4.ensures.none (nothing_read f (codes "timeout") e)) timeout_reads);
+      groups = c.get_str.ensures ∙ value (codes "groups");
+      person = c.get_str-2.ensures ∙ value (codes "as");
+      book = c.get_str-3.ensures ∙ value (codes "book");
       command = sym (raw_values-rows f (codes "command") ∙ ap (all_of (codes "command")) rows)
           ∙ (sym c.get_strs.ensures ∙ (ap (option_map (λ s. map (λ v. v.now) s.now)) c.unwrap.ensures
           ∙ ap (λ vs. Some (map (λ v. v.now) vs)) (sym (c.in_ok-words.ensures.items_if_clones_equal (λ x y same. same)))));

@@ -1,0 +1,160 @@
+//! `batch`: commands from standard input, in one session.
+use crate::calling::Session;
+use crate::fault::Fault;
+use crate::helping::{Help, Usages};
+use crate::quoting::words_in;
+use crate::telling::{Place, tell};
+use crate::wish::Wish;
+use nfs_client::ToolFault;
+use nfsc_options::Options;
+use std::alloc::Global;
+use std::cell::Cell;
+use std::io::{BufRead, Write};
+use std::net::{Net, TcpStream};
+use std::random::RandomSource;
+use std::rt::{Clock, Files};
+use std::{io, str};
+
+/// What came of a line.
+#[derive(Clone, Copy, PartialEq, Eq)]
+enum Fate {
+    /// It was answered, or had nothing to be answered.
+    Answered,
+    Failed,
+    /// It failed, and so would each that comes after it.
+    Over,
+}
+
+/// Whether no command of a session goes on after this fault.
+fn is_last(fault: Fault) -> bool {
+    match fault {
+        Fault::Late(_) => true,
+        Fault::Tool(fault) => matches!(
+            fault,
+            ToolFault::Read | ToolFault::Write | ToolFault::Reply | ToolFault::Failed
+        ),
+        _ => false,
+    }
+}
+
+/// What runs the lines of a batch.
+#[derive(Drop)]
+struct Batch<'a, 'b, R> {
+    rt: &'a R,
+    alloc: Global,
+    options: &'a Options<'b>,
+    session: Session<'a, R>,
+}
+
+impl<R: Net<Stream = TcpStream> + Clock + RandomSource + Files + Input + Print + Eprint> Batch<
+    '_,
+    '_,
+    R,
+> {
+    /// Tells a fault of a line that asks nothing of the server.
+    fn refuse(&self, place: Place, fault: Fault) -> io::Result<Fate> {
+        tell(self.rt, place, self.options, Err(fault))?;
+        Ok(Fate::Failed)
+    }
+
+    /// Does what is wished.
+    fn act(&mut self, place: Place, wish: Wish<'_>) -> io::Result<Fate> {
+        if wish.takes_input() {
+            return self.refuse(place, Fault::Input);
+        }
+        let told = self.session.run(self.rt, self.alloc, place, wish);
+        let fate = match &told {
+            Ok(_) => Fate::Answered,
+            Err(fault) if is_last(*fault) => Fate::Over,
+            Err(_) => Fate::Failed,
+        };
+        tell(self.rt, place, self.options, told)?;
+        Ok(fate)
+    }
+
+    /// Runs the command of words.
+    fn run(&mut self, place: Place, words: &[String]) -> io::Result<Fate> {
+        let said: Vec<&str> = words.iter().map(|word| word.as_str()).collect(self.alloc)?;
+        let bytes: Vec<&[u8]> = words
+            .iter()
+            .map(|word| word.as_bytes())
+            .collect(self.alloc)?;
+        if let Some(help) = Help::read(said.as_slice()) {
+            help.print(self.rt)?;
+            return Ok(Fate::Answered);
+        }
+        if let ["batch"] = said.as_slice() {
+            return self.refuse(place, Fault::Nested);
+        }
+        match Wish::read(said.as_slice(), bytes.as_slice()) {
+            Some(wish) => self.act(place, wish),
+            None => {
+                let name = said.first().copied().unwrap_or("");
+                Usages::of(name).say(self.rt, place, name)?;
+                Ok(Fate::Failed)
+            }
+        }
+    }
+
+    /// Runs a line. One without words, or that begins with `#`, is skipped.
+    fn line(&mut self, place: Place, bytes: &[u8]) -> io::Result<Fate> {
+        let Ok(line) = str::from_utf8(bytes) else {
+            return self.refuse(place, Fault::Text);
+        };
+        if line.starts_with('#') {
+            return Ok(Fate::Answered);
+        }
+        match words_in(self.alloc, line)? {
+            Some(words) if words.is_empty() => Ok(Fate::Answered),
+            Some(words) => self.run(place, words.as_slice()),
+            None => self.refuse(place, Fault::Quote),
+        }
+    }
+
+    /// Runs the lines of standard input, each as it comes. Whether all were answered.
+    fn lines(&mut self) -> io::Result<bool> {
+        let mut reader = self.rt.reader();
+        let mut is_well = true;
+        for number in 1..u64::MAX {
+            let mut bytes = Vec::new(self.alloc);
+            let place = Place::Line(number);
+            match reader.read_until(b'\n', &mut bytes) {
+                Ok(0) => return Ok(is_well),
+                Ok(_) => {}
+                Err(_) => {
+                    self.refuse(place, Fault::Unread)?;
+                    return Ok(false);
+                }
+            }
+            let line = bytes.strip_suffix(b"\n").unwrap_or(bytes.as_slice());
+            match self.line(place, line)? {
+                Fate::Answered => {}
+                Fate::Failed => is_well = false,
+                Fate::Over => return Ok(false),
+            }
+        }
+        Ok(is_well)
+    }
+}
+
+/// Runs the commands of standard input in one session. Whether all were answered.
+pub(crate) fn run<
+    'a,
+    R: Net<Stream = TcpStream> + Clock + RandomSource + Files + Input + Print + Eprint,
+>(rt: &'a R, alloc: Global, options: &'a Options<'_>, groups: &'a [u32]) -> io::Result<bool> {
+    let is_late = Cell::new(false);
+    match Session::open(rt, alloc, options, groups, &is_late) {
+        Ok(session) => {
+            let mut batch = Batch {
+                rt,
+                alloc,
+                options,
+                session,
+            };
+            let told = batch.lines();
+            batch.session.end();
+            told
+        }
+        Err(fault) => tell(rt, Place::Call, options, Err(fault)),
+    }
+}

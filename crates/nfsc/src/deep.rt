@@ -1,0 +1,281 @@
+//! Commands over an object and all below it, and directories that are made with those above them.
+use crate::facl;
+use crate::fault::Fault;
+use crate::shown::Shown;
+use crate::telling::Place;
+use crate::tree::{Kind, Object, Tree, Unlisted};
+use nfs_client::{Answer, Client, ToolFault, read_mode};
+use nfs_types::Status;
+use std::alloc::Global;
+use std::io;
+use std::io::{Read, Write};
+
+/// What is done to an object and all below it.
+#[derive(Clone, Copy)]
+pub(crate) enum Deep<'a> {
+    /// `list -R P`: prints the lines of what is below a directory.
+    List,
+    /// `chmod -R OCTAL P`.
+    ChMod(&'a [u8]),
+    /// `setfacl -R P ENTRY..`.
+    SetFacl(&'a [&'a [u8]]),
+    /// `rm -R P`.
+    Rm,
+}
+
+/// Where a command's faults are said: what prints them, and the line of a batch that they are of.
+#[derive(Drop)]
+pub(crate) struct Voice<'a, R> {
+    pub(crate) rt: &'a R,
+    pub(crate) place: Place,
+}
+
+impl<R: Eprint> Voice<'_, R> {
+    /// Says what is wrong with one object.
+    fn say(&self, path: &[u8], fault: ToolFault) -> Result<(), Fault> {
+        let (rt, place) = (self.rt, self.place);
+        let why = Fault::Tool(fault).sentence();
+        match eprintln!(rt; "nfsc: {place}{}: {why}", Shown(path)) {
+            Ok(()) => Ok(()),
+            Err(_) => Err(Fault::Unsaid),
+        }
+    }
+
+    /// Says which directories can't be listed.
+    fn say_unlisted(&self, unlisted: &[Unlisted]) -> Result<(), Fault> {
+        for directory in unlisted {
+            self.say(directory.path.as_slice(), directory.fault)?;
+        }
+        Ok(())
+    }
+}
+
+/// What is to be done to each object.
+#[derive(Drop)]
+enum Change<'a> {
+    ChMod(&'a [u8]),
+    /// The entries as text, for a directory and for another object.
+    SetFacl(Vec<Vec<u8>>, Vec<Vec<u8>>),
+    Rm,
+}
+
+impl<'a> Change<'a> {
+    /// The change that is asked for, before anything is asked of the server. `None`: it changes nothing.
+    fn of(alloc: Global, deep: Deep<'a>, path: &[u8]) -> Result<Option<Self>, Fault> {
+        match deep {
+            Deep::List => Ok(None),
+            Deep::ChMod(mode) if read_mode(mode).is_none() => Err(Fault::Tool(ToolFault::Entry)),
+            Deep::ChMod(mode) => Ok(Some(Change::ChMod(mode))),
+            Deep::SetFacl(entries) => {
+                let directory = facl::texts_of(alloc, acl_list::Kind::Directory, entries)?;
+                let other = facl::texts_of(alloc, acl_list::Kind::File, entries)?;
+                Ok(Some(Change::SetFacl(directory, other)))
+            }
+            Deep::Rm if path == b"/".as_slice() => Err(Fault::Root),
+            Deep::Rm => Ok(Some(Change::Rm)),
+        }
+    }
+
+    /// Whether the change is one of this object: a symbolic link has no mode and no list to be set.
+    fn is_of(&self, object: &Object) -> bool {
+        match self {
+            Change::Rm => true,
+            Change::ChMod(_) | Change::SetFacl(_, _) => object.kind != Kind::Link,
+        }
+    }
+
+    /// Changes one object.
+    fn act<S: Read + Write>(
+        &self,
+        client: &mut Client<S>,
+        alloc: Global,
+        object: &Object,
+    ) -> Result<(), Fault> {
+        let path = object.path.as_slice();
+        match self {
+            Change::ChMod(mode) => Ok(client.chmod(mode, path)?),
+            Change::SetFacl(directory, other) => match object.kind {
+                Kind::Directory => facl::set(client, alloc, path, directory.as_slice()),
+                Kind::Link | Kind::Other => facl::set(client, alloc, path, other.as_slice()),
+            },
+            Change::Rm => Ok(client.rm(path)?),
+        }
+    }
+
+    /// Puts the line that says what would be done to an object.
+    fn put(&self, alloc: Global, out: &mut Vec<u8>, object: &Object) -> Result<(), Fault> {
+        out.extend_from_slice(match self {
+            Change::ChMod(_) => b"chmod ",
+            Change::SetFacl(_, _) => b"setfacl ",
+            Change::Rm => b"rm ",
+        })?;
+        if let Change::ChMod(mode) = self {
+            out.extend_from_slice(mode)?;
+            out.extend_from_slice(b" ")?;
+        }
+        put_path(alloc, out, object.path.as_slice())
+    }
+}
+
+/// Puts a path as it is printed, and a newline.
+fn put_path(alloc: Global, out: &mut Vec<u8>, path: &[u8]) -> Result<(), Fault> {
+    let text = format!(in alloc; "{}\n", Shown(path))?;
+    out.extend_from_slice(text.as_bytes())?;
+    Ok(())
+}
+
+/// The object at a path, and all below it: each directory stands before what is in it.
+fn tree_at<S: Read + Write>(
+    client: &mut Client<S>,
+    alloc: Global,
+    path: &[u8],
+) -> Result<Tree, Fault> {
+    let is_directory = facl::is_directory(client, path)?;
+    let mut objects = Vec::new(alloc);
+    let mut own = Vec::new(alloc);
+    own.extend_from_slice(path)?;
+    objects.push(Object {
+        path: own,
+        kind: if is_directory {
+            Kind::Directory
+        } else {
+            Kind::Other
+        },
+        columns: Vec::new(alloc),
+    })?;
+    let mut unlisted = Vec::new(alloc);
+    if is_directory {
+        let tree = Tree::below(client, alloc, path)?;
+        for object in tree.objects {
+            objects.push(object)?;
+        }
+        unlisted = tree.unlisted;
+    }
+    Ok(Tree { objects, unlisted })
+}
+
+/// Prints the lines of what is below a directory, as `ls` does with the path in place of the name.
+fn list<S: Read + Write, R: Print + Eprint>(
+    client: &mut Client<S>,
+    voice: Voice<'_, R>,
+    alloc: Global,
+    path: &[u8],
+) -> Result<Answer, Fault> {
+    let tree = Tree::below(client, alloc, path)?;
+    let mut text = Vec::new(alloc);
+    for object in &tree.objects {
+        text.extend_from_slice(object.columns.as_slice())?;
+        put_path(alloc, &mut text, object.path.as_slice())?;
+    }
+    if tree.unlisted.is_empty() {
+        return Ok(Answer::Text(text));
+    }
+    if io::writer(voice.rt).write_all(text.as_slice()).is_err() {
+        return Err(Fault::Unsaid);
+    }
+    voice.say_unlisted(tree.unlisted.as_slice())?;
+    Err(Fault::Partly(tree.unlisted.len()))
+}
+
+/// Changes the objects, the last one first, so that a change of a directory comes after those of what is in it. A
+/// refusal is said, and the others go on.
+fn change_all<S: Read + Write, R: Eprint>(
+    client: &mut Client<S>,
+    voice: Voice<'_, R>,
+    alloc: Global,
+    wanted: &Change<'_>,
+    objects: &[Object],
+) -> Result<Answer, Fault> {
+    let mut refused = 0usize;
+    for object in objects.iter().rev() {
+        if wanted.is_of(object) {
+            match wanted.act(client, alloc, object) {
+                Ok(()) => {}
+                Err(Fault::Tool(fault @ ToolFault::Refused(_, _))) => {
+                    voice.say(object.path.as_slice(), fault)?;
+                    refused = refused.saturating_add(1);
+                }
+                Err(fault) => return Err(fault),
+            }
+        }
+    }
+    if refused == 0 {
+        Ok(Answer::Done)
+    } else {
+        Err(Fault::Partly(refused))
+    }
+}
+
+/// The lines that say what would be done, in its order.
+fn plan(alloc: Global, wanted: &Change<'_>, objects: &[Object]) -> Result<Answer, Fault> {
+    let mut text = Vec::new(alloc);
+    for object in objects.iter().rev() {
+        if wanted.is_of(object) {
+            wanted.put(alloc, &mut text, object)?;
+        }
+    }
+    Ok(Answer::Text(text))
+}
+
+/// Does something to the object at a path and to all below it, or says what would be done. All of it is listed before
+/// anything is changed; where a directory can't be listed, nothing is.
+pub(crate) fn run<S: Read + Write, R: Print + Eprint>(
+    client: &mut Client<S>,
+    voice: Voice<'_, R>,
+    alloc: Global,
+    (deep, is_dry): (Deep<'_>, bool),
+    path: &[u8],
+) -> Result<Answer, Fault> {
+    let Some(wanted) = Change::of(alloc, deep, path)? else {
+        return list(client, voice, alloc, path);
+    };
+    let tree = tree_at(client, alloc, path)?;
+    if !tree.unlisted.is_empty() {
+        voice.say_unlisted(tree.unlisted.as_slice())?;
+        return Err(Fault::Unlisted);
+    }
+    let objects = tree.objects.as_slice();
+    if is_dry {
+        plan(alloc, &wanted, objects)
+    } else {
+        change_all(client, voice, alloc, &wanted, objects)
+    }
+}
+
+/// Makes a directory, or finds that another made it meanwhile.
+fn make<S: Read + Write>(client: &mut Client<S>, path: &[u8]) -> Result<(), Fault> {
+    match client.mkdir(path) {
+        Ok(()) | Err(ToolFault::Refused(_, Status::Exist)) => Ok(()),
+        Err(fault) => Err(Fault::Tool(fault)),
+    }
+}
+
+/// Whether there is an object at a path.
+fn is_there<S: Read + Write>(client: &mut Client<S>, path: &[u8]) -> Result<bool, Fault> {
+    match client.access(path) {
+        Ok(_) => Ok(true),
+        Err(ToolFault::Refused(_, Status::NoEnt)) => Ok(false),
+        Err(fault) => Err(Fault::Tool(fault)),
+    }
+}
+
+/// Makes a directory and those above it that aren't there. A directory that is there stays as it is.
+pub(crate) fn make_all<S: Read + Write>(client: &mut Client<S>, path: &[u8]) -> Result<(), Fault> {
+    if is_there(client, path)? {
+        if facl::is_directory(client, path)? {
+            return Ok(());
+        }
+        return Ok(client.mkdir(path)?);
+    }
+    let mut is_here = true;
+    for (index, byte) in path.iter().enumerate() {
+        if *byte == b'/' && index > 0 {
+            let above = path.get(..index).unwrap_or(path);
+            is_here = is_here && is_there(client, above)?;
+            if !is_here {
+                make(client, above)?;
+            }
+        }
+    }
+    make(client, path)
+}

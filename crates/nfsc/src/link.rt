@@ -1,0 +1,125 @@
+//! The stream to the server, on which an answer is waited for no longer than it may take.
+use std::cell::Cell;
+use std::io;
+use std::io::{ErrorKind, Read, Write};
+use std::net::TcpStream;
+use std::rt::Clock;
+use std::time::{Duration, Instant};
+
+/// A stream to the server. An answer is late where it isn't whole in its time after the first write of its call, and so
+/// is a call that isn't taken in that time.
+#[derive(Drop)]
+pub(crate) struct Link<'a, R> {
+    rt: &'a R,
+    stream: TcpStream,
+    /// How long an answer may take.
+    patience: Duration,
+    /// When the call was begun. `None`: none was, or the clock can't be read.
+    begun: Option<Instant>,
+    /// Whether something was read after the last write, so that the next one begins a call.
+    is_heard: bool,
+    /// Set where an answer is late.
+    is_late: &'a Cell<bool>,
+}
+
+/// Whether a read or a write ended because its time was over.
+fn is_over(error: &io::Error) -> bool {
+    matches!(error.kind(), ErrorKind::WouldBlock | ErrorKind::TimedOut)
+}
+
+/// Whether a signal broke in on a read or a write, as where a stopped program goes on.
+fn is_broken_in_on(error: &io::Error) -> bool {
+    matches!(error.kind(), ErrorKind::Interrupted)
+}
+
+impl<'a, R: Clock> Link<'a, R> {
+    /// The link over a stream. The cell is set where an answer is late.
+    pub(crate) fn new(
+        rt: &'a R,
+        stream: TcpStream,
+        patience: Duration,
+        is_late: &'a Cell<bool>,
+    ) -> Self {
+        Link {
+            rt,
+            stream,
+            patience,
+            begun: None,
+            is_heard: true,
+            is_late,
+        }
+    }
+
+    /// What is left of the answer's time. Where the clock can't be read, all of it is.
+    fn left(&self) -> Duration {
+        let Some(begun) = self.begun else {
+            return self.patience;
+        };
+        match Instant::now(self.rt) {
+            Ok(now) => self.patience.saturating_sub(now.duration_since(begun)),
+            Err(_) => self.patience,
+        }
+    }
+
+    /// What is left of the answer's time, at least a millisecond, or the error of an answer that is late.
+    fn wait(&self) -> io::Result<Duration> {
+        let left = self.left();
+        if left.as_millis() == 0 {
+            self.is_late.set(true);
+            return Err(io::Error::from(ErrorKind::TimedOut));
+        }
+        Ok(left)
+    }
+
+    /// Notes an answer that is late by the error of its read or its write.
+    fn note(&self, error: &io::Error) {
+        if is_over(error) {
+            self.is_late.set(true);
+        }
+    }
+}
+
+impl<R: Clock> Read for Link<'_, R> {
+    fn read(&mut self, buf: &mut [u8]) -> io::Result<usize> {
+        self.is_heard = true;
+        for _try in 0..u64::MAX {
+            let left = self.wait()?;
+            let _ = self.stream.set_read_timeout(Some(left));
+            match self.stream.read(buf) {
+                Ok(n) => return Ok(n),
+                Err(error) if is_broken_in_on(&error) => {}
+                Err(error) => {
+                    self.note(&error);
+                    return Err(error);
+                }
+            }
+        }
+        Err(io::Error::from(ErrorKind::Interrupted))
+    }
+}
+
+impl<R: Clock> Write for Link<'_, R> {
+    fn write(&mut self, buf: &[u8]) -> io::Result<usize> {
+        if self.is_heard {
+            self.is_heard = false;
+            self.begun = Instant::now(self.rt).ok();
+        }
+        for _try in 0..u64::MAX {
+            let left = self.wait()?;
+            let _ = self.stream.set_write_timeout(Some(left));
+            match self.stream.write(buf) {
+                Ok(n) => return Ok(n),
+                Err(error) if is_broken_in_on(&error) => {}
+                Err(error) => {
+                    self.note(&error);
+                    return Err(error);
+                }
+            }
+        }
+        Err(io::Error::from(ErrorKind::Interrupted))
+    }
+
+    fn flush(&mut self) -> io::Result<()> {
+        self.stream.flush()
+    }
+}
