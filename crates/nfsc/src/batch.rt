@@ -15,7 +15,7 @@ use std::random::RandomSource;
 use std::rt::{Clock, Files};
 use std::{io, str};
 
-/// What came of a line.
+/// The outcome of a line.
 #[derive(Clone, Copy, PartialEq, Eq)]
 enum Fate {
     /// It was answered, or had nothing to be answered.
@@ -37,7 +37,7 @@ fn is_last(fault: Fault) -> bool {
     }
 }
 
-/// What runs the lines of a batch.
+/// A batch, whose lines run in one session.
 #[derive(Drop)]
 struct Batch<'a, 'b, R> {
     rt: &'a R,

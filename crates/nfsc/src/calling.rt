@@ -25,7 +25,7 @@ pub(crate) enum Task<'a> {
     Put(&'a [u8], Vec<u8>),
 }
 
-/// What a client does of a task. The answer is to be printed.
+/// Does a task by a client. The answer is to be printed.
 fn done<S: Read + Write, R: Print + Eprint>(
     client: &mut Client<S>,
     voice: Voice<'_, R>,
@@ -153,7 +153,7 @@ impl<
         }
     }
 
-    /// What comes of a task.
+    /// Does a task.
     fn act(&mut self, voice: Voice<'_, R>, alloc: Global, task: Task<'_>) -> Result<Answer, Fault> {
         match done(&mut self.client, voice, alloc, task) {
             Ok(answer) => Ok(answer),
@@ -161,7 +161,7 @@ impl<
         }
     }
 
-    /// What comes of a wish.
+    /// Does what is wished.
     pub(crate) fn run(
         &mut self,
         rt: &R,

@@ -10,7 +10,7 @@ use std::alloc::Global;
 use std::io;
 use std::io::{Read, Write};
 
-/// What is done to an object and all below it.
+/// A command over an object and all below it.
 #[derive(Clone, Copy)]
 pub(crate) enum Deep<'a> {
     /// `list -R P`: prints the lines of what is below a directory.
@@ -50,7 +50,7 @@ impl<R: Eprint> Voice<'_, R> {
     }
 }
 
-/// What is to be done to each object.
+/// The change of each object.
 #[derive(Drop)]
 enum Change<'a> {
     ChMod(&'a [u8]),

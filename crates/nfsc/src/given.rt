@@ -11,7 +11,7 @@ const GIVEN: [(&str, &str); 3] = [
     ("--gid", "NFSC_GID"),
 ];
 
-/// What stands after an option in its own word: nothing, or its value after `=`. `None`: the word isn't this option.
+/// The rest of a word after an option: nothing, or its value after `=`. `None`: the word isn't this option.
 fn behind<'a>(word: &'a str, option: &str) -> Option<&'a str> {
     let rest = word.strip_prefix(option)?;
     (rest.is_empty() || rest.starts_with('=')).then_some(rest)
@@ -55,7 +55,7 @@ fn put(
     Ok(())
 }
 
-/// What an option has where the words don't have it: what the book says of the user, or else the environment.
+/// The value of an option that the words don't have: that of the user in the book, or else that of the environment.
 fn unsaid<R: Env + Alloc>(
     rt: &R,
     alloc: Global,

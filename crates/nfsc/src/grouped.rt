@@ -51,11 +51,11 @@ fn caller_in(caller: Caller, groups: &[u32]) -> Option<Caller> {
     if groups.len() > MOST_FURTHER {
         return None;
     }
-    let caller = Caller::new(caller.uid(), caller.gid(), groups);
-    caller.is_member(caller.gid()).then_some(caller)
+    Some(Caller::new(caller.uid(), caller.gid(), groups))
 }
 
-/// The header of a call by this caller. `None`: it has no room.
+/// The header of a call by this caller, whose groups hold its gid, as those of `Caller::new` do. `None`: they don't, or
+/// it has no room.
 fn head(alloc: Global, xid: u32, caller: Caller) -> io::Result<Option<Writer>> {
     if !caller.is_member(caller.gid()) {
         return Ok(None);

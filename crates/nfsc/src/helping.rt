@@ -112,7 +112,7 @@ impl Usages {
     }
 }
 
-/// What a call for help asks for.
+/// A call for help.
 #[derive(Clone, Copy)]
 pub(crate) enum Help {
     /// `help`: the commands.

@@ -50,7 +50,7 @@ impl<'a, R: Clock> Link<'a, R> {
         }
     }
 
-    /// What is left of the answer's time. Where the clock can't be read, all of it is.
+    /// The rest of the answer's time. It is all of it where the clock can't be read.
     fn left(&self) -> Duration {
         let Some(begun) = self.begun else {
             return self.patience;
@@ -61,7 +61,7 @@ impl<'a, R: Clock> Link<'a, R> {
         }
     }
 
-    /// What is left of the answer's time, at least a millisecond, or the error of an answer that is late.
+    /// The rest of the answer's time, at least a millisecond, or the error of an answer that is late.
     fn wait(&self) -> io::Result<Duration> {
         let left = self.left();
         if left.as_millis() == 0 {

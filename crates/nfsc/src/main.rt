@@ -37,7 +37,7 @@ use std::{env, io};
 use telling::{Place, tell};
 use wish::Wish;
 
-/// What `--groups` wants.
+/// The sentence on groups that can't be read.
 const GROUPS: &str =
     "--groups wants numbers from 0 to 4294967295, at most 16, with commas between them, as in 100,200";
 

@@ -1,7 +1,7 @@
 //! The words of a line.
 use std::alloc::{AllocError, Global};
 
-/// What a quote that is open takes.
+/// The quote that is open. It takes characters up to its end:
 #[derive(Clone, Copy, PartialEq, Eq)]
 enum Quote {
     /// `'`: all but a `'` as it is.

@@ -1,4 +1,4 @@
-//! What is printed of an answer or a fault, and where of a batch it belongs.
+//! Printing an answer or a fault, with the line of a batch that it belongs to.
 use crate::fault::Fault;
 use nfs_client::{Answer, ToolFault};
 use nfsc_options::Options;

@@ -1,8 +1,8 @@
-//! What the words of a call ask for.
+//! The command that the words of a call ask for.
 use crate::deep::Deep;
 use nfs_client::Command;
 
-/// What the words of a call ask for: a command as the client has it, or one for people over several of them.
+/// The command that the words of a call ask for: one as the client has it, or one for people over several of them.
 #[derive(Drop)]
 pub(crate) enum Wish<'a> {
     Plain(Command<'a>),
@@ -109,7 +109,8 @@ fn adding<'a>(path: &'a [u8], first: &str, rest: &'a [&'a [u8]]) -> Option<Wish<
 }
 
 impl<'a> Wish<'a> {
-    /// What these words ask for, as text and as bytes. `None`: there is no such command, or it has another number of words.
+    /// Reads the command of these words, as text and as bytes. `None`: there is no such command, or it has another number
+    /// of words.
     pub(crate) fn read(words: &'a [&'a str], bytes: &'a [&'a [u8]]) -> Option<Self> {
         if let Some(wish) = deep_in(words, bytes) {
             return Some(wish);
