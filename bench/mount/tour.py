@@ -24,6 +24,9 @@ class Step:
     trail: list = field(default_factory=list)
     lacks: str = ""
     came: tuple = ()
+    # by how many bytes the store grew where nothing was killed, and whether the server was killed in the midst of that
+    growth: int = 0
+    was_hit: bool = False
 
     def is_as_expected(self):
         status, said, trail = self.came
@@ -47,6 +50,8 @@ class Scene:
     options: list = field(default_factory=list)
     steps: list = field(default_factory=list)
     seconds: float = 0
+    # how often its server was killed beside it
+    kills: int = 0
 
 
 def fits(wanted, came):
@@ -96,9 +101,9 @@ def read(path):
     return scenes
 
 
-def texts(names):
-    """The paths of the tour's texts, in their order: those whose name begins with one of these words, or all."""
-    paths = sorted(glob.glob(f"{HERE}/tour/*.txt"))
+def texts(folder, names):
+    """The paths of a folder's texts, in their order: those whose name begins with one of these words, or all."""
+    paths = sorted(glob.glob(f"{HERE}/{folder}/*.txt"))
     return [it for it in paths if not names or os.path.basename(it).startswith(tuple(names))]
 
 

@@ -1,12 +1,20 @@
 //! Numbers, modes, domains and names that are out of range, and numbers of two names.
+ghost use Rattle.std.specs.Prelude.{◌≡◌, ◌&&◌, codes, IfOk, option_map};
+ghost use Rattle.std.specs.Char.{is_ascii_digit};
+ghost use Rattle.std.specs.List.{list_all};
+ghost use Rattle.toml.specs.View.{table_view};
+ghost use Rattle.who_book.specs.Document.{is_up_to, text_at, integer_at};
+ghost use Rattle.who_book.specs.Names.{is_word, is_name};
+ghost use Rattle.book_words.specs.Ranges.{Says, is_right_number, is_right_domain, are_right_settings};
+
 use std::alloc::{AllocError, Global};
 use toml::Table;
 
 /// The greatest number of a user or a group.
-const GREATEST: i64 = 4_294_967_295;
+const GREATEST: u32 = 4_294_967_295;
 
 /// The greatest mode.
-const GREATEST_MODE: i64 = 0o7777;
+const GREATEST_MODE: u32 = 0o7777;
 
 /// The most names of a table.
 const MOST_NAMES: usize = 1024;
@@ -38,66 +46,107 @@ pub(crate) fn names_at<'a>(table: &'a Table, key: &str) -> Option<&'a Table> {
     }
 }
 
-fn integer_at(table: &Table, key: &str) -> Option<i64> {
+fn integer_at(table: &Table, key: &str) -> Option<i64>
+    ensures { result ≡ integer_at key.now (table_view table.now) }
+{
     match table.get(key) {
         Some(value) => value.as_integer(),
         None => None,
     }
 }
 
+/// The text of a key.
+fn text_at<'a>(table: &'a Table, key: &str) -> Option<&'a str>
+    ensures { option_map (λ text. text.now) result ≡ text_at key.now (table_view table.now) }
+{
+    match table.get(key) {
+        Some(value) => value.as_str(),
+        None => None,
+    }
+}
+
+/// Whether an integer is from 0 to the limit.
+fn is_up_to(integer: i64, limit: u32) -> bool
+    ensures { result ≡ is_up_to limit integer }
+{
+    (0..=i64::from(limit)).contains(&integer)
+}
+
 /// Whether a text has 1 to so many bytes and no `@`.
-fn is_word(text: &str, most: usize) -> bool {
+fn is_word(text: &str, most: usize) -> bool
+    ensures { result ≡ is_word most text.now }
+{
     !text.is_empty() && text.len() <= most && !text.as_bytes().contains(&b'@')
 }
 
-/// Whether a text can be a name: digits alone are a number.
-fn is_name(text: &str) -> bool {
-    is_word(text, LONGEST_NAME) && !text.as_bytes().iter().all(|byte| byte.is_ascii_digit())
+fn is_digits(text: &[u8]) -> bool
+    ensures { result ≡ list_all is_ascii_digit text.now }
+{
+    text.iter().all(|byte| byte.is_ascii_digit())
 }
 
-fn domain(alloc: Global, table: &Table) -> Result<Option<String>, AllocError> {
-    let Some(value) = table.get("domain") else {
+/// Whether a text can be a name: digits alone are a number.
+fn is_name(text: &str) -> bool
+    ensures { result ≡ is_name text.now }
+{
+    is_word(text, LONGEST_NAME) && !is_digits(text.as_bytes())
+}
+
+/// What is wrong with the domain.
+fn domain(alloc: Global, table: &Table) -> Result<Option<String>, AllocError>
+    ensures { IfOk result (λ words. Says (is_right_domain (text_at (codes "domain") (table_view table.now))) words) }
+{
+    let Some(text) = text_at(table, "domain") else {
         return Ok(None);
     };
-    match value.as_str() {
-        Some(text) if !is_word(text, LONGEST_DOMAIN) => {
-            let words = String::from_str(
-                alloc,
-                "domain: it has 1 to 128 bytes, of which none is @",
-            )?;
-            Ok(Some(words))
-        }
-        _ => Ok(None),
+    if is_word(text, LONGEST_DOMAIN) {
+        return Ok(None);
     }
+    let words = String::from_str(alloc, "domain: it has 1 to 128 bytes, of which none is @")?;
+    Ok(Some(words))
 }
 
 /// The first of the root's settings that is out of range.
-fn settings(alloc: Global, table: &Table) -> Result<Option<String>, AllocError> {
-    for key in ["root_owner", "root_group"].iter() {
-        if let Some(words) = number(alloc, key, integer_at(table, key))? {
-            return Ok(Some(words));
-        }
+fn settings(alloc: Global, table: &Table) -> Result<Option<String>, AllocError>
+    ensures { IfOk result (λ words. Says (are_right_settings (table_view table.now)) words) }
+{
+    if let Some(words) = number(alloc, "root_owner", integer_at(table, "root_owner"))? {
+        return Ok(Some(words));
     }
-    match integer_at(table, "root_mode") {
-        Some(mode) if !(0..=GREATEST_MODE).contains(&mode) => {
-            let words = format!(in alloc;
-                "root_mode: {mode} isn't from 0 to 0o7777, which is {GREATEST_MODE}"
-            )?;
-            Ok(Some(words))
-        }
-        _ => Ok(None),
+    if let Some(words) = number(alloc, "root_group", integer_at(table, "root_group"))? {
+        return Ok(Some(words));
     }
+    mode(alloc, integer_at(table, "root_mode"))
+}
+
+/// A mode that is out of range.
+fn mode(alloc: Global, mode: Option<i64>) -> Result<Option<String>, AllocError>
+    ensures { IfOk result (λ words. Says (is_right_number 4095 mode) words) }
+{
+    let Some(mode) = mode else {
+        return Ok(None);
+    };
+    if is_up_to(mode, GREATEST_MODE) {
+        return Ok(None);
+    }
+    let words = format!(in alloc;
+        "root_mode: {mode} isn't from 0 to 0o7777, which is {GREATEST_MODE}"
+    )?;
+    Ok(Some(words))
 }
 
 /// A number that is out of range, of this key or name.
-fn number(alloc: Global, name: &str, number: Option<i64>) -> Result<Option<String>, AllocError> {
-    match number {
-        Some(number) if !(0..=GREATEST).contains(&number) => {
-            let words = format!(in alloc; "{name}: {number} isn't from 0 to {GREATEST}")?;
-            Ok(Some(words))
-        }
-        _ => Ok(None),
+fn number(alloc: Global, name: &str, number: Option<i64>) -> Result<Option<String>, AllocError>
+    ensures { IfOk result (λ words. Says (is_right_number 4294967295 number) words) }
+{
+    let Some(number) = number else {
+        return Ok(None);
+    };
+    if is_up_to(number, GREATEST) {
+        return Ok(None);
     }
+    let words = format!(in alloc; "{name}: {number} isn't from 0 to {GREATEST}")?;
+    Ok(Some(words))
 }
 
 /// The first name or number of a table that is out of range, or too many names.
@@ -126,7 +175,9 @@ fn row(
     key: &str,
     name: &str,
     integer: Option<i64>,
-) -> Result<Option<String>, AllocError> {
+) -> Result<Option<String>, AllocError>
+    ensures { IfOk result (λ words. Says (is_name name.now && is_right_number 4294967295 integer) words) }
+{
     if !is_name(name) {
         let words = format!(in alloc;
             "{key}: {name:?} is no name, which has 1 to 64 bytes, none of them @, and not digits alone"

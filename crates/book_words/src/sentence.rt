@@ -1,4 +1,6 @@
 //! The sentence of a fault.
+ghost use Rattle.std.specs.Prelude.{◌≡◌, codes, string_bytes, IfOk};
+
 use crate::members::member;
 use crate::names::{range, twice};
 use crate::shape::shape;
@@ -8,7 +10,9 @@ use who_book::BookFault;
 
 /// What is wrong with a text that has this fault, without the name of its file: as `users: carol and bob are both 1002`. It is one sentence,
 /// of the first place that is found. `Err`: there is no memory for it.
-pub fn explain(alloc: Global, text: &str, fault: BookFault) -> Result<String, AllocError> {
+pub fn explain(alloc: Global, text: &str, fault: BookFault) -> Result<String, AllocError>
+    ensures { fault ≡ BookFault.Memory → IfOk result (λ words. string_bytes words ≡ codes "there is no memory for it") }
+{
     if fault == BookFault::Memory {
         return String::from_str(alloc, "there is no memory for it");
     }

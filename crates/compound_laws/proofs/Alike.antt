@@ -1,5 +1,5 @@
--- Realms that look alike have clients, sessions and opens alike.
-use Rattle.std.proofs.Common.{◌≡◌, ℕ, List, ap, ◌∙◌, subst}
+-- Realms that look alike have clients, sessions and opens alike, and these outlive a restart in both or in neither.
+use Rattle.std.proofs.Common.{◌≡◌, ℕ, Bool, List, ap, ◌∙◌, subst}
 use Rattle.std.specs.Prelude.{Result, Ok, Err, OnOk, OnErr}
 use Rattle.xdr_wire.specs.Xdr.{Value}
 use Rattle.rpc_record.specs.Identity.{Identity}
@@ -31,6 +31,9 @@ registries q r viewer same = ap (λ s. s.registry) same
 opens : (q r : Realm) (viewer : Identity) → view q viewer ≡ view r viewer → q.opens ≡ r.opens
 opens q r viewer same = ap (λ s. s.opens) same
 
+lastings : (q r : Realm) (viewer : Identity) → view q viewer ≡ view r viewer → q.lasting ≡ r.lasting
+lastings q r viewer same = ap (λ s. s.lasting) same
+
 -- a realm with the clients and the opens of another
 abbrev beside : Realm → Realm → Realm
 beside r new = record r { registry = new.registry; opens = new.opens }
@@ -49,7 +52,8 @@ exchanges_alike viewer caller v q r new outcome same e =
 creates_alike : (viewer caller : Identity) (v : Value create_session_args) (q r new : Realm) (outcome : Result Outcome Status) → view q viewer ≡ view r viewer → CreatesSession caller v q outcome new → CreatesSession caller v r outcome (beside r new)
 creates_alike viewer caller v q r new outcome same e = record {
   made = e.made;
-  creates = subst (λ x. Creates x (create_of caller v) e.made new.registry) (registries q r viewer same) e.creates;
+  creates = let registry = registries q r viewer same in let lasting = lastings q r viewer same in
+      subst (λ (x : Registry × Bool). Creates x.0 (create_of x.1 caller v) e.made new.registry) (λ i. (registry i, lasting i)) e.creates;
   told = e.told;
   others = ap (λ os. record r { registry = new.registry; opens = os }) (ap (λ (x : Realm). x.opens) e.others ∙ ap (opens_without e.made.gone) (opens q r viewer same));
 }
@@ -94,7 +98,11 @@ alone_discloses_nothing caller (Known kinds.DestroySession v) viewer q r new out
 alone_discloses_nothing caller (Known kinds.DestroyClientId v) viewer q r new outcome same acts = goes_alike viewer v q r new outcome same acts
 alone_discloses_nothing caller op viewer q r new outcome same acts = absurd acts
 
-pub begins_alike : (call : Call) (count : ℕ) (v : Value sequence_args) → BeginsAlike call count v
-begins_alike call count v viewer q r same =
+pub begins_alike : (call : Call) (count : ℕ) (v : Value sequence_args) (operations : List ℕ) → BeginsAlike call count v operations
+begins_alike call count v operations viewer q r same =
     let registry = registries q r viewer same in
-    (ap (λ x. begin_in x call count v) registry, ap (λ x. begun_in x call count v) registry, ap (λ x. results_at x (session_of (sequence_session v)) (sequence_slot v)) registry)
+    let lasting = lastings q r viewer same in (
+      λ i. begin_in (record q { registry = registry i; lasting = lasting i }) call count v operations,
+      λ i. begun_in (record q { registry = registry i; lasting = lasting i }) call count v operations,
+      ap (λ x. results_at x (session_of (sequence_session v)) (sequence_slot v)) registry,
+    )

@@ -47,8 +47,8 @@ by_begin : (P : Realm → Type 0) → Keeps P → (b : Begin) (call : Call) (tag
     → RunsBy b call tag count v operations old bytes new → P new.realm
 by_begin P keeps (begins.New granted) call tag count v operations old bytes new hold (end, (results, runs, same), is, few) =
     let c = context_behind old call tag count v granted in
-    let begun = start (in_registry (begun_in old.realm.registry call count v) old) in
-    let held = runs_keep P keeps c (c.count - c.position) operations begun results end (keeps.registry old.realm (begun_in old.realm.registry call count v) hold) runs in
+    let begun = start (in_registry (begun_in old.realm call count v operations) old) in
+    let held = runs_keep P keeps c (c.count - c.position) operations begun results end (keeps.registry old.realm (begun_in old.realm call count v operations) hold) runs in
     subst (λ (s : State). P s.realm) (sym is) (keeps.registry end.realm (keeping v bytes end.realm.registry) held)
 by_begin P keeps begins.Repeat call tag count v operations old bytes new hold runs = absurd runs
 by_begin P keeps (begins.Refused status) call tag count v operations old bytes new hold runs = absurd runs
@@ -59,7 +59,7 @@ by_beginning : (P : Realm → Type 0) → Keeps P → (b : Beginning) (call : Ca
 by_beginning P keeps (Ends status) call tag count old bytes new hold runs = absurd runs
 by_beginning P keeps (Refuses number status) call tag count old bytes new hold runs = absurd runs
 by_beginning P keeps (Acts op) call tag count old bytes new hold ((outcome, acts, told), rest) = alone_keeps P keeps call.caller op old.realm outcome new.realm hold acts
-by_beginning P keeps (Follows v operations) call tag count old bytes new hold runs = by_begin P keeps (begin_in old.realm.registry call count v) call tag count v operations old bytes new hold runs
+by_beginning P keeps (Follows v operations) call tag count old bytes new hold runs = by_begin P keeps (begin_in old.realm call count v operations) call tag count v operations old bytes new hold runs
 
 by_arguments : (P : Realm → Type 0) → Keeps P → (a : Option (Value args_form × List ℕ)) (call : Call) (old : State) (reply : Reply) (new : State) → P old.realm → RunsOf call a old reply new → P new.realm
 by_arguments P keeps None call old reply new hold runs = absurd runs

@@ -11,6 +11,7 @@ pub mod KeptByRuns
 pub mod KeptInSessions
 pub mod KeepingOpens
 pub mod ChangingBySteps
+pub mod KeepingLasting
 pub mod Alike
 pub mod Disclosing
 pub mod RowsStand

@@ -1,28 +1,30 @@
 -- The open files where the world changes.
 use Rattle.std.proofs.Common.{◌≡◌, ◌≢◌, ℕ, ◌<◌, ◌≤◌, Bool, true, false, not, cond, ◌||◌, List, inl, inr, refl, sym, ap, ◌∙◌, subst, length, arith}
-use Rattle.std.specs.Prelude.{[], ◌∷◌, ◌++◌, ◌==◌, Option, Some, None, IsSome, is_some, filter, find, nat_eq, if◌then◌else◌}
-use Rattle.std.specs.List.{AllByRecursion}
+use Rattle.std.specs.Prelude.{[], ◌∷◌, ◌++◌, ◌==◌, Option, Some, None, IsSome, is_some, filter, find, nat_eq, nat_lt, nat_le, ◌&&◌, if◌then◌else◌}
+use Rattle.std.specs.List.{AllByRecursion, list_all}
 use Rattle.std.specs.Option.{option_map, option_map_or}
 use Rattle.std.specs.Ordering.{nat_cmp}
 use Rattle.std.specs.Map.{lookup}
 use Rattle.std.specs.BTreeMap.{is_at, insert_entry}
 use Rattle.std.specs.Cmp.Lexicographic.{pointwise}
-use Rattle.std.proofs.lemmas.Bool.Decides.{Decides-eqb}
-use Rattle.acl_list.specs.declared.entry.Kind.TheVariants.{File}
+use Rattle.std.proofs.lemmas.Bool.Decides.{Decides-eqb, nat_tests}
+use Rattle.acl_list.specs.declared.entry.Kind.{Kind}
+use Rattle.acl_list.specs.declared.entry.Kind.TheVariants.{File, Directory, Link}
 use Rattle.who_book.specs.Content.{Content}
-use Rattle.session_slots.specs.declared.restoring.NextNumbers.{NextNumbers}
 use Rattle.session_slots.specs.Registry.{Registry}
 use Rattle.session_slots.proofs.Members.{length_filter}
 use Rattle.node_tree.specs.declared.at.At.{At}
 use Rattle.node_tree.specs.World.{World, Object, Name, object, kind_of, has_name, is_named, child_named, names_in, is_one}
 use Rattle.node_tree.specs.Changes.{changed, touched, retold, without_name, unlinked, other_names, with_new, with_link, with_move}
 use Rattle.node_tree.specs.Sound.{IsIn, IsSound}
+use Rattle.node_tree.specs.Steps.{is_file, is_file_at}
 use Rattle.node_tree.proofs.Objects.{is_at-same, is_at-apart, by_number, lookup-inserted, option_map-changed}
 use Rattle.node_tree.proofs.Rising.{number-below}
 use Rattle.node_tree.proofs.Unlinking.{after, after_elsewhere, after_was, after_stays, read_released}
 use Rattle.compound_run.specs.Realm.{Realm, Opened, unopened, opens_left, with_loss}
 use Rattle.compound_run.specs.Sessions.{with_registry}
 use Rattle.compound_run.specs.State.{restored}
+use Rattle.compound_run.specs.Known.{Known, is_next, open_fits, opens_fit, rise_above}
 use Rattle.compound_laws.specs.LiveOpens.{IsKept, OpensHold}
 
 -- ---- facts of each element of a list
@@ -338,5 +340,35 @@ kept_sound w sound = record {
 pub hold_unopened : (w : World) → IsSound w → OpensHold (unopened w)
 hold_unopened w sound = record { live = tt; few = omega arith; kept = kept_sound w sound }
 
-pub hold_restored : (w : World) (next : NextNumbers) (book : Content) (capacity : ℕ) → IsSound w → OpensHold (restored w next book capacity).realm
-hold_restored w next book capacity sound = record { live = tt; few = omega arith; kept = kept_sound w sound }
+-- ---- after a restart
+
+both : (a b : Bool) → a && b ≡ true → (a ≡ true) × (b ≡ true)
+both true true is = (refl, refl)
+both true false is = cc
+both false b is = cc
+
+file_there : (kind : Option Kind) → option_map_or is_file kind false ≡ true → kind ≡ Some File
+file_there None is = cc
+file_there (Some File) is = refl
+file_there (Some Directory) is = cc
+file_there (Some Link) is = cc
+
+-- open files that may stand are of files that are there
+live_fit : (w : World) (registry : Registry) (next : ℕ) (opens : List Opened) → list_all (open_fits w registry next) opens ≡ true → AllByRecursion (LiveIn w) opens
+live_fit w registry next [] fit = tt
+live_fit w registry next (o ∷ opens) fit =
+    let first = both (open_fits w registry next o) (list_all (open_fits w registry next) opens) fit in
+    let numbered = both (nat_lt o.number next) _ first.0 in
+    let there = both (is_file_at w o.object) _ numbered.1 in
+    (file_there (kind_of w o.object) there.0, live_fit w registry next opens first.1)
+
+few_fit : (n : ℕ) → nat_le n 4096 ≡ true → n ≤ 4096
+few_fit n is = grind (arith, nat_tests, is)
+
+pub hold_restored : (w : World) (k : Known) (book : Content) (capacity : ℕ) → IsSound w → opens_fit w k ≡ true
+    → OpensHold (restored w k book capacity).realm
+hold_restored w k book capacity sound fit =
+    let all = both (is_next k.next_open) _ fit in
+    let few = both (nat_le (length k.opens) 4096) _ all.1 in
+    let rising = both (rise_above 0 k.opens) _ few.1 in
+    record { live = live_fit w k.registry k.next_open k.opens rising.1; few = few_fit (length k.opens) few.0; kept = kept_sound w sound }

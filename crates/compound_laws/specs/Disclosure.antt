@@ -35,9 +35,9 @@ DisclosesNothingAlone caller op =
     → ActsAlone caller op r outcome (record r { registry = new.registry; opens = new.opens })
 
 -- SEQUENCE has equal answers and equal kept results, and begins the call alike
-abbrev pub BeginsAlike : Call → ℕ → Value sequence_args → Type 0
-BeginsAlike call count v =
+abbrev pub BeginsAlike : Call → ℕ → Value sequence_args → List ℕ → Type 0
+BeginsAlike call count v operations =
     (viewer : Identity) (q r : Realm) → view q viewer ≡ view r viewer
-    → (begin_in q.registry call count v ≡ begin_in r.registry call count v)
-    × (begun_in q.registry call count v ≡ begun_in r.registry call count v)
+    → (begin_in q call count v operations ≡ begin_in r call count v operations)
+    × (begun_in q call count v operations ≡ begun_in r call count v operations)
     × (results_at q.registry (session_of (sequence_session v)) (sequence_slot v) ≡ results_at r.registry (session_of (sequence_session v)) (sequence_slot v))

@@ -21,7 +21,8 @@ pub fn operations_disclose_nothing()
 /// 18.37 and 18.50), nor SEQUENCE and the results that a slot keeps (`sequence`; section 18.46), in realms that look alike to anyone.
 pub fn sessions_disclose_nothing()
     ensures alone { (caller : Identity) (op : Operation) → DisclosesNothingAlone caller op }
-    ensures sequence { (call : Call) (count : ℕ) (v : Value sequence_args) → BeginsAlike call count v }
+    ensures sequence { (call : Call) (count : ℕ) (v : Value sequence_args) (operations : List ℕ) →
+        BeginsAlike call count v operations }
 {}
 
 /// The law refuses a LOOKUP that says whether a name is there before EXECUTE is asked (`telling_lookup`): it is false of it,

@@ -5,6 +5,7 @@
 
 mod disclosure;
 mod exactness;
+mod lasting;
 mod noted;
 mod opens;
 mod repeats;
@@ -16,6 +17,7 @@ pub use exactness::{
     access_is_exact, each_row_is_asked, ok_is_exact, ok_is_granted, others_never_delay,
     readdir_gives_exactly, readdir_is_refused_exactly, refused_is_access, rows_decide,
 };
+pub use lasting::{calls_leave_lasting, operations_leave_lasting};
 pub use noted::{
     calls_are_noted, calls_change_by_steps, operations_are_noted, operations_change_by_steps,
 };

@@ -1,14 +1,14 @@
 //! The open files in every state that a server comes to (RFC 8881, section 9.1).
-ghost use Rattle.std.specs.Prelude.{◌≡◌, ℕ, List, Option, Ok};
+ghost use Rattle.std.specs.Prelude.{◌≡◌, ℕ, true, List, Option, Ok};
 ghost use Rattle.who_book.specs.Content.{Content};
 ghost use Rattle.nfs_ops.specs.Operations.{Operation};
 ghost use Rattle.nfs_ops.specs.Results.{Outcome};
 ghost use Rattle.node_tree.specs.Notes.{Notes};
 ghost use Rattle.node_tree.specs.World.{World};
 ghost use Rattle.node_tree.specs.Sound.{IsSound};
-ghost use Rattle.session_slots.specs.declared.restoring.NextNumbers.{NextNumbers};
 ghost use Rattle.compound_run.specs.Realm.{Realm, unopened};
 ghost use Rattle.compound_run.specs.Context.{Context, Handles};
+ghost use Rattle.compound_run.specs.Known.{Known, opens_fit};
 ghost use Rattle.compound_run.specs.Operations.{meaning};
 ghost use Rattle.compound_run.specs.Runs.{outcome};
 ghost use Rattle.compound_run.specs.State.{State, Call, Answers, restored, with_notes, without_client};
@@ -16,12 +16,12 @@ ghost use Rattle.compound_run.specs.InSession.{Reply, AnswersInSession};
 ghost use Rattle.compound_laws.specs.LiveOpens.{OpensHold};
 ghost use Rattle.compound_laws.specs.Events.{loaded};
 
-/// A server that has run nothing has no opens: the law of open files holds, in a new world (`fresh`) and in one of
-/// before a restart (`restarted`).
+/// The law of open files holds as a server begins: in a new world, in which there are none (`fresh`), and after a restart
+/// with open files that may stand in their world (`restarted`).
 pub fn opens_hold_at_first()
     ensures fresh { (w : World) → IsSound w → OpensHold (unopened w) }
-    ensures restarted { (w : World) (next : NextNumbers) (book : Content) (capacity : ℕ) →
-        IsSound w → OpensHold (restored w next book capacity).realm }
+    ensures restarted { (w : World) (k : Known) (book : Content) (capacity : ℕ) →
+        IsSound w → opens_fit w k ≡ true → OpensHold (restored w k book capacity).realm }
 {}
 
 /// Each operation that is OK keeps the law: each open is of a file that is there, and there are at most 4,096 of them.

@@ -1,6 +1,6 @@
 -- A tree refuses a change for the reasons that are checked before it.
-use Rattle.std.proofs.Common.{◌≡◌, ℕ, ◌<◌, Bool, true, false, refl, subst, List}
-use Rattle.std.specs.Prelude.{Option, Some, None, Result, Err, MatchOption, IsOkUnless, not, if◌then◌else◌}
+use Rattle.std.proofs.Common.{◌≡◌, ℕ, ◌<◌, Bool, true, refl, subst, List}
+use Rattle.std.specs.Prelude.{Option, Some, None, Result, Err, MatchOption, IsOkUnless, if◌then◌else◌}
 use Rattle.std.proofs.lemmas.Bool.{lt-ltb}
 use Rattle.node_tree.specs.declared.at.At.{At}
 use Rattle.node_tree.specs.declared.fault.TreeFault.{TreeFault}

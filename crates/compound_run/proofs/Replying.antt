@@ -47,14 +47,14 @@ begins_so e registry settled = λ i. record {
 }
 
 on_slot : {A : Type 0} (call : Coming) (v : Value sequence_args) (operations : List ℕ) (new : NewCall) (e begun f : realms.Realm A) (bytes : List ℕ) → e.tree.log.held ≡ []
-    → begun ≡ record e { clients = begun_in e.clients (call_of call) call.compound.count v } → length bytes ≤ new.reply_size - 24
+    → begun ≡ record e { clients = begun_in (realm_of e) (call_of call) call.compound.count v operations } → length bytes ≤ new.reply_size - 24
     → SequencedKept (coming_behind e.tree.book call v new) call.compound.tag.now v (sequence_done v new.highest_slot) operations begun bytes f
     → RunsOnSlot (state_of e) (call_of call) call.compound.tag.now call.compound.count v operations new bytes (state_of f)
 on_slot call v operations new e begun f bytes settled is few kept =
     let context = coming_behind e.tree.book call v new in
     let tag = call.compound.tag.now in
     let done = sequence_done v new.highest_slot in
-    let registry = begun_in e.clients (call_of call) call.compound.count v in
+    let registry = begun_in (realm_of e) (call_of call) call.compound.count v operations in
     let end = point_at kept.0 kept.1.0 in
     let from : point_at begun no_handles ≡ start (in_registry registry (state_of e)) = ap (λ x. point_at x no_handles) is ∙ begins_so e registry settled in (
       end,
@@ -64,7 +64,7 @@ on_slot call v operations new e begun f bytes settled is few kept =
     )
 
 pub answers_new : {A : Type 0} (call : Coming) (v : Value sequence_args) (operations : List ℕ) (new : NewCall) (b : Begin) (e begun f : realms.Realm A) (before after : Buffer) → e.tree.log.held ≡ []
-    → begins.New new ≡ b → begun ≡ record e { clients = begun_in e.clients (call_of call) call.compound.count v } → new.reply_size ≤ 65536
+    → begins.New new ≡ b → begun ≡ record e { clients = begun_in (realm_of e) (call_of call) call.compound.count v operations } → new.reply_size ≤ 65536
     → WritesWithin (new.reply_size - 24) (λ bytes. SequencedKept (coming_behind e.tree.book call v new) call.compound.tag.now v (sequence_done v new.highest_slot) operations begun bytes f) before after
     → WritesWithin MAX_RESULTS (λ bytes. AnswersAs (fate_by call.compound.tag.now v e.clients b) (RunsBy b (call_of call) call.compound.tag.now call.compound.count v operations (state_of e)) (state_of e) bytes (state_of f)) before after
 answers_new {A} call v operations new b e begun f before after settled told is most w =
@@ -113,7 +113,7 @@ created_alone : {A : Type 0} (o : Option (Result Created Status)) (call : Call) 
 created_alone None call v tag e f bytes is others acts = (acts, of_clients e f others)
 created_alone (Some kept) call v tag e f bytes is others acts =
     let a = acts.1 in
-    let same = again_for (client_at e.clients v.0) kept e.clients (create_of call.caller v) a.made f.clients is a.creates in
+    let same = again_for (client_at e.clients v.0) kept e.clients (create_of e.lasting call.caller v) a.made f.clients is a.creates in
     let told = a.told ∙ ap (λ (m : Made). told_by session_made m.result) same.0 in
     let realm = a.others ∙ λ i. record (realm_of e) { registry = same.1 i; opens = opens_without (same.0 i).gone (realm_of e).opens } in (
       ap Some (acts.2 ∙ ap (given_alone tag (row kinds.CreateSession).number) told),

@@ -1,5 +1,5 @@
 -- CREATE_SESSION (RFC 8881, section 18.36): a client gets a session, and its record is confirmed.
-use Rattle.std.specs.Prelude.{◌≡◌, ℕ, false, not, ◌==◌, bit_and, if◌then◌else◌, [], Option, Some, None, Result}
+use Rattle.std.specs.Prelude.{◌≡◌, ℕ, Bool, not, ◌==◌, bit_and, if◌then◌else◌, [], Option, Some, None, Result}
 use Rattle.xdr_wire.specs.Xdr.{Value}
 use Rattle.rpc_record.specs.Identity.{Identity}
 use Rattle.nfs_types.specs.declared.status.Status.{Status}
@@ -31,14 +31,14 @@ channel_of c = record {
 abbrev pub PERSIST : ℕ
 PERSIST = 1
 
--- no session is kept over a restart
-abbrev pub create_of : Identity → Value create_session_args → Create
-create_of caller v = record {
+-- what is asked of a server whose sessions outlive a restart, or don't
+abbrev pub create_of : Bool → Identity → Value create_session_args → Create
+create_of lasting caller v = record {
   client = session_client v;
   sequence = session_sequence v;
   uid = caller.uid;
   persist = not (bit_and (session_flags v) PERSIST == 0);
-  lasting = false;
+  lasting = lasting;
   fore = channel_of (fore_channel v);
   back = channel_of (back_channel v);
 }
@@ -61,6 +61,6 @@ created_before v r = kept_for (session_sequence v) (client_at r.registry (sessio
 -- The opens of a client whose record goes are closed.
 pub record CreatesSession (caller : Identity) (v : Value create_session_args) (old : Realm) (outcome : Result Outcome Status) (new : Realm) : Type 0 where
   pub made : Made
-  pub creates : Creates old.registry (create_of caller v) made new.registry
+  pub creates : Creates old.registry (create_of old.lasting caller v) made new.registry
   pub told : outcome ≡ told_by session_made made.result
   pub others : new ≡ record old { registry = new.registry; opens = opens_without made.gone old.opens }

@@ -1,5 +1,5 @@
 -- A call where sessions are in use: it is refused, repeated or run (RFC 8881, sections 2.10.6 and 16.2).
-use Rattle.std.specs.Prelude.{◌≡◌, ◌≤◌, ℕ, ◌-◌, List, [], ◌∷◌, length, Option, Some, None, Result, Err}
+use Rattle.std.specs.Prelude.{◌≡◌, ◌≤◌, ℕ, Bool, ◌-◌, List, [], ◌∷◌, length, Option, Some, None, Result, Err}
 use Rattle.xdr_wire.specs.Reading.{read_at}
 use Rattle.xdr_wire.specs.Xdr.{Value}
 use Rattle.rpc_record.specs.Identity.{Identity}
@@ -31,7 +31,7 @@ use Rattle.compound_run.specs.ExchangeId.{ExchangesId}
 use Rattle.compound_run.specs.CreateSession.{CreatesSession, created_before, session_made}
 use Rattle.compound_run.specs.DestroySession.{DestroysSession}
 use Rattle.compound_run.specs.DestroyClientid.{DestroysClient}
-use Rattle.compound_run.specs.Sequence.{asked_by, calling_by, room_behind, sequence_done, keeping}
+use Rattle.compound_run.specs.Sequence.{asked_by, calling_by, compared, room_behind, sequence_done, keeping}
 
 -- the bytes of a reply; none: the arguments are garbage
 abbrev pub Reply : Type 0
@@ -68,15 +68,16 @@ RunsTo c tag given operations old bytes new =
 abbrev pub in_registry : Registry → State → State
 in_registry registry s = record s { realm = with_registry registry s.realm }
 
--- the arguments of this SEQUENCE, with so many operations
-abbrev pub asked_in : Call → ℕ → Value sequence_args → Asked
-asked_in call count v = asked_by v count call.record_len call.caller call.arguments
+-- the arguments of this SEQUENCE, of a call of this many operations, with the bytes of those after it
+abbrev pub asked_in : Bool → Call → ℕ → Value sequence_args → List ℕ → Asked
+asked_in lasting call count v operations =
+    asked_by v count call.record_len call.caller (compared lasting call.arguments (length operations))
 
-abbrev pub begin_in : Registry → Call → ℕ → Value sequence_args → Begin
-begin_in r call count v = sequence_begin r (session_of (sequence_session v)) (asked_in call count v)
+abbrev pub begin_in : Realm → Call → ℕ → Value sequence_args → List ℕ → Begin
+begin_in r call count v operations = sequence_begin r.registry (session_of (sequence_session v)) (asked_in r.lasting call count v operations)
 
-abbrev pub begun_in : Registry → Call → ℕ → Value sequence_args → Registry
-begun_in r call count v = sequence_begun r (session_of (sequence_session v)) (asked_in call count v)
+abbrev pub begun_in : Realm → Call → ℕ → Value sequence_args → List ℕ → Registry
+begun_in r call count v operations = sequence_begun r.registry (session_of (sequence_session v)) (asked_in r.lasting call count v operations)
 
 -- the context of the first operation behind SEQUENCE
 abbrev pub context_behind : State → Call → List ℕ → ℕ → Value sequence_args → NewCall → Context
@@ -95,7 +96,7 @@ context_behind s call tag count v new = record {
 abbrev pub RunsOnSlot : State → Call → List ℕ → ℕ → Value sequence_args → List ℕ → NewCall → List ℕ → State → Type 0
 RunsOnSlot old call tag count v operations granted bytes new =
     (end : Point)
-    × RunsTo (context_behind old call tag count v granted) tag (sequence_done v granted.highest_slot) operations (start (in_registry (begun_in old.realm.registry call count v) old)) bytes end
+    × RunsTo (context_behind old call tag count v granted) tag (sequence_done v granted.highest_slot) operations (start (in_registry (begun_in old.realm call count v operations) old)) bytes end
     × (new ≡ in_registry (keeping v bytes end.realm.registry) (left old end))
     × (length bytes ≤ granted.reply_size - REPLY_HEADER)
 
@@ -121,7 +122,7 @@ abbrev pub fate_begun : State → Call → List ℕ → ℕ → Beginning → Fa
 fate_begun s call tag count (Ends status) = Fails (Some (head status tag 0))
 fate_begun s call tag count (Refuses number status) = Fails (Some (refused_alone tag number status))
 fate_begun s call tag count (Acts op) = fate_alone tag op s.realm
-fate_begun s call tag count (Follows v rest) = fate_by tag v s.realm.registry (begin_in s.realm.registry call count v)
+fate_begun s call tag count (Follows v operations) = fate_by tag v s.realm.registry (begin_in s.realm call count v operations)
 
 abbrev pub fate_of : State → Call → Option (Value args_form × List ℕ) → Fate Reply
 fate_of s call None = Fails None
@@ -144,7 +145,7 @@ abbrev pub RunsBegun : Call → List ℕ → ℕ → Beginning → State → Lis
 RunsBegun call tag count (Ends status) old bytes new = ⊥
 RunsBegun call tag count (Refuses number status) old bytes new = ⊥
 RunsBegun call tag count (Acts op) old bytes new = RunsAlone call tag op old bytes new
-RunsBegun call tag count (Follows v operations) old bytes new = RunsBy (begin_in old.realm.registry call count v) call tag count v operations old bytes new
+RunsBegun call tag count (Follows v operations) old bytes new = RunsBy (begin_in old.realm call count v operations) call tag count v operations old bytes new
 
 abbrev pub RunsOf : Call → Option (Value args_form × List ℕ) → State → Reply → State → Type 0
 RunsOf call None old reply new = ⊥

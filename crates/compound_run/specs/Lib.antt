@@ -35,6 +35,7 @@ pub mod Open
 pub mod Verify
 pub mod Write
 pub mod Sessions
+pub mod Known
 pub mod ReclaimComplete
 pub mod Operations
 pub mod Runs

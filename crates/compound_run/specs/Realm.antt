@@ -1,5 +1,5 @@
 -- The state on which the operations of a COMPOUND act.
-use Rattle.std.specs.Prelude.{ℕ, ◌==◌, not, if◌then◌else◌, List, [], filter, is_some, Option, Some, None}
+use Rattle.std.specs.Prelude.{ℕ, Bool, false, ◌==◌, not, if◌then◌else◌, List, [], filter, is_some, Option, Some, None}
 use Rattle.node_tree.specs.World.{World, kind_of}
 use Rattle.session_slots.specs.Registry.{Registry, nobody}
 
@@ -24,10 +24,12 @@ pub record Realm : Type 0 where
   pub next_open : ℕ
   -- the clients and their sessions
   pub registry : Registry
+  -- sessions outlive a restart of this server (RFC 8881, section 2.10.6.5)
+  pub lasting : Bool
 
--- a world in which no file was ever open, and no client ever known
+-- a world in which no file was ever open, and no client ever known, and nothing outlives a restart
 abbrev pub unopened : World → Realm
-unopened w = record { world = w; opens = []; next_open = 1; registry = nobody }
+unopened w = record { world = w; opens = []; next_open = 1; registry = nobody; lasting = false }
 
 -- ---- opens end with their object
 

@@ -1,5 +1,5 @@
 -- SEQUENCE (RFC 8881, section 18.46): a request of a session begins.
-use Rattle.std.specs.Prelude.{ℕ, ◌-◌, List, length, Ok}
+use Rattle.std.specs.Prelude.{ℕ, ◌-◌, Bool, true, false, List, ◌++◌, length, take, drop, Ok}
 use Rattle.std.proofs.Common.{inl}
 use Rattle.xdr_wire.specs.Xdr.{Value}
 use Rattle.rpc_record.specs.Identity.{Identity}
@@ -17,7 +17,7 @@ use Rattle.compound_run.specs.Runs.{Given, result_bytes}
 use Rattle.compound_run.specs.Compound.{first_room}
 use Rattle.compound_run.specs.Sessions.{session_of}
 
--- the request on a slot: of so many operations, in a record of so many bytes
+-- the request on a slot: this many operations, in a record of this many bytes, and what its repeat has to have
 abbrev pub asked_by : Value sequence_args → ℕ → ℕ → Identity → List ℕ → Asked
 asked_by v count record_len caller arguments = record {
   slot = sequence_slot v;
@@ -26,6 +26,13 @@ asked_by v count record_len caller arguments = record {
   record_len = record_len;
   call = record { number = sequence_number v; caller = caller; arguments = arguments };
 }
+
+-- The bytes that a repeat of a call has to have, of those after its header: all. Where sessions outlive a restart they are all
+-- but sa_highest_slotid, since a client may send a call again with another one (RFC 8881, section 18.46.3). It stands before
+-- sa_cachethis and the bytes of the operations after SEQUENCE, which are this many.
+abbrev pub compared : Bool → List ℕ → ℕ → List ℕ
+compared false arguments behind = arguments
+compared true arguments behind = take (length arguments - behind - 8) arguments ++ drop (length arguments - behind - 4) arguments
 
 -- The highest slot and the target highest slot are the same. No flag is ever set.
 abbrev pub sequence_given : Value sequence_args → ℕ → Value sequence_result

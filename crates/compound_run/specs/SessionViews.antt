@@ -129,7 +129,7 @@ AnswersAs (Fails refusal) run old bytes new = (Some bytes ≡ refusal) × (new �
 -- a COMPOUND that begins with this SEQUENCE
 abbrev pub AnswersSequence : Coming → Value sequence_args → List ℕ → State → List ℕ → State → Type 0
 AnswersSequence c v operations old bytes new =
-    let begin = begin_in old.realm.registry (call_of c) c.compound.count v in
+    let begin = begin_in old.realm (call_of c) c.compound.count v operations in
     AnswersAs (fate_by c.compound.tag.now v old.realm.registry begin) (RunsBy begin (call_of c) c.compound.tag.now c.compound.count v operations old) old bytes new
 
 -- any COMPOUND

@@ -39,10 +39,11 @@ pub record Sight : Type 0 where
   pub next_tick : ℕ
   pub next_stamp : ℕ
   pub next_cookie : ℕ
-  -- the open files, and the clients with their sessions
+  -- the open files, the clients with their sessions, and whether these outlive a restart
   pub opens : List Opened
   pub next_open : ℕ
   pub registry : Registry
+  pub lasting : Bool
   -- the bytes of a file, or the text of a link
   pub bytes : ℕ → List ℕ
   -- the names of a directory, by rising cookie
@@ -74,6 +75,7 @@ sight gives r = let w = r.world in record {
   opens = r.opens;
   next_open = r.next_open;
   registry = r.registry;
+  lasting = r.lasting;
   bytes = λ number. if gives number READ_DATA then bytes_of w number else [];
   names = λ number. if gives number EXECUTE || gives number LIST_DIRECTORY then names_in w.names number else [];
   details = λ number. if gives number READ_ATTRIBUTES then option_map details_of (object w number) else None;

@@ -1,5 +1,5 @@
 -- The state that a server keeps from one COMPOUND to the next, and its change by a COMPOUND.
-use Rattle.std.specs.Prelude.{◌≡◌, ◌≤◌, ℕ, List, [], length, Option, Some, None}
+use Rattle.std.specs.Prelude.{◌≡◌, ◌≤◌, ℕ, true, List, [], length, Option, Some, None}
 use Rattle.xdr_wire.specs.Buffer.{Buffer, Appends}
 use Rattle.xdr_wire.specs.Reading.{read_at}
 use Rattle.xdr_wire.specs.Xdr.{Value}
@@ -8,15 +8,15 @@ use Rattle.who_book.specs.Content.{Content}
 use Rattle.who_book.specs.Members.{member}
 use Rattle.nfs_types.specs.declared.moment.Moment.{Moment}
 use Rattle.nfs_types.specs.declared.status.Status.{Status}
-use Rattle.node_tree.specs.Notes.{Notes, no_notes}
+use Rattle.node_tree.specs.Notes.{Notes}
 use Rattle.node_tree.specs.World.{World}
 use Rattle.session_slots.specs.Letting.{let_go}
-use Rattle.session_slots.specs.Restoring.{nothing_yet}
 use Rattle.session_slots.specs.declared.restoring.NextNumbers.{NextNumbers}
 use Rattle.access_guard.specs.declared.line.Line.{Line}
 use Rattle.compound_run.specs.declared.server.RunEnd.{RunEnd}
 use Rattle.compound_run.specs.declared.server.RunEnd.TheVariants.{Replied, Garbage}
 use Rattle.compound_run.specs.Limits.{MAX_OPERATIONS, MAX_REPLY, MAX_RESULTS}
+use Rattle.compound_run.specs.Known.{Known}
 use Rattle.compound_run.specs.Realm.{Realm, unopened}
 use Rattle.compound_run.specs.Context.{Context, no_handles}
 use Rattle.compound_run.specs.Sessions.{opens_without}
@@ -36,15 +36,19 @@ pub record State : Type 0 where
 abbrev pub fresh : World → Content → ℕ → State
 fresh w book capacity = record { realm = unopened w; trail = []; total = 0; settings = first_settings capacity book }
 
--- A server that goes on over a world of before a restart: no client, no session and no open file of then is known, and none of their numbers
--- is given again.
-abbrev pub restored : World → NextNumbers → Content → ℕ → State
-restored w next book capacity = record {
-  realm = record { world = w; opens = []; next_open = next.open_file; registry = nothing_yet next.client next.session };
+-- A server that goes on after a restart over what was kept: this world, and what was known of clients. Its sessions outlive
+-- the next restart too (RFC 8881, section 2.10.6.5).
+abbrev pub restored : World → Known → Content → ℕ → State
+restored w k book capacity = record {
+  realm = record { world = w; opens = k.opens; next_open = k.next_open; registry = k.registry; lasting = true };
   trail = [];
   total = 0;
   settings = first_settings capacity book;
 }
+
+-- what a server knows of its clients
+abbrev pub known_of : State → Known
+known_of s = record { registry = s.realm.registry; opens = s.realm.opens; next_open = s.realm.next_open }
 
 -- the numbers that the next client, session and open file get
 abbrev pub next_numbers : State → NextNumbers
@@ -53,10 +57,6 @@ next_numbers s = record { client = s.realm.registry.next_client; session = s.rea
 -- these are the notes of the world's changes from now on
 abbrev pub with_notes : Notes → State → State
 with_notes notes s = record s { realm = record s.realm { world = record s.realm.world { notes = notes } } }
-
--- What outlives a restart: the world, but for the notes of its changes, and the next numbers.
-abbrev pub kept_of : State → World × NextNumbers
-kept_of s = (record s.realm.world { notes = no_notes }, next_numbers s)
 
 -- the beginning of a COMPOUND: no line is held, and there is no filehandle
 abbrev pub start : State → Point

@@ -1,5 +1,5 @@
 -- The values of the code, as the definitions see them.
-use Rattle.std.specs.Prelude.{◌≡◌, ◌≢◌, ◌≤◌, ℕ, ◌+◌, Bool, true, false, List, length, map, Option, Some, Result, Ok, Err, OnOk, OnErr}
+use Rattle.std.specs.Prelude.{◌≡◌, ◌≢◌, ◌≤◌, ℕ, ◌+◌, Bool, true, false, List, length, map, Result, Ok, Err, OnOk, OnErr}
 use Rattle.xdr_wire.specs.Buffer.{Buffer, Appends}
 use Rattle.xdr_wire.specs.Xdr.{Value}
 use Rattle.rpc_record.specs.Identity.{Identity}
@@ -20,11 +20,13 @@ use Rattle.compound_run.specs.declared.context.Context as code
 use Rattle.compound_run.specs.declared.create.Draft as drafts
 use Rattle.compound_run.specs.declared.realm.Realm as realms
 use Rattle.compound_run.specs.declared.filehandles.FileHandles.{FileHandles}
+use Rattle.compound_run.specs.declared.known.Lent.{Lent}
 use Rattle.compound_run.specs.declared.opens.Open.{Open}
 use Rattle.compound_run.specs.declared.server.Args.{Args}
 use Rattle.compound_run.specs.declared.step.Step as steps
 use Rattle.access_guard.specs.declared.line.Line.{Line}
 use Rattle.access_guard.specs.Log.{Log, held}
+use Rattle.compound_run.specs.Known.{Known}
 use Rattle.compound_run.specs.Limits.{MIN_ROOM, REFUSAL_ROOM}
 use Rattle.compound_run.specs.Realm.{Realm, Opened}
 use Rattle.compound_run.specs.Context.{Context}
@@ -44,9 +46,13 @@ open_view o = record { number = o.number; client = o.client; owner = o.owner.ite
 abbrev pub opens_view : {A : Type 0} → List (Open A) → List Opened
 opens_view opens = map open_view opens
 
+-- what is known of clients, lent
+abbrev pub lent_view : {A : Type 0} → Lent A → Known
+lent_view l = record { registry = l.clients.now; opens = opens_view l.opens.now; next_open = l.next_open }
+
 -- the realm that is served
 abbrev pub realm_of : {A : Type 0} → realms.Realm A → Realm
-realm_of e = record { world = e.tree.world; opens = opens_view e.opens.items; next_open = e.next_open; registry = e.clients }
+realm_of e = record { world = e.tree.world; opens = opens_view e.opens.items; next_open = e.next_open; registry = e.clients; lasting = e.lasting }
 
 -- the settings of a server
 abbrev pub settings_in : Guarded → Settings

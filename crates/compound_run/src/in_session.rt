@@ -4,8 +4,10 @@ ghost use Rattle.nfs_ops.specs.Views.{sequence_args_value};
 ghost use Rattle.session_slots.specs.declared.session.Begin.TheVariants as begins;
 ghost use Rattle.session_slots.specs.Registry.{kept_size, session_at};
 ghost use Rattle.session_slots.specs.Sequencing.{StandsIn};
+ghost use Rattle.session_slots.specs.Views.{bytes_of};
 ghost use Rattle.compound_run.specs.Views.{state_of};
 ghost use Rattle.compound_run.specs.Limits as limits;
+ghost use Rattle.compound_run.specs.Sequence as specs;
 ghost use Rattle.compound_run.specs.Sequence.{keeping, sequence_done};
 ghost use Rattle.compound_run.specs.Sessions.{session_of};
 ghost use Rattle.compound_run.specs.SessionViews.{AnswersComing, AnswersSequence, SequencedKept, WritesWithin, coming_behind, sequence_told};
@@ -20,7 +22,7 @@ use crate::sessions::{second, session_of};
 use nfs_ops::{OP_SEQUENCE, SequenceArgs, SequenceResult};
 use nfs_types::Moment;
 use rpc_record::Caller;
-use session_slots::{Begin, NewCall, REPLY_HEADER, Sequence};
+use session_slots::{Begin, CallBytes, NewCall, REPLY_HEADER, Sequence};
 use std::alloc::Allocator;
 use xdr_wire::Writer;
 
@@ -44,6 +46,25 @@ fn sequence_given(args: &SequenceArgs, new: NewCall) -> SequenceResult
         slot: args.slot,
         highest: new.highest_slot,
         target: new.highest_slot,
+    }
+}
+
+/// The bytes that a repeat of a call has to have, of those after its header, where the operations after its SEQUENCE have
+/// `behind` bytes: all, or where sessions outlive a restart all but sa_highest_slotid.
+fn compared(lasting: bool, arguments: &[u8], behind: usize) -> CallBytes<'_>
+    ensures bytes { bytes_of result ≡ specs.compared lasting arguments.now behind }
+    ensures short { length (bytes_of result) ≤ length arguments.now }
+{
+    if !lasting {
+        return CallBytes {
+            front: arguments,
+            back: &[],
+        };
+    }
+    let end = arguments.len().saturating_sub(behind);
+    CallBytes {
+        front: &arguments[..end.saturating_sub(8)],
+        back: &arguments[end.saturating_sub(4)..],
     }
 }
 
@@ -121,7 +142,7 @@ impl<A: Allocator + Copy> Realm<A> {
             highest: args.highest,
             count: compound.count,
             record_len: call.args.record_len,
-            arguments: call.args.bytes,
+            arguments: compared(self.lasting, call.args.bytes, operations.len()),
             caller: call.caller,
             now: second(call.now),
         };

@@ -20,6 +20,7 @@ mod first_operation;
 mod getattr;
 mod getfh;
 mod in_session;
+mod known;
 mod limits;
 mod link;
 mod list_parts;
@@ -53,6 +54,7 @@ mod step;
 mod verify;
 mod write;
 
+pub use known::{Known, Lent};
 pub use limits::{MAX_REPLY, MAX_RESULTS};
 pub use opens::Open;
 pub use server::{Args, RunEnd, Server};

@@ -21,5 +21,8 @@ pub(crate) const MIN_ROOM: usize = 256;
 /// The room of each reply for the result of an operation that is refused.
 pub(crate) const REFUSAL_ROOM: usize = 16;
 
+/// The most bytes of an open-owner.
+pub(crate) const MAX_OWNER: usize = 1_024;
+
 /// The bound of all counters: no number, tick, stamp or cookie reaches it.
 pub(crate) const MAX_COUNT: u64 = 1 << 63;

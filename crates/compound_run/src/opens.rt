@@ -18,7 +18,7 @@ use nfs_types::{StateId, Status};
 use std::alloc::{AllocError, Allocator, Global};
 
 /// The most files that may be open at once.
-const MAX_OPENS: usize = 4_096;
+pub(crate) const MAX_OPENS: usize = 4_096;
 
 /// A file that is open (RFC 8881, section 18.16).
 #[derive(Debug, Drop)]

@@ -33,6 +33,8 @@ pub(crate) struct Realm<A: Allocator + Copy = Global> {
     pub next_open: u64,
     /// The clients and their sessions.
     pub clients: Clients<A>,
+    /// Whether sessions outlive a restart of this server.
+    pub lasting: bool,
 }
 
 /// The fault of a name, if any.

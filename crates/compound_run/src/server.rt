@@ -3,10 +3,10 @@ ghost use Rattle.std.specs.Prelude.{◌≡◌, ◌≤◌, [], length, true, fals
 ghost use Rattle.std.specs.NonZero.{non_zero_usize_get};
 ghost use Rattle.node_tree.specs.Notes.{begun_notes, cleared};
 ghost use Rattle.session_slots.specs.Registry.{client_at};
-ghost use Rattle.session_slots.specs.Restoring.{numbers_fit};
 ghost use Rattle.access_guard.specs.Epochs.{next_epoch};
 ghost use Rattle.access_guard.specs.Memory.{Agrees};
 ghost use Rattle.compound_run.specs.InSession.{AnswersInSession};
+ghost use Rattle.compound_run.specs.Known.{opens_fit};
 ghost use Rattle.compound_run.specs.Limits as limits;
 ghost use Rattle.compound_run.specs.State.{fresh, next_numbers, restored, with_book, with_notes, without_client, Answers, RunsBare};
 ghost use Rattle.compound_run.specs.Views.{called, opens_view};
@@ -14,6 +14,7 @@ ghost use Rattle.compound_run.specs.Views.{called, opens_view};
 use crate::compound::CompoundArgs;
 use crate::context::Context;
 use crate::in_session::Coming;
+use crate::known::Known;
 use crate::limits::{MAX_RESULTS, REFUSAL_ROOM};
 use crate::opens::Open;
 use crate::realm::Realm;
@@ -79,8 +80,8 @@ impl<A: Allocator + Copy> Model for Server<A> {
 }
 
 impl<A: Allocator + Copy> Server<A> {
-    /// A server of this tree, which has run nothing yet. It remembers summaries of at most `capacity` pairs of a list and a
-    /// caller, whose keys are hashed by `hasher`. `Err`: there is no memory for it.
+    /// A server of this tree, which has run nothing yet, and whose sessions don't outlive a restart. It remembers summaries of at most
+    /// `capacity` pairs of a list and a caller, whose keys are hashed by `hasher`. `Err`: there is no memory for it.
     pub fn new(
         alloc: A,
         tree: Tree<A>,
@@ -97,38 +98,59 @@ impl<A: Allocator + Copy> Server<A> {
                 opens: Vec::new(alloc),
                 next_open: 1,
                 clients: Clients::new(alloc),
+                lasting: false,
             },
         })
     }
 
-    /// A server over a tree of before a restart. No client, no session and no open file of then is known, and none of their numbers is
-    /// given again. Misfit: the number of the next client or session is above 2^63.
-    pub fn restored(
+    /// A server over a tree and the clients that were kept before a restart, which fit. `Err`: there is no memory for it.
+    fn lasting(
         alloc: A,
         tree: Tree<A>,
-        next: NextNumbers,
+        known: Known<A>,
         book: Book,
         capacity: NonZeroUsize,
         hasher: RandomState,
-    ) -> Result<Self, RestoreFault>
-        ensures fits { OnOk result (numbers_fit next.client next.session ≡ true) }
-        ensures misfit { result ≡ Err RestoreFault.Misfit → numbers_fit next.client next.session ≡ false }
-        ensures memory { result ≡ Err RestoreFault.Memory → numbers_fit next.client next.session ≡ true }
-        ensures ok { IfOk result (λ server. server ≡ restored tree next book (non_zero_usize_get capacity)) }
+    ) -> Result<Self, AllocError>
+        ensures { IfOk result (λ server. server ≡ restored tree known book (non_zero_usize_get capacity)) }
     {
-        let Some(clients) = Clients::restoring(alloc, next.client, next.session) else {
-            return Err(RestoreFault::Misfit);
-        };
         let guarded = GuardedTree::new(alloc, tree, book, capacity, hasher)?;
         Ok(Server {
             realm: Realm {
                 alloc,
                 tree: guarded,
-                opens: Vec::new(alloc),
-                next_open: next.open_file,
-                clients,
+                opens: known.opens,
+                next_open: known.next_open,
+                clients: known.clients,
+                lasting: true,
             },
         })
+    }
+
+    /// A server that goes on after a restart over what was kept: the tree, the clients with their sessions, and the open files
+    /// (RFC 8881, section 2.10.6.5). Its sessions outlive the next restart too: CREATE_SESSION grants
+    /// CREATE_SESSION4_FLAG_PERSIST where it is asked for.
+    ///
+    /// Misfit: an open file can't stand. Its number isn't above those before it, or wasn't given yet; its file isn't there, or its
+    /// client has no record; its owner has more than 1,024 bytes, its access isn't 1, 2 or 3, or its seqid is 0. Or there are more
+    /// than 4,096 of them, or the number of the next one is 0 or above 2^63.
+    pub fn restored(
+        alloc: A,
+        tree: Tree<A>,
+        known: Known<A>,
+        book: Book,
+        capacity: NonZeroUsize,
+        hasher: RandomState,
+    ) -> Result<Self, RestoreFault>
+        ensures fits { OnOk result (opens_fit tree known ≡ true) }
+        ensures misfit { result ≡ Err RestoreFault.Misfit → opens_fit tree known ≡ false }
+        ensures memory { result ≡ Err RestoreFault.Memory → opens_fit tree known ≡ true }
+        ensures ok { IfOk result (λ server. server ≡ restored tree known book (non_zero_usize_get capacity)) }
+    {
+        if !known.fits(&tree) {
+            return Err(RestoreFault::Misfit);
+        }
+        Ok(Server::lasting(alloc, tree, known, book, capacity, hasher)?)
     }
 
     /// Runs a COMPOUND without a session at a moment (RFC 8881, section 16.2): its operations in turn, up to and with the first that
@@ -279,6 +301,13 @@ impl<A: Allocator + Copy> Server<A> {
         ensures agrees { Agrees result.now.memory.remembered self.now.settings.book self.now.settings.epoch self.now.realm.world }
     {
         self.realm.tree.guard()
+    }
+
+    /// The clients with their sessions.
+    pub fn clients(&self) -> &Clients<A>
+        ensures { result.now ≡ self.now.realm.registry }
+    {
+        &self.realm.clients
     }
 
     /// The files that are open, by their numbers.

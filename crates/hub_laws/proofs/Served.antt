@@ -1,5 +1,5 @@
 -- What each call of a server keeps of its realm, each step of the machine keeps.
-use Rattle.std.proofs.Common.{◌≡◌, ◌≢◌, ℕ, Bool, true, false, List, [], ◌∷◌, ◌++◌, length, Option, Some, None, Result, Ok, Err, refl, sym, subst, inl, inr}
+use Rattle.std.proofs.Common.{◌≡◌, ◌≢◌, ℕ, Bool, true, false, List, [], ◌∷◌, ◌++◌, length, Option, Some, None, Result, Ok, Err, refl, sym, ap, subst, inl, inr}
 use Rattle.std.specs.Prelude.{◌⊎◌, MatchOption}
 use Rattle.std.specs.Option.{option_map_or}
 use Rattle.nfs_types.specs.declared.moment.Moment.{Moment}
@@ -14,6 +14,7 @@ use Rattle.compound_run.specs.State.{State as ServerState, Call}
 use Rattle.compound_laws.proofs.KeptByRuns.{Keeps, calls_keep}
 use Rattle.compound_laws.proofs.KeptInSessions.{session_calls_keep, letting_go_keeps}
 use Rattle.compound_laws.proofs.ChangingBySteps.{NotedIn, notes_keep}
+use Rattle.compound_laws.proofs.KeepingLasting.{Lasts, lasting_keeps}
 use Rattle.nfs_hub.specs.Answer.{Served, Fate, Broke, Replied, AnswersAs, CallEnds, Ends, RecordEnds, called, reloaded, letting_go}
 use Rattle.nfs_hub.specs.Machine.{Connected, State, Event, Connect, Piece, Take, Close, Reload, Note, LetGo, Step, Run, AnsweredTo, CameToBreak, RecordBreaks, Stopped, PieceOn, TakeOn, OnConnection, ChangesConnection, fragment}
 use Rattle.hub_laws.specs.Notes.{world_of, notes_go_on}
@@ -98,3 +99,17 @@ module _ (P : Realm → Type 0) (keeps : Keeps P) where
 
 pub steps_noted : (base : World) (event : Event) (old new : State) → notes_go_on event → Noted base (world_of old) → Step event old new → Noted base (world_of new)
 steps_noted base = step_in (NotedIn base) (notes_keep base)
+
+-- ---- whether sessions outlive a restart
+
+goes_on_last : (event : Event) (old new : State) → notes_go_on event → Step event old new → new.served.state.realm.lasting ≡ old.served.state.realm.lasting
+goes_on_last event old new on step = let lasting = old.served.state.realm.lasting in step_in (Lasts lasting) (lasting_keeps lasting) event old new on refl step
+
+pub steps_last : (event : Event) (old new : State) → Step event old new → new.served.state.realm.lasting ≡ old.served.state.realm.lasting
+steps_last Connect old new step = goes_on_last Connect old new tt step
+steps_last (Piece id piece now) old new step = goes_on_last (Piece id piece now) old new tt step
+steps_last (Take id n) old new step = goes_on_last (Take id n) old new tt step
+steps_last (Close id) old new step = goes_on_last (Close id) old new tt step
+steps_last (Reload book) old new step = goes_on_last (Reload book) old new tt step
+steps_last (Note notes) old new step = ap (λ (s : State). s.served.state.realm.lasting) step
+steps_last (LetGo client) old new step = goes_on_last (LetGo client) old new tt step

@@ -5,4 +5,4 @@
 
 mod steps;
 
-pub use steps::steps_are_noted;
+pub use steps::{steps_are_noted, steps_leave_lasting};

@@ -11,7 +11,7 @@ Bytes = List ℕ
 
 -- the version of the format
 abbrev pub VERSION : ℕ
-VERSION = 1
+VERSION = 2
 
 -- the most bytes of a body
 abbrev pub MAX_BODY : ℕ

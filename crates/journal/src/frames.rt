@@ -9,7 +9,7 @@ use std::alloc::Allocator;
 use xdr_wire::{Opaque, Reader, Spell, Wire, Writer};
 
 /// The version of the format.
-pub(crate) const VERSION: u64 = 1;
+pub(crate) const VERSION: u64 = 2;
 
 /// The most bytes of a body.
 pub(crate) const MAX_BODY: u32 = 67_108_864;

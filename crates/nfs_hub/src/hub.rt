@@ -1,17 +1,17 @@
 //! The server and its connections.
-ghost use Rattle.std.specs.Prelude.{◌≡◌, ◌≢◌, ◌↔◌, ◌≤◌, ◌<◌, ◌^◌, ℕ, List, [], ◌∷◌, ◌++◌, min, length, take, drop, true, false, Some, None, Ok, Err, IfOk, IsErrOf, IsNone, MatchOption, IfSome, IsTrue, OnOk, OnErr, option_map, is_err};
+ghost use Rattle.std.specs.Prelude.{◌≡◌, ◌≢◌, ◌↔◌, ◌≤◌, ◌<◌, ◌^◌, ℕ, List, [], ◌∷◌, ◌++◌, min, length, take, drop, true, false, Some, None, Ok, Err, IfOk, IsErrOf, IsNone, IsOkUnless, MatchOption, IfSome, IsTrue, OnOk, OnErr, option_map, is_err};
 ghost use Rattle.node_tree.specs.Notes.{begun_notes, cleared};
-ghost use Rattle.session_slots.specs.Restoring.{numbers_fit};
-ghost use Rattle.nfs_hub.specs.Answer.{Served, restored, with_sessions, without_sessions};
+ghost use Rattle.compound_run.specs.Known.{opens_fit};
+ghost use Rattle.nfs_hub.specs.Answer.{Served, restored, with_lasting_sessions, with_sessions, without_sessions};
 ghost use Rattle.nfs_hub.specs.Machine.{Event, Connect, Piece, Take, Close, Reload, Note, LetGo};
 
 use crate::connection::{Connection, ConnectionFault};
 use crate::fault::{HubFault, Unloaded};
 use crate::server::Service;
-use compound_run::Server;
+use compound_run::{Known, Server};
 use nfs_types::Moment;
 use node_tree::Tree;
-use session_slots::{NextNumbers, RestoreFault};
+use session_slots::RestoreFault;
 use std::alloc::{AllocError, Allocator, Global};
 use std::collections::BTreeMap;
 use std::hash::RandomState;
@@ -83,21 +83,31 @@ impl<A: Allocator + Copy> Hub<A> {
         Ok(Hub::over(alloc, Service::with_sessions(alloc, book, hasher)?))
     }
 
-    /// A hub over a tree of before a restart, with sessions. No client, no session and no open file of then is known, and none of their
-    /// numbers is given again. The server's remembered summaries are found by `hasher`. Misfit: the number of the next client or session
-    /// is above 2^63.
+    /// A hub over a root alone, with sessions that outlive a restart, for a store that begins. Otherwise it is that of [`Hub::new`].
+    /// `Err`: there is no memory for the hub.
+    pub fn lasting(alloc: A, book: Book, hasher: RandomState) -> Result<Self, RestoreFault>
+        ensures ok { IfOk result (λ hub. LeadsTo (with_lasting_sessions book) [] hub) }
+        ensures err { IsOkUnless result RestoreFault.Memory }
+    {
+        Ok(Hub::over(alloc, Service::with_lasting_sessions(alloc, book, hasher)?))
+    }
+
+    /// A hub that goes on after a restart over what was kept: the tree, the clients with their sessions, which outlive the next restart
+    /// too, and the open files. The server's remembered summaries are found by `hasher`. Misfit: an open file can't stand, as
+    /// [`Server::restored`] says.
     pub fn restored(
         alloc: A,
         tree: Tree<A>,
-        next: NextNumbers,
+        known: Known<A>,
         book: Book,
         hasher: RandomState,
     ) -> Result<Self, RestoreFault>
-        ensures fits { OnOk result (numbers_fit next.client next.session ≡ true) }
-        ensures misfit { result ≡ Err RestoreFault.Misfit → numbers_fit next.client next.session ≡ false }
-        ensures ok { IfOk result (λ hub. LeadsTo (restored tree next book) [] hub) }
+        ensures fits { OnOk result (opens_fit tree known ≡ true) }
+        ensures misfit { result ≡ Err RestoreFault.Misfit → opens_fit tree known ≡ false }
+        ensures memory { result ≡ Err RestoreFault.Memory → opens_fit tree known ≡ true }
+        ensures ok { IfOk result (λ hub. LeadsTo (restored tree known book) [] hub) }
     {
-        Ok(Hub::over(alloc, Service::restored(alloc, tree, next, book, hasher)?))
+        Ok(Hub::over(alloc, Service::restored(alloc, tree, known, book, hasher)?))
     }
 
     /// Lets the most silent client go, if one is to go at this moment: its record goes with its sessions, and its open files are closed; all

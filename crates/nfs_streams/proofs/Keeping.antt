@@ -8,15 +8,17 @@ use Rattle.journal.specs.Opening.{in_slot}
 use Rattle.journal.specs.Crash.{IsFront}
 use Rattle.journal.specs.Living.{IsKept as IsKeptIn, Chance}
 use Rattle.journal.proofs.Living.{live_law}
-use Rattle.tree_store.specs.declared.store.Store.{Store as TreeStore}
-use Rattle.tree_store.specs.Kept.{Kept, Covers, Follows}
+use Rattle.tree_store.specs.Running.{Store as TreeStore}
+use Rattle.client_changes.proofs.Alike.{same_is_near}
+use Rattle.tree_store.specs.Kept.{Kept, IsAs, Covers, Follows}
 use Rattle.tree_store.specs.Holds.{IsHeld}
 use Rattle.tree_store.specs.Leaving.{Fluked, Leaves}
 use Rattle.tree_store.specs.Standing.{Stands as StandsFor}
 use Rattle.access_guard.specs.declared.line.Line.{Line}
 use Rattle.node_tree.specs.World.{World}
 use Rattle.tree_changes.specs.Noting.{Noted}
-use Rattle.compound_run.specs.State.{State as ServerState, kept_of}
+use Rattle.compound_run.specs.State.{State as ServerState, known_of}
+use Rattle.nfs_streams.specs.Lasting.{kept_of}
 use Rattle.hub_laws.specs.Notes.{world_of}
 use Rattle.nfs_hub.specs.declared.hub.Hub.{Hub}
 use Rattle.nfs_hub.specs.Answer.{Served as ServedState}
@@ -24,7 +26,7 @@ use Rattle.nfs_hub.specs.Machine.{State}
 use Rattle.nfs_streams.specs.declared.serving.Limits.{Limits}
 use Rattle.nfs_streams.specs.Acts.{Act, Kept as KeptTrail, IsStored}
 use Rattle.nfs_streams.specs.Runs.{Runs, HasKept}
-use Rattle.nfs_streams.specs.Keeping.{IsQuiet, IsShown, HoldsShown, Survives, AlwaysSurvives, SurvivesIn, IsOpen, disk_of}
+use Rattle.nfs_streams.specs.Keeping.{IsQuiet, IsShown, WasSo, HoldsShown, Survives, AlwaysSurvives, SurvivesIn, IsOpen, disk_of}
 use Rattle.nfs_streams.specs.Standing.{Origin, StoringIn}
 
 -- ---- the trail is kept
@@ -79,6 +81,11 @@ pub now_shown : (limits : Limits) (acts : List Act) (start s : State) (run : Run
 now_shown limits [] start s run kept covers = covers
 now_shown limits (act ∷ acts) start s run kept covers = inl covers
 
+-- what is kept is all that there is at the end of a run
+pub now_was : (limits : Limits) (acts : List Act) (start s : State) (run : Runs limits acts start s) (kept : Kept) → IsAs (kept_of s.served.state) kept → WasSo limits acts start s run kept
+now_was limits [] start s run kept is = is
+now_was limits (act ∷ acts) start s run kept is = inl is
+
 now_survives : (key : ℕ) (history : List DiskAct) (limits : Limits) (acts : List Act) (start s : State) (run : Runs limits acts start s) → AlwaysSurvives key history limits acts start s run → Survives key history limits acts start s run
 now_survives key history limits [] start s run always = always
 now_survives key history limits (act ∷ acts) start s run always = always.0
@@ -87,7 +94,7 @@ survives_on : (key : ℕ) (history : List DiskAct) (limits : Limits) (act : Act)
     → Survives key history limits acts start run.0 run.1 → Survives key history limits (act ∷ acts) start s run
 survives_on key history limits act acts start s run quiet same was =
     subst (λ (d : List DiskAct). Leaves key (d ++ history) (HoldsShown limits (act ∷ acts) start s run)) (sym same)
-    (leaves_also key (disk_of acts ++ history) (HoldsShown limits acts start run.0 run.1) (HoldsShown limits (act ∷ acts) start s run) (λ c h. (h.0, h.1, h.2, h.3, inr (quiet, h.4))) was)
+    (leaves_also key (disk_of acts ++ history) (HoldsShown limits acts start run.0 run.1) (HoldsShown limits (act ∷ acts) start s run) (λ c h. (h.0, h.1, h.2, h.3, inr (quiet, h.4), inr h.5)) was)
 
 -- after a quiet act that is none of the disk
 pub always_on : (key : ℕ) (history : List DiskAct) (limits : Limits) (act : Act) (acts : List Act) (start s : State) (run : Runs limits (act ∷ acts) start s) → IsQuiet act → disk_of (act ∷ acts) ≡ disk_of acts
@@ -101,10 +108,10 @@ survives_in_on None history limits act acts start s run quiet same was = tt
 survives_in_on (Some first) history limits act acts start s run quiet same was = always_on first.journal.key history limits act acts start s run quiet same was
 
 -- what is kept covers the state at the end of a run, and a crash then leaves that
-pub covers_leaves : (key : ℕ) (history : List DiskAct) (limits : Limits) (acts : List Act) (start s : State) (run : Runs limits acts start s) (store : TreeStore) (kept : Kept) → StandsFor key (disk_of acts ++ history) store kept → Covers (kept_of s.served.state) kept
+pub covers_leaves : (key : ℕ) (history : List DiskAct) (limits : Limits) (acts : List Act) (start s : State) (run : Runs limits acts start s) (store : TreeStore) (kept : Kept) → StandsFor key (disk_of acts ++ history) store kept → WasSo limits acts start s run kept → Covers (kept_of s.served.state) kept
     → Survives key history limits acts start s run
-covers_leaves key history limits acts start s run store kept stands covers =
-    leaves_also key (disk_of acts ++ history) (IsHeld kept) (HoldsShown limits acts start s run) (λ c h. (h.0, kept, h.1, h.2, now_shown limits acts start s run kept covers)) (stands_leaves key (disk_of acts ++ history) store kept stands)
+covers_leaves key history limits acts start s run store kept stands was covers =
+    leaves_also key (disk_of acts ++ history) (IsHeld kept) (HoldsShown limits acts start s run) (λ c h. (h.0, kept, h.1, h.2, now_shown limits acts start s run kept covers, was)) (stands_leaves key (disk_of acts ++ history) store kept stands)
 
 -- ---- the store goes on
 
@@ -128,6 +135,7 @@ goes_on (Some first) (Some store) o act acts s run quiet aside leads was = recor
   stands = subst (λ (d : List DiskAct). StandsFor first.journal.key (d ++ o.history) store was.kept) (sym aside.0) was.stands;
   follows = (was.follows.0, was.follows.1, leads was.follows.0 was.follows.2);
   shown = inr (quiet, was.shown);
+  was = inr was.was;
   last = λ state stored. was.last state (aside.1 state stored);
   always = always_on first.journal.key o.history o.limits act acts o.start s run quiet aside.0 was.always;
 }
@@ -149,8 +157,9 @@ tells (Some first) (Some store) o act acts s run aside leads all was =
       stands = stands;
       follows = (was.follows.0, was.follows.1, leads was.follows.0 was.follows.2);
       shown = inl covers;
+      was = inr was.was;
       last = λ state stored. was.last state (aside.1 state stored);
-      always = (covers_leaves first.journal.key o.history o.limits (act ∷ acts) o.start s run store was.kept stands covers, was.always);
+      always = (covers_leaves first.journal.key o.history o.limits (act ∷ acts) o.start s run store was.kept stands (inr was.was) covers, was.always);
     }
 
 -- serving stops
@@ -168,12 +177,14 @@ stops_by first now o act acts s run quiet same was = survives_in_on first o.hist
 pub opens : {A : Type 0} (store : Option TreeStore) (o : Origin) (hub : Hub A) (kept : Kept) → o.start.served ≡ hub.service → IsOpen store o.history kept hub → StoringIn store store o [] o.start refl
 opens None o hub kept is open_so = tt
 opens (Some store) o hub kept is open_so =
-    let covers = subst (λ (w : ServedState). Covers (kept_of w.state) kept) (sym is) open_so.covers in
+    let as_is = subst (λ (w : ServedState). IsAs (kept_of w.state) kept) (sym is) open_so.is in
+    let covers : Covers (kept_of o.start.served.state) kept = record { world_is = as_is.world_is; clients_are = same_is_near kept.1 (known_of o.start.served.state) as_is.clients_are } in
     record {
       kept = kept;
       stands = open_so.stands;
       follows = subst (λ (w : ServedState). Follows kept w.state.realm.world) (sym is) open_so.follows;
       shown = covers;
+      was = as_is;
       last = λ state stored. absurd stored;
-      always = covers_leaves store.journal.key o.history o.limits [] o.start o.start refl store kept open_so.stands covers;
+      always = covers_leaves store.journal.key o.history o.limits [] o.start o.start refl store kept open_so.stands as_is covers;
     }

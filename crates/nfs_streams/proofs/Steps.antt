@@ -7,7 +7,7 @@ use Rattle.std.proofs.lemmas.List.{set-set, length-append, length-take-le, take-
 use Rattle.std.proofs.Math.Seq.{take-length}
 use Rattle.std.proofs.lemmas.Bool.{cases_eq}
 use Rattle.who_book.specs.Content.{Content}
-use Rattle.tree_store.specs.declared.store.Store.{Store as TreeStore}
+use Rattle.tree_store.specs.Running.{Store as TreeStore}
 use Rattle.hub_laws.proofs.Served.{steps_noted}
 use Rattle.compound_run.specs.State.{State as ServerState}
 use Rattle.nfs_types.specs.declared.moment.Moment.{Moment}

@@ -1,11 +1,11 @@
 -- What outlives a restart is kept in the store, whose acts on the disk are acts of serving.
-use Rattle.std.proofs.Common.{◌≡◌, inl, inr, ⊎_elim, ℕ, ◌+◌, Bool, true, false, List, [], ◌∷◌, ◌++◌, Option, Some, None, Ok, Err, refl, sym, ◌∙◌, ap, subst, arith}
+use Rattle.std.proofs.Common.{◌≡◌, ◌⊎◌, inl, inr, ⊎_elim, ℕ, ◌+◌, Bool, true, false, List, [], ◌∷◌, ◌++◌, Option, Some, None, Ok, Err, refl, sym, ◌∙◌, ap, subst, arith}
 use Rattle.std.specs.Prelude.{Result, is_ok}
 use Rattle.journal.specs.Disk.{Act as DiskAct}
 use Rattle.journal.specs.Keeping.{Adding}
 use Rattle.tree_store.specs.declared.fault.StoreFault.{StoreFault}
-use Rattle.tree_store.specs.declared.store.Store.{Store as TreeStore}
-use Rattle.tree_store.specs.Kept.{Kept, Covers}
+use Rattle.tree_store.specs.Running.{Store as TreeStore}
+use Rattle.tree_store.specs.Kept.{Kept, kept_with, IsAs, Covers}
 use Rattle.tree_store.specs.Holds.{IsHeld, IsHeldOr}
 use Rattle.tree_store.specs.Leaving.{Chain, Leaves, AlwaysLeaves, Does}
 use Rattle.tree_store.specs.Standing.{Stands as StandsFor}
@@ -13,8 +13,10 @@ use Rattle.tree_store.specs.Keeping.{KeptSo, Keeps}
 use Rattle.node_tree.specs.World.{World}
 use Rattle.node_tree.specs.Notes.{Notes, cleared}
 use Rattle.tree_changes.proofs.Noting.{noted_cleared}
-use Rattle.session_slots.specs.declared.restoring.NextNumbers.{NextNumbers}
-use Rattle.compound_run.specs.State.{State as ServerState, kept_of, next_numbers}
+use Rattle.compound_run.specs.Known.{Known}
+use Rattle.client_changes.proofs.Alike.{same_is_near}
+use Rattle.compound_run.specs.State.{known_of, State as ServerState}
+use Rattle.nfs_streams.specs.Lasting.{kept_of}
 use Rattle.hub_laws.specs.Notes.{world_of}
 use Rattle.nfs_hub.specs.declared.hub.Hub.{Hub}
 use Rattle.nfs_hub.specs.Answer.{Served as ServedState, noting}
@@ -23,26 +25,26 @@ use Rattle.nfs_hub.specs.Hub.{IsHub, Goes, notes_of}
 use Rattle.nfs_streams.specs.declared.peer.Peer.{Peer}
 use Rattle.nfs_streams.specs.declared.serving.AllEnd.TheVariants.{Store}
 use Rattle.nfs_streams.specs.Acts.{Act, OnDisk, Stored, Unstored, Adds, IsSettled, of_streams, waits, admitted}
-use Rattle.nfs_streams.specs.Runs.{Runs, IsKept}
+use Rattle.nfs_streams.specs.Runs.{Runs, IsKept, Allowed, Does as MachineDoes}
 use Rattle.nfs_streams.specs.Seats.{Stands}
-use Rattle.nfs_streams.specs.Keeping.{IsShown, HoldsShown, AlwaysSurvives, SurvivesIn, KeepsTree, disk_of}
+use Rattle.nfs_streams.specs.Keeping.{IsShown, WasSo, HoldsShown, AlwaysSurvives, SurvivesIn, KeepsTree, disk_of}
 use Rattle.nfs_streams.specs.Standing.{Origin, Left, Giving, Answering, Stopped, Standing, StoringIn}
 use Rattle.nfs_streams.proofs.Lists.{adds_on}
 use Rattle.nfs_streams.proofs.Changing.{stands_as}
-use Rattle.nfs_streams.proofs.Keeping.{still_kept, leaves_also, now_shown, always_on, survives_in_on}
+use Rattle.nfs_streams.proofs.Keeping.{still_kept, leaves_also, now_shown, now_was, always_on, survives_in_on}
 
 -- the acts of the disk are acts of the streams
 abbrev pub DiskLaw : {D : Type 0} → (D → Option (List Act)) → Adding D → Type 0
 DiskLaw {D} acts_of adds = (old new : D) (act : DiskAct) → adds old act new → Adds (acts_of old) (acts_of new) (OnDisk act ∷ [])
 
--- the server of the hub is asked for its tree and its numbers
-pub kept_tree : {A D : Type 0} (adds : Adding D) (hub : Hub A) (was : Option TreeStore) (store store' : TreeStore) (result : Bool) (old new : D) (server : ServerState) (w : World) (next : NextNumbers) (done : Result (Unit {0}) StoreFault) → was ≡ Some store → ((s : State) → IsHub hub s → s.served.state ≡ server)
-    → w ≡ server.realm.world → next ≡ next_numbers server → result ≡ is_ok done → Keeps adds store w next done store' old new → KeepsTree adds hub was result (Some store') old new
+-- the server of the hub is asked for its tree and for what it knows of clients
+pub kept_tree : {A D : Type 0} (adds : Adding D) (hub : Hub A) (was : Option TreeStore) (store store' : TreeStore) (result : Bool) (old new : D) (server : ServerState) (w : World) (next : Known) (done : Result (Unit {0}) StoreFault) → was ≡ Some store → ((s : State) → IsHub hub s → s.served.state ≡ server)
+    → w ≡ server.realm.world → next ≡ known_of server → result ≡ is_ok done → Keeps adds store w next done store' old new → KeepsTree adds hub was result (Some store') old new
 kept_tree adds hub was store store' result old new server w next done is serves world_is next_is well keeps =
-    let of_server : Keeps adds store server.realm.world (next_numbers server) done store' old new =
-    subst (λ (n : NextNumbers). Keeps adds store server.realm.world n done store' old new) next_is (subst (λ (v : World). Keeps adds store v next done store' old new) world_is keeps) in
+    let of_server : Keeps adds store server.realm.world (known_of server) done store' old new =
+    subst (λ (n : Known). Keeps adds store server.realm.world n done store' old new) next_is (subst (λ (v : World). Keeps adds store v next done store' old new) world_is keeps) in
     subst (λ (o : Option TreeStore). KeepsTree adds hub o result (Some store') old new) (sym is)
-    (λ s is_hub. (done, well, subst (λ (v : ServerState). Keeps adds store v.realm.world (next_numbers v) done store' old new) (sym (serves s is_hub)) of_server))
+    (λ s is_hub. (done, well, subst (λ (v : ServerState). Keeps adds store v.realm.world (known_of v) done store' old new) (sym (serves s is_hub)) of_server))
 
 -- Some acts of the disk were done over what was kept, to keep what is aimed at.
 record Wrote {A : Type 0} (n : ℕ) (o : Origin) (hub : Hub A) (places : List (Option (Peer A))) (more : ℕ) (key : ℕ) (history : List DiskAct) (kept aim : Kept) (machine : State) (done : List DiskAct) (now : Option (List Act)) : Type 0 where
@@ -57,6 +59,8 @@ record Wrote {A : Type 0} (n : ℕ) (o : Origin) (hub : Hub A) (places : List (O
   pub files : disk_of acts ++ o.history ≡ done ++ history
   pub from_kept : IsShown o.limits acts o.start machine run kept
   pub from_aim : IsShown o.limits acts o.start machine run aim
+  pub kept_was : WasSo o.limits acts o.start machine run kept
+  pub aim_was : WasSo o.limits acts o.start machine run aim
   pub always : AlwaysSurvives key o.history o.limits acts o.start machine run
 
 module _ {A D : Type 0} (acts_of : D → Option (List Act)) (adds : Adding D) (law : DiskLaw acts_of adds) (n : ℕ) (o : Origin) (hub : Hub A) (places : List (Option (Peer A))) (more : ℕ) (key : ℕ) (history : List DiskAct) (kept aim : Kept) (machine : State) where
@@ -79,21 +83,24 @@ module _ {A D : Type 0} (acts_of : D → Option (List Act)) (adds : Adding D) (l
         files = files;
         from_kept = inr (tt, g.from_kept);
         from_aim = inr (tt, g.from_aim);
+        kept_was = inr g.kept_was;
+        aim_was = inr g.aim_was;
         always = (
           subst (λ (d : List DiskAct). Leaves key d (HoldsShown o.limits acts' o.start machine run)) (sym files)
               (leaves_also key (act ∷ done ++ history) (IsHeldOr kept aim) (HoldsShown o.limits acts' o.start machine run)
-              (λ c. ⊎_elim (λ (h : IsHeld kept c). (h.0, kept, h.1, h.2, inr (tt, g.from_kept))) (λ (h : IsHeld aim c). (h.0, aim, h.1, h.2, inr (tt, g.from_aim))))
+              (λ c. ⊎_elim (λ (h : IsHeld kept c). (h.0, kept, h.1, h.2, inr (tt, g.from_kept), inr g.kept_was)) (λ (h : IsHeld aim c). (h.0, aim, h.1, h.2, inr (tt, g.from_aim), inr g.aim_was)))
               leaves.0),
           g.always,
         );
       }
 
--- After these acts the store stands for something that covers the state.
-abbrev StoodIn : Option TreeStore → Option TreeStore → Origin → List Act → State → Type 0
-StoodIn None None o acts machine = Unit {0}
-StoodIn None (Some store) o acts machine = ⊥
-StoodIn (Some first) None o acts machine = ⊥
-StoodIn (Some first) (Some store) o acts machine = (kept : Kept) × StandsFor first.journal.key (disk_of acts ++ o.history) store kept × Covers (kept_of machine.served.state) kept
+-- After these acts the store stands for something that covers the state, and was all of it once.
+abbrev StoodIn : Option TreeStore → Option TreeStore → (o : Origin) (acts : List Act) (machine : State) → Runs o.limits acts o.start machine → Type 0
+StoodIn None None o acts machine run = Unit {0}
+StoodIn None (Some store) o acts machine run = ⊥
+StoodIn (Some first) None o acts machine run = ⊥
+StoodIn (Some first) (Some store) o acts machine run =
+    (kept : Kept) × StandsFor first.journal.key (disk_of acts ++ o.history) store kept × WasSo o.limits acts o.start machine run kept × Covers (kept_of machine.served.state) kept
 
 -- The acts of the disk were done, and where that went well the store stands.
 record Reached {A : Type 0} (n : ℕ) (o : Origin) (hub : Hub A) (places : List (Option (Peer A))) (more : ℕ) (machine : State) (first store : Option TreeStore) (well : Bool) (now : Option (List Act)) : Type 0 where
@@ -106,14 +113,11 @@ record Reached {A : Type 0} (n : ℕ) (o : Origin) (hub : Hub A) (places : List 
   pub adds : Adds o.first now (of_streams acts)
   pub fewer : more + admitted acts ≡ o.limits.connections
   pub always : SurvivesIn first o.history o.limits acts o.start machine run
-  pub stood : well ≡ true → StoodIn first store o acts machine
+  pub stood : well ≡ true → StoodIn first store o acts machine run
 
-covers_self : (k : Kept) → Covers k k
-covers_self k = record { world_is = refl; client_is = refl; session_is = refl; no_later = omega arith; near = omega arith }
-
-kept_well : (key : ℕ) (acts : List DiskAct) (done : Result (Unit {0}) StoreFault) (store : TreeStore) (aim : Kept) → is_ok done ≡ true → KeptSo key acts done store aim → (kept : Kept) × StandsFor key acts store kept × Covers aim kept
-kept_well key acts (Ok x) store aim well so = so
-kept_well key acts (Err why) store aim well so = absurd (never well)
+kept_well : (key : ℕ) (acts : List DiskAct) (done : Result (Unit {0}) StoreFault) (store : TreeStore) (old aim now : Kept) → is_ok done ≡ true → KeptSo key acts done store old aim now → (kept : Kept) × StandsFor key acts store kept × ((kept ≡ old) ⊎ (kept ≡ aim)) × Covers now kept
+kept_well key acts (Ok x) store old aim now well so = so
+kept_well key acts (Err why) store old aim now well so = absurd (never well)
   where
     never : false ≡ true → ⊥
     never e = cc
@@ -140,12 +144,14 @@ module _ {A D : Type 0} (acts_of : D → Option (List Act)) (adds : Adding D) (l
   keeps_tree (Some first) (Some store) (Some store') was keeps =
       let key = first.journal.key in
       let history = disk_of acts ++ o.history in
-      let aim : Kept = kept_of machine.served.state in
+      let now : Kept = kept_of machine.served.state in
       let k = keeps machine stands.is in
+      let s = k.2 in
+      let aim : Kept = kept_with machine.served.state.realm.world s.0 in
       let same : store.journal.key ≡ key = was.stands.key_is in
-      let does : Does adds key history (IsHeldOr was.kept aim) (λ done. KeptSo key done k.0 store' aim) old new =
-      subst (λ (at : ℕ). Does adds at history (IsHeldOr was.kept aim) (λ done. KeptSo at done k.0 store' aim) old new) same
-      (k.2 history was.kept (subst (λ (at : ℕ). StandsFor at history store was.kept) (sym same) was.stands) was.follows) in
+      let does : Does adds key history (IsHeldOr was.kept aim) (λ done. KeptSo key done k.0 store' was.kept aim now) old new =
+      subst (λ (at : ℕ). Does adds at history (IsHeldOr was.kept aim) (λ done. KeptSo at done k.0 store' was.kept aim now) old new) same
+      (s.2 history was.kept (subst (λ (at : ℕ). StandsFor at history store was.kept) (sym same) was.stands) was.follows) in
       let w = wrote acts_of adds law n o hub places more key history was.kept aim machine does.acts old new does.chain does.leaves (record {
         acts = acts;
         run = run;
@@ -157,7 +163,9 @@ module _ {A D : Type 0} (acts_of : D → Option (List Act)) (adds : Adding D) (l
         fewer = fewer;
         files = refl;
         from_kept = was.shown;
-        from_aim = now_shown o.limits acts o.start machine run aim (covers_self aim);
+        from_aim = now_shown o.limits acts o.start machine run aim (record { world_is = refl; clients_are = same_is_near s.0 (known_of machine.served.state) s.1 });
+        kept_was = was.was;
+        aim_was = now_was o.limits acts o.start machine run aim (record { world_is = refl; clients_are = s.1 });
         always = was.always;
       }) in
       record {
@@ -171,26 +179,31 @@ module _ {A D : Type 0} (acts_of : D → Option (List Act)) (adds : Adding D) (l
         fewer = w.fewer;
         always = w.always;
         stood = λ well.
-            let s = kept_well key (does.acts ++ history) k.0 store' aim (sym k.1 ∙ well) does.so in
-            (s.0, subst (λ (d : List DiskAct). StandsFor key d store' s.0) (sym w.files) s.1, s.2);
+            let t = kept_well key (does.acts ++ history) k.0 store' was.kept aim now (sym k.1 ∙ well) does.so in (
+              t.0,
+              subst (λ (d : List DiskAct). StandsFor key d store' t.0) (sym w.files) t.1,
+              ⊎_elim (λ (is : t.0 ≡ was.kept). subst (WasSo o.limits w.acts o.start machine w.run) (sym is) w.kept_was) (λ (is : t.0 ≡ aim). subst (WasSo o.limits w.acts o.start machine w.run) (sym is) w.aim_was) t.2,
+              t.3,
+            );
       }
 
 -- the notes are cleared
 abbrev noted_anew : State → State
 noted_anew s = record s { served = noting (cleared s.served.state.realm.world.notes) s.served }
 
-stored_in : (first store : Option TreeStore) (o : Origin) (acts : List Act) (machine : State) (run : Runs o.limits (Stored machine.served.state ∷ acts) o.start (noted_anew machine))
-    → SurvivesIn first o.history o.limits acts o.start run.0 run.1 → StoodIn first store o acts machine → StoringIn first store o (Stored machine.served.state ∷ acts) (noted_anew machine) run
-stored_in None None o acts machine run always stood = tt
-stored_in None (Some store) o acts machine run always stood = absurd stood
-stored_in (Some first) None o acts machine run always stood = absurd stood
-stored_in (Some first) (Some store) o acts machine run always stood = record {
+stored_in : (first store : Option TreeStore) (o : Origin) (acts : List Act) (machine : State) (run : Runs o.limits acts o.start machine) (allowed : Allowed o.limits acts (Stored machine.served.state) machine) (does : MachineDoes acts (Stored machine.served.state) machine (noted_anew machine))
+    → SurvivesIn first o.history o.limits acts o.start machine run → StoodIn first store o acts machine run → StoringIn first store o (Stored machine.served.state ∷ acts) (noted_anew machine) (machine, run, allowed, does)
+stored_in None None o acts machine run allowed does always stood = tt
+stored_in None (Some store) o acts machine run allowed does always stood = absurd stood
+stored_in (Some first) None o acts machine run allowed does always stood = absurd stood
+stored_in (Some first) (Some store) o acts machine run allowed does always stood = record {
   kept = stood.0;
   stands = stood.1;
-  follows = (world_of machine, sym stood.2.world_is, noted_cleared (world_of machine));
-  shown = inl stood.2;
-  last = λ state stored. subst (λ (k : Kept). Covers k stood.0) stored stood.2;
-  always = always_on first.journal.key o.history o.limits (Stored machine.served.state) acts o.start (noted_anew machine) run tt refl always;
+  follows = (world_of machine, sym stood.3.world_is, noted_cleared (world_of machine));
+  shown = inl stood.3;
+  was = inr stood.2;
+  last = λ state stored. subst (λ (k : Kept). Covers k stood.0) stored stood.3;
+  always = always_on first.journal.key o.history o.limits (Stored machine.served.state) acts o.start (noted_anew machine) (machine, run, allowed, does) tt refl always;
 }
 
 module _ {A D : Type 0} {n : ℕ} {o : Origin} {hub : Hub A} {places : List (Option (Peer A))} {left : Left} (acts_of : D → Option (List Act)) (adds : Adding D) (law : DiskLaw acts_of adds) (old new : D) (st : Standing (Giving n) o hub places left (acts_of old)) (store : Option TreeStore) (result : Bool) (keeps : KeepsTree adds hub left.store result store old new) where
@@ -223,7 +236,7 @@ module _ {A D : Type 0} {n : ℕ} {o : Origin} {hub : Hub A} {places : List (Opt
         acts = acts';
         machine = s';
         way = (run, r.count, tt, still_kept r.trail, refl);
-        keeping = stored_in o.store store o r.acts s run r.always (r.stood well);
+        keeping = stored_in o.store store o r.acts s r.run (r.settled, refl) refl r.always (r.stood well);
         stands = stands_as acts' (λ j. refl) (λ j. (refl, refl, refl)) refl now;
         adds = r.adds;
         fewer = r.fewer;

@@ -4,7 +4,7 @@ use Rattle.std.specs.Prelude.{MatchOption}
 use Rattle.std.proofs.lemmas.Bool.{cases_eq}
 use Rattle.node_tree.specs.Notes.{cleared}
 use Rattle.journal.specs.Disk.{Act as DiskAct}
-use Rattle.tree_store.specs.declared.store.Store.{Store as TreeStore}
+use Rattle.tree_store.specs.Running.{Store as TreeStore}
 use Rattle.tree_store.specs.Kept.{Kept as KeptTree}
 use Rattle.nfs_hub.specs.declared.hub.Hub.{Hub}
 use Rattle.nfs_hub.specs.Answer.{Served as ServedState, letting_go, noting, reloaded}

@@ -3,8 +3,9 @@
 use Rattle.std.specs.Prelude.{◌≡◌, ◌≤◌, ◌⊎◌, ◌+◌, ◌-◌, ◌==◌, ℕ, Bool, true, false, List, [], ◌∷◌, ◌++◌, length, Option, Some, None, take, drop, if◌then◌else◌}
 use Rattle.who_book.specs.Content.{Content}
 use Rattle.journal.specs.Disk.{Act as DiskAct}
-use Rattle.compound_run.specs.State.{State as ServerState, kept_of}
+use Rattle.compound_run.specs.State.{State as ServerState}
 use Rattle.nfs_hub.specs.declared.fault.HubFault.{HubFault}
+use Rattle.nfs_streams.specs.Lasting.{kept_of}
 use Rattle.nfs_streams.specs.declared.streams.Moved.{Moved}
 use Rattle.nfs_streams.specs.declared.streams.Moved.TheVariants as moved
 use Rattle.nfs_streams.specs.declared.streams.Knock.{Knock}

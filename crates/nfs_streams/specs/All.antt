@@ -1,7 +1,7 @@
 -- Serving all streams.
 use Rattle.std.specs.Prelude.{◌≡◌, ◌≤◌, ℕ, false, List, [], ◌++◌, Option, None}
 use Rattle.journal.specs.Disk.{Act as DiskAct}
-use Rattle.tree_store.specs.declared.store.Store.{Store as TreeStore}
+use Rattle.tree_store.specs.Running.{Store as TreeStore}
 use Rattle.nfs_hub.specs.declared.hub.Hub.{Hub}
 use Rattle.nfs_hub.specs.Answer.{Served as ServedState}
 use Rattle.nfs_hub.specs.Machine.{State, Event, Leads}

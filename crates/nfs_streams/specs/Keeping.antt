@@ -4,17 +4,18 @@ use Rattle.journal.specs.Disk.{Act as DiskAct}
 use Rattle.journal.specs.Files.{Content}
 use Rattle.journal.specs.Keeping.{Adding}
 use Rattle.tree_store.specs.declared.fault.StoreFault.{StoreFault}
-use Rattle.tree_store.specs.declared.store.Store.{Store as TreeStore}
-use Rattle.tree_store.specs.Kept.{Kept, Covers, Follows}
+use Rattle.tree_store.specs.Running.{Store as TreeStore}
+use Rattle.tree_store.specs.Kept.{Kept, IsAs, Covers, Follows}
 use Rattle.tree_store.specs.Holds.{Holds}
 use Rattle.tree_store.specs.Leaving.{Leaves}
 use Rattle.tree_store.specs.Standing.{Stands as StandsFor}
 use Rattle.tree_store.specs.Keeping.{Keeps}
-use Rattle.compound_run.specs.State.{State as ServerState, kept_of, next_numbers}
 use Rattle.nfs_hub.specs.declared.hub.Hub.{Hub}
 use Rattle.nfs_hub.specs.Machine.{State}
 use Rattle.nfs_hub.specs.Hub.{IsHub}
 use Rattle.nfs_streams.specs.declared.serving.Limits.{Limits}
+use Rattle.compound_run.specs.State.{State as ServerState, known_of}
+use Rattle.nfs_streams.specs.Lasting.{kept_of}
 use Rattle.nfs_streams.specs.Acts.{Act, OnDisk, Told, Unwritten}
 use Rattle.nfs_streams.specs.Runs.{Runs}
 
@@ -30,18 +31,24 @@ IsQuiet (Told place bytes) = ⊥
 IsQuiet (Unwritten place) = ⊥
 IsQuiet act = Unit {0}
 
--- What is kept is what outlives a restart of the server, but for the number of the next open file, as the server is at the
--- end of a run, or as it was before the last acts of the run, by which no bytes were written to a stream. So what is kept
--- has all that was done for each reply that was written.
+-- What is kept is what outlives a restart of the server, but for slots, on each of which fewer than 2^20 calls came, as the
+-- server is at the end of a run, or as it was before the last acts of the run, by which no bytes were written to a stream.
+-- So what is kept has all that was done for each reply that was written.
 abbrev pub IsShown : (limits : Limits) (acts : List Act) (start s : State) → Runs limits acts start s → Kept → Type 0
 IsShown limits [] start s run kept = Covers (kept_of s.served.state) kept
 IsShown limits (act ∷ acts) start s run kept =
     Covers (kept_of s.served.state) kept ⊎ (IsQuiet act × IsShown limits acts start run.0 run.1 kept)
 
+-- What is kept is all that outlives a restart of the server, as it was at one moment of a run: so what came on a slot since
+-- then has changed nothing else that is kept.
+abbrev pub WasSo : (limits : Limits) (acts : List Act) (start s : State) → Runs limits acts start s → Kept → Type 0
+WasSo limits [] start s run kept = IsAs (kept_of s.served.state) kept
+WasSo limits (act ∷ acts) start s run kept = IsAs (kept_of s.served.state) kept ⊎ WasSo limits acts start run.0 run.1 kept
+
 -- a content that holds such a thing
 abbrev pub HoldsShown : (limits : Limits) (acts : List Act) (start s : State) → Runs limits acts start s → Option Content → Type 0
 HoldsShown limits acts start s run content =
-    (c : Content) × (kept : Kept) × (content ≡ Some c) × Holds c kept × IsShown limits acts start s run kept
+    (c : Content) × (kept : Kept) × (content ≡ Some c) × Holds c kept × IsShown limits acts start s run kept × WasSo limits acts start s run kept
 
 -- A crash at the end of a run leaves such a thing in the files, which had this history before the run.
 abbrev pub Survives : ℕ → List DiskAct → (limits : Limits) (acts : List Act) (start s : State) → Runs limits acts start s → Type 0
@@ -63,18 +70,18 @@ SurvivesIn (Some store) history limits acts start s run = AlwaysSurvives store.j
 pub record StandsOpen (history : List DiskAct) (store : TreeStore) (kept : Kept) (state : ServerState) : Type 0 where
   pub stands : StandsFor store.journal.key history store kept
   pub follows : Follows kept state.realm.world
-  pub covers : Covers (kept_of state) kept
+  pub is : IsAs (kept_of state) kept
 
 -- if there is one
 abbrev pub IsOpen : {A : Type 0} → Option TreeStore → List DiskAct → Kept → Hub A → Type 0
 IsOpen None history kept hub = Unit {0}
 IsOpen (Some store) history kept hub = StandsOpen history store kept hub.service.state
 
--- The world of the hub and its next numbers are kept, if there is a store.
+-- The world of the hub and what it knows of clients are kept, if there is a store.
 abbrev pub KeepsTree : {A D : Type 0} → Adding D → Hub A → Option TreeStore → Bool → Option TreeStore → D → D → Type 0
 KeepsTree adds hub None result None old new = (result ≡ true) × (new ≡ old)
 KeepsTree adds hub None result (Some store') old new = ⊥
 KeepsTree adds hub (Some store) result None old new = ⊥
 KeepsTree adds hub (Some store) result (Some store') old new =
     (s : State) → IsHub hub s → (done : Result (Unit {0}) StoreFault) × (result ≡ is_ok done)
-    × Keeps adds store s.served.state.realm.world (next_numbers s.served.state) done store' old new
+    × Keeps adds store s.served.state.realm.world (known_of s.served.state) done store' old new

@@ -1,3 +1,4 @@
+pub mod Lasting
 pub mod Acts
 pub mod Runs
 pub mod Seats

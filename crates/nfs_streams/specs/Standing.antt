@@ -1,10 +1,11 @@
 -- The stages of serving, and the parts of serving as steps between them.
 use Rattle.std.specs.Prelude.{◌≡◌, ◌≢◌, ◌≤◌, ◌<◌, ◌+◌, ℕ, Bool, true, false, List, [], ◌∷◌, ◌++◌, length, Option, Some, None, Result, Ok, Err, set}
 use Rattle.journal.specs.Disk.{Act as DiskAct}
-use Rattle.tree_store.specs.declared.store.Store.{Store as TreeStore}
+use Rattle.tree_store.specs.Running.{Store as TreeStore}
 use Rattle.tree_store.specs.Kept.{Kept, Covers, Follows}
 use Rattle.tree_store.specs.Standing.{Stands as StandsFor}
-use Rattle.compound_run.specs.State.{State as ServerState, kept_of}
+use Rattle.compound_run.specs.State.{State as ServerState}
+use Rattle.nfs_streams.specs.Lasting.{kept_of}
 use Rattle.nfs_hub.specs.declared.hub.Hub.{Hub}
 use Rattle.nfs_hub.specs.declared.fault.HubFault.{HubFault}
 use Rattle.nfs_hub.specs.declared.fault.HubFault.TheVariants as fault
@@ -27,7 +28,7 @@ use Rattle.nfs_streams.specs.declared.streams.Wait.{Wait as Pause}
 use Rattle.nfs_streams.specs.Acts.{Act, Waited, Knocked, Heard, Ended, Unread, Lost, Unstored, Adds, Just, IsLooked, IsSettled, IsStored, of_streams, open_in, waits, admitted, left_of_piece}
 use Rattle.nfs_streams.specs.Runs.{Runs, Ends, IsKept, most_open}
 use Rattle.nfs_streams.specs.Seats.{Stands, taken}
-use Rattle.nfs_streams.specs.Keeping.{disk_of, IsShown, AlwaysSurvives, SurvivesIn}
+use Rattle.nfs_streams.specs.Keeping.{disk_of, IsShown, WasSo, AlwaysSurvives, SurvivesIn}
 
 -- the beginning of serving: its state, the acts known then, its limits, its store, and the history of the store's files
 pub record Origin : Type 0 where
@@ -97,6 +98,7 @@ pub record Storing (key : ℕ) (store : TreeStore) (o : Origin) (acts : List Act
   pub stands : StandsFor key (disk_of acts ++ o.history) store kept
   pub follows : Follows kept machine.served.state.realm.world
   pub shown : IsShown o.limits acts o.start machine run kept
+  pub was : WasSo o.limits acts o.start machine run kept
   pub last : (state : ServerState) → IsStored acts state → Covers (kept_of state) kept
   pub always : AlwaysSurvives key o.history o.limits acts o.start machine run
 

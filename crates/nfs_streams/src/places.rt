@@ -32,7 +32,7 @@ pub(crate) struct Door<A: Allocator + Copy> {
     /// The stream that came last couldn't be taken, or there was no memory for it.
     pub(crate) refused: bool,
     /// The store of what outlives a restart, if there is one.
-    pub(crate) store: Option<Store>,
+    pub(crate) store: Option<Store<A>>,
 }
 
 /// The most connections that may be open at once.

@@ -14,6 +14,7 @@ ghost use Rattle.nfs_streams.specs.All.{ServesAll};
 use crate::peer::Peer;
 use crate::places::{Door, answer_all, are_served, give_all, listen_all, make_room, shut_all};
 use crate::streams::{Streams, Wait};
+use compound_run::Lent;
 use nfs_hub::{Clock, Hub, MAX_CONNECTIONS};
 use std::alloc::{AllocError, Allocator};
 use tree_store::Store;
@@ -86,12 +87,12 @@ fn expire<A: Allocator + Copy, C: Clock>(hub: &mut Hub<A>, clock: &C, limits: Li
     let _ = hub.let_go(clock.now());
 }
 
-/// Keeps the tree and the numbers that come next in the store, if there is one. Whether they are kept.
+/// Keeps the tree and what is known of clients in the store, if there is one. Whether they are kept.
 fn keep_tree<A: Allocator + Copy, S: Streams<A>>(
     hub: &Hub<A>,
     streams: &mut S,
     alloc: A,
-    store: &mut Option<Store>,
+    store: &mut Option<Store<A>>,
 ) -> bool
     ensures { KeepsTree S.adds hub.now store.old result store.new streams.old streams.new }
 {
@@ -99,7 +100,7 @@ fn keep_tree<A: Allocator + Copy, S: Streams<A>>(
         return true;
     };
     let server = hub.server();
-    let done = store.keep(streams, alloc, server.tree(), server.next_numbers());
+    let done = store.keep(streams, alloc, server.tree(), Lent::of(server));
     done.is_ok()
 }
 
@@ -235,7 +236,7 @@ pub fn serve_all<A: Allocator + Copy, S: Streams<A>, C: Clock>(
     hub: &mut Hub<A>,
     streams: &mut S,
     clock: &C,
-    store: Option<Store>,
+    store: Option<Store<A>>,
     limits: Limits,
 ) -> AllEnd
     ensures { (first : ServedState) (events : List Event) → LeadsTo first events hub.old → (history : List DiskAct) (kept : Kept) → IsOpen store history kept hub.old → ServesAll first events store history result limits hub.new (S.acts streams.old) (S.acts streams.new) }

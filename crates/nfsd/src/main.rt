@@ -57,7 +57,7 @@ enum Fault {
     Store(StoreStop),
     /// The trail's file is that of the book, can't be opened, or can't be written.
     Trail,
-    /// The socket can't be listened on, for this reason; or it gives no connection, or waiting for the streams failed.
+    /// The socket can't be listened on, for this reason; or waiting for the streams failed.
     Socket(Option<ErrorKind>),
 }
 

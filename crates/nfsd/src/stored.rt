@@ -1,14 +1,16 @@
 //! What outlives a restart: the store of a folder, and the hub over what was found there.
+use crate::clock::second;
 use crate::{Fault, hub_fault};
+use compound_run::Lent;
 use nfs_hub::Hub;
 use session_slots::RestoreFault;
 use std::alloc::Global;
 use std::fs::File;
 use std::hash::RandomState;
 use std::random::RandomSource;
-use std::rt::Files;
+use std::rt::{Clock, Files};
 use store_files::{StoreFolder, StoreStop};
-use tree_store::{Base, Found, NOTES_ROOM, Store, StoreFault, after_start, open};
+use tree_store::{Base, Found, NOTES_ROOM, Store, StoreFault, open};
 use who_book::Book;
 
 /// A store that is written, and its folder.
@@ -28,18 +30,20 @@ fn stop_of(alloc: Global, folder: &mut StoreFolder, fault: StoreFault) -> StoreS
     }
 }
 
-/// The hub over what was found; over a root alone, where nothing was.
+/// The hub over what was found, whose clients were heard in this second; over a root alone, where nothing was.
 fn hub_over(
     alloc: Global,
     folder: &mut StoreFolder,
     found: Option<Found<Global>>,
+    now: u64,
     book: Book,
     hasher: RandomState,
 ) -> Result<Hub, Fault> {
-    let Some(Found { tree, next }) = found else {
-        return Hub::new(alloc, book, hasher).map_err(|_| hub_fault());
+    let Some(Found { tree, mut known }) = found else {
+        return Hub::lasting(alloc, book, hasher).map_err(|_| hub_fault());
     };
-    match Hub::restored(alloc, tree, after_start(next), book, hasher) {
+    known.hear_all(now);
+    match Hub::restored(alloc, tree, known, book, hasher) {
         Ok(hub) => Ok(hub),
         Err(RestoreFault::Misfit) => Err(Fault::Store(StoreStop::damaged(alloc, folder))),
         Err(_) => Err(hub_fault()),
@@ -54,13 +58,7 @@ fn begin(
     hub: &mut Hub,
 ) -> Result<Stored, Fault> {
     let server = hub.server();
-    let begun = Store::start(
-        &mut folder,
-        alloc,
-        base,
-        server.tree(),
-        server.next_numbers(),
-    );
+    let begun = Store::start(&mut folder, alloc, base, server.tree(), Lent::of(server));
     let store = match begun {
         Ok(store) => store,
         Err(fault) => return Err(Fault::Store(stop_of(alloc, &mut folder, fault))),
@@ -72,7 +70,7 @@ fn begin(
 }
 
 /// Opens the store of a folder, and makes the hub over what it has. A store that is refused is left as it was.
-pub(crate) fn open_store<R: Files<File = File> + RandomSource + Alloc>(
+pub(crate) fn open_store<R: Files<File = File> + RandomSource + Alloc + Clock>(
     rt: &R,
     alloc: Global,
     path: &str,
@@ -88,7 +86,8 @@ pub(crate) fn open_store<R: Files<File = File> + RandomSource + Alloc>(
         Ok(opened) => opened,
         Err(fault) => return Err(Fault::Store(stop_of(alloc, &mut folder, fault))),
     };
-    let mut hub = hub_over(alloc, &mut folder, found, book, hasher)?;
+    let now = second(rt).max(0) as u64;
+    let mut hub = hub_over(alloc, &mut folder, found, now, book, hasher)?;
     let stored = begin(alloc, folder, base, &mut hub)?;
     Ok((hub, stored))
 }

@@ -66,7 +66,7 @@ fn say_socket<R: Eprint>(rt: &R, port: u16, kind: Option<ErrorKind>) {
         Some(ErrorKind::AddrInUse) => "in use",
         Some(ErrorKind::PermissionDenied) => "only root may listen there",
         Some(_) => "it can't be listened on",
-        None => "no connection can be accepted, or be waited for",
+        None => "no connection can be waited for",
     };
     let _ = eprintln!(rt; "127.0.0.1:{port}: {why}");
 }

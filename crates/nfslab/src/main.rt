@@ -1,36 +1,23 @@
 //! `nfslab`: runs a script of commands on an NFS version 4.1 server (RFC 8881) in memory, from standard input to standard output.
 //!
 //! The status is 0; 2 where the words aren't understood, with `clap`'s text on standard error; and else 1: after a line that was answered
-//! `bad line`, `failed N` or `book N`, and after a fault of the whole, which is told on standard error.
+//! `bad line`, `failed N` or `book N`, and after a fault of the whole, in two lines on standard error.
 #![tactic(auto)]
 
+mod fault;
+
 use anyhow::Result;
-use nfs_hub::{Hub, HubFault};
-use nfs_tool::{Texts, ToolFault, script};
+use book_words::explain;
+use fault::{Fault, say};
+use nfs_hub::Hub;
+use nfs_tool::{Texts, script};
 use nfsc_options::LabOptions;
 use std::alloc::Global;
 use std::hash::RandomState;
 use std::process::ExitCode;
 use std::rt::Files;
 use std::{env, fs, io};
-use who_book::{Book, BookFault};
-
-/// A fault that keeps `nfslab` from running a script to its end. Faults are found in this order.
-#[derive(Debug, Drop, thiserror::Error)]
-enum Fault {
-    /// The book's file can't be read, or isn't UTF-8.
-    #[error("file")]
-    File,
-    /// The book has a fault, of this number.
-    #[error("book {0}")]
-    Book(u8),
-    /// The hub can't be made, by a fault of this number.
-    #[error("hub {0}")]
-    Hub(u8),
-    /// The script can't be read, or its answers can't be written, by a fault of this number.
-    #[error("failed {0}")]
-    Failed(u32),
-}
+use who_book::Book;
 
 /// The texts of files, by the files' names.
 #[derive(Drop)]
@@ -49,10 +36,14 @@ fn book<R: Files + Alloc>(rt: &R, alloc: Global, file: Option<&str>) -> Result<B
     let Some(file) = file else {
         return Ok(Book::default(alloc));
     };
-    let Ok(text) = fs::read_to_string(rt, file) else {
-        return Err(Fault::File);
+    let text = match fs::read_to_string(rt, file) {
+        Ok(text) => text,
+        Err(error) => return Err(Fault::File(format!(in alloc; "{error}").ok())),
     };
-    Book::read(alloc, text.as_str()).map_err(|fault: BookFault| Fault::Book(fault as u8))
+    match Book::read(alloc, text.as_str()) {
+        Ok(book) => Ok(book),
+        Err(fault) => Err(Fault::Book(fault, explain(alloc, text.as_str(), fault).ok())),
+    }
 }
 
 /// The hub of a root alone, with the owner and the group of the book.
@@ -63,7 +54,7 @@ fn hub<R: Files + Alloc>(
     hasher: RandomState,
 ) -> Result<Hub, Fault> {
     let book = book(rt, alloc, options.book)?;
-    Hub::new(alloc, book, hasher).map_err(|_| Fault::Hub(HubFault::Memory as u8))
+    Hub::new(alloc, book, hasher).map_err(|_| Fault::Hub)
 }
 
 /// Runs the script on standard input. Whether no line was answered `bad line`, `failed N` or `book N`.
@@ -83,7 +74,7 @@ fn run<R: Files + AllocGlobal + Input + Print>(
         &mut rt.reader(),
         &mut io::writer(rt),
     )
-    .map_err(|fault: ToolFault| Fault::Failed(fault.number()))
+    .map_err(Fault::Failed)
 }
 
 fn main(rt: HostRuntime) -> Result<ExitCode> {
@@ -100,7 +91,7 @@ fn main(rt: HostRuntime) -> Result<ExitCode> {
         Ok(true) => Ok(ExitCode::SUCCESS),
         Ok(false) => Ok(ExitCode::FAILURE),
         Err(fault) => {
-            eprintln!(rt; "nfslab: {fault}")?;
+            say(&rt, &options, &fault);
             Ok(ExitCode::FAILURE)
         }
     }

@@ -3,8 +3,8 @@ use crate::fault::{Fault, Stopped};
 use crate::survey::{Item, Survey};
 use acl_list::{AclList, Kind};
 use acl_shape::set_mode;
+use compound_run::Known;
 use node_tree::{Kept, Moment, NewObject, RestoreFault, Restoring, Tree};
-use session_slots::NextNumbers;
 use std::alloc::Global;
 use std::fs;
 use std::os::unix::fs::MetadataExt;
@@ -154,12 +154,8 @@ fn write_store(alloc: Global, folder: &mut StoreFolder, tree: &Tree) -> Result<b
     if found.is_some() {
         return Ok(false);
     }
-    let next = NextNumbers {
-        client: 1,
-        session: 1,
-        open_file: 1,
-    };
-    let _store = Store::start(folder, alloc, base, tree, next)?;
+    let nobody = Known::nothing(alloc);
+    let _store = Store::start(folder, alloc, base, tree, nobody.lend())?;
     Ok(true)
 }
 

@@ -56,14 +56,19 @@ fn write_files<W: Write>(out: &mut W, looked: &Looked) -> io::Result<()> {
 
 /// Writes what was kept.
 fn write_found<W: Write>(out: &mut W, found: &Found<Global>) -> io::Result<()> {
-    let Found { tree, next } = found;
+    let Found { tree, known } = found;
+    let (next_client, next_session) = known.clients.next_numbers();
+    let (clients, sessions) = known.clients.counts();
     writeln!(out, "next-number {}", tree.next_number())?;
     writeln!(out, "next-tick {}", tree.next_tick())?;
     writeln!(out, "next-stamp {}", tree.next_stamp())?;
     writeln!(out, "next-cookie {}", tree.next_cookie())?;
-    writeln!(out, "next-client {}", next.client)?;
-    writeln!(out, "next-session {}", next.session)?;
-    writeln!(out, "next-open {}", next.open_file)?;
+    writeln!(out, "next-client {next_client}")?;
+    writeln!(out, "next-session {next_session}")?;
+    writeln!(out, "next-open {}", known.next_open)?;
+    writeln!(out, "clients {clients}")?;
+    writeln!(out, "sessions {sessions}")?;
+    writeln!(out, "opens {}", known.opens.len())?;
     writeln!(out, "objects {}", objects(tree))?;
     writeln!(out, "names {}", names(tree))
 }

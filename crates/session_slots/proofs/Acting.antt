@@ -1,11 +1,11 @@
 -- Over many slots and over restarts what changes the world acts once.
-use Rattle.std.proofs.Common.{◌≡◌, ◌≢◌, ◌⊎◌, inl, inr, ℕ, ◌+◌, ◌-◌, ◌%◌, ◌^◌, ◌<◌, ◌≤◌, ◌==◌, ◌&&◌, ◌||◌, Bool, true, false, if◌then◌else◌, List, [], ◌∷◌, ◌++◌, length, Option, Some, None, suc, refl, sym, ◌∙◌, ap, subst, arith}
+use Rattle.std.proofs.Common.{◌≡◌, ◌≢◌, ◌⊎◌, inl, inr, ℕ, ◌+◌, ◌-◌, ◌%◌, ◌^◌, ◌<◌, ◌≤◌, ◌==◌, ◌&&◌, Bool, true, false, if◌then◌else◌, List, [], ◌∷◌, ◌++◌, length, Option, Some, None, suc, refl, sym, ◌∙◌, ap, subst, arith}
 use Rattle.session_slots.specs.declared.slot.Turn.{Turn}
 use Rattle.session_slots.specs.declared.slot.Turn.TheVariants as turns
 use Rattle.session_slots.specs.Limits.{MOST_AHEAD, WRITTEN_EVERY}
 use Rattle.session_slots.specs.Counting.{due, is_next, is_written, newest, last_number}
 use Rattle.session_slots.specs.Slots.{Call, Kept, number_of, old_turn, turn_of}
-use Rattle.session_slots.specs.Acting.{Memory, Entry, State, unused, of_slot, GivesUp, Sends, RunsOn, TakesBy, Event, Comes, Restarts, begun_again, Step, Steps, AreNumbered, Ran, ActsOnce}
+use Rattle.session_slots.specs.Acting.{Memory, Entry, State, unused, of_slot, GivesUp, RunsOn, TakesBy, Event, Comes, Restarts, begun_again, Step, Steps, AreNumbered, Ran, ActsOnce}
 use Rattle.session_slots.specs.Orderly.{IsIn}
 use Rattle.session_slots.proofs.Histories.{is_number}
 use Rattle.session_slots.proofs.Lagging.{repeat_is_not_next, below, next_between}

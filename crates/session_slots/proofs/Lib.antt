@@ -1,3 +1,4 @@
+pub mod Joined
 pub mod Histories
 pub mod Lagging
 pub mod Numbered

@@ -1,5 +1,5 @@
 -- What is read out of a registry is restored: the registry, in which every slot lags.
-use Rattle.std.proofs.Common.{◌≡◌, ◌≢◌, ◌⊎◌, inl, inr, ℕ, ◌+◌, ◌<◌, ◌≤◌, ◌&&◌, Bool, true, false, not, nat_lt, nat_le, cond, List, [], ◌∷◌, ◌++◌, map, find, length, slice_get, set, replicate, suc, Option, Some, None, is_some, is_none, All, refl, sym, ap, ◌∙◌, subst, arith, lit≤}
+use Rattle.std.proofs.Common.{◌≡◌, ◌≢◌, ◌⊎◌, inl, inr, ℕ, ◌+◌, ◌<◌, ◌≤◌, ◌&&◌, Bool, true, false, not, nat_lt, nat_le, cond, List, [], ◌∷◌, ◌++◌, map, find, length, slice_get, set, replicate, suc, Option, Some, None, is_some, is_none, All, refl, sym, ap, ◌∙◌, subst, arith}
 use Rattle.std.specs.Option.{option_map, option_map_or, option_and_then, IfSome}
 use Rattle.std.specs.Map.{lookup, set_value, keys_of, values_of}
 use Rattle.std.specs.BTreeMap.{is_at, insert_entry}
@@ -7,7 +7,6 @@ use Rattle.std.specs.Ordering.{nat_cmp, match_ordering}
 use Rattle.std.specs.declared.cmp.Ordering.{Ordering}
 use Rattle.std.specs.declared.cmp.Ordering.TheVariants.{Less, Equal, Greater}
 use Rattle.std.specs.Cmp.{Equal-is, nat_cmp_is}
-use Rattle.std.specs.Cmp.Lexicographic.{pointwise}
 use Rattle.std.specs.List.{AllByRecursion}
 use Rattle.std.proofs.lemmas.List.{append_assoc, append-nil}
 use Rattle.std.proofs.lemmas.List.Elements.{All-get_or, All-tail}
@@ -18,11 +17,10 @@ use Rattle.session_slots.specs.Limits.{MOST_CLIENTS, MOST_SESSIONS, MOST_SLOTS, 
 use Rattle.session_slots.specs.Slots.{Kept, Place, restored}
 use Rattle.session_slots.specs.Registry.{Client, Session, Registry, client_at, session_at, is_confirmed_of, changed_place, changed_session, with_place, kept_size, restored_session}
 use Rattle.session_slots.specs.Orderly.{has_form, IsIn, IsWithin}
-use Rattle.session_slots.specs.Sequencing.{HasSlots}
-use Rattle.session_slots.specs.Restoring.{IsRising, number_from, nothing_yet, record_fits, with_record, is_within, is_home, session_fits, with_restored, slot_fits, kept_at, held_of}
+use Rattle.session_slots.specs.Restoring.{IsRising, number_from, record_fits, with_record, is_within, is_home, session_fits, with_restored, slot_fits, kept_at, held_of}
 use Rattle.session_slots.specs.Restored.{IsReadable, IsReadInOrder, IsRestored, RecordsFit, SlotsFit, SessionsFit, with_records, with_call, with_slots, with_sessions, lagging, lagging_session, lagging_entry}
 use Rattle.session_slots.proofs.Found.{found_passes}
-use Rattle.session_slots.proofs.Members.{is_same, is_another, found_entry}
+use Rattle.session_slots.proofs.Members.{is_another, found_entry}
 
 -- ---- lists in order
 

@@ -1,5 +1,5 @@
 -- Clients and sessions stay orderly as they are restored, and as a client is let go.
-use Rattle.std.proofs.Common.{◌≡◌, ◌≢◌, inl, inr, ℕ, ◌<◌, ◌≤◌, ◌+◌, ◌==◌, ◌&&◌, Bool, true, false, not, nat_eq, nat_lt, nat_le, List, [], ◌∷◌, map, cond, length, Option, Some, None, is_some, is_none, Result, Ok, Err, refl, sym, ap, ◌∙◌, subst, arith, lit≤}
+use Rattle.std.proofs.Common.{◌≡◌, ◌≢◌, inl, inr, ℕ, ◌<◌, ◌≤◌, ◌+◌, ◌==◌, ◌&&◌, Bool, true, false, not, nat_eq, nat_lt, nat_le, List, [], ◌∷◌, map, cond, length, Option, Some, None, is_some, is_none, Result, Ok, Err, refl, sym, ap, ◌∙◌, subst, arith}
 use Rattle.std.specs.Cmp.Lexicographic.{pointwise, same_text}
 use Rattle.std.specs.Option.{IfSome, option_map_or}
 use Rattle.std.specs.Result.{OnOk, OnErr}
@@ -13,7 +13,7 @@ use Rattle.session_slots.specs.Limits.{MOST_CLIENTS, MOST_SESSIONS, MOST_SLOTS, 
 use Rattle.session_slots.specs.Slots.{Kept, restored, finished}
 use Rattle.session_slots.specs.Registry.{Client, Session, Registry, client_at, session_at, is_confirmed_of, confirmed_entry, changed_client, kept_size, restored_session, with_session, with_place}
 use Rattle.session_slots.specs.Orderly.{has_form, IsIn, IsWithin, IsOrderly}
-use Rattle.session_slots.specs.Restoring.{nothing_yet, record_fits, with_record, is_within, is_home, session_fits, with_restored, slot_fits, with_kept, held_of, headed, HeadsStay}
+use Rattle.session_slots.specs.Restoring.{numbers_fit, with_numbers, record_fits, with_record, is_within, is_home, session_fits, with_restored, slot_fits, with_kept, held_of, headed, HeadsStay}
 use Rattle.nfs_types.specs.declared.status.Status.{Status}
 use Rattle.session_slots.specs.Sequencing.{Asked, grant_fault, begun_unless, session_begun, sequence_begun}
 use Rattle.session_slots.specs.Letting.{let_go}
@@ -32,6 +32,9 @@ less m n h = grind (arith, h)
 at_most : (m n : ℕ) → nat_le m n ≡ true → m ≤ n
 at_most m n h = grind (arith, h)
 
+below : (l m n : ℕ) → l < m → m ≤ n → l < n
+below l m n h i = omega (arith, h, i)
+
 one_more : (l m n : ℕ) → l ≤ m + 1 → m < n → l ≤ n
 one_more l m n h i = omega (arith, h, i)
 
@@ -44,19 +47,25 @@ no_other true None h t = refl
 no_other true (Some x) h t = cc
 no_other false o h t = cc
 
-pub nothing_is_orderly : (r : Registry) (next_client next_session : ℕ) → r ≡ nothing_yet next_client next_session → next_client ≤ END → next_session ≤ END → IsOrderly r
-nothing_is_orderly r next_client next_session is clients sessions = subst IsOrderly (sym is) (record {
-  numbered = λ e h. absurd h;
-  one_confirmed = λ owner e f h k a b. absurd h;
-  given = λ e h. absurd h;
-  at_home = λ e h. absurd h;
-  within = λ e h. absurd h;
-  formed = λ e h. absurd h;
-  few_clients = lit≤ tt;
-  few_sessions = lit≤ tt;
-  clients_end = clients;
-  sessions_end = sessions;
-})
+numbers_orderly : (next_client next_session : ℕ) (r : Registry) → numbers_fit r next_client next_session ≡ true → IsOrderly r → IsOrderly (with_numbers next_client next_session r)
+numbers_orderly next_client next_session r fits o =
+    let one = both (nat_le r.next_client next_client) _ fits in
+    let two = both (nat_le r.next_session next_session) _ one.1 in
+    let three = both (nat_le next_client END) (nat_le next_session END) two.1 in record {
+      numbered = λ e h. let was = o.numbered e h in (was.0, below e.0 r.next_client next_client was.1 (at_most r.next_client next_client one.0));
+      one_confirmed = o.one_confirmed;
+      given = λ e h. below e.0 r.next_session next_session (o.given e h) (at_most r.next_session next_session two.0);
+      at_home = o.at_home;
+      within = o.within;
+      formed = o.formed;
+      few_clients = o.few_clients;
+      few_sessions = o.few_sessions;
+      clients_end = at_most next_client END three.0;
+      sessions_end = at_most next_session END three.1;
+    }
+
+pub numbered_orderly : (old new : Registry) (next_client next_session : ℕ) → new ≡ with_numbers next_client next_session old → numbers_fit old next_client next_session ≡ true → IsOrderly old → IsOrderly new
+numbered_orderly old new next_client next_session is fits o = subst IsOrderly (sym is) (numbers_orderly next_client next_session old fits o)
 
 -- ---- a record
 

@@ -1,5 +1,5 @@
 -- The XDR forms of what is kept over a restart (RFC 4506), and the value of each part.
-use Rattle.std.specs.Prelude.{ℕ, List, [], ◌∷◌, Option, Some, None, Result, Ok, Err}
+use Rattle.std.specs.Prelude.{ℕ, [], ◌∷◌, Result, Ok, Err}
 use Rattle.std.specs.Option.{option_map}
 use Rattle.std.proofs.Common.{inl, inr}
 use Rattle.rpc_record.specs.Identity.{Identity}

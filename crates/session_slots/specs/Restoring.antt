@@ -1,5 +1,5 @@
 -- What is kept over a restart, and how clients, sessions and slots are made of it again (RFC 8881, section 2.10.6.5).
-use Rattle.std.specs.Prelude.{◌≡◌, ℕ, ◌&&◌, ◌||◌, if◌then◌else◌, Bool, true, false, not, nat_lt, nat_le, List, [], map, length, Option, Some, None, is_some, is_none, find}
+use Rattle.std.specs.Prelude.{◌≡◌, ℕ, ◌&&◌, Bool, false, not, nat_lt, nat_le, List, [], map, length, Option, Some, None, is_some, is_none, find}
 use Rattle.std.specs.List.Sorted.{IsStrictlySortedBy}
 use Rattle.std.specs.Map.{keys_of}
 use Rattle.std.specs.Option.{option_and_then}
@@ -16,9 +16,14 @@ use Rattle.session_slots.specs.Registry.{Client, Session, Registry, client_at, s
 abbrev pub nothing_yet : ℕ → ℕ → Registry
 nothing_yet next_client next_session = record { clients = []; sessions = []; next_client = next_client; next_session = next_session }
 
--- numbers that the next client and the next session may get
-abbrev pub numbers_fit : ℕ → ℕ → Bool
-numbers_fit next_client next_session = if nat_lt END next_client || nat_lt END next_session then false else true
+-- Numbers that the next client and the next session may get: none is below that which would have been given, or above
+-- 2 ^ 63.
+abbrev pub numbers_fit : Registry → ℕ → ℕ → Bool
+numbers_fit r next_client next_session =
+    nat_le r.next_client next_client && (nat_le r.next_session next_session && (nat_le next_client END && nat_le next_session END))
+
+abbrev pub with_numbers : ℕ → ℕ → Registry → Registry
+with_numbers next_client next_session r = record r { next_client = next_client; next_session = next_session }
 
 -- ---- a record
 

@@ -1,4 +1,6 @@
 -- The arguments of calls, and what is kept over a restart, as the definitions see them.
+use Rattle.std.specs.Prelude.{ℕ, List, ◌++◌}
+use Rattle.session_slots.specs.declared.call_bytes.CallBytes.{CallBytes}
 use Rattle.session_slots.specs.declared.session.Sequence.{Sequence}
 use Rattle.session_slots.specs.declared.exchanging.Exchange.{Exchange}
 use Rattle.session_slots.specs.Exchanging.{Exchanging}
@@ -8,8 +10,12 @@ use Rattle.session_slots.specs.Slots.{Call, Kept}
 use Rattle.session_slots.specs.declared.slot.KeptCall.{KeptCall}
 use Rattle.session_slots.specs.Sequencing.{Asked}
 
+-- the bytes that a repeat of a call has to have
+abbrev pub bytes_of : CallBytes → List ℕ
+bytes_of c = c.front.now ++ c.back.now
+
 abbrev pub call_of : Sequence → Call
-call_of s = record { number = s.number; caller = s.caller.now; arguments = s.arguments.now }
+call_of s = record { number = s.number; caller = s.caller.now; arguments = bytes_of s.arguments }
 
 abbrev pub asked_of : Sequence → Asked
 asked_of s = record { slot = s.slot; highest = s.highest; count = s.count; record_len = s.record_len; call = call_of s }

@@ -9,14 +9,13 @@ ghost use Rattle.session_slots.specs.Creating.{Creates, CreatesAt};
 ghost use Rattle.session_slots.specs.Exchanging.{Exchanges};
 ghost use Rattle.session_slots.specs.Destroying.{destroy_session_refusal, without_session, destroy_client_refusal, without_client, reclaim_refusal, with_reclaimed};
 ghost use Rattle.session_slots.specs.Orderly.{IsOrderly, has_form};
-ghost use Rattle.session_slots.specs.Restoring.{IsRising, number_from, numbers_fit, nothing_yet, record_fits, with_record, session_fits, with_restored, slot_fits, with_kept, held_of, kept_at};
+ghost use Rattle.session_slots.specs.Restoring.{IsRising, number_from, numbers_fit, record_fits, with_record, session_fits, with_restored, slot_fits, with_kept, held_of, kept_at, with_numbers};
 ghost use Rattle.session_slots.specs.Letting.{let_go};
-ghost use Rattle.session_slots.specs.Views.{asked_of, exchanging_of, client_of, kept_of};
+ghost use Rattle.session_slots.specs.Views.{asked_of, bytes_of, exchanging_of, client_of, kept_of};
 
 use crate::client::Record;
 use crate::creating::{Create, Made};
 use crate::exchanging::{Exchange, Exchanged};
-use crate::limits::END;
 use crate::registry::Registry;
 use crate::restoring::RestoreFault;
 use crate::session::{Begin, Held, Sequence};
@@ -112,7 +111,7 @@ impl<A: Allocator + Copy> Clients<A> {
     /// nothing. It takes no memory.
     #[tactic(auto, using(crate::proofs::Beginning::sequences_by_history, crate::proofs::Staying::stays))]
     pub fn begin(&mut self, session: u64, asked: Sequence<'_>) -> Begin
-        requires { length asked.arguments.now ≤ asked.record_len }
+        requires { length (bytes_of asked.arguments) ≤ asked.record_len }
         ensures answer { result ≡ sequence_begin self.old session (asked_of asked.entry) }
         ensures begun { self.new ≡ sequence_begun self.old session (asked_of asked.entry) }
         ensures by_history { SequencesByHistory self.old self.new session (asked_of asked.entry) result }
@@ -145,18 +144,17 @@ impl<A: Allocator + Copy> Clients<A> {
 
     // ---- over a restart
 
-    /// No client and no session: the next ones get these numbers, which are kept over a restart. `None`: a number is above 2^63.
-    #[tactic(auto, using(crate::proofs::Restored::nothing_is_orderly))]
-    pub fn restoring(alloc: A, next_client: u64, next_session: u64) -> Option<Self>
-        ensures fits { is_some result ≡ numbers_fit next_client next_session }
-        ensures begun { IfSome result (λ clients. clients ≡ nothing_yet next_client next_session) }
+    /// The next client and the next session get these numbers, which were kept over a restart. `false`: one of them is below that which
+    /// would have been given, or above 2^63, and nothing changes.
+    pub fn restore_numbers(&mut self, next_client: u64, next_session: u64) -> bool
+        ensures fits { result ≡ numbers_fit self.old next_client next_session }
+        ensures given { self.new ≡ (if result then with_numbers next_client next_session self.old else self.old) }
     {
-        if next_client > END || next_session > END {
-            return None;
+        if !self.registry.numbers_fit(next_client, next_session) {
+            return false;
         }
-        Some(Clients {
-            registry: Registry::restoring(alloc, next_client, next_session),
-        })
+        self.registry.give_numbers(next_client, next_session);
+        true
     }
 
     /// Restores the record of a client, which counts as heard in this second. Misfit: its number wasn't given yet, or is there; its owner

@@ -4,6 +4,7 @@
 //! state stands for every history of calls that leads to it.
 #![tactic(auto)]
 
+mod call_bytes;
 mod changes;
 mod client;
 mod clients;
@@ -19,6 +20,7 @@ mod restoring;
 mod session;
 mod slot;
 
+pub use call_bytes::CallBytes;
 pub use client::{Created, Creation, Record};
 pub use clients::Clients;
 pub use creating::{Create, Made};

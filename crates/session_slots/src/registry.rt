@@ -7,7 +7,7 @@ ghost use Rattle.std.specs.Option.{option_map};
 ghost use Rattle.session_slots.specs.Slots.{finished};
 ghost use Rattle.session_slots.specs.Registry.{nobody, session_at, results_at, kept_size, most_kept, confirmed_entry, with_session, with_place};
 ghost use Rattle.session_slots.specs.Sequencing.{sequence_begin, sequence_begun};
-ghost use Rattle.session_slots.specs.Views.{asked_of};
+ghost use Rattle.session_slots.specs.Views.{asked_of, bytes_of};
 
 use crate::changes::{confirmed_in, hear};
 use crate::client::Client;
@@ -58,7 +58,7 @@ impl<A: Allocator + Copy> Registry<A> {
 
     /// Begins a call on a slot of a session.
     fn begin_on_slot(&mut self, session: u64, asked: Sequence<'_>) -> Begin
-        requires { length asked.arguments.now ≤ asked.record_len }
+        requires { length (bytes_of asked.arguments) ≤ asked.record_len }
         ensures answer { result ≡ sequence_begin self.old session (asked_of asked.entry) }
         ensures begun { self.new ≡ sequence_begun self.old session (asked_of asked.entry) }
     {
@@ -81,7 +81,7 @@ impl<A: Allocator + Copy> Registry<A> {
 
     /// Begins a call on a slot of a session. Where it is new or a repeat, its client counts as heard.
     pub fn begin(&mut self, session: u64, asked: Sequence<'_>) -> Begin
-        requires { length asked.arguments.now ≤ asked.record_len }
+        requires { length (bytes_of asked.arguments) ≤ asked.record_len }
         ensures answer { result ≡ sequence_begin self.old session (asked_of asked.entry) }
         ensures begun { self.new ≡ sequence_begun self.old session (asked_of asked.entry) }
     {

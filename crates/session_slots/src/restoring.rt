@@ -7,14 +7,15 @@ ghost use Rattle.std.specs.Ordering.{nat_cmp};
 ghost use Rattle.session_slots.specs.Registry.{client_at, session_at, kept_size};
 ghost use Rattle.session_slots.specs.Orderly.{has_form, is_kept_refusal};
 ghost use Rattle.session_slots.specs.Sequencing.{HasSlots};
-ghost use Rattle.session_slots.specs.Restoring.{IsRising, number_from, nothing_yet, record_fits, with_record, is_within, is_home, session_fits, with_restored, slot_fits, with_kept, held_of, kept_at};
+ghost use Rattle.session_slots.specs.Restoring.{IsRising, number_from, numbers_fit, record_fits, with_record, is_within, is_home, session_fits, with_restored, slot_fits, with_kept, held_of, kept_at, with_numbers};
 ghost use Rattle.session_slots.specs.Views.{client_of, kept_of};
 ghost use Rattle.session_slots.specs.declared.restoring.RestoreFault.TheVariants.{Memory};
 
 use crate::changes::{add_client, add_session};
 use crate::client::{Client, Record};
 use crate::limits::{
-    LEAST_REPLY, MOST_BYTES, MOST_CLIENTS, MOST_OPERATIONS, MOST_OWNER, MOST_SESSIONS, MOST_SLOTS,
+    END, LEAST_REPLY, MOST_BYTES, MOST_CLIENTS, MOST_OPERATIONS, MOST_OWNER, MOST_SESSIONS,
+    MOST_SLOTS,
 };
 use crate::registry::Registry;
 use crate::session::{Channel, Held, Session};
@@ -117,17 +118,20 @@ fn first_from<V, A: Allocator>(map: &BTreeMap<u64, V, A>, number: u64) -> Option
 }
 
 impl<A: Allocator + Copy> Registry<A> {
-    /// No client and no session: the next ones get these numbers.
-    pub fn restoring(alloc: A, next_client: u64, next_session: u64) -> Self
-        ensures { result ≡ nothing_yet next_client next_session }
+    /// Whether the next client and the next session may get these numbers.
+    pub fn numbers_fit(&self, next_client: u64, next_session: u64) -> bool
+        ensures { result ≡ numbers_fit self.now next_client next_session }
     {
-        Registry {
-            alloc,
-            clients: BTreeMap::new(alloc),
-            sessions: BTreeMap::new(alloc),
-            next_client,
-            next_session,
-        }
+        self.next_client <= next_client
+            && (self.next_session <= next_session && (next_client <= END && next_session <= END))
+    }
+
+    /// The next client and the next session get these numbers.
+    pub fn give_numbers(&mut self, next_client: u64, next_session: u64)
+        ensures { self.new ≡ with_numbers next_client next_session self.old }
+    {
+        self.next_client = next_client;
+        self.next_session = next_session;
     }
 
     /// Whether a record may stand beside those that are there.

@@ -4,9 +4,10 @@ ghost use Rattle.std.specs.Option.{option_copied};
 ghost use Rattle.session_slots.specs.Slots.{begun, finished, restored};
 ghost use Rattle.session_slots.specs.Registry.{changed_place, kept_size, with_place, unused_places, new_session, restored_session};
 ghost use Rattle.session_slots.specs.Restoring.{held_of, slot_fits};
-ghost use Rattle.session_slots.specs.Views.{asked_of, call_of, kept_of};
+ghost use Rattle.session_slots.specs.Views.{asked_of, bytes_of, call_of, kept_of};
 ghost use Rattle.session_slots.specs.Sequencing.{HasSlots, grant_fault, place_turn, begin_of, session_begin, session_begun};
 
+use crate::call_bytes::CallBytes;
 use crate::limits::REPLY_HEADER;
 use crate::slot::{KeptCall, Slot, Turn};
 use nfs_types::Status;
@@ -44,8 +45,8 @@ pub struct Sequence<'a> {
     pub count: u32,
     /// How many bytes the call's record has.
     pub record_len: usize,
-    /// The bytes after the call's header.
-    pub arguments: &'a [u8],
+    /// The bytes that a repeat of the call has to have, of those after its header.
+    pub arguments: CallBytes<'a>,
     /// The caller.
     pub caller: &'a Caller,
     /// The second of the server's clock, in which the client counts as heard where the call is new or a repeat.
@@ -122,7 +123,7 @@ fn begin_of(client: u64, granted: Channel, turn: Turn) -> Begin
 #[tactic(auto, using(crate::proofs::Places::changed_there, crate::proofs::Places::is_there))]
 fn begin_at<A: Allocator + Copy>(slots: &mut Vec<Slot<A>, A>, asked: Sequence<'_>) -> Turn
     requires within { asked.slot < length slots.old.items }
-    requires room { IfSome (slice_get slots.old.items asked.slot) (λ p. length asked.arguments.now ≤ p.most_arguments) }
+    requires room { IfSome (slice_get slots.old.items asked.slot) (λ p. length (bytes_of asked.arguments) ≤ p.most_arguments) }
     ensures turn { result ≡ place_turn (slice_get slots.old.items asked.entry.slot) (call_of asked.entry) }
     ensures begun { slots.new.items ≡ changed_place asked.entry.slot (λ p. begun p (call_of asked.entry)) slots.old.items }
 {
@@ -277,7 +278,7 @@ impl<A: Allocator + Copy> Session<A> {
     /// Begins a call on a slot. It takes no memory.
     #[tactic(auto, using(crate::proofs::Places::begun_has_slots, crate::proofs::Places::has_room_for_arguments))]
     pub fn begin(&mut self, asked: Sequence<'_>) -> Begin
-        requires { length asked.arguments.now ≤ asked.record_len }
+        requires { length (bytes_of asked.arguments) ≤ asked.record_len }
         ensures answer { result ≡ session_begin self.old (asked_of asked.entry) }
         ensures begun { self.new ≡ session_begun self.old (asked_of asked.entry) }
     {

@@ -3,8 +3,9 @@ ghost use Rattle.std.specs.Prelude.{◌≡◌, ◌+◌, ◌%◌, ◌^◌, ◌≤
 ghost use Rattle.std.specs.Option.{option_map};
 ghost use Rattle.session_slots.specs.Counting as specs;
 ghost use Rattle.session_slots.specs.Slots.{Call, Kept, Place, number_of, turn_of, begun, finished, restored, results_of, BeginsBy, KeepsByHistory};
-ghost use Rattle.session_slots.specs.Views.{kept_of};
+ghost use Rattle.session_slots.specs.Views.{bytes_of, kept_of};
 
+use crate::call_bytes::CallBytes;
 use crate::limits::{MOST_AHEAD, WRITTEN_EVERY};
 use nfs_types::Status;
 use rpc_record::Caller;
@@ -133,8 +134,8 @@ impl<A: Allocator + Copy> Slot<A> {
     }
 
     /// Whether a call is new, a repeat of the last one, or refused.
-    fn turn(&self, number: u32, arguments: &[u8], caller: &Caller) -> Turn
-        ensures { result ≡ turn_of self.now.lags self.now.kept (record { number = number; caller = caller.now; arguments = arguments.now }) }
+    fn turn(&self, number: u32, arguments: CallBytes<'_>, caller: &Caller) -> Turn
+        ensures { result ≡ turn_of self.now.lags self.now.kept (record { number = number; caller = caller.now; arguments = bytes_of arguments.entry }) }
     {
         if is_next(self.lags, self.last_number(), number) {
             return Turn::New;
@@ -145,23 +146,24 @@ impl<A: Allocator + Copy> Slot<A> {
         if number != *last {
             return Turn::Refused(Status::SeqMisordered);
         }
-        if arguments == self.arguments.as_slice() && *caller == *sender {
+        if arguments.are(self.arguments.as_slice()) && *caller == *sender {
             return Turn::Repeat;
         }
         Turn::Refused(Status::SeqFalseRetry)
     }
 
     /// Begins a call, as [`Slot::begin`] does.
-    fn take(&mut self, number: u32, arguments: &[u8], caller: &Caller) -> Turn
-        requires { length arguments.now ≤ self.old.most_arguments }
-        ensures turn { result ≡ turn_of self.old.lags self.old.kept (record { number = number; caller = caller.now; arguments = arguments.now }) }
-        ensures begun { self.new ≡ begun self.old (record { number = number; caller = caller.now; arguments = arguments.now }) }
+    fn take(&mut self, number: u32, arguments: CallBytes<'_>, caller: &Caller) -> Turn
+        requires { length (bytes_of arguments) ≤ self.old.most_arguments }
+        ensures turn { result ≡ turn_of self.old.lags self.old.kept (record { number = number; caller = caller.now; arguments = bytes_of arguments.entry }) }
+        ensures begun { self.new ≡ begun self.old (record { number = number; caller = caller.now; arguments = bytes_of arguments.entry }) }
     {
         let turn = self.turn(number, arguments, caller);
         if let Turn::New = turn {
             self.last = Some((number, *caller));
             self.arguments.clear();
-            self.arguments.extend_from_slice(arguments).unwrap();
+            self.arguments.extend_from_slice(arguments.front).unwrap();
+            self.arguments.extend_from_slice(arguments.back).unwrap();
             self.results.clear();
             self.lags = false;
         }
@@ -173,11 +175,11 @@ impl<A: Allocator + Copy> Slot<A> {
     /// For every history of calls that the slot stood for, the call gets that history's result, and the slot stands for the history
     /// with the call. Where the slot lags, it stands for those of these histories in which the call is next.
     #[tactic(auto, using(crate::proofs::Lagging::begins_by))]
-    pub fn begin(&mut self, number: u32, arguments: &[u8], caller: &Caller) -> Turn
-        requires { length arguments.now ≤ self.old.most_arguments }
-        ensures turn { result ≡ turn_of self.old.lags self.old.kept (record { number = number; caller = caller.now; arguments = arguments.now }) }
-        ensures begun { self.new ≡ begun self.old (record { number = number; caller = caller.now; arguments = arguments.now }) }
-        ensures by_history { BeginsBy self.old.lags self.old.kept self.new (record { number = number; caller = caller.now; arguments = arguments.now }) result }
+    pub fn begin(&mut self, number: u32, arguments: CallBytes<'_>, caller: &Caller) -> Turn
+        requires { length (bytes_of arguments) ≤ self.old.most_arguments }
+        ensures turn { result ≡ turn_of self.old.lags self.old.kept (record { number = number; caller = caller.now; arguments = bytes_of arguments.entry }) }
+        ensures begun { self.new ≡ begun self.old (record { number = number; caller = caller.now; arguments = bytes_of arguments.entry }) }
+        ensures by_history { BeginsBy self.old.lags self.old.kept self.new (record { number = number; caller = caller.now; arguments = bytes_of arguments.entry }) result }
     {
         self.take(number, arguments, caller)
     }

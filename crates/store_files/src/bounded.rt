@@ -1,4 +1,9 @@
 //! A file that isn't written beyond the size that the system allows, since the system would end the program by a signal (SIGXFSZ).
+ghost use Rattle.std.specs.Prelude.{◌≡◌, ◌<◌, ◌-◌, length, IsErrAnd, MatchResult};
+ghost use Rattle.std.specs.Io.{WritesAtMost};
+ghost use Rattle.std.specs.Io.KnownBytes.{WriteAppends};
+ghost use Rattle.std.specs.IoError.{error_kind};
+
 use std::io::{ErrorKind, Write};
 use std::rt::Files;
 use std::{fs, io};
@@ -44,14 +49,24 @@ pub struct Bounded<F> {
 
 impl<F> Bounded<F> {
     /// A writer to which this many bytes may be written.
-    pub fn new(file: F, room: u64) -> Self {
+    pub fn new(file: F, room: u64) -> Self
+        ensures { result ≡ record { file = file; room = room } }
+    {
         Bounded { file, room }
     }
 }
 
 impl<F: Write> Write for Bounded<F> {
+    ghost contents = { λ b. F.contents b.file };
+
     /// Bytes that don't all have room aren't written, so that no line is torn.
-    fn write(&mut self, buf: &[u8]) -> io::Result<usize> {
+    fn write(&mut self, buf: &[u8]) -> io::Result<usize>
+        ensures bound { WritesAtMost result buf.now }
+        ensures bytes { WriteAppends (F.contents self.old.file) (F.contents self.new.file) result buf.now }
+        ensures full { self.old.room < length buf.now → IsErrAnd result (λ e. error_kind e ≡ ErrorKind.FileTooLarge) }
+        ensures whole { self.old.room < length buf.now → self.new ≡ self.old }
+        ensures room { MatchResult result (λ n. self.new.room ≡ self.old.room - n) (λ e. self.new.room ≡ self.old.room) }
+    {
         if buf.len() as u64 > self.room {
             return Err(ErrorKind::FileTooLarge.into());
         }

@@ -1,9 +1,12 @@
 //! Where a store is damaged, as far as it is known.
-ghost use Rattle.std.specs.Prelude.{◌+◌, ◌≤◌, length};
+ghost use Rattle.std.specs.Prelude.{◌≡◌, ◌+◌, ◌≤◌, length, IfOk};
+ghost use Rattle.store_files.specs.Places.{IsAfter, IsRefusedAt, IsRefusedSo};
+ghost use Rattle.journal.specs.Files.{generation_in};
+ghost use Rattle.store_files.specs.Standings.{IsStanding, first_head, version_in};
 
 use crate::fault::Part;
 use journal::{Frames, Head, OpenFault, choose};
-use std::alloc::Allocator;
+use std::alloc::{AllocError, Allocator};
 use std::fmt;
 use std::fmt::{Display, Formatter};
 use xdr_wire::{Reader, Wire};
@@ -45,16 +48,33 @@ pub enum Damage {
 }
 
 /// The first head of a file, fitting or not.
-fn first_head(file: &[u8]) -> Option<Head> {
-    Head::read(&mut Reader::new(file)).ok()
+#[tactic(auto, unfolding(crate::specs::Standings::first_head))]
+fn first_head(file: &[u8]) -> Option<Head>
+    ensures { result ≡ first_head file.now }
+{
+    let mut reader = Reader::new(file);
+    match Head::read(&mut reader) {
+        Ok(head) => Some(head),
+        Err(_) => None,
+    }
+}
+
+/// The version and the generation of a head; 0 where there is none.
+fn said(head: Option<Head>) -> (u64, u64)
+    ensures version { result.0 ≡ version_in head }
+    ensures generation { result.1 ≡ generation_in head }
+{
+    match head {
+        Some(head) => (head.version, head.generation),
+        None => (0, 0),
+    }
 }
 
 /// What stands at the front of a file.
-pub fn what_stands(key: u64, file: &[u8]) -> Standing {
-    let (version, generation) = match first_head(file) {
-        Some(head) => (head.version, head.generation),
-        None => (0, 0),
-    };
+pub fn what_stands(key: u64, file: &[u8]) -> Standing
+    ensures { IsStanding key file.now result }
+{
+    let (version, generation) = said(first_head(file));
     let mut frames = Frames {
         key,
         generation,
@@ -71,7 +91,10 @@ pub fn what_stands(key: u64, file: &[u8]) -> Standing {
 }
 
 /// The place after the frames that stand in a file.
-fn place_in(key: u64, part: Part, file: &[u8]) -> Place {
+fn place_in(key: u64, part: Part, file: &[u8]) -> Place
+    ensures part { result.part ≡ part }
+    ensures after { IsAfter key file.now result }
+{
     let standing = what_stands(key, file);
     Place {
         part,
@@ -80,32 +103,58 @@ fn place_in(key: u64, part: Part, file: &[u8]) -> Place {
     }
 }
 
-/// Whether a file alone is refused.
-fn is_refused<A: Allocator + Copy>(alloc: A, key: u64, file: &[u8]) -> bool {
-    matches!(
-        choose(alloc, key, file, &[]),
-        Err(OpenFault::Damaged | OpenFault::Version)
-    )
+/// Whether a file alone is refused. An error comes only for want of memory.
+fn is_refused<A: Allocator + Copy>(alloc: A, key: u64, file: &[u8]) -> Result<bool, AllocError>
+    ensures { IfOk result (λ refused. IsRefusedSo key file.now refused) }
+{
+    match choose(alloc, key, file, &[]) {
+        Ok(_) => Ok(false),
+        Err(OpenFault::Damaged) => Ok(true),
+        Err(OpenFault::Version) => Ok(true),
+        Err(OpenFault::Failed | OpenFault::Memory) => Err(AllocError),
+    }
 }
 
-/// The place in the file that has the journal refused, if it is one of them; of two the one of the greater generation.
+/// The place in the file that has the journal refused, if it is one of them; of two the one of the greater generation. An error comes only for
+/// want of memory.
 pub(crate) fn refused_place<A: Allocator + Copy>(
     alloc: A,
     key: u64,
     a: &[u8],
     b: &[u8],
-) -> Option<Place> {
-    let is_later = what_stands(key, a).generation <= what_stands(key, b).generation;
-    let b_is_refused = is_refused(alloc, key, b);
-    if b_is_refused && is_later {
-        Some(place_in(key, Part::B, b))
-    } else if is_refused(alloc, key, a) {
-        Some(place_in(key, Part::A, a))
-    } else if b_is_refused {
-        Some(place_in(key, Part::B, b))
-    } else {
-        None
+) -> Result<Option<Place>, AllocError>
+    ensures { IfOk result (λ place. IsRefusedAt key a.now b.now place) }
+{
+    let a_is_refused = is_refused(alloc, key, a)?;
+    let b_is_refused = is_refused(alloc, key, b)?;
+    Ok(refused_part(key, a, b, a_is_refused, b_is_refused))
+}
+
+/// The place in one of two files, by which of them is refused.
+fn refused_part(
+    key: u64,
+    a: &[u8],
+    b: &[u8],
+    a_is_refused: bool,
+    b_is_refused: bool,
+) -> Option<Place>
+    requires a { IsRefusedSo key a.now a_is_refused }
+    requires b { IsRefusedSo key b.now b_is_refused }
+    ensures { IsRefusedAt key a.now b.now result }
+{
+    if !b_is_refused {
+        if !a_is_refused {
+            return None;
+        }
+        return Some(place_in(key, Part::A, a));
     }
+    if !a_is_refused {
+        return Some(place_in(key, Part::B, b));
+    }
+    if what_stands(key, b).generation < what_stands(key, a).generation {
+        return Some(place_in(key, Part::A, a));
+    }
+    Some(place_in(key, Part::B, b))
 }
 
 impl Display for Place {

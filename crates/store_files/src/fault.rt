@@ -1,4 +1,6 @@
 //! Why a folder isn't opened.
+ghost use Rattle.std.specs.Prelude.{◌≡◌};
+
 use std::fmt::{Display, Formatter};
 use std::{fmt, io};
 
@@ -35,7 +37,9 @@ pub struct Failure {
 }
 
 impl Failure {
-    pub(crate) fn new(part: Part, error: io::Error) -> Self {
+    pub(crate) fn new(part: Part, error: io::Error) -> Self
+        ensures { result ≡ record { part = part; error = error } }
+    {
         Failure { part, error }
     }
 }

@@ -1,6 +1,8 @@
 //! The folder of a store, as the disk of a journal.
-ghost use Rattle.std.specs.Prelude.{MatchResult};
-ghost use Rattle.journal.specs.Disk.{Found, Unfound, appended, emptied, synced};
+ghost use Rattle.std.specs.Prelude.{◌≡◌, Some, None, Ok, Err, IfOk, IfErr, MatchResult, true, false};
+ghost use Rattle.journal.specs.Disk.{Found, Unfound, Appended, Synced, Emptied, appended, emptied, synced};
+ghost use Rattle.store_files.specs.Held.{IsFault, AreReadable, IsOpen, IsReadable, IsThere, IsUnloaded, Keeps, UnloadedSo, WentSo, part_in, without_failure};
+ghost use Rattle.store_files.specs.Keys.{KeyFor};
 
 use crate::bounded::file_limit;
 use crate::fault::{Failure, FolderFault, Part};
@@ -33,7 +35,9 @@ struct There {
     b: bool,
 }
 
-fn look<R: Files + Alloc>(rt: &R, path: &str) -> Result<There, FolderFault> {
+fn look<R: Files + Alloc>(rt: &R, path: &str) -> Result<There, FolderFault>
+    ensures { IfErr result IsFault }
+{
     Ok(There {
         a: is_there(rt, path, Part::A)?,
         b: is_there(rt, path, Part::B)?,
@@ -46,7 +50,10 @@ fn open_file<R: Files<File = File> + Alloc>(
     path: &str,
     part: Part,
     how: Opening,
-) -> Result<StoreFile, FolderFault> {
+) -> Result<StoreFile, FolderFault>
+    ensures there { IfOk result IsThere }
+    ensures fault { IfErr result IsFault }
+{
     let file = open_part(rt, path, part, how)?;
     match StoreFile::new(file, file_limit(rt)) {
         Ok(file) => Ok(file),
@@ -59,7 +66,9 @@ fn open_key<R: Files<File = File> + Alloc>(
     rt: &R,
     path: &str,
     there: There,
-) -> Result<File, FolderFault> {
+) -> Result<File, FolderFault>
+    ensures { IfErr result IsFault }
+{
     if !there.a && !there.b {
         return open_part(rt, path, Part::Key, Opening::Make);
     }
@@ -69,17 +78,31 @@ fn open_key<R: Files<File = File> + Alloc>(
     open_part(rt, path, Part::Key, Opening::Append)
 }
 
+/// The key that was found, if one was. Where there is none beside a file of the journal, it has rotted.
+fn known_key(found: Option<u64>, there: There) -> Result<Option<u64>, FolderFault>
+    ensures { KeyFor found there.a there.b result }
+{
+    if found.is_none() {
+        if there.a {
+            return Err(FolderFault::Damaged(Part::Key));
+        }
+        if there.b {
+            return Err(FolderFault::Damaged(Part::Key));
+        }
+    }
+    Ok(found)
+}
+
 /// The key of a store that is there, or a new one where there is none.
-fn key_of<R: RandomSource>(rt: &R, file: &mut File, there: There) -> Result<u64, FolderFault> {
+fn key_of<R: RandomSource>(rt: &R, file: &mut File, there: There) -> Result<u64, FolderFault>
+    ensures { IfErr result IsFault }
+{
     let found = match read_key(file) {
         Ok(found) => found,
         Err(error) => return Err(failed(Part::Key, error)),
     };
-    if let Some(key) = found {
+    if let Some(key) = known_key(found, there)? {
         return Ok(key);
-    }
-    if there.a || there.b {
-        return Err(FolderFault::Damaged(Part::Key));
     }
     match draw_key(rt, file) {
         Ok(key) => Ok(key),
@@ -91,7 +114,10 @@ fn key_of<R: RandomSource>(rt: &R, file: &mut File, there: There) -> Result<u64,
 fn make_files<R: Files<File = File> + Alloc>(
     rt: &R,
     path: &str,
-) -> Result<(StoreFile, StoreFile), FolderFault> {
+) -> Result<(StoreFile, StoreFile), FolderFault>
+    ensures there { IfOk result (λ files. IsThere files.0 × IsThere files.1) }
+    ensures fault { IfErr result IsFault }
+{
     sync_folder(rt, path)?;
     let a = open_file(rt, path, Part::A, Opening::Make)?;
     sync_folder(rt, path)?;
@@ -105,7 +131,12 @@ fn find_files<R: Files<File = File> + Alloc>(
     rt: &R,
     path: &str,
     there: There,
-) -> Result<(StoreFile, StoreFile), FolderFault> {
+) -> Result<(StoreFile, StoreFile), FolderFault>
+    ensures there { IfOk result (λ files. IsThere files.0 × IsThere files.1) }
+    ensures fault { IfErr result IsFault }
+    ensures first { there.a ≡ false → result ≡ Err (FolderFault.Damaged Part.A) }
+    ensures second { there.b ≡ false → IfOk result (λ files. files.0.len ≡ 0) }
+{
     if !there.a {
         return Err(FolderFault::Damaged(Part::A));
     }
@@ -118,12 +149,31 @@ fn find_files<R: Files<File = File> + Alloc>(
     Ok((a, b))
 }
 
+/// The files to be written: those that are there, or new ones.
+fn write_files<R: Files<File = File> + Alloc>(
+    rt: &R,
+    path: &str,
+    there: There,
+) -> Result<(StoreFile, StoreFile), FolderFault>
+    ensures there { IfOk result (λ files. IsThere files.0 × IsThere files.1) }
+    ensures fault { IfErr result IsFault }
+{
+    if there.a || there.b {
+        find_files(rt, path, there)
+    } else {
+        make_files(rt, path)
+    }
+}
+
 /// The files of a store that is only read.
 fn read_files<R: Files<File = File> + Alloc>(
     rt: &R,
     path: &str,
     there: There,
-) -> Result<(StoreFile, StoreFile), FolderFault> {
+) -> Result<(StoreFile, StoreFile), FolderFault>
+    ensures readable { IfOk result (λ files. AreReadable files.0 files.1) }
+    ensures fault { IfErr result IsFault }
+{
     if !there.a && !there.b {
         return Ok((StoreFile::none(), StoreFile::none()));
     }
@@ -148,17 +198,16 @@ impl StoreFolder {
     pub fn open<R: Files<File = File> + RandomSource + Alloc>(
         rt: &R,
         path: &str,
-    ) -> Result<Self, FolderFault> {
+    ) -> Result<Self, FolderFault>
+        ensures opened { IfOk result IsOpen }
+        ensures fault { IfErr result IsFault }
+    {
         make_folder(rt, path)?;
         let mut locked = open_key(rt, path, look(rt, path)?)?;
         lock(&locked, false)?;
         let there = look(rt, path)?;
         let key = key_of(rt, &mut locked, there)?;
-        let (a, b) = if there.a || there.b {
-            find_files(rt, path, there)?
-        } else {
-            make_files(rt, path)?
-        };
+        let (a, b) = write_files(rt, path, there)?;
         Ok(StoreFolder::with(locked, key, a, b))
     }
 
@@ -167,7 +216,10 @@ impl StoreFolder {
     pub fn open_to_read<R: Files<File = File> + Alloc>(
         rt: &R,
         path: &str,
-    ) -> Result<Self, FolderFault> {
+    ) -> Result<Self, FolderFault>
+        ensures opened { IfOk result IsReadable }
+        ensures fault { IfErr result IsFault }
+    {
         let mut locked = open_part(rt, path, Part::Key, Opening::Read)?;
         lock(&locked, true)?;
         let key = match read_key(&mut locked) {
@@ -179,7 +231,9 @@ impl StoreFolder {
         Ok(StoreFolder::with(locked, key, a, b))
     }
 
-    fn with(locked: File, key: u64, a: StoreFile, b: StoreFile) -> Self {
+    fn with(locked: File, key: u64, a: StoreFile, b: StoreFile) -> Self
+        ensures { result ≡ record { locked = locked; key = key; a = a; b = b; failure = None } }
+    {
         StoreFolder {
             locked,
             key,
@@ -190,24 +244,73 @@ impl StoreFolder {
     }
 
     /// The key of the digests.
-    pub fn key(&self) -> u64 {
+    pub fn key(&self) -> u64
+        ensures { result ≡ self.now.key }
+    {
         self.key
     }
 
     /// What the system said where a call of the disk failed, if one did. It is said once.
-    pub fn take_failure(&mut self) -> Option<Failure> {
+    pub fn take_failure(&mut self) -> Option<Failure>
+        ensures result { result ≡ self.old.failure }
+        ensures after { self.new ≡ without_failure self.old }
+    {
         self.failure.take()
     }
 
-    fn file(&mut self, slot: Slot) -> &mut StoreFile {
+    /// Syncs a file, and reads all its bytes.
+    fn load_file<A: Allocator>(&mut self, alloc: A, slot: Slot) -> io::Result<Vec<u8, A>>
+        ensures { MatchResult result (λ bytes. Keeps self.old (Found slot bytes.items) self.new) (λ e. self.new ≡ self.old) }
+    {
         match slot {
-            Slot::A => &mut self.a,
-            Slot::B => &mut self.b,
+            Slot::A => self.a.load(alloc),
+            Slot::B => self.b.load(alloc),
         }
     }
 
+    /// Appends bytes to a file.
+    fn append_to(&mut self, slot: Slot, bytes: &[u8]) -> io::Result<()>
+        ensures { MatchResult result (λ done. Keeps self.old (Appended slot bytes.now) self.new) (λ e. self.new ≡ self.old) }
+    {
+        match slot {
+            Slot::A => self.a.append(bytes),
+            Slot::B => self.b.append(bytes),
+        }
+    }
+
+    /// Waits until what was done with a file is on the disk.
+    fn sync_file(&self, slot: Slot) -> io::Result<()> {
+        match slot {
+            Slot::A => self.a.sync(),
+            Slot::B => self.b.sync(),
+        }
+    }
+
+    /// Makes a file empty.
+    fn empty_file(&mut self, slot: Slot) -> io::Result<()>
+        ensures { MatchResult result (λ done. Keeps self.old (Emptied slot) self.new) (λ e. self.new ≡ self.old) }
+    {
+        match slot {
+            Slot::A => self.a.empty(),
+            Slot::B => self.b.empty(),
+        }
+    }
+
+    /// Why a file isn't loaded. What the system said is kept; for want of memory nothing is.
+    fn unloaded(&mut self, slot: Slot, error: io::Error) -> LoadFault
+        ensures { UnloadedSo slot error result self.old self.new }
+    {
+        if error.kind() == ErrorKind::OutOfMemory {
+            return LoadFault::Memory;
+        }
+        self.failure = Some(Failure::new(part_of(slot), error));
+        LoadFault::Failed
+    }
+
     /// Whether a call of the disk went well. What the system said is kept where it didn't.
-    fn went_well(&mut self, slot: Slot, gave: io::Result<()>) -> bool {
+    fn went_well(&mut self, slot: Slot, gave: io::Result<()>) -> bool
+        ensures { WentSo slot gave result self.old self.new }
+    {
         match gave {
             Ok(()) => true,
             Err(error) => {
@@ -219,7 +322,9 @@ impl StoreFolder {
 }
 
 /// The part of a file of the journal.
-pub(crate) fn part_of(slot: Slot) -> Part {
+pub(crate) fn part_of(slot: Slot) -> Part
+    ensures { result ≡ part_in slot }
+{
     match slot {
         Slot::A => Part::A,
         Slot::B => Part::B,
@@ -227,29 +332,32 @@ pub(crate) fn part_of(slot: Slot) -> Part {
 }
 
 impl Disk for StoreFolder {
-    fn load<A: Allocator>(&mut self, alloc: A, slot: Slot) -> Result<Vec<u8, A>, LoadFault> {
-        match self.file(slot).load(alloc) {
+    ghost use Rattle.store_files.specs.Held.{Keeps as KeepsWhat};
+
+    ghost adds = { KeepsWhat };
+
+    fn load<A: Allocator>(&mut self, alloc: A, slot: Slot) -> Result<Vec<u8, A>, LoadFault>
+        ensures keeps { MatchResult result (λ bytes. Keeps self.old (Found slot bytes.items) self.new) (λ fault. Keeps self.old (Unfound slot) self.new) }
+        ensures unloaded { IfErr result (λ fault. IsUnloaded slot fault self.old self.new) }
+    {
+        match self.load_file(alloc, slot) {
             Ok(bytes) => Ok(bytes),
-            Err(error) if error.kind() == ErrorKind::OutOfMemory => Err(LoadFault::Memory),
-            Err(error) => {
-                self.failure = Some(Failure::new(part_of(slot), error));
-                Err(LoadFault::Failed)
-            }
+            Err(error) => Err(self.unloaded(slot, error)),
         }
     }
 
     fn append(&mut self, slot: Slot, bytes: &[u8]) -> bool {
-        let gave = self.file(slot).append(bytes);
+        let gave = self.append_to(slot, bytes);
         self.went_well(slot, gave)
     }
 
     fn sync(&mut self, slot: Slot) -> bool {
-        let gave = self.file(slot).sync();
+        let gave = self.sync_file(slot);
         self.went_well(slot, gave)
     }
 
     fn empty(&mut self, slot: Slot) -> bool {
-        let gave = self.file(slot).empty();
+        let gave = self.empty_file(slot);
         self.went_well(slot, gave)
     }
 }

@@ -1,4 +1,7 @@
 //! Finding and making the folder and its files.
+ghost use Rattle.std.specs.Prelude.{◌≡◌, IfErr};
+ghost use Rattle.store_files.specs.Held.{IsFault, IsFaultOf};
+
 use crate::fault::{Failure, FolderFault, Part};
 use std::fs::{DirBuilder, File, OpenOptions, TryLockError};
 use std::io::ErrorKind;
@@ -24,7 +27,11 @@ const FOLDER_MODE: u32 = 0o700;
 /// The mode of a file that is made.
 const FILE_MODE: u32 = 0o600;
 
-pub(crate) fn failed(part: Part, error: io::Error) -> FolderFault {
+/// What the system says of a part.
+pub(crate) fn failed(part: Part, error: io::Error) -> FolderFault
+    ensures of { IsFaultOf part error result }
+    ensures fault { IsFault result }
+{
     if error.kind() == ErrorKind::OutOfMemory {
         FolderFault::Memory
     } else {
@@ -38,7 +45,9 @@ pub(crate) fn open_part<R: Files<File = File> + Alloc>(
     path: &str,
     part: Part,
     how: Opening,
-) -> Result<File, FolderFault> {
+) -> Result<File, FolderFault>
+    ensures { IfErr result IsFault }
+{
     let Ok(name) = format!(in rt.alloc(); "{path}{part}") else {
         return Err(FolderFault::Memory);
     };
@@ -56,7 +65,9 @@ pub(crate) fn is_there<R: Files + Alloc>(
     rt: &R,
     path: &str,
     part: Part,
-) -> Result<bool, FolderFault> {
+) -> Result<bool, FolderFault>
+    ensures { IfErr result IsFault }
+{
     let Ok(name) = format!(in rt.alloc(); "{path}{part}") else {
         return Err(FolderFault::Memory);
     };
@@ -67,7 +78,9 @@ pub(crate) fn is_there<R: Files + Alloc>(
 }
 
 /// Waits until the names of a folder are on the disk.
-pub(crate) fn sync_folder<R: Files<File = File>>(rt: &R, path: &str) -> Result<(), FolderFault> {
+pub(crate) fn sync_folder<R: Files<File = File>>(rt: &R, path: &str) -> Result<(), FolderFault>
+    ensures { IfErr result IsFault }
+{
     match sync_names(rt, path) {
         Ok(()) => Ok(()),
         Err(error) => Err(failed(Part::Folder, error)),
@@ -91,7 +104,9 @@ fn parent_of(path: &str) -> &str {
 
 /// Finds the folder, or makes it. What it stands in is synced, so that it isn't lost with its name; where the folder was there, that is done as
 /// far as it is allowed.
-pub(crate) fn make_folder<R: Files<File = File>>(rt: &R, path: &str) -> Result<(), FolderFault> {
+pub(crate) fn make_folder<R: Files<File = File>>(rt: &R, path: &str) -> Result<(), FolderFault>
+    ensures { IfErr result IsFault }
+{
     let made = match fs::metadata(rt, path) {
         Ok(told) if told.is_dir() => {
             let _ = sync_names(rt, parent_of(path));
@@ -111,7 +126,9 @@ pub(crate) fn make_folder<R: Files<File = File>>(rt: &R, path: &str) -> Result<(
 }
 
 /// Locks the key's file for this program alone, or, to read, together with others that read.
-pub(crate) fn lock(file: &File, is_read: bool) -> Result<(), FolderFault> {
+pub(crate) fn lock(file: &File, is_read: bool) -> Result<(), FolderFault>
+    ensures { IfErr result IsFault }
+{
     let locked = if is_read {
         file.try_lock_shared()
     } else {

@@ -1,9 +1,14 @@
 //! Why a store isn't gone on with, for the programs to say.
+ghost use Rattle.std.specs.Prelude.{◌≡◌, IfOk, IfSome};
+ghost use Rattle.store_files.specs.Places.{IsPlaceIn, IsWrongWith};
+ghost use Rattle.store_files.specs.Held.{without_failure};
+ghost use Rattle.store_files.specs.Stops.{number_of, IsVersionStop, IsDamageStop};
+
 use crate::damage::{Damage, Place, refused_place};
 use crate::fault::{Failure, FolderFault, Part};
-use crate::folder::StoreFolder;
-use journal::{Disk, OpenFault, Slot, choose, load};
-use std::alloc::Allocator;
+use crate::folder::{StoreFolder, part_of};
+use journal::{OpenFault, choose, load};
+use std::alloc::{AllocError, Allocator};
 use std::fmt;
 use std::fmt::{Display, Formatter};
 
@@ -24,7 +29,9 @@ pub enum StoreStop {
 
 impl StoreStop {
     /// The number in `nfsd: store N`.
-    pub fn number(&self) -> u8 {
+    pub fn number(&self) -> u8
+        ensures { result ≡ number_of self.now }
+    {
         match self {
             StoreStop::InUse => 1,
             StoreStop::Failed(_) => 2,
@@ -35,44 +42,79 @@ impl StoreStop {
     }
 
     /// A call of the disk has failed.
-    pub fn failed(folder: &mut StoreFolder) -> Self {
+    pub fn failed(folder: &mut StoreFolder) -> Self
+        ensures result { result ≡ StoreStop.Failed folder.old.failure }
+        ensures after { folder.new ≡ without_failure folder.old }
+    {
         StoreStop::Failed(folder.take_failure())
     }
 
-    /// The files of the journal have a version that isn't known.
-    pub fn version<A: Allocator + Copy>(alloc: A, folder: &mut StoreFolder) -> Self {
+    /// The files of the journal have a version that isn't known. Where they can't be loaded again, the place isn't known either.
+    pub fn version<A: Allocator + Copy>(alloc: A, folder: &mut StoreFolder) -> Self
+        ensures { IsVersionStop folder.old result folder.new }
+    {
+        let key = folder.key();
         match load(folder, alloc) {
-            Ok((a, b)) => StoreStop::Version(refused_place(alloc, folder.key(), &a, &b)),
+            Ok((a, b)) => StoreStop::Version(known_place(alloc, key, &a, &b)),
             Err(_) => StoreStop::Version(None),
         }
     }
 
-    /// The files of the journal are damaged, or what they have is no tree.
-    pub fn damaged<A: Allocator + Copy>(alloc: A, folder: &mut StoreFolder) -> Self {
+    /// The files of the journal are damaged, or what they have is no tree. Where they can't be loaded again, it is said why; so it is where there
+    /// is no memory to look for what is wrong.
+    pub fn damaged<A: Allocator + Copy>(alloc: A, folder: &mut StoreFolder) -> Self
+        ensures { IsDamageStop folder.old result folder.new }
+    {
         let key = folder.key();
         match load(folder, alloc) {
-            Ok((a, b)) => StoreStop::Damaged(damage_of(alloc, key, &a, &b)),
+            Ok((a, b)) => match damage_of(alloc, key, &a, &b) {
+                Ok(damage) => StoreStop::Damaged(damage),
+                Err(_) => StoreStop::Memory,
+            },
             Err(OpenFault::Memory) => StoreStop::Memory,
             Err(_) => StoreStop::failed(folder),
         }
     }
 }
 
-/// What is wrong with the files of a journal whose content isn't taken.
-fn damage_of<A: Allocator + Copy>(alloc: A, key: u64, a: &[u8], b: &[u8]) -> Damage {
+/// The place in the files of a journal that has them refused, if there is one and there is memory to look for it.
+fn known_place<A: Allocator + Copy>(alloc: A, key: u64, a: &[u8], b: &[u8]) -> Option<Place>
+    ensures { IfSome result (λ place. IsPlaceIn key a.now b.now place place.part) }
+{
+    match refused_place(alloc, key, a, b) {
+        Ok(Some(place)) => Some(place),
+        Ok(None) => None,
+        Err(_) => None,
+    }
+}
+
+/// What is wrong with the files of a journal whose content isn't taken. An error comes only for want of memory.
+fn damage_of<A: Allocator + Copy>(
+    alloc: A,
+    key: u64,
+    a: &[u8],
+    b: &[u8],
+) -> Result<Damage, AllocError>
+    ensures { IfOk result (λ damage. IsWrongWith key a.now b.now damage) }
+{
     match choose(alloc, key, a, b) {
-        Ok(chosen) => Damage::Content(match chosen.slot {
-            Slot::A => Part::A,
-            Slot::B => Part::B,
-        }),
-        Err(_) => match refused_place(alloc, key, a, b) {
-            Some(place) => Damage::Rotten(place),
-            None => Damage::NoCheckpoint,
-        },
+        Ok(chosen) => return Ok(Damage::Content(part_of(chosen.slot))),
+        Err(OpenFault::Failed | OpenFault::Memory) => return Err(AllocError),
+        Err(OpenFault::Version) => {}
+        Err(OpenFault::Damaged) => {}
+    }
+    match refused_place(alloc, key, a, b) {
+        Ok(Some(place)) => Ok(Damage::Rotten(place)),
+        Ok(None) => Ok(Damage::NoCheckpoint),
+        Err(no_memory) => Err(no_memory),
     }
 }
 
 impl From<FolderFault> for StoreStop {
+    ghost use Rattle.store_files.specs.Stops.{stop_by};
+
+    ghost from_gives = { λ fault stop. stop ≡ stop_by fault };
+
     fn from(fault: FolderFault) -> Self {
         match fault {
             FolderFault::InUse => StoreStop::InUse,

@@ -1,4 +1,8 @@
 //! A file of a journal on a file system.
+ghost use Rattle.std.specs.Prelude.{◌≡◌, ◌-◌, ◌<◌, ◌↔◌, Some, None, length, IfOk, OnErr, IsErrAnd, IsTrue, MatchResult};
+ghost use Rattle.std.specs.IoError.{error_kind};
+ghost use Rattle.store_files.specs.Held.{IsFound, IsGrown, IsThere, of_length, room};
+
 use std::alloc::Allocator;
 use std::fs::File;
 use std::io;
@@ -16,7 +20,10 @@ pub(crate) struct StoreFile {
 
 impl StoreFile {
     /// A file that is open to be read and appended to, or only to be read; and the greatest length that it may have.
-    pub(crate) fn new(file: File, limit: u64) -> io::Result<Self> {
+    pub(crate) fn new(file: File, limit: u64) -> io::Result<Self>
+        ensures there { IfOk result IsThere }
+        ensures limit { IfOk result (λ x. x.limit ≡ limit) }
+    {
         let told = file.metadata()?;
         if !told.is_file() {
             return Err(ErrorKind::InvalidInput.into());
@@ -29,7 +36,9 @@ impl StoreFile {
     }
 
     /// A file that isn't there.
-    pub(crate) fn none() -> Self {
+    pub(crate) fn none() -> Self
+        ensures { result ≡ record { file = None; len = 0; limit = 0 } }
+    {
         StoreFile {
             file: None,
             len: 0,
@@ -38,38 +47,50 @@ impl StoreFile {
     }
 
     /// Syncs the file, and reads all its bytes.
-    pub(crate) fn load<A: Allocator>(&mut self, alloc: A) -> io::Result<Vec<u8, A>> {
+    pub(crate) fn load<A: Allocator>(&mut self, alloc: A) -> io::Result<Vec<u8, A>>
+        ensures { MatchResult result (λ bytes. IsFound self.old.file bytes.items self.old self.new) (λ e. self.new ≡ self.old) }
+    {
         let mut bytes = Vec::new(alloc);
-        let Some(file) = &mut self.file else {
+        let Some(file) = &self.file else {
             return Ok(bytes);
         };
         file.sync_data()?;
-        self.len = file.metadata()?.len();
-        bytes.resize(self.len as usize, 0)?;
-        file.seek(SeekFrom::Start(0))?;
-        file.read_exact(&mut bytes)?;
+        let len = file.metadata()?.len();
+        bytes.resize(len as usize, 0)?;
+        let mut reader: &File = file;
+        reader.seek(SeekFrom::Start(0))?;
+        reader.read_exact(&mut bytes)?;
+        self.len = len;
         Ok(bytes)
     }
 
-    pub(crate) fn is_empty(&self) -> bool {
+    pub(crate) fn is_empty(&self) -> bool
+        ensures { IsTrue result ↔ (self.now.len ≡ 0) }
+    {
         self.len == 0
     }
 
     /// Whether this many bytes more would make it greater than the system allows. It would end the program by a signal (SIGXFSZ).
-    fn is_full(&self, more: usize) -> bool {
+    fn is_full(&self, more: usize) -> bool
+        ensures { IsTrue result ↔ (room self.now < more) }
+    {
         more as u64 > self.limit.saturating_sub(self.len)
     }
 
-    /// Appends bytes.
-    pub(crate) fn append(&mut self, bytes: &[u8]) -> io::Result<()> {
+    /// Appends bytes. Those that there is no room for are refused, and none of them is written.
+    pub(crate) fn append(&mut self, bytes: &[u8]) -> io::Result<()>
+        ensures grown { MatchResult result (λ done. IsGrown (length bytes.now) self.old self.new) (λ e. self.new ≡ self.old) }
+        ensures full { room self.old < length bytes.now → IsErrAnd result (λ e. error_kind e ≡ ErrorKind.FileTooLarge) }
+    {
         if self.is_full(bytes.len()) {
             return Err(ErrorKind::FileTooLarge.into());
         }
-        let Some(file) = &mut self.file else {
+        let Some(file) = &self.file else {
             return Err(ErrorKind::ReadOnlyFilesystem.into());
         };
-        file.write_all(bytes)?;
-        self.len = self.len.saturating_add(bytes.len() as u64);
+        let mut writer: &File = file;
+        writer.write_all(bytes)?;
+        self.len += bytes.len() as u64;
         Ok(())
     }
 
@@ -82,7 +103,9 @@ impl StoreFile {
     }
 
     /// Makes it empty.
-    pub(crate) fn empty(&mut self) -> io::Result<()> {
+    pub(crate) fn empty(&mut self) -> io::Result<()>
+        ensures { MatchResult result (λ done. self.new ≡ of_length 0 self.old) (λ e. self.new ≡ self.old) }
+    {
         let Some(file) = &self.file else {
             return Err(ErrorKind::ReadOnlyFilesystem.into());
         };

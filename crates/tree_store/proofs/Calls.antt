@@ -5,7 +5,9 @@ use Rattle.xdr_wire.specs.Reading.{read_at}
 use Rattle.node_tree.specs.World.{World}
 use Rattle.node_tree.specs.Forms.{change, step_value}
 use Rattle.node_tree.specs.Steps.{Step}
-use Rattle.session_slots.specs.declared.restoring.NextNumbers.{NextNumbers}
+use Rattle.compound_run.specs.Known.{Known}
+use Rattle.client_changes.specs.Comparing.{AreSame, AreNear}
+use Rattle.client_changes.proofs.Alike.{same_is_near, same_itself}
 use Rattle.tree_changes.specs.Noting.{bare}
 use Rattle.tree_changes.specs.Stepped.{Leads}
 use Rattle.tree_changes.specs.Replays.{ReadsAs, Replays}
@@ -18,15 +20,16 @@ use Rattle.journal.specs.Opening.{Chooses}
 use Rattle.journal.specs.Keeping.{Adding, BothFound}
 use Rattle.tree_store.specs.declared.fault.StoreFault.{StoreFault}
 use Rattle.tree_store.specs.declared.fault.StoreFault.TheVariants.{Failed, Version, Damaged, Memory}
+use Rattle.tree_store.specs.declared.checkpoint.Written.{Written}
 use Rattle.tree_store.specs.declared.opening.Base.{Base}
 use Rattle.tree_store.specs.declared.opening.Found.{Found}
-use Rattle.tree_store.specs.declared.store.Store.{Store}
+use Rattle.tree_store.specs.Running.{Store}
 use Rattle.tree_store.specs.Kept.{Kept, kept_with, Covers, Follows}
 use Rattle.tree_store.specs.Holds.{IsFoundOr, IsHeldOr}
 use Rattle.tree_store.specs.Leaving.{Does}
 use Rattle.tree_store.specs.Standing.{Stands}
-use Rattle.tree_store.specs.Keeping.{ReadsSo, OpensSo, Opens, both_found, BegunSo, Starts, KeptSo}
-use Rattle.tree_store.specs.Writing.{IfDone, Checkpoints, GoesOn, IsIdle}
+use Rattle.tree_store.specs.Keeping.{ReadsSo, OpensSo, Opens, both_found, BegunSo, StartsSo, KeptSo}
+use Rattle.tree_store.specs.Writing.{IfDone, Checkpoints, written_store, GoesOn, IsIdle}
 use Rattle.tree_store.proofs.Doing.{does_also}
 use Rattle.tree_store.proofs.GoingOn.{nothing_done}
 use Rattle.tree_store.proofs.Writing.{chosen_counts, standing_counts}
@@ -50,30 +53,36 @@ opened_fault A key a b slot generation content Memory chosen it = tt
 
 -- ---- starting
 
-begun_so : (key : ℕ) (acts : List Act) (aim : Kept) (result : Result Store StoreFault) → IfDone (λ store. Stands key acts store aim) acts result → BegunSo key acts result aim
-begun_so key acts aim (Ok store) so = so
-begun_so key acts aim (Err Failed) so = so
-begun_so key acts aim (Err Version) so = so
-begun_so key acts aim (Err Damaged) so = so
-begun_so key acts aim (Err Memory) so = tt
+pub starts : {A D : Type 0} (adds : Adding D) (base : Base) (aim : Kept) (written : Written A) (old new : D) → Checkpoints adds base.key base.slot base.generation aim (Ok written) old new → StartsSo adds base aim (Ok (written_store written)) old new
+starts adds base aim written old new does a b content chosen = does content (both_found a b) (chosen_counts base.key a b base.slot base.generation content chosen)
 
-pub starts : {D : Type 0} (adds : Adding D) (base : Base) (aim : Kept) (result : Result Store StoreFault) (old new : D) → Checkpoints adds base.key base.slot base.generation aim result old new → Starts adds base aim result old new
-starts adds base aim result old new does a b content chosen =
-    does_also adds base.key (both_found a b) (IsFoundOr content aim) (IsFoundOr content aim) (λ acts. IfDone (λ store. Stands base.key acts store aim) acts result) (λ acts. BegunSo base.key acts result aim) old new
-    (λ c is. is) (λ acts so. begun_so base.key acts aim result so)
+begun_so : (A : Type 0) (key : ℕ) (acts : List Act) (aim : Kept) (so : Written A → Type 0) (fault : StoreFault) → IfDone so acts (Err fault) → BegunSo key acts (Err fault) aim
+begun_so A key acts aim so Failed it = it
+begun_so A key acts aim so Version it = it
+begun_so A key acts aim so Damaged it = it
+begun_so A key acts aim so Memory it = tt
+
+pub starts_not : (A : Type 0) {D : Type 0} (adds : Adding D) (base : Base) (aim : Kept) (fault : StoreFault) (old new : D) → Checkpoints {A = A} adds base.key base.slot base.generation aim (Err fault) old new → StartsSo adds base aim (Err fault) old new
+starts_not A adds base aim fault old new does a b content chosen =
+    does_also adds base.key (both_found a b) (IsFoundOr content aim) (IsFoundOr content aim) (λ acts. IfDone {X = Written A} (λ w. Stands base.key acts (written_store w) aim) acts (Err fault)) (λ acts. BegunSo base.key acts (Err fault) aim) old new
+    (λ c is. is) (λ acts so. begun_so A base.key acts aim (λ w. Stands base.key acts (written_store w) aim) fault so)
     (does content (both_found a b) (chosen_counts base.key a b base.slot base.generation content chosen))
 
 -- ---- a checkpoint of a store that goes on
 
-pub renews : {D : Type 0} (adds : Adding D) (store store' : Store) (kept aim : Kept) (result : Result Store StoreFault) (said : Result (Unit {0}) StoreFault) (old new : D) → Checkpoints adds store.journal.key store.journal.slot store.journal.generation aim result old new → ((acts : List Act) → IfDone (λ it. Stands store.journal.key acts it aim) acts result → IfDone (λ done. Stands store.journal.key acts store' aim) acts said) → GoesOn adds store kept aim said store' old new
+pub renews : {A D : Type 0} (adds : Adding D) (store store' : Store) (kept aim : Kept) (result : Result (Written A) StoreFault) (said : Result (Unit {0}) StoreFault) (old new : D) → Checkpoints adds store.journal.key store.journal.slot store.journal.generation aim result old new → ((acts : List Act) → IfDone (λ it. Stands store.journal.key acts (written_store it) aim) acts result → IfDone (λ done. Stands store.journal.key acts store' aim) acts said) → GoesOn adds store kept aim said store' old new
 renews adds store store' kept aim result said old new does same history s =
-    does_also adds store.journal.key history (IsFoundOr (Some s.content) aim) (IsHeldOr kept aim) (λ acts. IfDone (λ it. Stands store.journal.key acts it aim) acts result) (λ acts. IfDone (λ done. Stands store.journal.key acts store' aim) acts said) old new
+    does_also adds store.journal.key history (IsFoundOr (Some s.content) aim) (IsHeldOr kept aim) (λ acts. IfDone (λ it. Stands store.journal.key acts (written_store it) aim) acts result) (λ acts. IfDone (λ done. Stands store.journal.key acts store' aim) acts said) old new
     (λ c is. held c is) same
     (does (Some s.content) history (standing_counts store.journal.key history store kept s))
   where
     held : (c : _) → IsFoundOr (Some s.content) aim c → IsHeldOr kept aim c
     held c (inl is) = inl (s.content, is, s.holds)
     held c (inr it) = inr it
+
+-- of a store that is the same
+pub goes_on_as : {D : Type 0} (adds : Adding D) (store same : Store) (kept aim : Kept) (result : Result (Unit {0}) StoreFault) (store' : Store) (old new : D) → store ≡ same → GoesOn adds store kept aim result store' old new → GoesOn adds same kept aim result store' old new
+goes_on_as adds store same kept aim result store' old new is does = subst (λ (s : Store). GoesOn adds s kept aim result store' old new) is does
 
 -- a fault is one, whatever would stand after success
 pub same_fault : {X Y : Type 0} (so : X → Type 0) (also : Y → Type 0) (acts : List Act) (fault : StoreFault) → IfDone {X = X} so acts (Err fault) → IfDone {X = Y} also acts (Err fault)
@@ -84,20 +93,25 @@ same_fault so also acts Memory it = tt
 
 -- ---- keeping
 
-kept_all : (aim : Kept) → Covers aim aim
-kept_all aim = record { world_is = refl; client_is = refl; session_is = refl; no_later = omega arith; near = omega arith }
+kept_all : (w : World) (known now : Known) → AreSame known now → Covers (kept_with w now) (kept_with w known)
+kept_all w known now same = record { world_is = refl; clients_are = same_is_near known now same }
 
-kept_so : (key : ℕ) (acts : List Act) (result : Result (Unit {0}) StoreFault) (store : Store) (aim : Kept) → OnErr result (store.journal.has_failed ≡ true) → IfDone (λ done. Stands key acts store aim) acts result → KeptSo key acts result store aim
-kept_so key acts (Ok done) store aim failed so = (aim, so, kept_all aim)
-kept_so key acts (Err Failed) store aim failed so = (so, failed)
-kept_so key acts (Err Version) store aim failed so = so
-kept_so key acts (Err Damaged) store aim failed so = so
-kept_so key acts (Err Memory) store aim failed so = failed
+module _ (w : World) (known now : Known) (same : AreSame known now) where
+  abbrev aim : Kept
+  aim = kept_with w known
 
-pub keeps : {D : Type 0} (adds : Adding D) (store store' : Store) (kept aim : Kept) (result : Result (Unit {0}) StoreFault) (old new : D) (history : List Act) → Stands store.journal.key history store kept → GoesOn adds store kept aim result store' old new → OnErr result (store'.journal.has_failed ≡ true) → Does adds store.journal.key history (IsHeldOr kept aim) (λ acts. KeptSo store.journal.key acts result store' aim) old new
-keeps adds store store' kept aim result old new history s does failed =
-    does_also adds store.journal.key history (IsHeldOr kept aim) (IsHeldOr kept aim) (λ acts. IfDone (λ done. Stands store.journal.key acts store' aim) acts result) (λ acts. KeptSo store.journal.key acts result store' aim) old new
-    (λ c is. is) (λ acts so. kept_so store.journal.key acts result store' aim failed so) (does history s)
+  kept_so : (key : ℕ) (acts : List Act) (result : Result (Unit {0}) StoreFault) (store : Store) (kept : Kept) → OnErr result (store.journal.has_failed ≡ true) → IfDone (λ done. Stands key acts store aim) acts result → KeptSo key acts result store kept aim (kept_with w now)
+  kept_so key acts (Ok done) store kept failed so = (aim, so, inr refl, kept_all w known now same)
+  kept_so key acts (Err Failed) store kept failed so = (so, failed)
+  kept_so key acts (Err Version) store kept failed so = so
+  kept_so key acts (Err Damaged) store kept failed so = so
+  kept_so key acts (Err Memory) store kept failed so = failed
+
+  pub keeps : {D : Type 0} (adds : Adding D) (store store' : Store) (kept : Kept) (result : Result (Unit {0}) StoreFault) (old new : D) (history : List Act) → Stands store.journal.key history store kept → GoesOn adds store kept aim result store' old new → OnErr result (store'.journal.has_failed ≡ true)
+      → Does adds store.journal.key history (IsHeldOr kept aim) (λ acts. KeptSo store.journal.key acts result store' kept aim (kept_with w now)) old new
+  keeps adds store store' kept result old new history s does failed =
+      does_also adds store.journal.key history (IsHeldOr kept aim) (IsHeldOr kept aim) (λ acts. IfDone (λ done. Stands store.journal.key acts store' aim) acts result) (λ acts. KeptSo store.journal.key acts result store' kept aim (kept_with w now)) old new
+      (λ c is. is) (λ acts so. kept_so store.journal.key acts result store' kept failed so) (does history s)
 
 -- what was noted leads from what is kept
 pub follows : (kept : Kept) (w : World) (notes : Bytes) → Follows kept w → w.notes.is_lost ≡ false → notes ≡ w.notes.bytes → Replays kept.0 notes (bare w)
@@ -112,16 +126,15 @@ unchanged : (old new : World) (steps : List Step) → ReadsAs [] steps → Leads
 unchanged old new [] read leads = leads
 unchanged old new (s ∷ steps) read leads = absurd (none_read s read.0 read.1)
 
-pub idle : {D : Type 0} (adds : Adding D) (store : Store) (kept : Kept) (w : World) (next : NextNumbers) (notes : Bytes) (old new : D) (history : List Act) → Stands store.journal.key history store kept → Replays kept.0 notes (bare w) → IsIdle store notes next → new ≡ old → Does adds store.journal.key history (IsHeldOr kept (kept_with w next)) (λ acts. KeptSo store.journal.key acts (Ok tt) store (kept_with w next)) old new
-idle adds store kept w next notes old new history s replays i same =
-    nothing_done adds store kept (kept_with w next) history s (λ acts. KeptSo store.journal.key acts (Ok tt) store (kept_with w next)) old new same (
+pub idle : {D : Type 0} (adds : Adding D) (store : Store) (kept : Kept) (w : World) (now : Known) (notes : Bytes) (old new : D) (history : List Act) → Stands store.journal.key history store kept → Replays kept.0 notes (bare w) → IsIdle store notes now → new ≡ old
+    → Does adds store.journal.key history (IsHeldOr kept (kept_with w now)) (λ acts. KeptSo store.journal.key acts (Ok tt) store kept (kept_with w now) (kept_with w now)) old new
+idle adds store kept w now notes old new history s replays i same =
+    nothing_done adds store kept (kept_with w now) history s (λ acts. KeptSo store.journal.key acts (Ok tt) store kept (kept_with w now) (kept_with w now)) old new same (
       kept,
       s,
+      inl refl,
       record {
         world_is = unchanged kept.0 (bare w) replays.steps (subst (λ (b : Bytes). ReadsAs b replays.steps) i.none replays.read) replays.leads;
-        client_is = ap (λ (n : NextNumbers). n.client) (sym s.next_is) ∙ i.client_is;
-        session_is = ap (λ (n : NextNumbers). n.session) (sym s.next_is) ∙ i.session_is;
-        no_later = subst (λ (n : NextNumbers). n.open_file ≤ next.open_file) s.next_is i.no_later;
-        near = subst (λ (n : NextNumbers). next.open_file < n.open_file + 2 ^ 31) s.next_is i.near;
+        clients_are = subst (λ (k : Known). AreNear k now) s.known_is i.near;
       },
     )

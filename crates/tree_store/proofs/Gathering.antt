@@ -1,6 +1,6 @@
 -- A checkpoint and records that are read piece by piece.
-use Rattle.std.proofs.Common.{◌≡◌, ℕ, ◌+◌, ◌<◌, ◌≤◌, true, false, List, [], ◌∷◌, length, map, drop, get_or, refl, sym, ◌∙◌, ap, subst, arith, Err, add-one, drop-cons, length-drop, Some, None}
-use Rattle.std.proofs.lemmas.List.{nil_from_length}
+use Rattle.std.proofs.Common.{◌≡◌, ℕ, ◌+◌, ◌-◌, ◌<◌, ◌≤◌, true, false, List, [], ◌∷◌, length, map, take, drop, get_or, slice_index_or, refl, sym, ◌∙◌, ap, subst, arith, Err, add-one, drop-cons, length-drop, Some, None}
+use Rattle.std.proofs.lemmas.List.{nil_from_length, take_all}
 use Rattle.std.specs.Prelude.{Option}
 use Rattle.xdr_wire.specs.Xdr.{Value}
 use Rattle.xdr_wire.specs.Reading.{read_at}
@@ -11,12 +11,13 @@ use Rattle.tree_changes.specs.Parts.{part}
 use Rattle.tree_changes.specs.Taken.{Takes, TakesAll}
 use Rattle.journal.specs.Frames.{Bytes}
 use Rattle.tree_store.specs.Kept.{Kept}
-use Rattle.tree_store.specs.Holds.{ReadsParts, Restores, Begins, LeadsOn, LeadsThrough, Holds}
+use Rattle.compound_run.specs.Known.{Known, unknown}
+use Rattle.tree_store.specs.Holds.{ReadsParts, Restores, LeadsWhole, BeginsClients, Begins, LeadsOn, LeadsThrough, Holds}
 use Rattle.tree_store.specs.declared.fault.StoreFault.{StoreFault}
 use Rattle.tree_store.specs.declared.fault.StoreFault.TheVariants.{Failed, Version, Damaged, Memory}
 use Rattle.tree_store.specs.Keeping.{ReadsSo}
-use Rattle.tree_store.specs.Reading.{TakesBytes, TakesSo, RestoresSo, BeginsSo, LeadsSo, content_of}
-use Rattle.tree_store.proofs.One.{one_reading, takes_one, begins_one, leads_on_one}
+use Rattle.tree_store.specs.Reading.{TakesBytes, TakesSo, RestoresSo, BeginsSo, LeadsWholeSo, BeginsClientsSo, LeadsSo, content_of}
+use Rattle.tree_store.proofs.One.{whole_one, one_reading, takes_one, begins_one, leads_on_one}
 use Rattle.tree_store.proofs.Quiet.{IsQuiet, bare_is, replays_quiet, restores_quiet}
 
 -- ---- parts
@@ -146,7 +147,9 @@ pub record IsReadingOn (parts records : List Bytes) (found : Kept) (left : List 
 
 pub reading_begun : (parts records left : List Bytes) (base : Kept) → Begins parts base → left ≡ records → IsReadingOn parts records base left
 reading_begun [] records left base begins same = elim begins [ ]
-reading_begun (first ∷ parts) records left base begins same = record { base = base; begins = begins; led = led_begun base records left same (restores_quiet parts base.0 begins.1) }
+reading_begun (first ∷ []) records left base begins same = elim begins [ ]
+reading_begun (first ∷ second ∷ []) records left base begins same = elim begins [ ]
+reading_begun (first ∷ second ∷ third ∷ parts) records left base begins same = record { base = base; begins = begins; led = led_begun base records left same (restores_quiet parts base.0 begins.1) }
 
 pub reading_more : (parts records : List Bytes) (found : Kept) (all : List Bytes) (bytes : Bytes) (left : List Bytes) (next : Kept) → IsReadingOn parts records found all → all ≡ bytes ∷ left → LeadsOn found bytes next → IsReadingOn parts records next left
 reading_more parts records found all bytes left next r is on = record { base = r.base; begins = r.begins; led = led_more r.base records found all bytes left next r.led is on }
@@ -173,17 +176,81 @@ restored_fault parts so_far all bytes left Version t is it = it
 restored_fault parts so_far all bytes left Damaged t is it = taking_not parts so_far all bytes left t is it
 restored_fault parts so_far all bytes left Memory t is it = tt
 
-pub begins_not : (parts : List Bytes) (first : Bytes) (others : List Bytes) → parts ≡ first ∷ others → ((w : World) → Restores None others w → ⊥) → (k : Kept) → Begins parts k → ⊥
-begins_not parts first others is not k b = not k.0 (subst (λ (l : List Bytes). Begins l k) is b).1
+pub begins_not : (parts : List Bytes) (first second third : Bytes) (others : List Bytes) → parts ≡ first ∷ second ∷ third ∷ others → ((w : World) → Restores None others w → ⊥) → (k : Kept) → Begins parts k → ⊥
+begins_not parts first second third others is not k b = not k.0 (subst (λ (l : List Bytes). Begins l k) is b).1
 
-pub begun_fault : (A : Type 0) (parts : List Bytes) (first : Bytes) (others : List Bytes) (fault : StoreFault) → parts ≡ first ∷ others → RestoresSo others (Err fault) → BeginsSo {A = A} parts (Err fault)
-begun_fault A parts first others Failed is it = it
-begun_fault A parts first others Version is it = it
-begun_fault A parts first others Damaged is it = begins_not parts first others is it
-begun_fault A parts first others Memory is it = tt
+pub clients_not : (parts : List Bytes) (first second third : Bytes) (others : List Bytes) → parts ≡ first ∷ second ∷ third ∷ others → ((known : Known) → BeginsClients first second third known → ⊥) → (k : Kept) → Begins parts k → ⊥
+clients_not parts first second third others is not k b = not k.1 (subst (λ (l : List Bytes). Begins l k) is b).0
+
+pub begun_fault : (A : Type 0) (parts : List Bytes) (first second third : Bytes) (others : List Bytes) (fault : StoreFault) → parts ≡ first ∷ second ∷ third ∷ others → RestoresSo others (Err fault) → BeginsSo {A = A} parts (Err fault)
+begun_fault A parts first second third others Failed is it = it
+begun_fault A parts first second third others Version is it = it
+begun_fault A parts first second third others Damaged is it = begins_not parts first second third others is it
+begun_fault A parts first second third others Memory is it = tt
+
+pub clients_fault : (A : Type 0) (parts : List Bytes) (first second third : Bytes) (others : List Bytes) (fault : StoreFault) → parts ≡ first ∷ second ∷ third ∷ others → BeginsClientsSo first second third (Err fault) → BeginsSo {A = A} parts (Err fault)
+clients_fault A parts first second third others Failed is it = it
+clients_fault A parts first second third others Version is it = it
+clients_fault A parts first second third others Damaged is it = clients_not parts first second third others is it
+clients_fault A parts first second third others Memory is it = tt
 
 pub content_fault : (A : Type 0) (parts records : List Bytes) (found new : Kept) (all : List Bytes) (bytes : Bytes) (left : List Bytes) (fault : StoreFault) → IsReadingOn parts records found all → all ≡ bytes ∷ left → LeadsSo found bytes (Err fault) new → ReadsSo {A = A} (content_of parts records) (Err fault)
 content_fault A parts records found new all bytes left Failed r is it = it
 content_fault A parts records found new all bytes left Version r is it = it
 content_fault A parts records found new all bytes left Damaged r is it = reading_not parts records found all bytes left r is it
 content_fault A parts records found new all bytes left Memory r is it = tt
+
+-- ---- clients
+
+pub first_fault : (first second third : Bytes) (start heads : Known) (fault : StoreFault) → start ≡ unknown → LeadsWholeSo start first (Err fault) heads → BeginsClientsSo first second third (Err fault)
+first_fault first second third start heads Failed is it = it
+first_fault first second third start heads Version is it = it
+first_fault first second third start heads Damaged is it = λ known b. it b.heads (subst (λ (k : Known). LeadsWhole k first b.heads) (sym is) b.leads_first)
+first_fault first second third start heads Memory is it = tt
+
+module _ (first second third : Bytes) (start heads : Known) (is : start ≡ unknown) (one : LeadsWhole start first heads) where
+  same_heads : (known : Known) (b : BeginsClients first second third known) → b.heads ≡ heads
+  same_heads known b = whole_one unknown first b.heads heads b.leads_first (subst (λ (k : Known). LeadsWhole k first heads) is one)
+
+  pub second_fault : (half : Known) (fault : StoreFault) → LeadsWholeSo heads second (Err fault) half → BeginsClientsSo first second third (Err fault)
+  second_fault half Failed it = it
+  second_fault half Version it = it
+  second_fault half Damaged it = λ known b. it b.half (subst (λ (k : Known). LeadsWhole k second b.half) (same_heads known b) b.leads_second)
+  second_fault half Memory it = tt
+
+  module _ (half : Known) (two : LeadsWhole heads second half) where
+    same_half : (known : Known) (b : BeginsClients first second third known) → b.half ≡ half
+    same_half known b = whole_one heads second b.half half (subst (λ (k : Known). LeadsWhole k second b.half) (same_heads known b) b.leads_second) two
+
+    pub third_fault : (last : Known) (fault : StoreFault) → LeadsWholeSo half third (Err fault) last → BeginsClientsSo first second third (Err fault)
+    third_fault last Failed it = it
+    third_fault last Version it = it
+    third_fault last Damaged it = λ known b. it known (subst (λ (k : Known). LeadsWhole k third known) (same_half known b) b.leads_third)
+    third_fault last Memory it = tt
+
+    pub all_led : (known : Known) → LeadsWhole half third known → BeginsClients first second third known
+    all_led known three = record { heads = heads; half = half; leads_first = subst (λ (k : Known). LeadsWhole k first heads) is one; leads_second = two; leads_third = three }
+
+-- ---- the first three parts
+
+abbrev with_three : Bytes → Bytes → Bytes → List Bytes → List Bytes
+with_three a b c l = a ∷ b ∷ c ∷ l
+
+all_taken : {X : Type 0} (n : ℕ) (xs : List X) → n ≡ length xs → take n xs ≡ xs
+all_taken n xs is = take_all n xs (omega (arith, is))
+
+pub three_parts : {X : Type 0} (view : X → Bytes) (parts : List X) (d : X) → 3 ≤ length parts
+    → map view parts ≡ with_three (view (slice_index_or parts 0 d)) (view (slice_index_or parts 1 d)) (view (slice_index_or parts 2 d)) (map view (take (length parts - 3) (drop 3 parts)))
+three_parts view [] d h = absurd (omega (arith, h))
+three_parts view (a ∷ []) d h = absurd (omega (arith, h))
+three_parts view (a ∷ b ∷ []) d h = absurd (omega (arith, h))
+three_parts view (a ∷ b ∷ c ∷ parts) d h = ap (λ l. with_three (view a) (view b) (view c) (map view l)) (sym (all_taken (length (a ∷ b ∷ c ∷ parts) - 3) parts (omega arith)))
+
+pub too_few_parts : {X : Type 0} (view : X → Bytes) (parts : List X) → length parts < 3 → (kept : Kept) → Begins (map view parts) kept → ⊥
+too_few_parts view [] h kept b = b
+too_few_parts view (x ∷ []) h kept b = b
+too_few_parts view (x ∷ y ∷ []) h kept b = b
+too_few_parts view (x ∷ y ∷ z ∷ parts) h kept b = omega (arith, h)
+
+pub begun_so : (parts : List Bytes) (first second third : Bytes) (others : List Bytes) (known : Known) (w : World) → parts ≡ with_three first second third others → BeginsClients first second third known → Restores None others w → Begins parts (w, known)
+begun_so parts first second third others known w is clients tree = subst (λ (l : List Bytes). Begins l (w, known)) (sym is) (clients, tree)

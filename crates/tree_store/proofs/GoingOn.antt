@@ -2,9 +2,6 @@
 use Rattle.std.proofs.Common.{◌≡◌, inl, inr, ℕ, ◌≤◌, ◌+◌, true, false, List, [], ◌∷◌, ◌++◌, length, refl, sym, ◌∙◌, ap, subst, arith, length-append, Ok, Err, Some}
 use Rattle.std.specs.Prelude.{Option, Result}
 use Rattle.std.proofs.lemmas.List.{append-nil}
-use Rattle.xdr_wire.specs.Xdr.{HasSpelling, spelling}
-use Rattle.xdr_wire.specs.Reading.{read_at}
-use Rattle.xdr_wire.proofs.Spelling.{again, spelled}
 use Rattle.node_tree.specs.World.{World}
 use Rattle.tree_changes.specs.Replays.{Replays}
 use Rattle.journal.specs.declared.journal.Journal.{Journal}
@@ -14,12 +11,12 @@ use Rattle.journal.specs.Files.{Content, bodies}
 use Rattle.journal.specs.Crash.{IsFront}
 use Rattle.journal.specs.Living.{IsLive}
 use Rattle.journal.specs.Keeping.{Adding}
-use Rattle.session_slots.specs.declared.restoring.NextNumbers.{NextNumbers}
+use Rattle.compound_run.specs.Known.{Known}
+use Rattle.client_changes.specs.Applying.{Leads}
 use Rattle.tree_store.specs.declared.fault.StoreFault.{StoreFault}
 use Rattle.tree_store.specs.declared.fault.StoreFault.TheVariants.{Failed, Version, Damaged, Memory}
-use Rattle.tree_store.specs.declared.store.Store.{Store}
+use Rattle.tree_store.specs.Running.{Store}
 use Rattle.tree_store.specs.Kept.{Kept}
-use Rattle.tree_store.specs.Forms.{numbers, numbers_value}
 use Rattle.tree_store.specs.Holds.{Holds, LeadsOn, LeadsThrough, IsHeldOr}
 use Rattle.tree_store.specs.Leaving.{Leaves, Does}
 use Rattle.tree_store.specs.Standing.{Stands}
@@ -40,7 +37,7 @@ stands_leaves key history store kept is s so =
     leaves_live key store.journal.generation store.journal.slot s.frames [] true s.content history is s.live (none_written store.journal.slot history s.none_loose)
     (λ front it. so (content_of s.content.parts (s.content.records ++ bodies front)) (subst (λ (c : Content). Holds c kept) (same_content s.content front it) s.holds))
 
-pub stands_of : (key : ℕ) (history : List Act) (store : Store) (kept : Kept) (j : Journal) (frames : List Frame) (content : Content) → store.journal ≡ j → store.next ≡ kept.1 → IsLive key j.generation j.slot frames [] true content history → (on_disk j.slot history).loose ≡ 0 → Holds content kept → j.key ≡ key → j.number ≡ length frames → j.safe ≡ length frames → j.has_failed ≡ false → Stands key history store kept
+pub stands_of : (key : ℕ) (history : List Act) (store : Store) (kept : Kept) (j : Journal) (frames : List Frame) (content : Content) → store.journal ≡ j → store.known ≡ kept.1 → IsLive key j.generation j.slot frames [] true content history → (on_disk j.slot history).loose ≡ 0 → Holds content kept → j.key ≡ key → j.number ≡ length frames → j.safe ≡ length frames → j.has_failed ≡ false → Stands key history store kept
 stands_of key history store kept j frames content is next live none holds key_is number safe going =
     let back : j ≡ store.journal = sym is in
     record {
@@ -53,7 +50,7 @@ stands_of key history store kept j frames content is next live none holds key_is
       number_is = subst (λ (i : Journal). i.number ≡ length frames) back number;
       safe_is = subst (λ (i : Journal). i.safe ≡ length frames) back safe;
       going = subst (λ (i : Journal). i.has_failed ≡ false) back going;
-      next_is = next;
+      known_is = next;
     }
 
 -- ---- a record more
@@ -117,7 +114,7 @@ module _ {D : Type 0} (adds : Adding D) (store store' : Store) (kept aim : Kept)
         (written_synced key j.generation j.slot s.frames s.content history s.live s.none_loose j.number s.number_is f fit marked)
         (λ front it. inr (content_of s.content.parts ((s.content.records ++ bytes ∷ []) ++ bodies front), refl, subst (λ (c : Content). Holds c aim) (same_content (content_of s.content.parts (s.content.records ++ bytes ∷ [])) front it) longer))
 
-    stands : store'.journal ≡ record j { number = j.number + 1; safe = j.number + 1; has_failed = false } → store'.next ≡ aim.1 → Stands key (Synced j.slot ∷ Appended j.slot (framed_of j bytes) ∷ history) store' aim
+    stands : store'.journal ≡ record j { number = j.number + 1; safe = j.number + 1; has_failed = false } → store'.known ≡ aim.1 → Stands key (Synced j.slot ∷ Appended j.slot (framed_of j bytes) ∷ history) store' aim
     stands same next =
         let count : j.number + 1 ≡ length (s.frames ++ f ∷ []) = (let number = s.number_is in omega (arith, number, length-append s.frames (f ∷ []))) in
         stands_of key (Synced j.slot ∷ Appended j.slot (framed_of j bytes) ∷ history) store' aim (record j { number = j.number + 1; safe = j.number + 1; has_failed = false })
@@ -128,7 +125,7 @@ module _ {D : Type 0} (adds : Adding D) (store store' : Store) (kept aim : Kept)
   abbrev After : Result (Unit {0}) StoreFault → List Act → Type 0
   After result acts = IfDone (λ done. Stands key acts store' aim) acts result
 
-  pub goes_on : (result : Result (Unit {0}) StoreFault) (j' : Journal) (old new : D) → RecordGives adds j bytes result j' old new → (result ≡ Ok tt → (store'.journal ≡ j') × (store'.next ≡ aim.1)) → Does adds key history is (After result) old new
+  pub goes_on : (result : Result (Unit {0}) StoreFault) (j' : Journal) (old new : D) → RecordGives adds j bytes result j' old new → (result ≡ Ok tt → (store'.journal ≡ j') × (store'.known ≡ aim.1)) → Does adds key history is (After result) old new
   goes_on (Ok done) j' old new (twice, fit, same) stored =
       let by = stored refl in
       does_two adds key history is (After (Ok done)) old twice.mid new (Appended j.slot (framed_of j bytes)) (Synced j.slot) first twice.one (then fit) twice.two (synced fit) (stands fit (by.0 ∙ same) by.1)
@@ -148,9 +145,9 @@ nothing_done adds store kept aim history s after old new same so =
     does_nothing adds store.journal.key history (IsHeldOr kept aim) after old new (stands_leaves store.journal.key history store kept (IsHeldOr kept aim) s (λ c h. inl (c, refl, h))) same so
 
 -- the bytes of a record lead on
-pub record_leads : (kept : Kept) (w : World) (next : NextNumbers) (notes bytes : Bytes) → bytes ≡ spelling numbers (numbers_value next) ++ notes → HasSpelling numbers (numbers_value next) → Replays kept.0 notes w → LeadsOn kept bytes (w, next)
-record_leads kept w next notes bytes is has replays = record {
+pub record_leads : (kept : Kept) (w : World) (old known : Known) (notes bytes : Bytes) → old ≡ kept.1 → Leads old bytes known notes → Replays kept.0 notes w → LeadsOn kept bytes (w, known)
+record_leads kept w old known notes bytes is leads replays = record {
   rest = notes;
-  numbers_are = ap (read_at numbers) is ∙ again numbers (numbers_value next) (spelling numbers (numbers_value next)) notes (spelled numbers (numbers_value next) has);
+  clients = subst (λ (k : Known). Leads k bytes known notes) is leads;
   replays = replays;
 }

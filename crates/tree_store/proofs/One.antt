@@ -10,7 +10,9 @@ use Rattle.node_tree.specs.Restored.{Begun, with_object, with_name}
 use Rattle.node_tree.specs.Forms as forms
 use Rattle.node_tree.specs.Forms.{change, step_value}
 use Rattle.node_tree.specs.Steps.{Step}
-use Rattle.session_slots.specs.declared.restoring.NextNumbers.{NextNumbers}
+use Rattle.compound_run.specs.Known.{Known, unknown}
+use Rattle.client_changes.specs.Applying as changing
+use Rattle.client_changes.proofs.Led.{leads_one as front_one}
 use Rattle.tree_changes.specs.Parts as parts_of
 use Rattle.tree_changes.specs.Parts.{part, object_value, name_value}
 use Rattle.tree_changes.specs.Taken.{Takes, TakesAll}
@@ -20,8 +22,7 @@ use Rattle.tree_changes.proofs.Telling.{step_one, kind_in, kind_again, list_in, 
 use Rattle.tree_changes.proofs.Writing.{same_object}
 use Rattle.journal.specs.Frames.{Bytes}
 use Rattle.tree_store.specs.Kept.{Kept}
-use Rattle.tree_store.specs.Forms.{numbers, numbers_value}
-use Rattle.tree_store.specs.Holds.{ReadsParts, Restores, Begins, LeadsOn, LeadsThrough, HoldsOneLaw}
+use Rattle.tree_store.specs.Holds.{LeadsWhole, BeginsClients, ReadsParts, Restores, Begins, LeadsOn, LeadsThrough, HoldsOneLaw}
 
 abbrev value_in : {V : Type 0} → V → Result (V × List ℕ) XdrFault → V
 value_in d (Ok p) = p.0
@@ -35,15 +36,22 @@ rest_in d (Err e) = d
 pub one_reading : {V : Type 0} (r : Result (V × List ℕ) XdrFault) (v w : V) (x y : List ℕ) → r ≡ Ok (v, x) → r ≡ Ok (w, y) → (v ≡ w) × (x ≡ y)
 one_reading r v w x y a b = (ap (value_in v) (sym a ∙ b), ap (rest_in x) (sym a ∙ b))
 
--- ---- numbers
+-- ---- clients
 
-abbrev numbers_of : Value numbers → NextNumbers
-numbers_of v = record { client = v.0; session = v.1.0; open_file = v.1.1 }
+abbrev LeadsFront : Known → Bytes → Known → Bytes → Type 0
+LeadsFront = changing.Leads
 
-pub one_next : (bytes : Bytes) (m n : NextNumbers) (x y : Bytes) → read_at numbers bytes ≡ Ok (numbers_value m, x) → read_at numbers bytes ≡ Ok (numbers_value n, y) → (m ≡ n) × (x ≡ y)
-one_next bytes m n x y a b =
-    let one = one_reading (read_at numbers bytes) (numbers_value m) (numbers_value n) x y a b in
-    (ap numbers_of one.0, one.1)
+pub whole_one : (old : Known) (bytes : Bytes) (a b : Known) → LeadsWhole old bytes a → LeadsWhole old bytes b → a ≡ b
+whole_one old bytes a b r q = (front_one old bytes a b [] [] r q).0
+
+pub clients_one : (first second third : Bytes) (a b : Known) → BeginsClients first second third a → BeginsClients first second third b → a ≡ b
+clients_one first second third a b r q =
+    let heads : r.heads ≡ q.heads = whole_one unknown first r.heads q.heads r.leads_first q.leads_first in
+    let half : r.half ≡ q.half = whole_one q.heads second r.half q.half (subst (λ (k : Known). LeadsWhole k second r.half) heads r.leads_second) q.leads_second in
+    whole_one q.half third a b (subst (λ (k : Known). LeadsWhole k third a) half r.leads_third) q.leads_third
+
+pub whole_not : (old : Known) (bytes reader : Bytes) (a : Known) (rest : Bytes) → reader ≡ bytes → LeadsFront old reader a rest → (rest ≡ [] → ⊥) → (known : Known) → LeadsWhole old bytes known → ⊥
+whole_not old bytes reader a rest same it some known l = some (front_one old bytes a known rest [] (subst (λ (b : Bytes). LeadsFront old b a rest) same it) l).1
 
 -- ---- parts
 
@@ -118,14 +126,16 @@ restores_one so_far parts w v r q =
     let begun : r.begun ≡ q.begun = some_one r.begun q.begun (takes_all_one so_far q.values (Some r.begun) (Some q.begun) (subst (λ (l : List (Value part)). TakesAll so_far l (Some r.begun)) values r.taken) q.taken) in
     r.world_is ∙ ap (λ (b : Begun). b.world) begun ∙ sym q.world_is
 
-abbrev both : World → NextNumbers → Kept
-both w next = (w, next)
+abbrev both : World → Known → Kept
+both w known = (w, known)
 
 pub begins_one : (parts : List Bytes) (j k : Kept) → Begins parts j → Begins parts k → j ≡ k
 begins_one [] j k b c = elim b [ ]
-begins_one (first ∷ parts) j k b c =
+begins_one (first ∷ []) j k b c = elim b [ ]
+begins_one (first ∷ second ∷ []) j k b c = elim b [ ]
+begins_one (first ∷ second ∷ third ∷ parts) j k b c =
     ap (λ (w : World). both w j.1) (restores_one None parts j.0 k.0 b.1 c.1)
-    ∙ ap (λ (n : NextNumbers). both k.0 n) (one_next first j.1 k.1 [] [] b.0 c.0).0
+    ∙ ap (λ (n : Known). both k.0 n) (clients_one first second third j.1 k.1 b.0 c.0)
 
 -- ---- records
 
@@ -150,9 +160,15 @@ replays_one old bytes v w r q = leads_one old q.steps v w (subst (λ (l : List S
 
 pub leads_on_one : (old : Kept) (bytes : Bytes) (j k : Kept) → LeadsOn old bytes j → LeadsOn old bytes k → j ≡ k
 leads_on_one old bytes j k r q =
-    let next = one_next bytes j.1 k.1 r.rest q.rest r.numbers_are q.numbers_are in
+    let next = front_one old.1 bytes j.1 k.1 r.rest q.rest r.clients q.clients in
     ap (λ (w : World). both w j.1) (replays_one old.0 q.rest j.0 k.0 (subst (λ (b : Bytes). Replays old.0 b j.0) next.1 r.replays) q.replays)
-    ∙ ap (λ (n : NextNumbers). both k.0 n) next.0
+    ∙ ap (λ (n : Known). both k.0 n) next.0
+
+-- where the changes after those of clients aren't replayed, a record leads nowhere
+pub lead_on_not : (old : Kept) (bytes reader : Bytes) (a : Known) (rest now : Bytes) → reader ≡ bytes → LeadsFront old.1 reader a rest → now ≡ rest → ((w : World) → Replays old.0 now w → ⊥) → (kept : Kept) → LeadsOn old bytes kept → ⊥
+lead_on_not old bytes reader a rest now same it is not kept l =
+    let rests : rest ≡ l.rest = (front_one old.1 bytes a kept.1 rest l.rest (subst (λ (b : Bytes). LeadsFront old.1 b a rest) same it) l.clients).1 in
+    not kept.0 (subst (λ (b : Bytes). Replays old.0 b kept.0) (sym (is ∙ rests)) l.replays)
 
 through_one : (old : Kept) (records : List Bytes) (j k : Kept) → LeadsThrough old records j → LeadsThrough old records k → j ≡ k
 through_one old [] j k r q = r ∙ sym q

@@ -18,7 +18,7 @@ use Rattle.node_tree.specs.Sound.{IsSound, IsIn, Rises}
 use Rattle.node_tree.specs.Parts.{number_after, any_after}
 use Rattle.node_tree.proofs.Reading.{read_in_order}
 use Rattle.node_tree.proofs.Objects.{is_at-same, is_at-apart}
-use Rattle.session_slots.specs.declared.restoring.NextNumbers.{NextNumbers}
+use Rattle.compound_run.specs.Known.{Known}
 use Rattle.tree_changes.specs.Parts.{part, parts, counters_value, object_value, name_value}
 use Rattle.tree_changes.specs.Again.{IsTakenAgain}
 use Rattle.journal.specs.declared.disk.Slot.{Slot}
@@ -30,11 +30,10 @@ use Rattle.journal.specs.Keeping.{Adding}
 use Rattle.tree_store.specs.declared.fault.StoreFault.{StoreFault}
 use Rattle.tree_store.specs.declared.fault.StoreFault.TheVariants.{Failed, Version, Damaged, Memory}
 use Rattle.tree_store.specs.Kept.{kept_with}
-use Rattle.tree_store.specs.Forms.{numbers, numbers_value}
 use Rattle.tree_store.specs.Holds.{ReadsParts, Holds}
 use Rattle.tree_store.specs.Leaving.{Does}
 use Rattle.tree_store.specs.Reading.{content_of}
-use Rattle.tree_store.specs.Writing.{IsBegun, IfDone, Appends, all_parts, object_bytes, name_bytes, HasObjectSpelling, HasNameSpelling, HaveSpelling}
+use Rattle.tree_store.specs.Writing.{IsBegun, IfDone, Appends, Fronts, FrontsLead, fronts_list, all_parts, object_bytes, name_bytes, HasObjectSpelling, HasNameSpelling, HaveSpelling}
 use Rattle.tree_store.proofs.Doing.{does_nothing, does_then, does_also}
 use Rattle.tree_store.proofs.Writing.{begun_leaves}
 
@@ -86,8 +85,8 @@ parts_spelled w = ap (λ (l : List Bytes). spelling part (counters_value w) ∷ 
     objects_spelled [] = names_spelled w.names
     objects_spelled (e ∷ objects) = ap (λ (l : List Bytes). object_bytes e ∷ l) (objects_spelled objects)
 
-pub all_parts_are : (w : World) (next : NextNumbers) → (spelling numbers (numbers_value next) ∷ []) ++ ((spelling part (counters_value w) ∷ []) ++ (map object_bytes w.objects ++ map name_bytes w.names)) ≡ all_parts w next
-all_parts_are w next = ap (λ (l : List Bytes). spelling numbers (numbers_value next) ∷ l) (sym (parts_spelled w))
+pub all_parts_are : (w : World) (f : Fronts) → fronts_list f ++ ((spelling part (counters_value w) ∷ []) ++ (map object_bytes w.objects ++ map name_bytes w.names)) ≡ all_parts w f
+all_parts_are w f = ap (λ (l : List Bytes). f.first ∷ f.second ∷ f.third ∷ l) (sym (parts_spelled w))
 
 pub all_have : (w : World) → HasSpelling part (counters_value w) → AllByRecursion HasObjectSpelling w.objects → AllByRecursion HasNameSpelling w.names → AllByRecursion (HasSpelling part) (parts w)
 all_have w counters objects names = (counters, objects_have w.objects objects)
@@ -107,15 +106,15 @@ reads_parts (v ∷ values) all = (read_whole, reads_parts values all.1)
     read_whole : read_at part (spelling part v) ≡ Ok (v, [])
     read_whole = ap (read_at part) (sym (append-nil (spelling part v))) ∙ again part v (spelling part v) [] (spelled part v all.0)
 
--- the checkpoint of a tree holds it
-pub checkpoint_holds : (w : World) (next : NextNumbers) → IsTakenAgain w → HaveSpelling w next → Holds (content_of (all_parts w next) []) (kept_with w next)
-checkpoint_holds w next again_so have = record {
-  base = kept_with w next;
+-- the checkpoint of a tree and of what is known of clients holds them
+pub checkpoint_holds : (w : World) (f : Fronts) (known : Known) → FrontsLead f known → IsTakenAgain w → HaveSpelling w → Holds (content_of (all_parts w f) []) (kept_with w known)
+checkpoint_holds w f known leads again_so have = record {
+  base = kept_with w known;
   begins = (
-    ap (read_at numbers) (sym (append-nil (spelling numbers (numbers_value next)))) ∙ again numbers (numbers_value next) (spelling numbers (numbers_value next)) [] (spelled numbers (numbers_value next) have.0),
+    leads,
     record {
       values = parts w;
-      read = reads_parts (parts w) have.1;
+      read = reads_parts (parts w) have;
       begun = again_so.begun;
       taken = again_so.taken;
       whole = again_so.whole;

@@ -17,7 +17,7 @@ use Rattle.journal.specs.Keeping.{Adding, FrameGives, BeginGives, FinishGives, e
 use Rattle.journal.proofs.Replacing.{start_law, renew_law}
 use Rattle.tree_store.specs.declared.fault.StoreFault.{StoreFault}
 use Rattle.tree_store.specs.declared.fault.StoreFault.TheVariants.{Failed, Version, Damaged, Memory}
-use Rattle.tree_store.specs.declared.store.Store.{Store}
+use Rattle.tree_store.specs.Running.{Store}
 use Rattle.tree_store.specs.Said.{said}
 use Rattle.tree_store.specs.Kept.{Kept}
 use Rattle.tree_store.specs.Holds.{Holds, IsFoundOr}
@@ -242,7 +242,7 @@ module _ {D : Type 0} (adds : Adding D) (c : Checkpoint) (key generation : ℕ) 
         (steps.written_end_synced key generation s content (part_frames parts) history b.replaced b.written (length parts) end_place end_frame fit refl)
         (λ front it. inr (content_of parts ([] ++ bodies front), refl, subst (λ (d : Content). Holds d aim) (same_content (content_of parts []) front it) holds))
 
-    end_stands : (store : Store) → store.journal ≡ record { key = key; slot = other s; generation = generation + 1; number = length parts + 1; safe = length parts + 1; has_failed = false } → store.next ≡ aim.1 → Stands key (Synced (other s) ∷ Appended (other s) end_bytes ∷ history) store aim
+    end_stands : (store : Store) → store.journal ≡ record { key = key; slot = other s; generation = generation + 1; number = length parts + 1; safe = length parts + 1; has_failed = false } → store.known ≡ aim.1 → Stands key (Synced (other s) ∷ Appended (other s) end_bytes ∷ history) store aim
     end_stands store is next =
         let count : length parts + 1 ≡ length (part_frames parts ++ end_frame ∷ []) = omega (arith, end_place, length-append (part_frames parts) (end_frame ∷ [])) in
         stands_of key (Synced (other s) ∷ Appended (other s) end_bytes ∷ history) store aim (record { key = key; slot = other s; generation = generation + 1; number = length parts + 1; safe = length parts + 1; has_failed = false })
@@ -250,7 +250,7 @@ module _ {D : Type 0} (adds : Adding D) (c : Checkpoint) (key generation : ℕ) 
         (steps.none_loose_end key generation s content (part_frames parts) history b.replaced b.written (length parts) end_place end_frame fit refl)
         holds refl count count refl
 
-  pub finish_goes : (j : Journal) (store : Store) (old new : D) → FinishGives adds c (Ok j) old new → store.journal ≡ j → store.next ≡ aim.1 → Does adds key history (IsFoundOr content aim) (λ acts. Stands key acts store aim) old new
+  pub finish_goes : (j : Journal) (store : Store) (old new : D) → FinishGives adds c (Ok j) old new → store.journal ≡ j → store.known ≡ aim.1 → Does adds key history (IsFoundOr content aim) (λ acts. Stands key acts store aim) old new
   finish_goes j store old new gives is next =
       let g = end_gives (Ok j) old new gives in
       does_two adds key history (IsFoundOr content aim) (λ acts. Stands key acts store aim) old g.0.mid new (Appended (other s) end_bytes) (Synced (other s)) before g.0.one (end_appended g.1) g.0.two (end_kept g.1)
@@ -286,7 +286,7 @@ module _ {D : Type 0} (adds : Adding D) (key generation : ℕ) (s : Slot) (conte
   pub checkpoint_nothing : (after : List Act → Type 0) (old new : D) → new ≡ old → after history → Does adds key history (IsFoundOr content aim) after old new
   checkpoint_nothing after old new same so = does_nothing adds key history (IsFoundOr content aim) after old new (leaves_also key history (λ o. o ≡ content) (IsFoundOr content aim) (λ o is. inl is) counts.leaves) same so
 
-  pub checkpoint_unbegun : (fault : JournalFault) (told : StoreFault) (so : List Act → Store → Type 0) (old new : D) → told ≡ said fault → BeginGives adds key s generation (Err fault) old new → Does adds key history (IsFoundOr content aim) (λ acts. IfDone (so acts) acts (Err told)) old new
+  pub checkpoint_unbegun : (fault : JournalFault) (told : StoreFault) {X : Type 0} (so : List Act → X → Type 0) (old new : D) → told ≡ said fault → BeginGives adds key s generation (Err fault) old new → Does adds key history (IsFoundOr content aim) (λ acts. IfDone (so acts) acts (Err told)) old new
   checkpoint_unbegun fault told so old new is gives = subst (λ (e : StoreFault). Does adds key history (IsFoundOr content aim) (λ acts. IfDone (so acts) acts (Err e)) old new) (sym is) (by_fault fault gives)
     where
       also : (after : List Act → Type 0) → Does adds key history (λ o. o ≡ content) after old new → Does adds key history (IsFoundOr content aim) after old new
@@ -299,14 +299,14 @@ module _ {D : Type 0} (adds : Adding D) (key generation : ℕ) (s : Slot) (conte
       by_fault faults.Full gives = also (λ acts. Unit {0}) (begin_fails key generation s content history counts adds faults.Full old new gives)
 
   module _ (c c' : Checkpoint) (all : List Bytes) (old mid : D) (begins : BeginGives adds key s generation (Ok c) old mid) where
-    pub checkpoint_stops : (fault : StoreFault) (new : D) (also : List Act → Store → Type 0) → Appends adds c all (Err fault) c' mid new → Does adds key history (IsFoundOr content aim) (λ acts. IfDone (also acts) acts (Err fault)) old new
-    checkpoint_stops fault new also appends =
+    pub checkpoint_stops : (fault : StoreFault) (new : D) {X : Type 0} (also : List Act → X → Type 0) → Appends adds c all (Err fault) c' mid new → Does adds key history (IsFoundOr content aim) (λ acts. IfDone (also acts) acts (Err fault)) old new
+    checkpoint_stops fault new {X} also appends =
         does_also adds key history (λ o. o ≡ content) (IsFoundOr content aim) (λ acts. IfDone {X = Unit {0}} (λ done. IsBegun key generation s content c' ([] ++ all) acts) acts (Err fault)) (λ acts. IfDone (also acts) acts (Err fault)) old new (λ o is. inl is)
         (λ acts it. stopped acts fault (λ done. IsBegun key generation s content c' ([] ++ all) acts) (also acts) it)
         (does_then adds key history (λ o. o ≡ content) (IsBegun key generation s content c []) (λ acts. IfDone {X = Unit {0}} (λ done. IsBegun key generation s content c' ([] ++ all) acts) acts (Err fault)) old mid new
         (begin_goes key generation s content history counts adds c old mid begins) (λ acts b. appends key generation s content [] acts b))
       where
-        stopped : (acts : List Act) (fault : StoreFault) (so : Unit {0} → Type 0) (also : Store → Type 0) → IfDone so acts (Err fault) → IfDone also acts (Err fault)
+        stopped : (acts : List Act) (fault : StoreFault) (so : Unit {0} → Type 0) (also : X → Type 0) → IfDone so acts (Err fault) → IfDone also acts (Err fault)
         stopped acts Failed so also it = it
         stopped acts Version so also it = it
         stopped acts Damaged so also it = it
@@ -319,12 +319,12 @@ module _ {D : Type 0} (adds : Adding D) (key generation : ℕ) (s : Slot) (conte
           (does_then adds key history (λ o. o ≡ content) (IsBegun key generation s content c []) (IsBegun key generation s content c' all) old mid end
           (begin_goes key generation s content history counts adds c old mid begins) (λ acts b. appends key generation s content [] acts b))
 
-      pub checkpoint_done : (j : Journal) (store : Store) (new : D) → FinishGives adds c' (Ok j) end new → store.journal ≡ j → store.next ≡ aim.1 → Does adds key history (IsFoundOr content aim) (λ acts. Stands key acts store aim) old new
+      pub checkpoint_done : (j : Journal) (store : Store) (new : D) → FinishGives adds c' (Ok j) end new → store.journal ≡ j → store.known ≡ aim.1 → Does adds key history (IsFoundOr content aim) (λ acts. Stands key acts store aim) old new
       checkpoint_done j store new gives is next =
           does_then adds key history (IsFoundOr content aim) (IsBegun key generation s content c' all) (λ acts. Stands key acts store aim) old end new whole
           (λ acts b. finish_goes adds c' key generation s content all aim holds acts b j store end new gives is next)
 
-      pub checkpoint_unfinished : (fault : JournalFault) (told : StoreFault) (so : List Act → Store → Type 0) (new : D) → told ≡ said fault → FinishGives adds c' (Err fault) end new → Does adds key history (IsFoundOr content aim) (λ acts. IfDone (so acts) acts (Err told)) old new
+      pub checkpoint_unfinished : (fault : JournalFault) (told : StoreFault) {X : Type 0} (so : List Act → X → Type 0) (new : D) → told ≡ said fault → FinishGives adds c' (Err fault) end new → Does adds key history (IsFoundOr content aim) (λ acts. IfDone (so acts) acts (Err told)) old new
       checkpoint_unfinished fault told so new is gives =
           subst (λ (e : StoreFault). Does adds key history (IsFoundOr content aim) (λ acts. IfDone (so acts) acts (Err e)) old new) (sym is)
           (does_then adds key history (IsFoundOr content aim) (IsBegun key generation s content c' all) (λ acts. IfDone (so acts) acts (Err (said fault))) old end new whole (λ acts b. by_fault acts b fault gives))

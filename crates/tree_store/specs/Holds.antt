@@ -4,18 +4,26 @@ use Rattle.xdr_wire.specs.Xdr.{Value}
 use Rattle.xdr_wire.specs.Reading.{read_at}
 use Rattle.node_tree.specs.World.{World}
 use Rattle.node_tree.specs.Restored.{Begun, is_whole}
-use Rattle.session_slots.specs.declared.restoring.NextNumbers.{NextNumbers}
 use Rattle.tree_changes.specs.Parts.{part}
 use Rattle.tree_changes.specs.Taken.{TakesAll}
 use Rattle.tree_changes.specs.Replays.{Replays}
 use Rattle.journal.specs.Frames.{Bytes}
 use Rattle.journal.specs.Files.{Content}
+use Rattle.compound_run.specs.Known.{Known, unknown}
+use Rattle.client_changes.specs.Applying.{Leads}
 use Rattle.tree_store.specs.Kept.{Kept}
-use Rattle.tree_store.specs.Forms.{numbers, numbers_value}
 
--- these bytes are the numbers, and no more
-abbrev pub ReadsNumbers : Bytes → NextNumbers → Type 0
-ReadsNumbers bytes next = read_at numbers bytes ≡ Ok (numbers_value next, [])
+-- these bytes are changes of what is known of clients, and no more
+abbrev pub LeadsWhole : Known → Bytes → Known → Type 0
+LeadsWhole old bytes new = Leads old bytes new []
+
+-- three parts, one after the other, that lead from nothing to what is known of clients
+pub record BeginsClients (first second third : Bytes) (new : Known) : Type 0 where
+  pub heads : Known
+  pub half : Known
+  pub leads_first : LeadsWhole unknown first heads
+  pub leads_second : LeadsWhole heads second half
+  pub leads_third : LeadsWhole half third new
 
 -- each of the bytes is a part of a tree, and no more
 abbrev pub ReadsParts : List Bytes → List (Value part) → Type 0
@@ -33,15 +41,15 @@ pub record Restores (so_far : Option Begun) (parts : List Bytes) (w : World) : T
   pub whole : is_whole begun.world ≡ true
   pub world_is : w ≡ begun.world
 
--- a checkpoint: the first part is the numbers, and the others are those of a tree
+-- a checkpoint: the first three parts are what is known of clients, and the others are those of a tree
 abbrev pub Begins : List Bytes → Kept → Type 0
-Begins [] kept = ⊥
-Begins (first ∷ parts) kept = ReadsNumbers first kept.1 × Restores None parts kept.0
+Begins (first ∷ second ∷ third ∷ parts) kept = BeginsClients first second third kept.1 × Restores None parts kept.0
+Begins parts kept = ⊥
 
--- a record: the numbers, and after them changes that lead from one tree to the next
+-- a record: changes of what is known of clients, and after them changes that lead from one tree to the next
 pub record LeadsOn (old : Kept) (bytes : Bytes) (new : Kept) : Type 0 where
   pub rest : Bytes
-  pub numbers_are : read_at numbers bytes ≡ Ok (numbers_value new.1, rest)
+  pub clients : Leads old.1 bytes new.1 rest
   pub replays : Replays old.0 rest new.0
 
 -- records that lead on, one after the other

@@ -8,12 +8,13 @@ use Rattle.journal.specs.Files.{Content}
 use Rattle.journal.specs.Opening.{Chooses, Refuses}
 use Rattle.journal.specs.Keeping.{Adding, BothFound, NotBoth}
 use Rattle.node_tree.specs.World.{World}
-use Rattle.session_slots.specs.declared.restoring.NextNumbers.{NextNumbers}
+use Rattle.compound_run.specs.Known.{Known}
+use Rattle.client_changes.specs.Comparing.{AreSame}
 use Rattle.tree_store.specs.declared.fault.StoreFault.{StoreFault}
 use Rattle.tree_store.specs.declared.fault.StoreFault.TheVariants.{Failed, Version, Damaged, Memory}
 use Rattle.tree_store.specs.declared.opening.Base.{Base}
 use Rattle.tree_store.specs.declared.opening.Found.{Found}
-use Rattle.tree_store.specs.declared.store.Store.{Store}
+use Rattle.tree_store.specs.Running.{Store}
 use Rattle.tree_store.specs.Kept.{Kept, kept_with, Covers, Follows}
 use Rattle.tree_store.specs.Holds.{Holds, IsFoundOr, IsHeldOr}
 use Rattle.tree_store.specs.Leaving.{Does, HasFailed}
@@ -27,7 +28,7 @@ HoldsNothing content = (kept : Kept) → Holds content kept → ⊥
 
 -- what a content was read as, or why it wasn't
 abbrev pub ReadsSo : {A : Type 0} → Content → Result (Found A) StoreFault → Type 0
-ReadsSo content (Ok found) = Holds content (kept_with found.tree found.next)
+ReadsSo content (Ok found) = Holds content (kept_with found.tree found.known)
 ReadsSo content (Err Failed) = ⊥
 ReadsSo content (Err Version) = ⊥
 ReadsSo content (Err Damaged) = HoldsNothing content
@@ -44,7 +45,7 @@ abbrev pub OpensSo : {A : Type 0} → ℕ → Bytes → Bytes → Result (Base �
 OpensSo key a b (Ok (base, None)) = (base.key ≡ key) × Chooses key a b base.slot base.generation None
 OpensSo key a b (Ok (base, Some found)) =
     (base.key ≡ key) × ((content : Content) × Chooses key a b base.slot base.generation (Some content)
-    × Holds content (kept_with found.tree found.next))
+    × Holds content (kept_with found.tree found.known))
 OpensSo key a b (Err Failed) = ⊥
 OpensSo key a b (Err Version) = Refuses key a b true
 OpensSo key a b (Err Damaged) = AreDamaged key a b
@@ -77,26 +78,33 @@ BegunSo key history (Err Memory) aim = Unit {0}
 
 -- Over two files of which one was chosen: a crash at any moment leaves what was chosen, or what was to be kept; and at
 -- the end the store stands for that.
-abbrev pub Starts : {D : Type 0} → Adding D → Base → Kept → Result Store StoreFault → D → D → Type 0
-Starts adds base aim result old new =
+abbrev pub StartsSo : {D : Type 0} → Adding D → Base → Kept → Result Store StoreFault → D → D → Type 0
+StartsSo adds base aim result old new =
     (a b : Bytes) (content : Option Content) → Chooses base.key a b base.slot base.generation content
     → Does adds base.key (both_found a b) (IsFoundOr content aim) (λ acts. BegunSo base.key acts result aim) old new
 
+-- What is to be kept is the world, and what is known of clients.
+abbrev pub Starts : {D : Type 0} → Adding D → Base → World → Known → Result Store StoreFault → D → D → Type 0
+Starts adds base w now result old new = (known : Known) × AreSame known now × StartsSo adds base (kept_with w known) result old new
+
 -- ---- keeping
 
--- A store that has kept this stands for it, but for open files that were given since. Where the disk has failed, the
--- newest act has; and after a fault the store isn't called again.
-abbrev pub KeptSo : ℕ → List Act → Result (Unit {0}) StoreFault → Store → Kept → Type 0
-KeptSo key history (Ok done) store aim = (kept : Kept) × Stands key history store kept × Covers aim kept
-KeptSo key history (Err Failed) store aim = HasFailed history × (store.journal.has_failed ≡ true)
-KeptSo key history (Err Version) store aim = ⊥
-KeptSo key history (Err Damaged) store aim = ⊥
-KeptSo key history (Err Memory) store aim = store.journal.has_failed ≡ true
+-- A store that has kept all stands for what was kept before, or for what was to be kept, and that covers what is now.
+-- Where the disk has failed, the newest act has; and after a fault the store isn't called again.
+abbrev pub KeptSo : ℕ → List Act → Result (Unit {0}) StoreFault → Store → Kept → Kept → Kept → Type 0
+KeptSo key history (Ok done) store old aim now = (kept : Kept) × Stands key history store kept × ((kept ≡ old) ⊎ (kept ≡ aim)) × Covers now kept
+KeptSo key history (Err Failed) store old aim now = HasFailed history × (store.journal.has_failed ≡ true)
+KeptSo key history (Err Version) store old aim now = ⊥
+KeptSo key history (Err Damaged) store old aim now = ⊥
+KeptSo key history (Err Memory) store old aim now = store.journal.has_failed ≡ true
 
 -- Of a store that stands for what is kept, from where the notes of the world lead: a crash at any moment leaves that,
--- or what was to be kept; and at the end the store stands for the latter.
-abbrev pub Keeps : {D : Type 0} → Adding D → Store → World → NextNumbers → Result (Unit {0}) StoreFault → Store → D → D → Type 0
-Keeps adds store w next result store' old new =
+-- or what was to be kept; and at the end the store stands for one of them.
+abbrev pub KeepsSo : {D : Type 0} → Adding D → Store → World → Known → Known → Result (Unit {0}) StoreFault → Store → D → D → Type 0
+KeepsSo adds store w known now result store' old new =
     (history : List Act) (kept : Kept) → Stands store.journal.key history store kept → Follows kept w
-    → Does adds store.journal.key history (IsHeldOr kept (kept_with w next))
-    (λ acts. KeptSo store.journal.key acts result store' (kept_with w next)) old new
+    → Does adds store.journal.key history (IsHeldOr kept (kept_with w known))
+    (λ acts. KeptSo store.journal.key acts result store' kept (kept_with w known) (kept_with w now)) old new
+
+abbrev pub Keeps : {D : Type 0} → Adding D → Store → World → Known → Result (Unit {0}) StoreFault → Store → D → D → Type 0
+Keeps adds store w now result store' old new = (known : Known) × AreSame known now × KeepsSo adds store w known now result store' old new

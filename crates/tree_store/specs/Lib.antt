@@ -1,6 +1,6 @@
 pub mod Said
+pub mod Running
 pub mod Kept
-pub mod Forms
 pub mod Holds
 pub mod Leaving
 pub mod Standing

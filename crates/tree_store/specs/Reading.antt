@@ -4,7 +4,7 @@ use Rattle.xdr_wire.specs.Xdr.{Value}
 use Rattle.xdr_wire.specs.Reading.{read_at}
 use Rattle.node_tree.specs.World.{World}
 use Rattle.node_tree.specs.Restored.{Begun}
-use Rattle.session_slots.specs.declared.restoring.NextNumbers.{NextNumbers}
+use Rattle.compound_run.specs.Known.{Known}
 use Rattle.tree_changes.specs.Parts.{part}
 use Rattle.tree_changes.specs.Taken.{Takes}
 use Rattle.journal.specs.Frames.{Bytes}
@@ -13,18 +13,13 @@ use Rattle.tree_store.specs.declared.fault.StoreFault.{StoreFault}
 use Rattle.tree_store.specs.declared.fault.StoreFault.TheVariants.{Failed, Version, Damaged, Memory}
 use Rattle.tree_store.specs.declared.opening.Found.{Found}
 use Rattle.tree_store.specs.Kept.{Kept}
-use Rattle.tree_store.specs.Holds.{ReadsNumbers, Restores, Begins, LeadsOn}
+use Rattle.tree_store.specs.Holds.{LeadsWhole, BeginsClients, Restores, Begins, LeadsOn}
 
 abbrev pub content_of : List Bytes → List Bytes → Content
 content_of parts records = record { parts = parts; records = records }
 
 abbrev pub found_kept : {A : Type 0} → Found A → Kept
-found_kept found = (found.tree, found.next)
-
--- the numbers that these bytes are; none where they are none, or more than these
-abbrev pub NumbersSo : Bytes → Option NextNumbers → Type 0
-NumbersSo bytes (Some next) = ReadsNumbers bytes next
-NumbersSo bytes None = (next : NextNumbers) → ReadsNumbers bytes next → ⊥
+found_kept found = (found.tree, found.known)
 
 -- what a step answers: it is so, or it never is; or there is no memory
 abbrev pub AnswersSo : {X : Type 0} → (X → Type 0) → Type 0 → Result X StoreFault → Type 0
@@ -33,6 +28,13 @@ AnswersSo so never (Err Failed) = ⊥
 AnswersSo so never (Err Version) = ⊥
 AnswersSo so never (Err Damaged) = never
 AnswersSo so never (Err Memory) = Unit {0}
+
+abbrev pub LeadsWholeSo : Known → Bytes → Result (Unit {0}) StoreFault → Known → Type 0
+LeadsWholeSo old bytes result new = AnswersSo (λ done. LeadsWhole old bytes new) ((known : Known) → LeadsWhole old bytes known → ⊥) result
+
+abbrev pub BeginsClientsSo : Bytes → Bytes → Bytes → Result Known StoreFault → Type 0
+BeginsClientsSo first second third result =
+    AnswersSo (BeginsClients first second third) ((known : Known) → BeginsClients first second third known → ⊥) result
 
 -- these bytes are the part that is taken next, and no more
 abbrev pub TakesBytes : Option Begun → Bytes → Begun → Type 0

@@ -4,12 +4,12 @@ use Rattle.journal.specs.Disk.{Act, on_disk}
 use Rattle.journal.specs.Frames.{Frame}
 use Rattle.journal.specs.Files.{Content}
 use Rattle.journal.specs.Living.{IsLive}
-use Rattle.tree_store.specs.declared.store.Store.{Store}
+use Rattle.tree_store.specs.Running.{Store}
 use Rattle.tree_store.specs.Kept.{Kept}
 use Rattle.tree_store.specs.Holds.{Holds}
 
--- After these acts the store's file counts. All of it is synced, it holds what is kept, and the store knows its
--- numbers.
+-- After these acts the store's file counts. All of it is synced, it holds what is kept, and the store knows what
+-- is kept of clients.
 pub record Stands (key : ℕ) (history : List Act) (store : Store) (kept : Kept) : Type 0 where
   pub frames : List Frame
   pub content : Content
@@ -20,4 +20,4 @@ pub record Stands (key : ℕ) (history : List Act) (store : Store) (kept : Kept)
   pub number_is : store.journal.number ≡ length frames
   pub safe_is : store.journal.safe ≡ length frames
   pub going : store.journal.has_failed ≡ false
-  pub next_is : store.next ≡ kept.1
+  pub known_is : store.known ≡ kept.1

@@ -11,14 +11,16 @@ use Rattle.journal.specs.Files.{Content}
 use Rattle.journal.specs.Replacing.{IsBase, IsReplaced}
 use Rattle.journal.specs.Keeping.{Adding, Twice}
 use Rattle.node_tree.specs.World.{World, Object, Name}
-use Rattle.session_slots.specs.declared.restoring.NextNumbers.{NextNumbers}
+use Rattle.compound_run.specs.Known.{Known}
+use Rattle.client_changes.specs.Comparing.{AreSame, AreNear}
 use Rattle.tree_changes.specs.Parts.{part, parts, object_value, name_value}
+use Rattle.tree_store.specs.declared.checkpoint.Fronts as checkpoints
+use Rattle.tree_store.specs.declared.checkpoint.Written.{Written}
 use Rattle.tree_store.specs.declared.fault.StoreFault.{StoreFault}
 use Rattle.tree_store.specs.declared.fault.StoreFault.TheVariants.{Failed, Version, Damaged, Memory}
-use Rattle.tree_store.specs.declared.store.Store.{Store}
+use Rattle.tree_store.specs.Running.{Store}
 use Rattle.tree_store.specs.Kept.{Kept}
-use Rattle.tree_store.specs.Forms.{numbers, numbers_value}
-use Rattle.tree_store.specs.Holds.{IsFoundOr, IsHeldOr}
+use Rattle.tree_store.specs.Holds.{BeginsClients, IsFoundOr, IsHeldOr}
 use Rattle.tree_store.specs.Leaving.{Does, Leaves, HasFailed, written_since}
 use Rattle.tree_store.specs.Standing.{Stands}
 
@@ -87,13 +89,29 @@ HasObjectSpelling e = HasSpelling part (object_value e.0 e.1)
 abbrev pub HasNameSpelling : Name → Type 0
 HasNameSpelling n = HasSpelling part (name_value n)
 
--- the numbers and all parts of the tree are read again
-abbrev pub HaveSpelling : World → NextNumbers → Type 0
-HaveSpelling w next = HasSpelling numbers (numbers_value next) × AllByRecursion (HasSpelling part) (parts w)
+-- all parts of the tree are read again
+abbrev pub HaveSpelling : World → Type 0
+HaveSpelling w = AllByRecursion (HasSpelling part) (parts w)
+
+-- the first three parts of a checkpoint
+pub record Fronts : Type 0 where
+  pub first : Bytes
+  pub second : Bytes
+  pub third : Bytes
+
+abbrev pub fronts_of : {A : Type 0} → checkpoints.Fronts A → Fronts
+fronts_of f = record { first = f.first.items; second = f.second.items; third = f.third.items }
+
+abbrev pub fronts_list : Fronts → List Bytes
+fronts_list f = f.first ∷ f.second ∷ f.third ∷ []
+
+-- they lead to what is known of clients
+abbrev pub FrontsLead : Fronts → Known → Type 0
+FrontsLead f known = BeginsClients f.first f.second f.third known
 
 -- the parts of a checkpoint
-abbrev pub all_parts : World → NextNumbers → List Bytes
-all_parts w next = spelling numbers (numbers_value next) ∷ map (spelling part) (parts w)
+abbrev pub all_parts : World → Fronts → List Bytes
+all_parts w f = f.first ∷ f.second ∷ f.third ∷ map (spelling part) (parts w)
 
 -- after these acts this file counts, with its generation and content, and all of it is synced
 pub record Counts (key generation : ℕ) (s : Slot) (content : Option Content) (history : List Act) : Type 0 where
@@ -102,13 +120,16 @@ pub record Counts (key generation : ℕ) (s : Slot) (content : Option Content) (
   pub base : IsBase key generation s content bytes
   pub leaves : Leaves key history (λ o. o ≡ content)
 
--- Over a file that counts: a crash at any moment leaves what it has, or what was to be kept; and at the end a store
--- stands for that.
-abbrev pub Checkpoints : {D : Type 0} → Adding D → ℕ → Slot → ℕ → Kept → Result Store StoreFault → D → D → Type 0
+abbrev pub written_store : {A : Type 0} → Written A → Store
+written_store w = record { journal = w.journal; known = w.known }
+
+-- Over a file that counts: a crash at any moment leaves what it has, or what was to be kept; and at the end a store of what
+-- was written stands for that.
+abbrev pub Checkpoints : {A D : Type 0} → Adding D → ℕ → Slot → ℕ → Kept → Result (Written A) StoreFault → D → D → Type 0
 Checkpoints adds key s generation aim result old new =
     (content : Option Content) (history : List Act) → Counts key generation s content history
     → Does adds key history (IsFoundOr content aim)
-    (λ acts. IfDone (λ store. Stands key acts store aim) acts result) old new
+    (λ acts. IfDone (λ w. Stands key acts (written_store w) aim) acts result) old new
 
 -- ---- a store that goes on
 
@@ -120,10 +141,7 @@ GoesOn adds store kept aim result store' old new =
     → Does adds store.journal.key history (IsHeldOr kept aim)
     (λ acts. IfDone (λ done. Stands store.journal.key acts store' aim) acts result) old new
 
--- nothing was noted, and the numbers are those that are kept, but for open files, of which fewer than 2 ^ 31 were given
-pub record IsIdle (store : Store) (bytes : Bytes) (next : NextNumbers) : Type 0 where
+-- nothing was noted, and what is known of clients is kept, but for slots, on each of which fewer than 2^20 calls came
+pub record IsIdle (store : Store) (bytes : Bytes) (now : Known) : Type 0 where
   pub none : bytes ≡ []
-  pub client_is : store.next.client ≡ next.client
-  pub session_is : store.next.session ≡ next.session
-  pub no_later : store.next.open_file ≤ next.open_file
-  pub near : next.open_file < store.next.open_file + 2 ^ 31
+  pub near : AreNear store.known now

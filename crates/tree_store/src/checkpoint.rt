@@ -1,22 +1,32 @@
 //! A checkpoint of a tree, part by part.
-ghost use Rattle.std.specs.Prelude.{◌≡◌, ◌∷◌, [], map, OnOk};
+ghost use Rattle.std.specs.Prelude.{◌≡◌, ◌∷◌, [], map, IfOk, OnOk};
 ghost use Rattle.std.specs.List.{AllByRecursion};
 ghost use Rattle.xdr_wire.specs.Xdr.{HasSpelling, spelling};
 ghost use Rattle.node_tree.specs.Sound.{IsSound};
 ghost use Rattle.tree_changes.specs.Parts.{part, counters_value};
-ghost use Rattle.tree_store.specs.Forms.{numbers, numbers_value};
+ghost use Rattle.compound_run.specs.Known.{Known as KnownSo};
+ghost use Rattle.client_changes.specs.Comparing.{AreSame};
+ghost use Rattle.compound_run.specs.Views.{lent_view};
 ghost use Rattle.tree_store.specs.Kept.{kept_with};
-ghost use Rattle.tree_store.specs.Writing.{Appends, Checkpoints, all_parts, object_bytes, name_bytes, HasObjectSpelling, HasNameSpelling, HaveSpelling};
+ghost use Rattle.tree_store.specs.Writing.{Appends, Checkpoints, FrontsLead, all_parts, fronts_list, fronts_of, object_bytes, name_bytes, HasObjectSpelling, HasNameSpelling, HaveSpelling};
 
 use crate::fault::{StoreFault, said};
-use crate::numbers::write_numbers;
-use crate::store::Store;
-use journal::{Checkpoint, Disk, Slot};
+use crate::reading::known_of;
+use client_changes::{Closeness, are_close, write_calls, write_clients};
+use compound_run::{Known, Lent};
+use journal::{Checkpoint, Disk, Journal, Slot};
 use node_tree::{ROOT, Tree};
-use session_slots::NextNumbers;
-use std::alloc::Allocator;
+use std::alloc::{AllocError, Allocator};
 use tree_changes::{write_counters, write_name, write_object};
 use xdr_wire::Writer;
+
+/// The file that counts: the key of its digests, and its generation.
+#[derive(Clone, Copy, Debug)]
+pub(crate) struct Place {
+    pub(crate) key: u64,
+    pub(crate) slot: Slot,
+    pub(crate) generation: u64,
+}
 
 /// Room for each part: the bytes of an object, at most 64 entries of 20 bytes, and the rest.
 const PART_ROOM: usize = 1_048_576 + 4096;
@@ -45,22 +55,42 @@ impl<A: Allocator + Copy> Parts<A> {
         }
     }
 
-    /// Appends the numbers.
-    fn put_numbers<D: Disk>(
+    /// Appends a part that is written already.
+    fn put_bytes<D: Disk>(
         &mut self,
         disk: &mut D,
         alloc: A,
-        next: NextNumbers,
+        bytes: &Vec<u8, A>,
     ) -> Result<(), StoreFault>
-        requires { self.old.writer.bytes ≡ [] }
-        ensures appends { Appends D.adds self.old.checkpoint (spelling numbers (numbers_value next) ∷ []) result self.new.checkpoint disk.old disk.new }
-        ensures has_spelling { OnOk result (HasSpelling numbers (numbers_value next)) }
-        ensures empty { self.new.writer.bytes ≡ [] }
+        ensures appends { Appends D.adds self.old.checkpoint (bytes.now.items ∷ []) result self.new.checkpoint disk.old disk.new }
+        ensures stays { self.new.writer ≡ self.old.writer }
     {
-        let Ok(()) = write_numbers(next, &mut self.writer) else {
-            return Err(StoreFault::Memory);
-        };
-        self.put(disk, alloc)
+        self.size = self.size.saturating_add(bytes.len() as u64);
+        match self.checkpoint.part(disk, alloc, bytes.as_slice()) {
+            Ok(()) => Ok(()),
+            Err(fault) => Err(said(fault)),
+        }
+    }
+
+    /// Appends what is known of clients.
+    fn put_fronts<D: Disk>(
+        &mut self,
+        disk: &mut D,
+        alloc: A,
+        fronts: &Fronts<A>,
+    ) -> Result<(), StoreFault>
+        ensures appends { Appends D.adds self.old.checkpoint (fronts_list (fronts_of fronts.now)) result self.new.checkpoint disk.old disk.new }
+        ensures stays { self.new.writer ≡ self.old.writer }
+    {
+        match self.put_bytes(disk, alloc, &fronts.first) {
+            Ok(()) => {}
+            Err(fault) => return Err(fault),
+        }
+        match self.put_bytes(disk, alloc, &fronts.second) {
+            Ok(()) => {}
+            Err(fault) => return Err(fault),
+        }
+        self.put_bytes(disk, alloc, &fronts.third)
     }
 
     /// Appends the counters.
@@ -138,14 +168,14 @@ impl<A: Allocator + Copy> Parts<A> {
         disk: &mut D,
         alloc: A,
         tree: &Tree<A>,
-        next: NextNumbers,
+        fronts: &Fronts<A>,
     ) -> Result<(), StoreFault>
         requires empty { self.old.writer.bytes ≡ [] }
         requires sound { IsSound tree.now }
-        ensures appends { Appends D.adds self.old.checkpoint (all_parts tree.now next) result self.new.checkpoint disk.old disk.new }
-        ensures has_spelling { OnOk result (HaveSpelling tree.now next) }
+        ensures appends { Appends D.adds self.old.checkpoint (all_parts tree.now (fronts_of fronts.now)) result self.new.checkpoint disk.old disk.new }
+        ensures has_spelling { OnOk result (HaveSpelling tree.now) }
     {
-        match self.put_numbers(disk, alloc, next) {
+        match self.put_fronts(disk, alloc, fronts) {
             Ok(()) => {}
             Err(fault) => return Err(fault),
         }
@@ -161,24 +191,72 @@ impl<A: Allocator + Copy> Parts<A> {
     }
 }
 
-/// Writes a checkpoint of the next generation into the other file than the one that counts, and syncs it.
-pub(crate) fn write_checkpoint<D: Disk, A: Allocator + Copy>(
+/// The first three parts of a checkpoint: the clients and open files, and the calls of each half of the sessions.
+#[derive(Drop)]
+pub(crate) struct Fronts<A: Allocator> {
+    first: Vec<u8, A>,
+    second: Vec<u8, A>,
+    third: Vec<u8, A>,
+}
+
+impl<A: Allocator + Copy> Fronts<A> {
+    fn written(alloc: A, now: Lent<'_, A>) -> Result<Self, AllocError> {
+        Ok(Fronts {
+            first: write_clients(alloc, now)?,
+            second: write_calls(alloc, now, false)?,
+            third: write_calls(alloc, now, true)?,
+        })
+    }
+
+    /// What they say of clients, which is what is known now.
+    fn known(&self, alloc: A, now: Lent<'_, A>) -> Result<Known<A>, AllocError>
+        ensures leads { IfOk result (λ known. FrontsLead (fronts_of self.now) known) }
+        ensures same { IfOk result (λ known. AreSame known (lent_view now.entry)) }
+    {
+        let Ok(known) = known_of(
+            alloc,
+            self.first.as_slice(),
+            self.second.as_slice(),
+            self.third.as_slice(),
+        ) else {
+            return Err(AllocError);
+        };
+        if !are_close(Closeness::Same, known.lend(), now) {
+            return Err(AllocError);
+        }
+        Ok(known)
+    }
+}
+
+/// A checkpoint that was written.
+#[derive(Drop)]
+pub(crate) struct Written<A: Allocator> {
+    pub(crate) journal: Journal,
+    /// What it says of clients.
+    pub(crate) known: Known<A>,
+    /// The bytes of its parts.
+    pub(crate) size: u64,
+}
+
+/// Writes the parts of a checkpoint into the other file than the one that counts, and syncs it: all of it after its fronts
+/// were written, which say what is kept of clients.
+fn write_parts<D: Disk, A: Allocator + Copy>(
     disk: &mut D,
     alloc: A,
-    key: u64,
-    slot: Slot,
-    generation: u64,
+    place: Place,
     tree: &Tree<A>,
-    next: NextNumbers,
-) -> Result<Store, StoreFault>
-    ensures { Checkpoints D.adds key slot generation (kept_with tree.now next) result disk.old disk.new }
+    fronts: &Fronts<A>,
+    known: Known<A>,
+) -> Result<Written<A>, StoreFault>
+    requires { FrontsLead (fronts_of fronts.now) known }
+    ensures { Checkpoints D.adds place.key place.slot place.generation (kept_with tree.now known) result disk.old disk.new }
 {
     // of a tree of which something was looked up it is known that it is sound
     let _root = tree.object(ROOT);
     let Ok(writer) = Writer::new(alloc, PART_ROOM) else {
         return Err(StoreFault::Memory);
     };
-    let checkpoint = match Checkpoint::begin(disk, key, slot, generation) {
+    let checkpoint = match Checkpoint::begin(disk, place.key, place.slot, place.generation) {
         Ok(checkpoint) => checkpoint,
         Err(fault) => return Err(said(fault)),
     };
@@ -187,7 +265,7 @@ pub(crate) fn write_checkpoint<D: Disk, A: Allocator + Copy>(
         writer,
         size: 0,
     };
-    match parts.put_all(disk, alloc, tree, next) {
+    match parts.put_all(disk, alloc, tree, fronts) {
         Ok(()) => {}
         Err(fault) => return Err(fault),
     }
@@ -195,10 +273,28 @@ pub(crate) fn write_checkpoint<D: Disk, A: Allocator + Copy>(
         Ok(journal) => journal,
         Err(fault) => return Err(said(fault)),
     };
-    Ok(Store {
+    Ok(Written {
         journal,
-        next,
-        checkpoint: parts.size,
-        records: 0,
+        known,
+        size: parts.size,
     })
+}
+
+/// Writes a checkpoint of the next generation into the other file than the one that counts, and syncs it.
+pub(crate) fn write_checkpoint<D: Disk, A: Allocator + Copy>(
+    disk: &mut D,
+    alloc: A,
+    place: Place,
+    tree: &Tree<A>,
+    now: Lent<'_, A>,
+) -> Result<Written<A>, StoreFault>
+    ensures { (known : KnownSo) × AreSame known (lent_view now.entry) × Checkpoints D.adds place.key place.slot place.generation (kept_with tree.now known) result disk.old disk.new }
+{
+    let Ok(fronts) = Fronts::written(alloc, now) else {
+        return Err(StoreFault::Memory);
+    };
+    let Ok(known) = fronts.known(alloc, now) else {
+        return Err(StoreFault::Memory);
+    };
+    write_parts(disk, alloc, place, tree, &fronts, known)
 }

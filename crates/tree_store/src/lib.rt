@@ -4,7 +4,6 @@
 mod checkpoint;
 mod fault;
 mod laws;
-mod numbers;
 mod opening;
 mod reading;
 mod record;
@@ -12,6 +11,5 @@ mod store;
 
 pub use fault::StoreFault;
 pub use laws::what_a_store_holds_is_one;
-pub use numbers::after_start;
 pub use opening::{Base, Found, open};
 pub use store::{NOTES_ROOM, Store};

@@ -3,9 +3,9 @@ ghost use Rattle.tree_store.specs.Keeping.{Opens, OpensSo};
 
 use crate::fault::StoreFault;
 use crate::reading::read_content;
+use compound_run::Known;
 use journal::{Disk, OpenFault, Slot, choose, load};
 use node_tree::Tree;
-use session_slots::NextNumbers;
 use std::alloc::Allocator;
 
 /// The file that counts, as it was found.
@@ -21,8 +21,8 @@ pub struct Base {
 pub struct Found<A: Allocator> {
     /// The tree, which keeps no notes.
     pub tree: Tree<A>,
-    /// The next numbers; see [`crate::after_start`].
-    pub next: NextNumbers,
+    /// What is known of clients. Each slot lags.
+    pub known: Known<A>,
 }
 
 /// What two files have.

@@ -1,13 +1,13 @@
 //! A checkpoint and records, read as what was kept.
 ghost use Rattle.std.specs.Prelude.{map};
 ghost use Rattle.tree_store.specs.Keeping.{ReadsSo};
-ghost use Rattle.tree_store.specs.Reading.{NumbersSo, TakesSo, RestoresSo, BeginsSo, LeadsSo, content_of, found_kept};
+ghost use Rattle.tree_store.specs.Reading.{LeadsWholeSo, BeginsClientsSo, TakesSo, RestoresSo, BeginsSo, LeadsSo, content_of, found_kept};
 
 use crate::fault::StoreFault;
-use crate::numbers::read_numbers;
 use crate::opening::Found;
+use client_changes::{ChangeFault, lead};
+use compound_run::Known;
 use node_tree::{RestoreFault, Restoring, Tree};
-use session_slots::NextNumbers;
 use std::alloc::Allocator;
 use tree_changes::{ReplayFault, SaidPart, replay, take};
 use xdr_wire::{Reader, Wire};
@@ -54,32 +54,64 @@ fn restored<A: Allocator + Copy>(alloc: A, parts: &[&[u8]]) -> Result<Tree<A>, S
     Ok(tree)
 }
 
-/// The numbers that these bytes are, whole.
-fn whole_numbers(bytes: &[u8]) -> Option<NextNumbers>
-    ensures { NumbersSo bytes.now result }
+/// Leads on by changes of what is known of clients, which these bytes are, whole. After a fault what is known isn't to go
+/// on with.
+fn lead_whole<A: Allocator + Copy>(
+    alloc: A,
+    known: &mut Known<A>,
+    bytes: &[u8],
+) -> Result<(), StoreFault>
+    ensures { LeadsWholeSo known.old bytes.now result known.new }
 {
     let mut reader = Reader::new(bytes);
-    let Ok(next) = read_numbers(&mut reader) else {
-        return None;
-    };
-    if !reader.is_empty() {
-        return None;
+    match lead(known, alloc, &mut reader) {
+        Ok(()) => {}
+        Err(ChangeFault::Unfit) => return Err(StoreFault::Damaged),
+        Err(ChangeFault::Memory) => return Err(StoreFault::Memory),
     }
-    Some(next)
+    if !reader.is_empty() {
+        return Err(StoreFault::Damaged);
+    }
+    Ok(())
+}
+
+/// What the first three parts of a checkpoint say of clients.
+pub(crate) fn known_of<A: Allocator + Copy>(
+    alloc: A,
+    first: &[u8],
+    second: &[u8],
+    third: &[u8],
+) -> Result<Known<A>, StoreFault>
+    ensures { BeginsClientsSo first.now second.now third.now result }
+{
+    let mut known = Known::nothing(alloc);
+    match lead_whole(alloc, &mut known, first) {
+        Ok(()) => {}
+        Err(fault) => return Err(fault),
+    }
+    match lead_whole(alloc, &mut known, second) {
+        Ok(()) => {}
+        Err(fault) => return Err(fault),
+    }
+    match lead_whole(alloc, &mut known, third) {
+        Ok(()) => Ok(known),
+        Err(fault) => Err(fault),
+    }
 }
 
 /// What a checkpoint of these parts has.
 fn begun<A: Allocator + Copy>(alloc: A, parts: &[&[u8]]) -> Result<Found<A>, StoreFault>
     ensures { BeginsSo (map (λ b. b.now) parts.now) result }
 {
-    let Some((first, others)) = parts.split_first() else {
+    let [first, second, third, others @ ..] = parts else {
         return Err(StoreFault::Damaged);
     };
-    let Some(next) = whole_numbers(first) else {
-        return Err(StoreFault::Damaged);
+    let known = match known_of(alloc, first, second, third) {
+        Ok(known) => known,
+        Err(fault) => return Err(fault),
     };
     match restored(alloc, others) {
-        Ok(tree) => Ok(Found { tree, next }),
+        Ok(tree) => Ok(Found { tree, known }),
         Err(fault) => Err(fault),
     }
 }
@@ -93,15 +125,16 @@ fn lead_on<A: Allocator + Copy>(
     ensures { LeadsSo (found_kept found.old) bytes.now result (found_kept found.new) }
 {
     let mut reader = Reader::new(bytes);
-    let Ok(next) = read_numbers(&mut reader) else {
-        return Err(StoreFault::Damaged);
-    };
+    match lead(&mut found.known, alloc, &mut reader) {
+        Ok(()) => {}
+        Err(ChangeFault::Unfit) => return Err(StoreFault::Damaged),
+        Err(ChangeFault::Memory) => return Err(StoreFault::Memory),
+    }
     match replay(&mut found.tree, alloc, reader.rest()) {
         Ok(()) => {}
         Err(ReplayFault::Unfit) => return Err(StoreFault::Damaged),
         Err(ReplayFault::Memory) => return Err(StoreFault::Memory),
     }
-    found.next = next;
     Ok(())
 }
 

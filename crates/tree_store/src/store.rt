@@ -1,171 +1,185 @@
 //! The store of a server that runs.
-ghost use Rattle.std.specs.Prelude.{◌≡◌, Err, OnErr, IsOk, true, false};
+ghost use Rattle.std.specs.Prelude.{◌≡◌, ◌↔◌, Err, OnErr, IsOk, IsTrue, true, false};
 ghost use Rattle.tree_changes.specs.Replays.{Replays};
 ghost use Rattle.node_tree.specs.World.{World};
+ghost use Rattle.compound_run.specs.Known.{Known as KnownSo};
+ghost use Rattle.client_changes.specs.Comparing.{AreSame};
+ghost use Rattle.compound_run.specs.Views.{lent_view};
 ghost use Rattle.tree_store.specs.Kept.{Kept, kept_with};
 ghost use Rattle.tree_store.specs.Keeping.{Starts, Keeps};
 ghost use Rattle.tree_store.specs.Writing.{GoesOn, IsIdle};
 ghost use Rattle.tree_store.specs.declared.fault.StoreFault.TheVariants.{Failed};
 
-use crate::checkpoint::write_checkpoint;
+use crate::checkpoint::{Place, write_checkpoint};
 use crate::fault::StoreFault;
 use crate::opening::Base;
-use crate::record::{NUMBERS, keep_record, record_of};
+use crate::record::{keep_record, leads_to, record_of};
+use client_changes::{Closeness, are_close};
+use compound_run::{Known, Lent};
 use journal::{Disk, Journal};
 use node_tree::Tree;
-use session_slots::NextNumbers;
-use std::alloc::Allocator;
+use std::alloc::{Allocator, Global};
+use std::marker::Model;
 
 /// Room for the notes of a turn. Where they have more bytes, a checkpoint is written.
 pub const NOTES_ROOM: usize = 4 * 1024 * 1024;
 
-/// The number of open files that are given before a record says so.
-const OPENS: u64 = 1 << 31;
-
-/// The most bytes of records after a checkpoint of fewer bytes than that.
+/// The most bytes of records after a checkpoint of fewer bytes than that, and of one record.
 const RECORDS: u64 = 64 * 1024 * 1024;
 
-/// A tree that is kept in two files.
-#[derive(Clone, Copy, Debug, PartialEq, Eq)]
-pub struct Store {
+/// A server's tree and its clients, which are kept in two files.
+#[derive(Drop)]
+pub struct Store<A: Allocator = Global> {
     pub(crate) journal: Journal,
-    /// The numbers that are kept.
-    pub(crate) next: NextNumbers,
+    /// What is kept of clients.
+    pub(crate) known: Known<A>,
     /// The bytes of the checkpoint.
     pub(crate) checkpoint: u64,
     /// The bytes of the records after it.
     pub(crate) records: u64,
 }
 
-impl Store {
-    /// Begins a store over two files of which one was chosen: writes a checkpoint of the tree and the numbers into the
-    /// other one, and syncs it. A crash meanwhile leaves what was found, or what was to be kept.
+impl<A: Allocator> Model for Store<A> {
+    ghost use Rattle.tree_store.specs.Running.{Store};
+
+    ghost Value = { Store };
+
+    ghost view = { λ s. record { journal = s.journal; known = s.known } };
+}
+
+impl<A: Allocator + Copy> Store<A> {
+    /// Begins a store over two files of which one was chosen: writes a checkpoint of the tree and of what is known of
+    /// clients into the other one, and syncs it. A crash meanwhile leaves what was found, or what was to be kept.
     ///
     /// `Failed`: the disk has failed. `Memory`. The file that was chosen is as it was.
-    pub fn start<D: Disk, A: Allocator + Copy>(
+    pub fn start<D: Disk>(
         disk: &mut D,
         alloc: A,
         base: Base,
         tree: &Tree<A>,
-        next: NextNumbers,
+        now: Lent<'_, A>,
     ) -> Result<Self, StoreFault>
-        ensures { Starts D.adds base (kept_with tree.now next) result disk.old disk.new }
+        ensures { Starts D.adds base tree.now (lent_view now.entry) result disk.old disk.new }
     {
-        write_checkpoint(
-            disk,
-            alloc,
-            base.key,
-            base.slot,
-            base.generation,
-            tree,
-            next,
-        )
+        let place = Place {
+            key: base.key,
+            slot: base.slot,
+            generation: base.generation,
+        };
+        match write_checkpoint(disk, alloc, place, tree, now) {
+            Ok(written) => Ok(Store {
+                journal: written.journal,
+                known: written.known,
+                checkpoint: written.size,
+                records: 0,
+            }),
+            Err(fault) => Err(fault),
+        }
     }
 
-    /// Whether what is to be kept is kept, but for fewer than 2^31 numbers of open files.
-    fn is_idle(&self, notes: &[u8], next: NextNumbers) -> bool
-        ensures idle { result ≡ true → IsIdle self.now notes.now next }
-        ensures busy { result ≡ false → IsIdle self.now notes.now next → ⊥ }
+    /// Whether what is to be kept is kept, but for slots, on each of which fewer than 2^20 calls came.
+    fn is_idle(&self, notes: &[u8], now: Lent<'_, A>) -> bool
+        ensures { IsTrue result ↔ IsIdle self.now notes.now (lent_view now.entry) }
     {
-        notes.is_empty()
-            && self.next.client == next.client
-            && self.next.session == next.session
-            && self.next.open_file <= next.open_file
-            && next.open_file - self.next.open_file < OPENS
+        notes.is_empty() && are_close(Closeness::Near, self.known.lend(), now)
     }
 
-    /// Whether a record of these notes would have more bytes than 64 MiB, or the records more than that and than the
-    /// checkpoint.
-    fn is_long(&self, notes: usize) -> bool {
-        let bytes = (notes as u64).saturating_add(NUMBERS as u64);
+    /// Whether the records would have more bytes than 64 MiB and than the checkpoint, by a record of this many.
+    fn is_long(&self, bytes: usize) -> bool {
+        let bytes = bytes as u64;
         RECORDS < bytes || RECORDS.max(self.checkpoint) < self.records.saturating_add(bytes)
     }
 
     /// Writes a checkpoint into the other file.
-    fn renew<D: Disk, A: Allocator + Copy>(
+    fn renew<D: Disk>(
         &mut self,
         disk: &mut D,
         alloc: A,
         tree: &Tree<A>,
-        next: NextNumbers,
+        now: Lent<'_, A>,
     ) -> Result<(), StoreFault>
-        ensures goes_on { (kept : Kept) → GoesOn D.adds self.old kept (kept_with tree.now next) result self.new disk.old disk.new }
+        ensures goes_on { (known : KnownSo) × AreSame known (lent_view now.entry) × ((kept : Kept) → GoesOn D.adds self.old kept (kept_with tree.now known) result self.new disk.old disk.new) }
         ensures failed { OnErr result (self.new.journal.has_failed ≡ true) }
     {
-        let journal = self.journal;
+        let place = Place {
+            key: self.journal.key,
+            slot: self.journal.slot,
+            generation: self.journal.generation,
+        };
         self.journal.has_failed = true;
-        match write_checkpoint(
-            disk,
-            alloc,
-            journal.key,
-            journal.slot,
-            journal.generation,
-            tree,
-            next,
-        ) {
-            Ok(store) => *self = store,
-            Err(fault) => return Err(fault),
+        match write_checkpoint(disk, alloc, place, tree, now) {
+            Ok(written) => {
+                self.journal = written.journal;
+                self.known = written.known;
+                self.checkpoint = written.size;
+                self.records = 0;
+                Ok(())
+            }
+            Err(fault) => Err(fault),
         }
-        Ok(())
     }
 
-    /// Keeps a record of changes.
-    fn note<D: Disk, A: Allocator + Copy>(
+    /// Keeps a record of these bytes, which end in the notes.
+    fn note<D: Disk>(
         &mut self,
         disk: &mut D,
         alloc: A,
+        bytes: &[u8],
         notes: &[u8],
-        next: NextNumbers,
+        now: Lent<'_, A>,
     ) -> Result<(), StoreFault>
-        ensures goes_on { (kept : Kept) (w : World) → Replays kept.0 notes.now w → GoesOn D.adds self.old kept (w, next) result self.new disk.old disk.new }
+        ensures goes_on { (known : KnownSo) × AreSame known (lent_view now.entry) × ((kept : Kept) (w : World) → Replays kept.0 notes.now w → GoesOn D.adds self.old kept (w, known) result self.new disk.old disk.new) }
         ensures failed { OnErr result (self.new.journal.has_failed ≡ true) }
     {
         let mut journal = self.journal;
         self.journal.has_failed = true;
-        let Ok(bytes) = record_of(alloc, next, notes) else {
+        let Ok(()) = leads_to(alloc, &mut self.known, now, bytes, notes) else {
             return Err(StoreFault::Memory);
         };
-        match keep_record(&mut journal, disk, alloc, &bytes) {
+        match keep_record(&mut journal, disk, alloc, bytes) {
             Ok(()) => {}
             Err(fault) => return Err(fault),
         }
         self.records = self.records.saturating_add(bytes.len() as u64);
         self.journal = journal;
-        self.next = next;
         Ok(())
     }
 
-    /// Keeps the tree and the numbers, by what the tree has noted since it was kept: a record of that is appended and
-    /// synced. Where changes were lost, or where the records have more bytes than 64 MiB and than the checkpoint, a
-    /// checkpoint is written into the other file instead. Nothing is written where nothing was noted, the numbers of
-    /// clients and sessions are those that are kept, and fewer than 2^31 numbers of open files were given since. The
-    /// notes are cleared by the caller.
+    /// Keeps the tree and what is known of clients, by what the tree has noted since it was kept: a record of that is
+    /// appended and synced. Where changes were lost, or where the records have more bytes than 64 MiB and than the
+    /// checkpoint, a checkpoint is written into the other file instead. Nothing is written where nothing was noted, and
+    /// what is known of clients is kept, but for slots, on each of which fewer than 2^20 calls came. The notes are cleared
+    /// by the caller.
     ///
     /// A crash meanwhile leaves what was kept before, or all of this. `Failed`: the disk has failed. `Memory`. After a
     /// fault each call is `Failed`, and does nothing.
-    pub fn keep<D: Disk, A: Allocator + Copy>(
+    pub fn keep<D: Disk>(
         &mut self,
         disk: &mut D,
         alloc: A,
         tree: &Tree<A>,
-        next: NextNumbers,
+        now: Lent<'_, A>,
     ) -> Result<(), StoreFault>
-        ensures keeps { Keeps D.adds self.old tree.now next result self.new disk.old disk.new }
+        ensures keeps { Keeps D.adds self.old tree.now (lent_view now.entry) result self.new disk.old disk.new }
         ensures failed { self.old.journal.has_failed ≡ true → (result ≡ Err Failed) × (disk.new ≡ disk.old) }
-        ensures idle { self.old.journal.has_failed ≡ false → tree.now.notes.is_lost ≡ false → IsIdle self.old tree.now.notes.bytes next → IsOk result × (disk.new ≡ disk.old) }
+        ensures idle { self.old.journal.has_failed ≡ false → tree.now.notes.is_lost ≡ false → IsIdle self.old tree.now.notes.bytes (lent_view now.entry) → IsOk result × (disk.new ≡ disk.old) }
     {
         if self.journal.has_failed {
             return Err(StoreFault::Failed);
         }
         let Some(notes) = tree.notes() else {
-            return self.renew(disk, alloc, tree, next);
+            return self.renew(disk, alloc, tree, now);
         };
-        if self.is_idle(notes, next) {
+        if self.is_idle(notes, now) {
             return Ok(());
         }
-        if self.is_long(notes.len()) {
-            return self.renew(disk, alloc, tree, next);
+        let Ok(bytes) = record_of(alloc, self.known.lend(), now, notes) else {
+            self.journal.has_failed = true;
+            return Err(StoreFault::Memory);
+        };
+        if self.is_long(bytes.len()) {
+            return self.renew(disk, alloc, tree, now);
         }
-        self.note(disk, alloc, notes, next)
+        self.note(disk, alloc, &bytes, notes, now)
     }
 }

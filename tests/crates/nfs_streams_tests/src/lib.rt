@@ -1,4 +1,5 @@
-//! Tests of `nfs_streams`: streams in memory, ready in any order, some of which fail, break or are silent, and books that come meanwhile.
+//! Tests of `nfs_streams`: streams in memory, ready in any order, some of which fail, break or are silent, books that come meanwhile, and
+//! a store in two files in memory, over which sessions outlive a crash.
 #![tactic(auto)]
 
 #[cfg(test)]
@@ -22,6 +23,10 @@ mod peers;
 #[cfg(test)]
 mod plain;
 #[cfg(test)]
+mod sessions;
+#[cfg(test)]
 mod stopping;
 #[cfg(test)]
 mod storing;
+#[cfg(test)]
+mod talks;

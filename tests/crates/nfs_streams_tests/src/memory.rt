@@ -24,6 +24,11 @@ impl Time {
             seconds: Cell::new(1_000),
         }
     }
+
+    /// A second goes by.
+    pub fn go_on(&self) {
+        self.seconds.set(self.seconds.get().saturating_add(1));
+    }
 }
 
 impl Clock for Time {
@@ -184,8 +189,7 @@ impl<A: Allocator + Copy> Streams<A> for Memory<'_> {
         if how == Wait::Second {
             self.seconds = self.seconds.saturating_add(1);
         }
-        let now = self.time.seconds.get();
-        self.time.seconds.set(now.saturating_add(1));
+        self.time.go_on();
         self.waits != self.fails_wait
     }
 

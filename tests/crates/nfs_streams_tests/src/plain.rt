@@ -1,7 +1,7 @@
 //! The calls of a hub, of serving and of a book, without their contracts, so that a test's proof doesn't carry those along.
 
 use crate::memory::{Memory, Time};
-use compound_run::Server;
+use compound_run::{Lent, Server};
 use nfs_hub::Hub;
 use nfs_streams::{AllEnd, Limits, serve_all};
 use std::alloc::{AllocError, Allocator, Global};
@@ -55,7 +55,7 @@ fn start(
     hub: &Hub,
 ) -> Result<Store, StoreFault> {
     let server = hub.server();
-    Store::start(streams, alloc, base, server.tree(), server.next_numbers())
+    Store::start(streams, alloc, base, server.tree(), Lent::of(server))
 }
 
 fn begin_notes(hub: &mut Hub) -> Result<(), AllocError> {

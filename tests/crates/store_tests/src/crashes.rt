@@ -1,7 +1,8 @@
 //! Each crash of a run, and each call that fails.
 
 use crate::memory::{Memory, left_of, spoiled};
-use crate::script::{FIRST, TURNS, Turns, run};
+use crate::script::{TURNS, Turns, run};
+use compound_run::Known;
 use journal::Slot;
 use node_tree::Tree;
 use std::alloc::{AllocError, Global};
@@ -10,8 +11,8 @@ use std::test::Fail;
 use tree_store::StoreFault;
 
 /// The number of the first acts of a run, before its store stands: the other file is emptied and synced, and a
-/// checkpoint of eight frames written and synced.
-const FIRST_ACTS: usize = 11;
+/// checkpoint of ten frames written and synced.
+const FIRST_ACTS: usize = 13;
 
 /// The number of crashes after some events that leave less than was answered, more than was to be kept, or a refusal.
 fn bad_after(
@@ -59,7 +60,7 @@ fn each_crash_leaves_what_was_kept_or_all(rt: HostRuntime) -> Result<(), Fail> {
     assert_eq!(rt; disk.kept, TURNS);
     let mut bad = 0u32;
     for count in 0..disk.events.len().saturating_add(1) {
-        bad = bad.saturating_add(bad_after(alloc, &disk, &turns, count, 4, 397)?);
+        bad = bad.saturating_add(bad_after(alloc, &disk, &turns, count, 3, 797)?);
     }
     assert_eq!(rt; bad, 0);
     Ok(())
@@ -77,7 +78,7 @@ fn each_call_that_fails_too(rt: HostRuntime) -> Result<(), Fail> {
         assert!(rt; matches!(run(alloc, &mut disk, &mut turns), Err(StoreFault::Failed)));
         assert_eq!(rt; disk.late, 0);
         let count = disk.events.len();
-        assert_eq!(rt; bad_after(alloc, &disk, &turns, count, 3, 797)?, 0);
+        assert_eq!(rt; bad_after(alloc, &disk, &turns, count, 2, 1597)?, 0);
     }
     Ok(())
 }
@@ -92,11 +93,12 @@ fn after_a_fault_nothing_is_done(rt: HostRuntime) -> Result<(), Fail> {
     };
     // a tree that keeps no notes is kept by a checkpoint
     let tree = Tree::sample(alloc)?;
+    let known = Known::nothing(alloc);
     disk.good = 3;
-    assert!(rt; store.keep(&mut disk, alloc, &tree, FIRST) == Err(StoreFault::Failed));
+    assert!(rt; store.keep(&mut disk, alloc, &tree, known.lend()) == Err(StoreFault::Failed));
     let count = disk.events.len();
     disk.good = 1000;
-    assert!(rt; store.keep(&mut disk, alloc, &tree, FIRST) == Err(StoreFault::Failed));
+    assert!(rt; store.keep(&mut disk, alloc, &tree, known.lend()) == Err(StoreFault::Failed));
     assert_eq!(rt; disk.events.len(), count);
     assert_eq!(rt; disk.late, 0);
     Ok(())
@@ -107,13 +109,14 @@ fn what_is_written(rt: HostRuntime) -> Result<(), Fail> {
     let alloc = rt.alloc();
     let mut disk = Memory::new(alloc, 1000);
     assert!(rt; run(alloc, &mut disk, &mut Turns::new(alloc)).is_ok());
-    let mut acts = [0u32; 10];
+    let mut acts = [0u32; 15];
     for event in &disk.events {
-        let turn = (event.all as usize).min(9);
+        let turn = (event.all as usize).min(14);
         acts[turn] += 1;
     }
-    // the first checkpoint: two acts, the numbers, the counters, three objects, two names, the end and a sync; then a
-    // record, nothing, a record of numbers, a checkpoint of six objects and five names, and four records
-    assert_eq!(rt; acts, [11, 2, 0, 2, 17, 2, 2, 2, 2, 0]);
+    // the first checkpoint: two acts, three parts of clients, the counters, three objects, two names, the end and a
+    // sync; then a record, nothing, a record of a client, a checkpoint of six objects and five names, a record,
+    // nothing where slots alone change, six records, of which two are of open files alone, and nothing
+    assert_eq!(rt; acts, [13, 2, 0, 2, 19, 2, 0, 2, 2, 2, 2, 2, 2, 0, 0]);
     Ok(())
 }

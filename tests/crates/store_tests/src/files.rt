@@ -39,10 +39,8 @@ fn outcome(alloc: Global, parts: &[&[u8]], record: Option<&[u8]>) -> u32 {
     }
 }
 
-/// The numbers 1, 1 and 1.
-const NUMBERS: [u8; 24] = [
-    0, 0, 0, 0, 0, 0, 0, 1, 0, 0, 0, 0, 0, 0, 0, 1, 0, 0, 0, 0, 0, 0, 0, 1,
-];
+/// Nothing is known of clients: the next open gets the number 1, and there are no changes.
+const NOTHING: [u8; 12] = [0, 0, 0, 0, 0, 0, 0, 1, 0, 0, 0, 0];
 
 /// The counters of a root alone: 2, 2, 2 and 3.
 const COUNTERS: [u8; 36] = [
@@ -64,50 +62,76 @@ const EARLY: [u8; 36] = [
     0, 0, 0, 3,
 ];
 
+/// What is answered of three parts that say nothing of clients, and these after them.
+fn tree_outcome(alloc: Global, parts: &[&[u8]], record: Option<&[u8]>) -> u32 {
+    let mut all = Vec::new(alloc);
+    for part in [&[&NOTHING[..]; 3], parts] {
+        if all.extend_from_slice(part).is_err() {
+            return 2;
+        }
+    }
+    outcome(alloc, &all, record)
+}
+
 #[test]
 fn files_that_hold_a_tree_or_none(rt: HostRuntime) {
     let alloc = rt.alloc();
-    assert_eq!(rt; outcome(alloc, &[&NUMBERS, &COUNTERS, &ROOT], None), 0);
-    assert_eq!(rt;
-        outcome(alloc, &[&NUMBERS, &COUNTERS, &ROOT], Some(&NUMBERS)),
-        0
-    );
-    // no parts, no tree, no root, no numbers, and numbers of other lengths
-    assert_eq!(rt; outcome(alloc, &[], None), 1);
-    assert_eq!(rt; outcome(alloc, &[&NUMBERS], None), 1);
-    assert_eq!(rt; outcome(alloc, &[&NUMBERS, &COUNTERS], None), 1);
-    assert_eq!(rt; outcome(alloc, &[&COUNTERS, &ROOT], None), 1);
-    assert_eq!(rt;
-        outcome(alloc, &[&NUMBERS[..23], &COUNTERS, &ROOT], None),
-        1
-    );
-    assert_eq!(rt;
-        outcome(alloc, &[&COUNTERS[..28], &COUNTERS, &ROOT], None),
-        1
-    );
+    assert_eq!(rt; tree_outcome(alloc, &[&COUNTERS, &ROOT], None), 0);
+    assert_eq!(rt; tree_outcome(alloc, &[&COUNTERS, &ROOT], Some(&NOTHING)), 0);
+    // no tree, and no root
+    assert_eq!(rt; tree_outcome(alloc, &[], None), 1);
+    assert_eq!(rt; tree_outcome(alloc, &[&COUNTERS], None), 1);
     // a part that isn't whole, one that comes twice, and one that doesn't fit the counters
+    assert_eq!(rt; tree_outcome(alloc, &[&COUNTERS, &ROOT[..72]], None), 1);
     assert_eq!(rt;
-        outcome(alloc, &[&NUMBERS, &COUNTERS, &ROOT[..72]], None),
+        tree_outcome(alloc, &[&COUNTERS, &COUNTERS, &ROOT], None),
+        1
+    );
+    assert_eq!(rt; tree_outcome(alloc, &[&COUNTERS, &ROOT, &ROOT], None), 1);
+    assert_eq!(rt; tree_outcome(alloc, &[&EARLY, &ROOT], None), 1);
+    // a record that isn't whole, and one with changes that are none
+    assert_eq!(rt;
+        tree_outcome(alloc, &[&COUNTERS, &ROOT], Some(&NOTHING[..8])),
+        1
+    );
+    assert_eq!(rt; tree_outcome(alloc, &[&COUNTERS, &ROOT], Some(&ROOT)), 1);
+}
+
+#[test]
+fn files_that_hold_clients_or_none(rt: HostRuntime) {
+    let alloc = rt.alloc();
+    // fewer parts than three before the counters, or none
+    assert_eq!(rt; outcome(alloc, &[], None), 1);
+    assert_eq!(rt; outcome(alloc, &[&NOTHING], None), 1);
+    assert_eq!(rt; outcome(alloc, &[&COUNTERS, &ROOT], None), 1);
+    assert_eq!(rt; outcome(alloc, &[&NOTHING, &COUNTERS, &ROOT], None), 1);
+    assert_eq!(rt;
+        outcome(alloc, &[&NOTHING, &NOTHING, &COUNTERS, &ROOT], None),
         1
     );
     assert_eq!(rt;
-        outcome(alloc, &[&NUMBERS, &COUNTERS, &COUNTERS, &ROOT], None),
+        outcome(
+            alloc,
+            &[&NOTHING, &NOTHING, &NOTHING, &NOTHING, &COUNTERS, &ROOT],
+            None
+        ),
         1
     );
-    assert_eq!(rt;
-        outcome(alloc, &[&NUMBERS, &COUNTERS, &ROOT, &ROOT], None),
-        1
-    );
-    assert_eq!(rt; outcome(alloc, &[&NUMBERS, &EARLY, &ROOT], None), 1);
-    // a record without numbers, and one with changes that are none
-    assert_eq!(rt;
-        outcome(alloc, &[&NUMBERS, &COUNTERS, &ROOT], Some(&NUMBERS[..20])),
-        1
-    );
-    assert_eq!(rt;
-        outcome(alloc, &[&NUMBERS, &COUNTERS, &ROOT], Some(&ROOT)),
-        1
-    );
+    // a part that isn't whole, and one with more bytes than its changes have
+    for place in 0..3usize {
+        let mut parts: [&[u8]; 5] = [&NOTHING, &NOTHING, &NOTHING, &COUNTERS, &ROOT];
+        assert_eq!(rt; outcome(alloc, &parts, None), 0);
+        parts[place] = &NOTHING[..11];
+        assert_eq!(rt; outcome(alloc, &parts, None), 1);
+        parts[place] = &COUNTERS;
+        assert_eq!(rt; outcome(alloc, &parts, None), 1);
+        parts[place] = &[0, 0, 0, 0, 0, 0, 0, 1, 0, 0, 0, 0, 0, 0, 0, 4];
+        assert_eq!(rt; outcome(alloc, &parts, None), 1);
+        parts[place] = &[0, 0, 0, 0, 0, 0, 0, 1, 0, 0, 0, 1, 0, 0, 0, 4, 0, 0, 0, 0];
+        assert_eq!(rt; outcome(alloc, &parts, None), 0);
+        parts[place] = &[0, 0, 0, 0, 0, 0, 0, 1, 0, 0, 0, 1, 0, 0, 0, 7, 0, 0, 0, 0];
+        assert_eq!(rt; outcome(alloc, &parts, None), 1);
+    }
 }
 
 /// Whether files of which a bit is turned are refused, or hold what was to be kept after some turn.
@@ -131,8 +155,8 @@ fn a_bit_that_is_turned_makes_no_other_tree(rt: HostRuntime) -> Result<(), Fail>
     let a = left_of(alloc, &disk.events, Slot::A)?;
     let b = left_of(alloc, &disk.events, Slot::B)?;
     let mut bad = 0u32;
-    for step in 0..a.whole.len().max(b.whole.len()) / 7 {
-        let place = 7 * step;
+    for step in 0..a.whole.len().max(b.whole.len()) / 13 {
+        let place = 13 * step;
         let mut first = a.whole.clone()?;
         let mut second = b.whole.clone()?;
         let bit = 1u8 << (step % 8);

@@ -1,7 +1,8 @@
 //! Memory refused.
 
 use crate::memory::{Memory, left_of};
-use crate::script::{FIRST, KEY, Turns, run};
+use crate::script::{KEY, Turns, run};
+use compound_run::Known;
 use journal::Slot;
 use linked_list_allocator::LocalHeap;
 use std::process::Abort;
@@ -16,7 +17,7 @@ fn what_is_found_is_right_or_memory_is_refused(rt: HostRuntime) -> Result<(), Fa
     assert!(rt; run(alloc, &mut disk, &mut turns).is_ok());
     let mut refused = 0u32;
     let mut read = 0u32;
-    for size in 0..60usize {
+    for size in 0..120usize {
         let heap = LocalHeap::new(alloc, 64 + size * 512)?;
         disk.good = 2;
         match open(&mut disk, &heap, KEY) {
@@ -49,7 +50,9 @@ fn a_start_without_memory_leaves_what_was_found(rt: HostRuntime) -> Result<(), F
     let Ok(tree) = node_tree::Tree::sample(&heap) else {
         panic!(rt; "no tree");
     };
-    assert!(rt; Store::start(&mut disk, &heap, base, &tree, FIRST) == Err(StoreFault::Memory));
+    let known = Known::nothing(&heap);
+    let begun = Store::start(&mut disk, &heap, base, &tree, known.lend());
+    assert!(rt; matches!(begun, Err(StoreFault::Memory)));
     let a = left_of(alloc, &disk.events, Slot::A)?;
     let b = left_of(alloc, &disk.events, Slot::B)?;
     assert!(rt; turns.fits(alloc, &a.whole, &b.whole, Some(disk.kept), disk.kept)?);

@@ -1,10 +1,11 @@
-//! Turns of a server: changes of a tree that are kept one turn after the other.
+//! Turns of a server: changes of a tree and of what is known of clients, which are kept one turn after the other.
 
+use crate::clients::{call, comes, exchange, opens, picture_of};
 use crate::memory::Memory;
 use acl_list::{AclList, Kind};
+use compound_run::{Known, Lent};
 use journal::Slot;
 use node_tree::{At, Moment, NewObject, ROOT, Tree, TreeFault};
-use session_slots::NextNumbers;
 use std::alloc::{AllocError, Allocator, Global};
 use tree_changes::{write_counters, write_name, write_object};
 use tree_store::{Found, Store, StoreFault, open};
@@ -12,22 +13,15 @@ use xdr_wire::Writer;
 
 pub(crate) const KEY: u64 = 7;
 
-/// The numbers of a server that was never started before.
-pub(crate) const FIRST: NextNumbers = NextNumbers {
-    client: 1,
-    session: 1,
-    open_file: 1,
-};
-
 /// The number of turns of a run, after its start.
-pub(crate) const TURNS: u64 = 8;
+pub(crate) const TURNS: u64 = 13;
 
-/// A tree and the numbers of clients and sessions, as bytes.
+/// A tree and what is known of clients, as bytes.
 pub(crate) fn picture<A: Allocator + Copy>(
     alloc: Global,
     own: A,
     tree: &Tree<A>,
-    next: NextNumbers,
+    now: Lent<'_, A>,
 ) -> Result<Vec<u8>, AllocError> {
     let mut writer = Writer::new(alloc, 16384)?;
     if write_counters(tree, &mut writer).is_err() {
@@ -54,9 +48,17 @@ pub(crate) fn picture<A: Allocator + Copy>(
         at = name.cookie();
     }
     let mut bytes = writer.into_bytes();
-    bytes.extend_from_slice(&next.client.to_be_bytes())?;
-    bytes.extend_from_slice(&next.session.to_be_bytes())?;
+    bytes.extend_from_slice(&picture_of(alloc, now)?)?;
     Ok(bytes)
+}
+
+/// The picture of what was found.
+fn found_picture<A: Allocator + Copy>(
+    alloc: Global,
+    own: A,
+    found: &Found<A>,
+) -> Result<Vec<u8>, AllocError> {
+    picture(alloc, own, &found.tree, found.known.lend())
 }
 
 fn at(tree: &Tree<Global>) -> At {
@@ -89,7 +91,7 @@ fn add(alloc: Global, tree: &mut Tree<Global>, name: &[u8], bytes: &[u8]) -> Res
     Ok(())
 }
 
-/// The changes of a turn; none in the second and the third.
+/// The changes of the tree in a turn.
 fn change(alloc: Global, tree: &mut Tree<Global>, turn: u64) -> Result<(), TreeFault> {
     match turn {
         1 => add(alloc, tree, b"first", b"abcd"),
@@ -103,8 +105,8 @@ fn change(alloc: Global, tree: &mut Tree<Global>, turn: u64) -> Result<(), TreeF
             tree.unlink(ROOT, b"first", when)?;
             add(alloc, tree, b"second", b"")
         }
-        6 => add(alloc, tree, b"third", &[9; 20]),
-        7 => {
+        7 => add(alloc, tree, b"third", &[9; 20]),
+        9 => {
             let when = at(tree);
             tree.unlink(ROOT, b"long", when)
         }
@@ -112,40 +114,88 @@ fn change(alloc: Global, tree: &mut Tree<Global>, turn: u64) -> Result<(), TreeF
     }
 }
 
-/// The numbers after a turn: files are opened in each, and in the third and in the last a client comes.
-fn numbers(next: NextNumbers, turn: u64) -> NextNumbers {
-    let comes = turn == 3 || turn == TURNS;
-    NextNumbers {
-        client: next.client + u64::from(comes),
-        session: next.session + u64::from(comes),
-        open_file: next.open_file + 3,
+/// The changes of clients in a turn; whether they went as they should.
+fn come(alloc: Global, known: &mut Known<Global>, turn: u64) -> Result<bool, AllocError> {
+    Ok(match turn {
+        // a client comes, and has no session yet
+        3 => exchange(known, b"early") == Some(1),
+        // another one has a session, and calls on a slot
+        4 => comes(known, b"alice") == Some(1) && call(known, 1, 0, 1, b"a", b"one"),
+        // a call that changes the tree, and one that opens a file
+        5 => {
+            opens(alloc, known, 2, 2)?;
+            call(known, 1, 0, 2, &[3; 40], &[4; 200]) && call(known, 1, 1, 1, b"c", b"three")
+        }
+        // calls that change nothing
+        6 => call(known, 1, 1, 2, b"d", b"four") && call(known, 1, 1, 3, b"e", b""),
+        // files are opened and nothing else
+        8 => {
+            opens(alloc, known, 2, 2)?;
+            opens(alloc, known, 2, 3)?;
+            call(known, 1, 0, 3, b"f", b"five")
+        }
+        // one is closed
+        10 => {
+            known.opens.remove(0);
+            true
+        }
+        // a third client, with another session, and calls on both
+        11 => {
+            comes(known, b"bob") == Some(2)
+                && call(known, 2, 1, 1, b"g", b"six")
+                && call(known, 1, 0, 4, b"h", b"seven")
+        }
+        // one is let go, with its session and its opens
+        12 => {
+            known.opens = Vec::new(alloc);
+            known.clients.let_go(2)
+        }
+        _ => true,
+    })
+}
+
+/// What is known of clients after so many turns.
+pub(crate) fn known_after(alloc: Global, turns: u64) -> Result<Known<Global>, AllocError> {
+    let mut known = Known::nothing(alloc);
+    for turn in 1..turns + 1 {
+        if !come(alloc, &mut known, turn)? {
+            return Err(AllocError);
+        }
     }
+    Ok(known)
+}
+
+/// Whether nothing is to be kept after a turn: nothing changed, or slots alone.
+fn is_idle(turn: u64) -> bool {
+    turn == 2 || turn == 6 || turn == 13
 }
 
 /// What was kept and is to be kept, turn by turn.
 #[derive(Drop)]
 pub(crate) struct Turns {
     pub pictures: Vec<Vec<u8>>,
-    pub opens: Vec<u64>,
 }
 
 impl Turns {
     pub(crate) fn new(alloc: Global) -> Self {
         Turns {
             pictures: Vec::new(alloc),
-            opens: Vec::new(alloc),
         }
     }
 
+    /// Adds what is to be kept after a turn; after one in which nothing is, it is that of the turn before.
     fn add(
         &mut self,
         alloc: Global,
         tree: &Tree<Global>,
-        next: NextNumbers,
+        now: Lent<'_>,
+        is_idle: bool,
     ) -> Result<(), AllocError> {
-        let bytes = picture(alloc, alloc, tree, next)?;
+        let bytes = match self.pictures.last() {
+            Some(last) if is_idle => last.clone()?,
+            _ => picture(alloc, alloc, tree, now)?,
+        };
         self.pictures.push(bytes)?;
-        self.opens.push(next.open_file)?;
         Ok(())
     }
 
@@ -158,19 +208,12 @@ impl Turns {
         kept: u64,
         all: u64,
     ) -> Result<bool, AllocError> {
-        let bytes = picture(alloc, own, &found.tree, found.next)?;
+        let bytes = found_picture(alloc, own, found)?;
         for turn in kept..all.saturating_add(1) {
-            let (Some(picture), Some(opens)) = (
-                self.pictures.get(turn as usize),
-                self.opens.get(turn as usize),
-            ) else {
+            let Some(picture) = self.pictures.get(turn as usize) else {
                 return Ok(false);
             };
-            let lag = opens.saturating_sub(found.next.open_file);
-            if bytes.as_slice() == picture.as_slice()
-                && found.next.open_file <= *opens
-                && lag < 100
-            {
+            if bytes.as_slice() == picture.as_slice() {
                 return Ok(true);
             }
         }
@@ -196,21 +239,6 @@ impl Turns {
         }
     }
 
-    /// Whether two files have what was to be kept last, whatever numbers of open files were given since.
-    pub(crate) fn has_last(&self, alloc: Global, a: &[u8], b: &[u8]) -> Result<bool, AllocError> {
-        let mut disk = Memory::new(alloc, 1000);
-        disk.found(Slot::A, a)?;
-        disk.found(Slot::B, b)?;
-        let Ok((_, Some(found))) = open(&mut disk, alloc, KEY) else {
-            return Ok(false);
-        };
-        let bytes = picture(alloc, alloc, &found.tree, found.next)?;
-        match self.pictures.last() {
-            Some(last) => Ok(last.as_slice() == bytes.as_slice()),
-            None => Ok(false),
-        }
-    }
-
     /// Whether what was found is what was to be kept last.
     pub(crate) fn is_last<A: Allocator + Copy>(
         &self,
@@ -221,6 +249,19 @@ impl Turns {
         let last = self.pictures.len().saturating_sub(1) as u64;
         self.has(alloc, own, found, last, last)
     }
+
+    /// Whether two files have what was to be kept last.
+    pub(crate) fn has_last(&self, alloc: Global, a: &[u8], b: &[u8]) -> Result<bool, AllocError> {
+        let last = self.pictures.len().saturating_sub(1) as u64;
+        self.fits(alloc, a, b, Some(last), last)
+    }
+}
+
+/// The tree of a server, and what it knows of its clients.
+#[derive(Drop)]
+struct World {
+    tree: Tree<Global>,
+    known: Known<Global>,
 }
 
 /// A turn: changes, and then they are kept and the notes cleared.
@@ -228,18 +269,18 @@ fn turn(
     alloc: Global,
     disk: &mut Memory,
     store: &mut Store,
-    tree: &mut Tree<Global>,
-    next: NextNumbers,
+    world: &mut World,
     turns: &mut Turns,
     number: u64,
 ) -> Result<(), StoreFault> {
-    if change(alloc, tree, number).is_err() {
+    if change(alloc, &mut world.tree, number).is_err() || !come(alloc, &mut world.known, number)? {
         return Err(StoreFault::Memory);
     }
-    turns.add(alloc, tree, next)?;
+    let now = world.known.lend();
+    turns.add(alloc, &world.tree, now, is_idle(number))?;
     disk.all = disk.all.saturating_add(1);
-    store.keep(disk, alloc, tree, next)?;
-    tree.clear_notes();
+    store.keep(disk, alloc, &world.tree, now)?;
+    world.tree.clear_notes();
     disk.kept = disk.all;
     Ok(())
 }
@@ -251,14 +292,16 @@ pub(crate) fn run(
     turns: &mut Turns,
 ) -> Result<Store, StoreFault> {
     let (base, _) = open(disk, alloc, KEY)?;
-    let mut tree = Tree::sample(alloc)?;
-    tree.begin_notes(400)?;
-    turns.add(alloc, &tree, FIRST)?;
-    let mut store = Store::start(disk, alloc, base, &tree, FIRST)?;
-    let mut next = FIRST;
+    let mut world = World {
+        tree: Tree::sample(alloc)?,
+        known: Known::nothing(alloc),
+    };
+    world.tree.begin_notes(400)?;
+    let now = world.known.lend();
+    turns.add(alloc, &world.tree, now, false)?;
+    let mut store = Store::start(disk, alloc, base, &world.tree, now)?;
     for number in 1..TURNS + 1 {
-        next = numbers(next, number);
-        turn(alloc, disk, &mut store, &mut tree, next, turns, number)?;
+        turn(alloc, disk, &mut store, &mut world, turns, number)?;
     }
     Ok(store)
 }

@@ -1,22 +1,19 @@
-//! Starts after each other, and the numbers over them.
+//! Starts after each other.
 
 use crate::memory::{Memory, left_of, spoiled};
-use crate::script::{FIRST, KEY, Turns, run};
+use crate::script::{KEY, Turns, run};
 use journal::Slot;
-use session_slots::NextNumbers;
 use std::alloc::{AllocError, Global};
 use std::process::Abort;
 use std::test::Fail;
-use tree_store::{Store, StoreFault, after_start, open};
+use tree_store::{Store, StoreFault, open};
 
-/// A start over what is there, of the tree that is found; and the numbers that it goes on with.
-fn start(alloc: Global, disk: &mut Memory) -> Result<(Store, NextNumbers), StoreFault> {
+/// A start over what is there, of what is found.
+fn start(alloc: Global, disk: &mut Memory) -> Result<Store, StoreFault> {
     let (base, Some(found)) = open(disk, alloc, KEY)? else {
         return Err(StoreFault::Damaged);
     };
-    let next = after_start(found.next);
-    let store = Store::start(disk, alloc, base, &found.tree, next)?;
-    Ok((store, next))
+    Store::start(disk, alloc, base, &found.tree, found.known.lend())
 }
 
 #[test]
@@ -25,18 +22,12 @@ fn starts_after_each_other(rt: HostRuntime) -> Result<(), Fail> {
     let mut disk = Memory::new(alloc, 1000);
     let mut turns = Turns::new(alloc);
     assert!(rt; run(alloc, &mut disk, &mut turns).is_ok());
-    let Ok((_, Some(before))) = open(&mut disk, alloc, KEY) else {
-        panic!(rt; "nothing");
-    };
-    assert!(rt; turns.is_last(alloc, alloc, &before)?);
-    let mut given = before.next.open_file;
-    for _ in 0..3u32 {
-        let Ok((_, next)) = start(alloc, &mut disk) else {
-            panic!(rt; "no start");
+    for _ in 0..4u32 {
+        let Ok((_, Some(found))) = open(&mut disk, alloc, KEY) else {
+            panic!(rt; "nothing");
         };
-        assert!(rt; next.client == before.next.client && next.session == before.next.session);
-        assert_eq!(rt; next.open_file, given + (1 << 32));
-        given = next.open_file;
+        assert!(rt; turns.is_last(alloc, alloc, &found)?);
+        assert!(rt; start(alloc, &mut disk).is_ok());
     }
     assert_eq!(rt; disk.late, 0);
     Ok(())
@@ -47,19 +38,6 @@ fn a_new_store_has_nothing(rt: HostRuntime) {
     let alloc = rt.alloc();
     let mut disk = Memory::new(alloc, 1000);
     assert!(rt; matches!(open(&mut disk, alloc, KEY), Ok((_, None))));
-}
-
-#[test]
-fn numbers_of_open_files_stay_below_their_bound(rt: HostRuntime) {
-    let last = NextNumbers {
-        client: 5,
-        session: 6,
-        open_file: (1 << 63) - 1,
-    };
-    let next = after_start(last);
-    assert!(rt; next.client == 5 && next.session == 6 && next.open_file == 1 << 63);
-    assert!(rt; after_start(next) == next);
-    assert!(rt; after_start(FIRST).open_file == (1 << 32) + 1);
 }
 
 /// The crashes of a start over two files that lose what was found.

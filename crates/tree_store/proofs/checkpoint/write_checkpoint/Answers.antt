@@ -1,39 +1,19 @@
 use Rattle.std.proofs.Common.{refl}
-use Rattle.tree_changes.proofs.Again.{taken_again}
+use Rattle.compound_run.specs.Views.{lent_view}
+use Rattle.client_changes.proofs.Alike.{same_itself}
 use Rattle.tree_store.specs.Kept.{kept_with}
-use Rattle.tree_store.specs.Standing.{Stands}
-use Rattle.tree_store.specs.Writing.{all_parts}
-use Rattle.tree_store.proofs.Putting.{checkpoint_holds}
-use Rattle.tree_store.proofs.Writing.{checkpoint_nothing, checkpoint_unbegun, checkpoint_stops, checkpoint_done, checkpoint_unfinished}
+use Rattle.tree_store.proofs.Writing.{checkpoint_nothing}
 use Rattle.tree_store.proofs.checkpoint.write_checkpoint.Goals as goal
 
 pub returns-in_default : goal.returns-in_default
-returns-in_default g c content history counts = checkpoint_nothing g.D.Disk.adds c.args.key c.args.generation c.args.slot content history counts (kept_with c.args.tree.now c.args.next) _ _ _ refl tt
+returns-in_default g c =
+    let now = lent_view c.args.now in
+    (now, same_itself now, λ content history counts. checkpoint_nothing g.D.Disk.adds c.args.place.key c.args.place.generation c.args.place.slot content history counts (kept_with c.args.tree.now now) _ _ _ refl tt)
 
-pub returns-in-Err : goal.returns-in-Err
-returns-in-Err g c content history counts =
-    let aim = kept_with c.args.tree.now c.args.next in
-    checkpoint_unbegun g.D.Disk.adds c.args.key c.args.generation c.args.slot content history counts aim c.in-Err.fault c.said.result (λ acts store. Stands c.args.key acts store aim) _ _ c.said.ensures c.in-Err.ensures
-
-pub returns-in-Err-put_all : goal.returns-in-Err-put_all
-returns-in-Err-put_all g c content history counts =
-    let w = c.args.tree.now in
-    let aim = kept_with w c.args.next in
-    checkpoint_stops g.D.Disk.adds c.args.key c.args.generation c.args.slot content history counts aim c.in-Ok-begin.checkpoint c.put_all.new.self.checkpoint (all_parts w c.args.next) c.args.disk.now c.begin.new.disk c.in-Ok-begin.ensures
-    c.in-Err-put_all.fault c.put_all.new.disk (λ acts store. Stands c.args.key acts store aim) c.in-Err-put_all.ensures.appends
-
-pub returns-in-Err-finish : goal.returns-in-Err-finish
-returns-in-Err-finish g c content history counts =
-    let w = c.args.tree.now in
-    let aim = kept_with w c.args.next in
-    checkpoint_unfinished g.D.Disk.adds c.args.key c.args.generation c.args.slot content history counts aim c.in-Ok-begin.checkpoint c.put_all.new.self.checkpoint (all_parts w c.args.next) c.args.disk.now c.begin.new.disk c.in-Ok-begin.ensures
-    c.put_all.new.disk c.in-Ok-put_all.ensures.appends (checkpoint_holds w c.args.next (taken_again w c.object-root.ensures.sound) c.in-Ok-put_all.ensures.has_spelling)
-    c.in-Err-finish.fault c.said-in-Err-finish.result (λ acts store. Stands c.args.key acts store aim) c.finish.new.disk c.said-in-Err-finish.ensures c.in-Err-finish.ensures
+pub returns-in_default-known : goal.returns-in_default-known
+returns-in_default-known g c =
+    let now = lent_view c.args.now in
+    (now, same_itself now, λ content history counts. checkpoint_nothing g.D.Disk.adds c.args.place.key c.args.place.generation c.args.place.slot content history counts (kept_with c.args.tree.now now) _ _ _ refl tt)
 
 pub returns : goal.returns
-returns g c content history counts =
-    let w = c.args.tree.now in
-    let aim = kept_with w c.args.next in
-    checkpoint_done g.D.Disk.adds c.args.key c.args.generation c.args.slot content history counts aim c.in-Ok-begin.checkpoint c.put_all.new.self.checkpoint (all_parts w c.args.next) c.args.disk.now c.begin.new.disk c.in-Ok-begin.ensures
-    c.put_all.new.disk c.in-Ok-put_all.ensures.appends (checkpoint_holds w c.args.next (taken_again w c.object-root.ensures.sound) c.in-Ok-put_all.ensures.has_spelling)
-    c.in-Ok-finish.journal _ c.finish.new.disk c.in-Ok-finish.ensures refl refl
+returns g c = (c.in-Ok-known.known, c.in-Ok-known.ensures.same, c.write_parts.ensures)

@@ -3,7 +3,7 @@
 use nfs_types::Status;
 use rpc_record::{Caller, MOST_FURTHER};
 use session_slots::{
-    Begin, Channel, Clients, Create, Exchange, Exchanged, Made, REPLY_HEADER, Sequence,
+    Begin, CallBytes, Channel, Clients, Create, Exchange, Exchanged, Made, REPLY_HEADER, Sequence,
 };
 use std::alloc::Allocator;
 
@@ -117,7 +117,7 @@ fn begin<A: Allocator + Copy>(
     asked: Sequence<'_>,
     results: &[u8],
 ) -> Begin {
-    if asked.arguments.len() > asked.record_len {
+    if asked.arguments.front.len() + asked.arguments.back.len() > asked.record_len {
         return Begin::Refused(Status::ServerFault);
     }
     match clients.begin(session, asked) {
@@ -148,7 +148,10 @@ pub fn run<A: Allocator + Copy>(
         highest: call.highest,
         count: call.count,
         record_len: call.record_len,
-        arguments: call.arguments,
+        arguments: CallBytes {
+            front: call.arguments,
+            back: &[],
+        },
         caller: &caller,
         now: 0,
     };

@@ -4,8 +4,8 @@ use crate::session::plain::{ALICE, SMALL, create, creation, exchange};
 use nfs_types::Status;
 use rpc_record::Caller;
 use session_slots::{
-    Begin, CallForm, Channel, Clients, Create, Created, Creation, Exchange, Held, KeptCall, Record,
-    RecordForm, RestoreFault, Sequence, SessionForm, is_written, write_call,
+    Begin, CallBytes, CallForm, Channel, Clients, Create, Created, Creation, Exchange, Held,
+    KeptCall, Record, RecordForm, RestoreFault, Sequence, SessionForm, is_written, write_call,
 };
 use std::alloc::Global;
 use std::process::Abort;
@@ -40,9 +40,8 @@ fn kept<'a>(number: u32, caller: &'a Caller) -> KeptCall<'a> {
 
 /// Client 5, heard in second 100, with its session 9, whose slot 0 keeps this number.
 fn restored(rt: &impl Abort, alloc: Global, caller: &Caller, number: u32) -> Clients {
-    let Some(mut clients) = Clients::restoring(alloc, 6, 10) else {
-        return Clients::new(alloc);
-    };
+    let mut clients = Clients::new(alloc);
+    assert_eq!(rt; clients.restore_numbers(6, 10), true);
     assert_eq!(rt; clients.restore_session(9, HELD), Err(RestoreFault::Misfit));
     assert_eq!(rt; clients.restore_record(RECORD, 100), Ok(()));
     assert_eq!(rt;
@@ -62,7 +61,10 @@ fn asked<'a>(slot: u32, number: u32, arguments: &'a [u8], caller: &'a Caller) ->
         highest: 0,
         count: 1,
         record_len: 64,
-        arguments,
+        arguments: CallBytes {
+            front: arguments,
+            back: &[],
+        },
         caller,
         now: 0,
     }
@@ -77,18 +79,16 @@ fn is_new(begin: Begin) -> bool {
 
 #[test]
 fn next_numbers_of_before_a_restart(rt: HostRuntime) {
-    assert_eq!(rt;
-        Clients::restoring(rt.alloc(), 1 << 63, 1 << 63).is_some(),
-        true
-    );
-    assert_eq!(rt;
-        Clients::restoring(rt.alloc(), (1 << 63) + 1, 1).is_none(),
-        true
-    );
-    assert_eq!(rt;
-        Clients::restoring(rt.alloc(), 1, (1 << 63) + 1).is_none(),
-        true
-    );
+    let mut clients = Clients::new(rt.alloc());
+    let last = 1 << 63;
+    assert_eq!(rt; clients.restore_numbers(6, 10), true);
+    // none that was given is given again, and none is above 2^63
+    for (client, session) in [(5, 10), (6, 9), (last + 1, 10), (6, last + 1)] {
+        assert_eq!(rt; clients.restore_numbers(client, session), false);
+        assert_eq!(rt; clients.next_numbers(), (6, 10));
+    }
+    assert_eq!(rt; clients.restore_numbers(last, last), true);
+    assert_eq!(rt; clients.next_numbers(), (last, last));
 }
 
 #[test]

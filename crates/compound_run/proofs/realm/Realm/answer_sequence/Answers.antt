@@ -6,8 +6,9 @@ use Rattle.session_slots.specs.Registry.{results_at}
 use Rattle.session_slots.specs.Repeating.{Fate, Repeats}
 use Rattle.session_slots.specs.Sequencing.{sequence_begin, sequence_begun}
 use Rattle.std.specs.Prelude.{Some}
-use Rattle.compound_run.specs.Views.{state_of}
-use Rattle.compound_run.specs.InSession.{Reply, asked_in, begin_in, fate_by, refused_alone, RunsBy}
+use Rattle.compound_run.specs.Views.{realm_of, state_of}
+use Rattle.compound_run.specs.InSession.{Reply, begin_in, fate_by, refused_alone, RunsBy}
+use Rattle.compound_run.specs.Sequence.{asked_by}
 use Rattle.compound_run.specs.SessionViews.{call_of}
 use Rattle.compound_run.proofs.Replying.{answers_new, answers_known, answers_refused}
 use Rattle.compound_run.proofs.realm.Realm.answer_sequence.Goals as goal
@@ -17,12 +18,12 @@ returns-in-New-clause-answers g c =
     let call = c.args.call in
     let v = sequence_args_value c.args.args.now in
     let e = c.args.self.now in
-    let asked = asked_in (call_of call) call.compound.count v in
+    let bytes = c.compared.ensures.bytes in
     let session = c.session_of-session.ensures in
-    answers_new call v c.args.operations.now c.in-New.new (begin_in e.clients (call_of call) call.compound.count v) e (record e { clients = c.begin.new.self }) c.answer_new.new.self c.args.out.now c.answer_new.new.out
+    answers_new call v c.args.operations.now c.in-New.new (begin_in (realm_of e) (call_of call) call.compound.count v c.args.operations.now) e (record e { clients = c.begin.new.self }) c.answer_new.new.self c.args.out.now c.answer_new.new.out
     c.requires.settled
-    (c.in-New.ensures.answer ∙ ap (λ s. sequence_begin e.clients s asked) session)
-    (ap (λ r. record e { clients = r }) (c.in-New.ensures.begun ∙ ap (λ s. sequence_begun e.clients s asked) session))
+    (c.in-New.ensures.answer ∙ λ i. sequence_begin e.clients (session i) (asked_by v call.compound.count call.args.record_len call.caller.now (bytes i)))
+    (ap (λ r. record e { clients = r }) (c.in-New.ensures.begun ∙ λ i. sequence_begun e.clients (session i) (asked_by v call.compound.count call.args.record_len call.caller.now (bytes i))))
     c.in-New.ensures.stands.8
     c.answer_new.ensures.answers
 
@@ -32,10 +33,10 @@ returns-in-Repeat-clause-answers g c =
     let v = sequence_args_value c.args.args.now in
     let e = c.args.self.now in
     let tag = call.compound.tag.now in
-    let asked = asked_in (call_of call) call.compound.count v in
+    let bytes = c.compared.ensures.bytes in
     let session = c.session_of-session.ensures in
-    let b = begin_in e.clients (call_of call) call.compound.count v in
-    let told = c.in-Repeat.ensures.answer ∙ ap (λ s. sequence_begin e.clients s asked) session in
+    let b = begin_in (realm_of e) (call_of call) call.compound.count v c.args.operations.now in
+    let told = c.in-Repeat.ensures.answer ∙ λ i. sequence_begin e.clients (session i) (asked_by v call.compound.count call.args.record_len call.caller.now (bytes i)) in
     let kept = c.results.ensures.kept ∙ ap (λ r. results_at r c.session_of-session.result c.args.args.now.slot) c.in-Repeat.ensures.stays ∙ ap (λ s. results_at e.clients s c.args.args.now.slot) session in
     answers_known (fate_by tag v e.clients b) (RunsBy b (call_of call) tag call.compound.count v c.args.operations.now (state_of e)) (state_of e) (state_of (record e { clients = c.begin.new.self })) c.results.result.now c.args.out.now c.put_kept.new.out
     (ap (fate_by tag v e.clients) (sym told) ∙ ap (λ bytes. let f : Fate Reply = Repeats (Some bytes) in f) (sym kept))
@@ -48,9 +49,10 @@ returns-in-Refused-clause-answers g c =
     let v = sequence_args_value c.args.args.now in
     let e = c.args.self.now in
     let tag = call.compound.tag.now in
-    let asked = asked_in (call_of call) call.compound.count v in
-    let b = begin_in e.clients (call_of call) call.compound.count v in
-    let told = c.in-Refused.ensures.answer ∙ ap (λ s. sequence_begin e.clients s asked) c.session_of-session.ensures in
+    let bytes = c.compared.ensures.bytes in
+    let b = begin_in (realm_of e) (call_of call) call.compound.count v c.args.operations.now in
+    let session = c.session_of-session.ensures in
+    let told = c.in-Refused.ensures.answer ∙ λ i. sequence_begin e.clients (session i) (asked_by v call.compound.count call.args.record_len call.caller.now (bytes i)) in
     answers_refused (fate_by tag v e.clients b) (RunsBy b (call_of call) tag call.compound.count v c.args.operations.now (state_of e)) (state_of e) (state_of (record e { clients = c.begin.new.self })) (refused_alone tag (row kinds.Sequence).number c.in-Refused.status) c.args.out.now c.put_refused.new.out
     (ap (fate_by tag v e.clients) (sym told))
     (ap (λ r. state_of (record e { clients = r })) c.in-Refused.ensures.stays)

@@ -1,4 +1,4 @@
-use Rattle.std.proofs.Common.{◌<◌, length, sym, arith}
+use Rattle.std.proofs.Common.{length, sym, arith}
 use Rattle.std.specs.Int.{w32, to_be_bytes}
 use Rattle.xdr_wire.specs.Xdr.{uint, HasSpelling, spelling}
 use Rattle.xdr_wire.proofs.Going.{all_written, all_fit}

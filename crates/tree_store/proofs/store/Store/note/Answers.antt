@@ -1,20 +1,47 @@
-use Rattle.std.proofs.Common.{◌≡◌, ◌∙◌, true, refl, Ok, Err}
+use Rattle.std.proofs.Common.{◌≡◌, true, refl, Ok, Err, subst, sym}
+use Rattle.node_tree.specs.World.{World}
+use Rattle.tree_changes.specs.Replays.{Replays}
+use Rattle.client_changes.specs.Applying.{Leads}
+use Rattle.compound_run.specs.Views.{lent_view}
+use Rattle.client_changes.proofs.Alike.{same_itself}
+use Rattle.journal.specs.Frames.{Bytes}
+use Rattle.tree_store.specs.Running.{Store}
+use Rattle.tree_store.specs.Kept.{Kept}
 use Rattle.tree_store.specs.Holds.{LeadsOn}
+use Rattle.tree_store.specs.Writing.{GoesOn}
 use Rattle.tree_store.proofs.GoingOn.{goes_on, nothing_done, record_leads}
 use Rattle.tree_store.proofs.store.Store.note.Goals as goal
 
 pub returns-in_default-clause-goes_on : goal.returns-in_default-clause-goes_on
-returns-in_default-clause-goes_on g c kept w replays history s = nothing_done g.D.Disk.adds c.args.self.now kept (w, c.args.next) history s _ _ _ refl tt
+returns-in_default-clause-goes_on g c =
+    let now = lent_view c.args.now in
+    (now, same_itself now, λ kept w replays history s. nothing_done g.D.Disk.adds c.args.self.now kept (w, now) history s _ _ _ refl tt)
 
 pub returns-in-Err-clause-goes_on : goal.returns-in-Err-clause-goes_on
-returns-in-Err-clause-goes_on g c kept w replays history s =
-    let leads : LeadsOn kept c.deref.result.now (w, c.args.next) = record_leads kept w c.args.next c.args.notes.now c.deref.result.now (c.deref.ensures.value ∙ c.in-Ok.ensures.bytes) c.in-Ok.ensures.has_spelling replays in
-    goes_on g.D.Disk.adds c.args.self.now (record c.args.self.now { journal = record c.args.self.now.journal { has_failed = true } }) kept (w, c.args.next) c.deref.result.now leads history s (Err c.in-Err.fault) c.keep_record.new.journal _ _ c.in-Err.ensures (λ is. absurd (never is))
+returns-in-Err-clause-goes_on g c =
+    let known = c.leads_to.new.known in
+    let store : Store = record { journal = c.self.inside.journal; known = c.self.inside.known } in
+    let failed : Store = record { journal = record c.self.inside.journal { has_failed = true }; known = known } in (
+      known,
+      c.in-Ok.ensures.same,
+      subst (λ (t : Store). (kept : Kept) (w : World) → Replays kept.0 c.args.notes.now w → GoesOn g.D.Disk.adds t kept (w, known) (Err c.in-Err.fault) failed c.args.disk.now c.keep_record.new.disk) c.self.view_is
+          (λ kept w replays history s.
+          let leads : LeadsOn kept c.args.bytes.now (w, known) = record_leads kept w store.known known c.args.notes.now c.args.bytes.now s.known_is c.in-Ok.ensures.leads replays in
+          goes_on g.D.Disk.adds store failed kept (w, known) c.args.bytes.now leads history s (Err c.in-Err.fault) c.keep_record.new.journal c.args.disk.now c.keep_record.new.disk c.in-Err.ensures (λ is. absurd (never is))),
+    )
   where
     never : Err c.in-Err.fault ≡ Ok (tt {0}) → ⊥
     never e = cc
 
 pub returns-clause-goes_on : goal.returns-clause-goes_on
-returns-clause-goes_on g c kept w replays history s =
-    let leads : LeadsOn kept c.deref.result.now (w, c.args.next) = record_leads kept w c.args.next c.args.notes.now c.deref.result.now (c.deref.ensures.value ∙ c.in-Ok.ensures.bytes) c.in-Ok.ensures.has_spelling replays in
-    goes_on g.D.Disk.adds c.args.self.now _ kept (w, c.args.next) c.deref.result.now leads history s (Ok tt) c.keep_record.new.journal _ _ c.in-Ok-keep_record.ensures (λ is. (refl, refl))
+returns-clause-goes_on g c =
+    let known = c.leads_to.new.known in
+    let store : Store = record { journal = c.self.inside.journal; known = c.self.inside.known } in
+    let then : Store = record { journal = c.keep_record.new.journal; known = known } in (
+      known,
+      c.in-Ok.ensures.same,
+      subst (λ (t : Store). (kept : Kept) (w : World) → Replays kept.0 c.args.notes.now w → GoesOn g.D.Disk.adds t kept (w, known) (Ok tt) then c.args.disk.now c.keep_record.new.disk) c.self.view_is
+          (λ kept w replays history s.
+          let leads : LeadsOn kept c.args.bytes.now (w, known) = record_leads kept w store.known known c.args.notes.now c.args.bytes.now s.known_is c.in-Ok.ensures.leads replays in
+          goes_on g.D.Disk.adds store then kept (w, known) c.args.bytes.now leads history s (Ok tt) c.keep_record.new.journal c.args.disk.now c.keep_record.new.disk c.in-Ok-keep_record.ensures (λ is. (refl, refl))),
+    )

@@ -1,0 +1,4 @@
+pub mod Walking
+pub mod Led
+pub mod Alike
+pub mod Applied

@@ -1,0 +1,4 @@
+pub mod Forms
+pub mod Faults
+pub mod Applying
+pub mod Comparing

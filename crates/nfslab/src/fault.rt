@@ -1,0 +1,57 @@
+//! What keeps `nfslab` from running a script to its end, in two lines on standard error.
+use nfs_hub::HubFault;
+use nfs_tool::ToolFault;
+use nfsc_options::LabOptions;
+use std::fmt;
+use std::fmt::{Display, Formatter};
+use who_book::BookFault;
+
+/// A fault that keeps `nfslab` from running a script to its end. Faults are found in this order. A reason is missing where there
+/// was no memory for it.
+#[derive(Drop)]
+pub(crate) enum Fault {
+    /// The book's file can't be read, or isn't UTF-8, for this reason.
+    File(Option<String>),
+    /// The book has this fault, for this reason.
+    Book(BookFault, Option<String>),
+    /// There is no memory for the hub.
+    Hub,
+    /// The script can't be read, or its answers can't be written.
+    Failed(ToolFault),
+}
+
+impl Display for Fault {
+    fn fmt<W: fmt::Write>(&self, f: &mut Formatter<W>) -> fmt::Result {
+        match self {
+            Fault::File(_) => f.write_str("file"),
+            Fault::Book(fault, _) => write!(f, "book {}", *fault as u8),
+            Fault::Hub => write!(f, "hub {}", HubFault::Memory as u8),
+            Fault::Failed(fault) => write!(f, "failed {}", fault.number()),
+        }
+    }
+}
+
+/// Says why a script wasn't run to its end.
+fn say_failed<R: Eprint>(rt: &R, fault: ToolFault) {
+    let _ = match fault {
+        ToolFault::Read => eprintln!(rt; "standard input: it can't be read"),
+        ToolFault::Write => eprintln!(rt; "standard output: it can't be written"),
+        other => eprintln!(rt; "standard input: {other}"),
+    };
+}
+
+/// Says a fault in two lines on standard error. What can't be said isn't said.
+pub(crate) fn say<R: Eprint>(rt: &R, options: &LabOptions<'_>, fault: &Fault) {
+    let _ = eprintln!(rt; "nfslab: {fault}");
+    match fault {
+        Fault::File(Some(why)) | Fault::Book(_, Some(why)) => {
+            if let Some(path) = options.book {
+                let _ = eprintln!(rt; "{path}: {why}");
+            }
+        }
+        Fault::File(None) | Fault::Book(_, None) | Fault::Hub => {
+            let _ = eprintln!(rt; "there is no memory for it");
+        }
+        Fault::Failed(fault) => say_failed(rt, *fault),
+    }
+}

@@ -1,0 +1,25 @@
+//! The bytes that a repeat of a call has to have (RFC 8881, section 2.10.6.1.3).
+ghost use Rattle.std.specs.Prelude.{◌≡◌, nat_eq};
+ghost use Rattle.std.specs.Cmp.Lexicographic.{pointwise};
+ghost use Rattle.session_slots.specs.Views.{bytes_of};
+
+/// The bytes that a repeat of a call has to have, in two parts.
+#[derive(Clone, Copy, Debug)]
+pub struct CallBytes<'a> {
+    /// The first part.
+    pub front: &'a [u8],
+    /// What comes after it.
+    pub back: &'a [u8],
+}
+
+impl CallBytes<'_> {
+    /// Whether these are the bytes.
+    pub(crate) fn are(self, bytes: &[u8]) -> bool
+        ensures { result ≡ pointwise nat_eq (bytes_of self.entry) bytes.now }
+    {
+        match bytes.strip_prefix(self.front) {
+            Some(back) => back == self.back,
+            None => false,
+        }
+    }
+}

@@ -1,0 +1,5 @@
+pub mod Held
+pub mod Keys
+pub mod Places
+pub mod Standings
+pub mod Stops

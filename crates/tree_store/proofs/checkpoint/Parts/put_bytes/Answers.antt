@@ -1,0 +1,22 @@
+use Rattle.std.proofs.Common.{◌∷◌, ◌++◌, [], subst, Ok, Err}
+use Rattle.journal.specs.Frames.{Bytes, PART, frame_with}
+use Rattle.journal.specs.Keeping.{FrameGives}
+use Rattle.tree_store.specs.Writing.{IsBegun}
+use Rattle.tree_store.proofs.Writing.{part_goes, part_not}
+use Rattle.tree_store.proofs.checkpoint.Parts.put_bytes.Goals as goal
+
+pub returns-in-Ok-clause-appends : goal.returns-in-Ok-clause-appends
+returns-in-Ok-clause-appends g c key generation s content parts history b =
+    let old = c.args.self.now.checkpoint in
+    let new = c.part.new.self in
+    part_goes g.D.Disk.adds old new c.args.bytes.now.items c.part.ensures.key c.part.ensures.slot c.part.ensures.generation key generation s content parts history b _ _
+    (subst (λ (l : Bytes). FrameGives g.D.Disk.adds old.slot old.key old.generation old.number (frame_with PART 0 l) old.has_failed new.number new.has_failed (Ok tt) c.args.disk.now c.part.new.disk) c.as_slice.ensures.value c.in-Ok.ensures.gives)
+
+pub returns-in-Err-clause-appends : goal.returns-in-Err-clause-appends
+returns-in-Err-clause-appends g c key generation s content parts history b =
+    let old = c.args.self.now.checkpoint in
+    let new = c.part.new.self in
+    let bytes = c.args.bytes.now.items in
+    part_not g.D.Disk.adds old new bytes c.part.ensures.key c.part.ensures.slot c.part.ensures.generation key generation s content parts history b c.in-Err.fault c.said.result
+    (λ acts done. IsBegun key generation s content new (parts ++ bytes ∷ []) acts) _ _ c.said.ensures
+    (subst (λ (l : Bytes). FrameGives g.D.Disk.adds old.slot old.key old.generation old.number (frame_with PART 0 l) old.has_failed new.number new.has_failed (Err c.in-Err.fault) c.args.disk.now c.part.new.disk) c.as_slice.ensures.value c.in-Err.ensures.gives)
