@@ -12,6 +12,7 @@ An edit is a file `crates/NAME/must-fail/X.edit` of lines:
 Further pairs apply to what the earlier ones made. A pair without `right:` has the text of `new:` in the twin too.
 """
 import glob
+import hashlib
 import os
 import re
 from collections import namedtuple
@@ -111,6 +112,17 @@ def proof_of(folder, file, text, start, name):
     return os.path.relpath(found[0], folder) if len(found) == 1 else ""
 
 
+def body_of(text, start, indent):
+    """Where the body of a function at this place begins and where it ends, behind its braces; or nothing where it has none, or an empty one."""
+    line = re.compile(r"(?m)^.*$").match(text, text.rfind("\n", 0, start) + 1)
+    while line and not line[0].endswith("{"):
+        if line[0].endswith(";") or line[0].strip() == "{}" or line.end() == len(text):
+            return None
+        line = re.compile(r"(?m)^.*$").match(text, line.end() + 1)
+    end = re.compile(rf"(?m)^{indent}\}}$").search(text, line.end()) if line else None
+    return (line.end(), end.end()) if end else None
+
+
 def place_of(folder, pair):
     """The function in whose body a pair's text stands, or None where it stands elsewhere."""
     if not os.path.isfile(f"{folder}/{pair.file}"):
@@ -121,12 +133,11 @@ def place_of(folder, pair):
     if at < 0 or not begun:
         return None
     indent, name, start = begun[-1][1], begun[-1][2], begun[-1].start()
-    body = re.compile(r"(?m)^.*\{$").search(text, start)
-    end = re.compile(rf"(?m)^{indent}\}}$").search(text, start)
-    if not body or not end or not body.end() < at < end.start():
+    body = body_of(text, start, indent)
+    if not body or not body[0] < at < body[1]:
         return None
     line = lambda where: text.count("\n", 0, where) + 1
-    return Place(pair.file, name, line(start), line(end.end()), proof_of(folder, pair.file, text, start, name))
+    return Place(pair.file, name, line(start), line(body[1]), proof_of(folder, pair.file, text, start, name))
 
 
 def places_of(folder, edit):
@@ -159,3 +170,74 @@ def edits_of(folder):
         except BadEdit as why:
             bad.append((os.path.basename(path), str(why)))
     return good, bad
+
+
+# ---- what the verdict on an edit rests on
+
+# proofs of single functions, by which no other function is proved
+OWN_PROOFS = ("Answers.antt", "Invariants.antt")
+# a text of a source, which stays, or a comment, which goes
+TEXT_OR_COMMENT = re.compile(r"""r(#*)"(?s:.*?)"\1|"(?:[^"\\]|\\(?s:.))*"|'(?:[^'\\\n]|\\[^\n]{1,8}?)'|\n[ \t]*//[^\n]*|[ \t]*//[^\n]*""")
+# a line of definitions or of a proof that is a comment
+COMMENT_LINE = re.compile(r"(?m)^[ \t]*--(?: .*)?\n")
+
+
+def code_of(path, text):
+    """A source, or definitions, without comments."""
+    if path.endswith(".rt"):
+        return TEXT_OR_COMMENT.sub(lambda it: "" if it[0].lstrip().startswith("//") else it[0], text)
+    return COMMENT_LINE.sub("", text)
+
+
+def without_bodies(text):
+    """A source without the bodies of its functions: all of it by which other functions are proved. One with a macro stays whole, since that may make functions."""
+    if "macro_rules!" in text:
+        return text
+    parts, at = [], 0
+    for found in FUNCTION.finditer(text):
+        body = body_of(text, found.start(), found[1]) if found.start() >= at else None
+        if body:
+            parts.append(text[at : body[0]])
+            at = body[1]
+    return "".join(parts) + text[at:]
+
+
+def files_of(folder, *parts):
+    """The paths of the files below these parts of a folder, from the folder on."""
+    found = (f"{at}/{name}" for part in parts for at, _, names in os.walk(f"{folder}/{part}") for name in names)
+    return sorted(os.path.relpath(path, folder) for path in found)
+
+
+def sum_of(texts):
+    return hashlib.sha256("\0".join(texts).encode()).hexdigest()
+
+
+def sum_of_files(folder, paths, made=lambda text: text):
+    """A sum of files by their paths, each without its comments, and as `made` of it."""
+    return sum_of([it for path in paths for it in (path, code_of(path, made(text_of(f"{folder}/{path}"))))])
+
+
+def outside_of(folder):
+    """A sum of all of a crate by which functions are proved that are others than those that a body, or a proof of its own, is of."""
+    lemmas = [path for path in files_of(folder, "specs", "proofs") if os.path.basename(path) not in OWN_PROOFS]
+    return sum_of([sum_of_files(folder, files_of(folder, "src"), without_bodies), sum_of_files(folder, lemmas)])
+
+
+def inside_of(folder, places):
+    """A sum of the functions in whose bodies an edit stands, with their own proofs; of the whole crate, where a part of it stands elsewhere."""
+    if not places:
+        return sum_of_files(folder, files_of(folder, "src", "specs", "proofs"))
+    said = []
+    for place in sorted(places):
+        body = "\n".join(text_of(f"{folder}/{place.file}").split("\n")[place.first - 1 : place.last])
+        own = files_of(folder, place.proof) if place.proof else []
+        said += [place.file, place.name, code_of(place.file, body), sum_of_files(folder, own)]
+    return sum_of(said)
+
+
+def digests_of(folder, around):
+    """For each edit of a crate its name, and a sum of all that the verdict on it rests on: the edit; the functions in whose bodies it stands; all of the crate
+    by which these are proved; and what is around the crate. An edit that can't be read has none."""
+    outside, (good, bad) = outside_of(folder), edits_of(folder)
+    said = [(it.name, sum_of([text_of(it.path), inside_of(folder, places_of(folder, it)), outside, around])) for it in good]
+    return sorted(said + [(name, "-") for name, _ in bad])
