@@ -67,23 +67,40 @@ fn limits(options: &Options<'_>) -> Limits {
     }
 }
 
-/// Serves connections by the options. The value is whether each ended after a whole record; `Err`: no more of them can be served.
-fn serve_connections<R: Files + Alloc + Eprint + SystemTimes, C: Clock>(
+/// Why no more connections are served. The value is whether each ended after a whole record; `Err`: no more of them can be served.
+fn outcome<R: Files + Alloc + Eprint + SystemTimes>(
     rt: &R,
-    alloc: Global,
-    hub: &mut Hub,
     served: &mut Served<'_, R>,
-    clock: &C,
-    store: Option<Store>,
-    limits: Limits,
+    end: AllEnd,
 ) -> Result<bool, Fault> {
-    match serve_all(alloc, hub, served, clock, store, limits) {
+    match end {
         AllEnd::Served => Ok(served.are_whole()),
         AllEnd::Turns => Ok(ended(rt, ServeEnd::Turns)),
         AllEnd::Wait => Err(Fault::Socket(None)),
         AllEnd::Keep => Err(Fault::Trail),
         AllEnd::Store => Err(Fault::Store(served.store_stop())),
         AllEnd::Memory => Err(Fault::Hub(HubFault::Memory as u8)),
+    }
+}
+
+/// Says that a port is listened on.
+fn announce<R: Print>(rt: &R, port: u16) -> io::Result<()> {
+    println!(rt; "listening on 127.0.0.1:{port}")
+}
+
+/// Serves what listens, once that is said.
+fn serve_listening<R: Files + Alloc + Print + Eprint + SystemTimes, C: Clock>(
+    rt: &R,
+    alloc: Global,
+    hub: &mut Hub,
+    served: &mut Served<'_, R>,
+    clock: &C,
+    store: Option<Store>,
+    options: &Options<'_>,
+) -> io::Result<AllEnd> {
+    match announce(rt, options.port) {
+        Ok(()) => Ok(serve_all(alloc, hub, served, clock, store, limits(options))),
+        Err(error) => Err(error),
     }
 }
 
@@ -102,11 +119,25 @@ pub(crate) fn serve_options<R: Net + Files + Alloc + Print + Eprint + SystemTime
         Some(Stored { folder, store }) => (Some(folder), Some(store)),
         None => (None, None),
     };
-    let mut served = match served(rt, alloc, options, book, folder) {
-        Ok(served) => served,
-        Err(fault) => return Ok(Err(fault)),
-    };
-    let port = options.port;
-    println!(rt; "listening on 127.0.0.1:{port}")?;
-    Ok(serve_connections(rt, alloc, hub, &mut served, clock, store, limits(options)))
+    match served(rt, alloc, options, book, folder) {
+        Ok(served) => serve_opened(rt, alloc, hub, served, clock, store, options),
+        Err(fault) => Ok(Err(fault)),
+    }
+}
+
+/// Serves what was opened, and says how that ended.
+fn serve_opened<R: Files + Alloc + Print + Eprint + SystemTimes, C: Clock>(
+    rt: &R,
+    alloc: Global,
+    hub: &mut Hub,
+    served: Served<'_, R>,
+    clock: &C,
+    store: Option<Store>,
+    options: &Options<'_>,
+) -> io::Result<Result<bool, Fault>> {
+    let mut served = served;
+    match serve_listening(rt, alloc, hub, &mut served, clock, store, options) {
+        Ok(end) => Ok(outcome(rt, &mut served, end)),
+        Err(error) => Err(error),
+    }
 }

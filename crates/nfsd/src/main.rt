@@ -129,16 +129,31 @@ fn serve_hub(
     alloc: Global,
     options: &Options<'_>,
 ) -> Result<Result<bool, Fault>> {
+    let hasher = RandomState::new(rt)?;
     let mut book = BookFile::new(rt, alloc, options.book);
-    let (mut hub, stored) = match hub(rt, alloc, options, &mut book, RandomState::new(rt)?) {
-        Ok(made) => made,
-        Err(fault) => return Ok(Err(fault)),
-    };
+    match hub(rt, alloc, options, &mut book, hasher) {
+        Ok((hub, stored)) => {
+            let mut hub = hub;
+            Ok(serve_over(rt, alloc, options, &mut hub, book, stored)?)
+        }
+        Err(fault) => Ok(Err(fault)),
+    }
+}
+
+/// Serves by the options over this hub.
+fn serve_over(
+    rt: &HostRuntime,
+    alloc: Global,
+    options: &Options<'_>,
+    hub: &mut Hub,
+    book: BookFile<'_, HostRuntime>,
+    stored: Option<Stored>,
+) -> io::Result<Result<bool, Fault>> {
     if options.bare {
-        return Ok(Ok(serve_bare(rt, &mut hub)));
+        return Ok(Ok(serve_bare(rt, hub)));
     }
     let clock = SystemClock::new(rt);
-    Ok(serve_options(rt, alloc, &mut hub, &clock, options, book, stored)?)
+    serve_options(rt, alloc, hub, &clock, options, book, stored)
 }
 
 /// The status of the program, by what came of serving. A fault is said on standard error.
@@ -198,9 +213,20 @@ fn stand_in(rt: &HostRuntime) -> Option<File> {
     }
 }
 
+/// Serves by the words that the program was started with.
+fn run(rt: &HostRuntime) -> Result<ExitCode> {
+    let alloc = rt.alloc();
+    let words: Vec<String> = env::args(rt)?.collect(alloc)?;
+    run_words(rt, alloc, words.as_slice())
+}
+
 fn main(rt: HostRuntime) -> Result<ExitCode> {
     let _stand_ins = [stand_in(&rt), stand_in(&rt), stand_in(&rt)];
-    let alloc = rt.alloc();
-    let words: Vec<String> = env::args(&rt)?.collect(alloc)?;
-    run_words(&rt, alloc, words.as_slice())
+    match run(&rt) {
+        Ok(status) => Ok(status),
+        Err(error) => {
+            let _ = eprintln!(rt; "nfsd: {error}");
+            Ok(ExitCode::FAILURE)
+        }
+    }
 }

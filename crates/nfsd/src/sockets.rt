@@ -26,7 +26,7 @@ const FIRST_FREE_PORT: u16 = 1024;
 const MOST_TURNED_AWAY: u32 = 64;
 
 /// Whether streams wait to be accepted.
-#[derive(Clone, Copy, PartialEq, Eq)]
+#[derive(Clone, Copy)]
 enum Calls {
     /// None does.
     None,
@@ -204,7 +204,7 @@ impl Sockets {
 
     /// Whether a stream has come that has no place yet.
     pub(crate) fn knocks(&mut self) -> Knock {
-        if self.accepted.is_none() && self.calls != Calls::None {
+        if self.accepted.is_none() && !matches!(self.calls, Calls::None) {
             self.calls = Calls::More;
             self.accept();
         }

@@ -153,12 +153,20 @@ impl<'a, R: Files + Alloc + Clock> TrailFile<'a, R> {
 
     /// Goes on with the file that the name leads to.
     fn follow(&mut self) -> bool {
-        if is_at(self.rt, self.path, &self.id) {
-            return true;
+        is_at(self.rt, self.path, &self.id) || self.open_anew()
+    }
+
+    /// Opens the file that the name leads to now, and goes on with it.
+    fn open_anew(&mut self) -> bool {
+        match open_trail(self.rt, self.path, self.book) {
+            Some(opened) => self.go_on(opened),
+            None => false,
         }
-        let Some(Opened { file, id }) = open_trail(self.rt, self.path, self.book) else {
-            return false;
-        };
+    }
+
+    /// Goes on with this file, whose last line is ended.
+    fn go_on(&mut self, opened: Opened<R::File>) -> bool {
+        let Opened { file, id } = opened;
         self.keeper.replace(file);
         self.id = id;
         self.keeper.end_line(last_byte(self.rt, self.path))

@@ -110,8 +110,19 @@ fn run_words(rt: &HostRuntime, alloc: Global, words: &[String]) -> Result<ExitCo
     }
 }
 
-fn main(rt: HostRuntime) -> Result<ExitCode> {
+/// Does what the words ask for that the program was started with.
+fn run(rt: &HostRuntime) -> Result<ExitCode> {
     let alloc = rt.alloc();
-    let words: Vec<String> = env::args(&rt)?.collect(alloc)?;
-    run_words(&rt, alloc, words.as_slice())
+    let words: Vec<String> = env::args(rt)?.collect(alloc)?;
+    run_words(rt, alloc, words.as_slice())
+}
+
+fn main(rt: HostRuntime) -> ExitCode {
+    match run(&rt) {
+        Ok(status) => status,
+        Err(error) => {
+            let _ = eprintln!(rt; "nfstore: {error}");
+            ExitCode::FAILURE
+        }
+    }
 }
