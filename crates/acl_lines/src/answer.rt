@@ -1,7 +1,8 @@
 //! The answer to a line.
 
-use crate::entries::{number, read_list, write_list};
-use acl_list::{Kind, Verdict, judge, summary};
+use crate::entries::{Form, number};
+use acl_list::{AclList, Kind, Verdict, judge, summary};
+use acl_reasons::{Reason, why};
 use acl_shape::{inherit, mode_of, set_mode};
 use rpc_record::{Caller, MOST_FURTHER};
 use std::alloc::{AllocError, Global};
@@ -35,11 +36,22 @@ fn caller_of(alloc: Global, uid: &str, groups: &str) -> Result<Option<Caller>, A
     }
 }
 
-fn answer_judge(alloc: Global, words: &[&str]) -> Result<Option<String>, AllocError> {
+/// What a line asks of a caller: an object, whom, and which rights.
+#[derive(Drop)]
+struct Question {
+    list: AclList,
+    owner: u32,
+    group: u32,
+    caller: Caller,
+    mask: u32,
+}
+
+/// The question of the words of a line after its first one.
+fn asked_in(alloc: Global, form: &Form, words: &[&str]) -> Result<Option<Question>, AllocError> {
     let [kind, owner, group, uid, groups, mask, list] = words else {
         return Ok(None);
     };
-    let (Some(_), Some(owner), Some(group), Some(mask)) = (
+    let (Some(kind), Some(owner), Some(group), Some(mask)) = (
         kind_of(kind),
         number(owner, 10, 10),
         number(group, 10, 10),
@@ -47,70 +59,108 @@ fn answer_judge(alloc: Global, words: &[&str]) -> Result<Option<String>, AllocEr
     ) else {
         return Ok(None);
     };
-    let (Some(caller), Some(list)) = (caller_of(alloc, uid, groups)?, read_list(alloc, list)?)
-    else {
+    let Some(caller) = caller_of(alloc, uid, groups)? else {
         return Ok(None);
     };
-    let verdict = match judge(&list, owner, group, &caller, mask) {
+    match form.read(alloc, kind, list)? {
+        Some(list) => Ok(Some(Question {
+            list,
+            owner,
+            group,
+            caller,
+            mask,
+        })),
+        None => Ok(None),
+    }
+}
+
+fn answer_judge(alloc: Global, form: &Form, words: &[&str]) -> Result<Option<String>, AllocError> {
+    let Some(it) = asked_in(alloc, form, words)? else {
+        return Ok(None);
+    };
+    let verdict = match judge(&it.list, it.owner, it.group, &it.caller, it.mask) {
         Verdict::Granted => "granted",
         Verdict::Denied(_) => "denied",
         Verdict::Missing(_) => "missing",
     };
-    let granted = summary(&list, owner, group, &caller).granted & mask;
+    let granted = summary(&it.list, it.owner, it.group, &it.caller).granted & it.mask;
     Ok(Some(format!(in alloc; "{verdict} {granted:08x}")?))
 }
 
-fn answer_mode(alloc: Global, words: &[&str]) -> Result<Option<String>, AllocError> {
+fn answer_why(alloc: Global, form: &Form, words: &[&str]) -> Result<Option<String>, AllocError> {
+    let Some(it) = asked_in(alloc, form, words)? else {
+        return Ok(None);
+    };
+    let text = match why(&it.list, it.owner, it.group, &it.caller, it.mask) {
+        Reason::Granted => format!(in alloc; "granted")?,
+        Reason::Denied { entry, bit } => {
+            let number = entry.saturating_add(1);
+            format!(in alloc; "denied {number} {bit:08x}")?
+        }
+        Reason::Missing { bit } => format!(in alloc; "missing {bit:08x}")?,
+    };
+    Ok(Some(text))
+}
+
+fn answer_mode(alloc: Global, form: &Form, words: &[&str]) -> Result<Option<String>, AllocError> {
     let [kind, owner, group, list] = words else {
         return Ok(None);
     };
-    let (Some(_), Some(_), Some(_)) = (kind_of(kind), number(owner, 10, 10), number(group, 10, 10))
-    else {
+    let (Some(kind), Some(_), Some(_)) = (
+        kind_of(kind),
+        number(owner, 10, 10),
+        number(group, 10, 10),
+    ) else {
         return Ok(None);
     };
-    let Some(list) = read_list(alloc, list)? else {
+    let Some(list) = form.read(alloc, kind, list)? else {
         return Ok(None);
     };
     let mode = mode_of(&list);
     Ok(Some(format!(in alloc; "{mode:03o}")?))
 }
 
-fn answer_chmod(alloc: Global, words: &[&str]) -> Result<Option<String>, AllocError> {
+fn answer_chmod(alloc: Global, form: &Form, words: &[&str]) -> Result<Option<String>, AllocError> {
     let [kind, mode, list] = words else {
         return Ok(None);
     };
     let (Some(kind), Some(mode)) = (kind_of(kind), number(mode, 8, 4)) else {
         return Ok(None);
     };
-    let Some(list) = read_list(alloc, list)? else {
+    let Some(list) = form.read(alloc, kind, list)? else {
         return Ok(None);
     };
     let made = set_mode(alloc, &list, kind, mode)?;
-    Ok(Some(write_list(alloc, &made)?))
+    Ok(Some(form.write(alloc, &made)?))
 }
 
-fn answer_inherit(alloc: Global, words: &[&str]) -> Result<Option<String>, AllocError> {
+fn answer_inherit(
+    alloc: Global,
+    form: &Form,
+    words: &[&str],
+) -> Result<Option<String>, AllocError> {
     let [kind, list] = words else {
         return Ok(None);
     };
     let Some(kind) = kind_of(kind) else {
         return Ok(None);
     };
-    let Some(list) = read_list(alloc, list)? else {
+    let Some(list) = form.read(alloc, kind, list)? else {
         return Ok(None);
     };
     let made = inherit(alloc, &list, kind)?;
-    Ok(Some(write_list(alloc, &made)?))
+    Ok(Some(form.write(alloc, &made)?))
 }
 
 /// The answer to a line, if the line can be read.
-pub(crate) fn answer(alloc: Global, line: &str) -> Result<Option<String>, AllocError> {
+pub(crate) fn answer(alloc: Global, form: &Form, line: &str) -> Result<Option<String>, AllocError> {
     let words: Vec<&str> = line.split(' ').collect(alloc)?;
     match words.as_slice() {
-        ["judge", rest @ ..] => answer_judge(alloc, rest),
-        ["mode", rest @ ..] => answer_mode(alloc, rest),
-        ["chmod", rest @ ..] => answer_chmod(alloc, rest),
-        ["inherit", rest @ ..] => answer_inherit(alloc, rest),
+        ["judge", rest @ ..] => answer_judge(alloc, form, rest),
+        ["why", rest @ ..] => answer_why(alloc, form, rest),
+        ["mode", rest @ ..] => answer_mode(alloc, form, rest),
+        ["chmod", rest @ ..] => answer_chmod(alloc, form, rest),
+        ["inherit", rest @ ..] => answer_inherit(alloc, form, rest),
         _ => Ok(None),
     }
 }

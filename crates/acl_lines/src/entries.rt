@@ -1,9 +1,12 @@
-//! Lists of entries as text: `TYPE:FLAGS:MASK:WHO`, joined by commas, or `-` for the empty list.
+//! Lists of entries as text, joined by commas, or `-` for the empty list: `TYPE:FLAGS:MASK:WHO`, or in words.
 
 ghost use Rattle.std.specs.Prelude.{◌≤◌};
 
-use acl_list::{AclList, Entry, EntryKind, Who, flag};
+use acl_list::{AclList, Entry, EntryKind, Kind, Who, flag};
+use acl_words::{Text, write_entry};
 use std::alloc::{AllocError, Global};
+use std::str;
+use who_book::Book;
 
 /// A number in digits of this base, at most this many digits.
 pub(crate) fn number(text: &str, radix: u32, most: usize) -> Option<u32>
@@ -58,21 +61,6 @@ fn read_entry(text: &str) -> Option<Entry> {
     })
 }
 
-/// The list that a text spells, if the text spells a list.
-pub(crate) fn read_list(alloc: Global, text: &str) -> Result<Option<AclList>, AllocError> {
-    let mut list = AclList::new(alloc);
-    if text == "-" {
-        return Ok(Some(list));
-    }
-    for part in text.split(',') {
-        let Some(entry) = read_entry(part) else {
-            return Ok(None);
-        };
-        list.push(entry)?;
-    }
-    Ok(Some(list))
-}
-
 fn letter(kind: EntryKind) -> char {
     match kind {
         EntryKind::Allow => 'A',
@@ -91,22 +79,87 @@ fn write_who(alloc: Global, who: Who) -> Result<String, AllocError> {
     }
 }
 
-/// The text of a list.
-pub(crate) fn write_list(alloc: Global, list: &AclList) -> Result<String, AllocError> {
-    let mut text = String::new(alloc);
-    for entry in list.as_slice() {
-        if !text.is_empty() {
-            text.push(',')?;
+/// The text of an entry.
+fn text_of(alloc: Global, entry: &Entry) -> Result<String, AllocError> {
+    let kind = letter(entry.kind);
+    let who = write_who(alloc, entry.who)?;
+    let flags = entry.flags;
+    let mask = entry.mask;
+    format!(in alloc; "{kind}:{flags:02x}:{mask:08x}:{who}")
+}
+
+/// The words of an entry, whose flags are those of eight bits.
+fn words_of(book: &Book, entry: &Entry) -> Text {
+    let flags = u32::from((entry.flags & 0xFF) as u8);
+    write_entry(book, &Entry { flags, ..*entry })
+}
+
+/// Puts the words of an entry, which are UTF-8.
+fn put_words(out: &mut String, words: &Text) -> Result<(), AllocError> {
+    match str::from_utf8(words.as_bytes()) {
+        Ok(words) => out.push_str(words),
+        Err(_) => Ok(()),
+    }
+}
+
+/// How entries are written, and read.
+#[derive(Drop)]
+pub(crate) enum Form {
+    /// `TYPE:FLAGS:MASK:WHO`.
+    Plain,
+    /// In words, with the names of a book; read in either form.
+    Words(Book),
+}
+
+impl Form {
+    /// The entry that a text spells, if it spells one on an object of this kind.
+    fn entry(&self, object: Kind, text: &str) -> Option<Entry> {
+        match self {
+            Form::Plain => read_entry(text),
+            Form::Words(book) => acl_words::read_entry(book, object, text.as_bytes()).ok(),
         }
-        let kind = letter(entry.kind);
-        let who = write_who(alloc, entry.who)?;
-        let flags = entry.flags;
-        let mask = entry.mask;
-        let part = format!(in alloc; "{kind}:{flags:02x}:{mask:08x}:{who}")?;
-        text.push_str(part.as_str())?;
     }
-    if text.is_empty() {
-        text.push('-')?;
+
+    /// The list that a text spells, if it spells one on an object of this kind.
+    pub(crate) fn read(
+        &self,
+        alloc: Global,
+        object: Kind,
+        text: &str,
+    ) -> Result<Option<AclList>, AllocError> {
+        let mut list = AclList::new(alloc);
+        if text == "-" {
+            return Ok(Some(list));
+        }
+        for part in text.split(',') {
+            let Some(entry) = self.entry(object, part) else {
+                return Ok(None);
+            };
+            list.push(entry)?;
+        }
+        Ok(Some(list))
     }
-    Ok(text)
+
+    /// Puts the text of an entry.
+    fn put(&self, alloc: Global, out: &mut String, entry: &Entry) -> Result<(), AllocError> {
+        match self {
+            Form::Plain => out.push_str(text_of(alloc, entry)?.as_str()),
+            Form::Words(book) => put_words(out, &words_of(book, entry)),
+        }
+    }
+
+    /// The text of a list.
+    pub(crate) fn write(&self, alloc: Global, list: &AclList) -> Result<String, AllocError> {
+        let mut text = String::new(alloc);
+        for entry in list.as_slice() {
+            if !text.is_empty() {
+                text.push(',')?;
+            }
+            self.put(alloc, &mut text, entry)?;
+        }
+        if text.is_empty() {
+            text.push('-')?;
+        }
+        Ok(text)
+    }
 }

@@ -4,17 +4,23 @@
 
 mod answer;
 mod entries;
+mod options;
 
 use anyhow::Result;
+use entries::Form;
+use options::Options;
 use std::alloc::Global;
+use std::env;
 use std::io::{BufRead, BufReader, BufWriter, Write};
+use std::process::ExitCode;
+use who_book::Book;
 
-fn answer_all(rt: &(impl Input + Print), alloc: Global) -> Result<()> {
+fn answer_all(rt: &(impl Input + Print), alloc: Global, form: &Form) -> Result<()> {
     let lines = BufReader::new(alloc, rt.reader())?.lines(alloc);
     let mut out = BufWriter::new(alloc, std::io::writer(rt))?;
     for line in lines {
         let line = line?;
-        match answer::answer(alloc, line.as_str())? {
+        match answer::answer(alloc, form, line.as_str())? {
             Some(text) => out.write_all(text.as_bytes())?,
             None => out.write_all(b"bad line")?,
         }
@@ -24,6 +30,37 @@ fn answer_all(rt: &(impl Input + Print), alloc: Global) -> Result<()> {
     Ok(())
 }
 
-fn main(rt: HostRuntime) -> Result<()> {
-    answer_all(&rt, rt.alloc())
+/// Answers by the words of the command line.
+fn run_words(rt: &HostRuntime, alloc: Global, words: &[String]) -> Result<ExitCode> {
+    let options = match Options::read(alloc, words) {
+        Ok(options) => options,
+        Err(error) => {
+            let _ = rt.eprint(&error);
+            return Ok(ExitCode::from(2));
+        }
+    };
+    let form = if options.words {
+        Form::Words(Book::default(alloc))
+    } else {
+        Form::Plain
+    };
+    answer_all(rt, alloc, &form)?;
+    Ok(ExitCode::SUCCESS)
+}
+
+/// Answers by the words that the program was started with.
+fn run_all(rt: &HostRuntime) -> Result<ExitCode> {
+    let alloc = rt.alloc();
+    let words: Vec<String> = env::args(rt)?.collect(alloc)?;
+    run_words(rt, alloc, words.as_slice())
+}
+
+fn main(rt: HostRuntime) -> ExitCode {
+    match run_all(&rt) {
+        Ok(status) => status,
+        Err(error) => {
+            let _ = eprintln!(rt; "acl_lines: {error}");
+            ExitCode::FAILURE
+        }
+    }
 }

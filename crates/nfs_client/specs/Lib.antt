@@ -12,7 +12,13 @@ pub mod AccessViews
 pub mod Sessions
 pub mod Setting
 pub mod ChMod
+pub mod ChOwn
 pub mod Acls
+pub mod GetAttr
+pub mod GetAttrViews
+pub mod Stat
+pub mod StatViews
+pub mod ReadLink
 pub mod Paging
 pub mod Cat
 pub mod Lines
@@ -31,6 +37,7 @@ pub mod Walking
 pub mod Rm
 pub mod PlaceViews
 pub mod MkDir
+pub mod SymLink
 pub mod Ln
 pub mod Mv
 pub mod Put

@@ -1,4 +1,5 @@
 //! `batch`: commands from standard input, in one session.
+use crate::around::Around;
 use crate::calling::Session;
 use crate::fault::Fault;
 use crate::helping::{Help, Usages};
@@ -16,7 +17,7 @@ use std::rt::{Clock, Files};
 use std::{io, str};
 
 /// The outcome of a line.
-#[derive(Clone, Copy, PartialEq, Eq)]
+#[derive(Clone, Copy)]
 enum Fate {
     /// It was answered, or had nothing to be answered.
     Answered,
@@ -43,6 +44,7 @@ struct Batch<'a, 'b, R> {
     rt: &'a R,
     alloc: Global,
     options: &'a Options<'b>,
+    around: &'a Around,
     session: Session<'a, R>,
 }
 
@@ -62,7 +64,9 @@ impl<R: Net<Stream = TcpStream> + Clock + RandomSource + Files + Input + Print +
         if wish.takes_input() {
             return self.refuse(place, Fault::Input);
         }
-        let told = self.session.run(self.rt, self.alloc, place, wish);
+        let told = self
+            .session
+            .run(self.rt, self.alloc, self.around, place, wish);
         let fate = match &told {
             Ok(_) => Fate::Answered,
             Err(fault) if is_last(*fault) => Fate::Over,
@@ -141,7 +145,13 @@ impl<R: Net<Stream = TcpStream> + Clock + RandomSource + Files + Input + Print +
 pub(crate) fn run<
     'a,
     R: Net<Stream = TcpStream> + Clock + RandomSource + Files + Input + Print + Eprint,
->(rt: &'a R, alloc: Global, options: &'a Options<'_>, groups: &'a [u32]) -> io::Result<bool> {
+>(
+    rt: &'a R,
+    alloc: Global,
+    options: &'a Options<'_>,
+    groups: &'a [u32],
+    around: &'a Around,
+) -> io::Result<bool> {
     let is_late = Cell::new(false);
     match Session::open(rt, alloc, options, groups, &is_late) {
         Ok(session) => {
@@ -149,6 +159,7 @@ pub(crate) fn run<
                 rt,
                 alloc,
                 options,
+                around,
                 session,
             };
             let told = batch.lines();

@@ -1,12 +1,16 @@
 //! A session of its own with the server, and what is done in it.
+use crate::around::Around;
 use crate::deep::Voice;
+use crate::facl::Change;
 use crate::fault::Fault;
 use crate::grouped::Grouped;
 use crate::link::Link;
+use crate::rights::Rights;
 use crate::starting::{owner, verifier};
 use crate::telling::Place;
+use crate::user::Asked;
 use crate::wish::Wish;
-use crate::{bytes, deep, facl};
+use crate::{bytes, deep, facl, object, why};
 use nfs_client::{Answer, Client, ToolFault};
 use nfsc_options::Options;
 use std::alloc::Global;
@@ -23,6 +27,47 @@ pub(crate) enum Task<'a> {
     Wish(Wish<'a>),
     /// These bytes become those of a file.
     Put(&'a [u8], Vec<u8>),
+    /// What is asked of the rights of users.
+    Question(Question<'a>),
+    /// A change of the list of an object, and whether it is forced.
+    Facl(&'a [u8], (Change<'a>, bool), &'a Around),
+}
+
+/// What is asked of the rights of users on the object of a path.
+#[derive(Clone, Copy)]
+pub(crate) struct Question<'a> {
+    /// The user, or all users of the book.
+    user: Option<&'a str>,
+    rights: &'a str,
+    path: &'a [u8],
+    around: &'a Around,
+}
+
+/// The rights of a word.
+fn rights_in(alloc: Global, text: &str) -> Result<Rights, Fault> {
+    let entry = format!(in alloc; "A::EVERYONE@:{text}")?;
+    match Rights::read(text, entry.as_str()) {
+        Some(rights) => Ok(rights),
+        None => Err(Fault::NoRight),
+    }
+}
+
+/// What the server's lists say to a question.
+fn answered<S: Read + Write>(
+    client: &mut Client<S>,
+    alloc: Global,
+    question: Question<'_>,
+) -> Result<Vec<u8>, Fault> {
+    let rights = rights_in(alloc, question.rights)?;
+    let names = &question.around.names;
+    match question.user {
+        Some(user) => match Asked::read(alloc, &names.book, user) {
+            Ok(asked) => why::explain(client, alloc, &names.book, &asked, rights, question.path),
+            Err(fault) => Err(fault),
+        },
+        None if question.around.is_named => why::list(client, alloc, names, rights, question.path),
+        None => Err(Fault::NoBook),
+    }
 }
 
 /// Does a task by a client. The answer is to be printed.
@@ -36,16 +81,8 @@ fn done<S: Read + Write, R: Print + Eprint>(
         Task::Wish(Wish::Plain(command)) => Ok(client.answer(command)?),
         Task::Wish(Wish::Get { path, file: _ }) => Ok(Answer::Text(client.cat(path)?)),
         Task::Wish(Wish::GetFacl(path)) => Ok(Answer::Text(facl::get(client, alloc, path)?)),
-        Task::Wish(Wish::SetFacl(path, entries)) => {
-            facl::replace(client, alloc, path, entries)?;
-            Ok(Answer::Done)
-        }
-        Task::Wish(Wish::AddFacl(path, place, entries)) => {
-            facl::add(client, alloc, path, place, entries)?;
-            Ok(Answer::Done)
-        }
-        Task::Wish(Wish::DelFacl(path, numbers)) => {
-            facl::remove(client, alloc, path, numbers)?;
+        Task::Facl(path, change, around) => {
+            facl::apply(client, alloc, around, path, change)?;
             Ok(Answer::Done)
         }
         Task::Wish(Wish::MakeAll(path)) => {
@@ -55,11 +92,39 @@ fn done<S: Read + Write, R: Print + Eprint>(
         Task::Wish(Wish::Deep { deep, is_dry, path }) => {
             deep::run(client, voice, alloc, (deep, is_dry), path)
         }
+        Task::Wish(Wish::List(path)) => deep::list_one(client, alloc, path),
+        Task::Wish(Wish::PathOf(number)) => deep::paths_of(client, voice, alloc, number),
+        Task::Wish(Wish::Stat(path)) => Ok(Answer::Text(object::stat(client, alloc, path)?)),
+        Task::Wish(Wish::ReadLink(path)) => {
+            let mut text = client.readlink(path)?;
+            text.push(b'\n')?;
+            Ok(Answer::Text(text))
+        }
+        Task::Wish(Wish::ChOwn(owner, path)) => {
+            client.chown(owner, path)?;
+            Ok(Answer::Done)
+        }
+        Task::Wish(Wish::ChGrp(group, path)) => {
+            client.chgrp(group, path)?;
+            Ok(Answer::Done)
+        }
+        Task::Wish(Wish::SymLink(text, path)) => {
+            client.symlink(text, path)?;
+            Ok(Answer::Done)
+        }
+        Task::Wish(Wish::Copy(old, new)) => {
+            let bytes = client.cat(old)?;
+            client.put(new, bytes.as_slice())?;
+            Ok(Answer::Done)
+        }
+        Task::Question(question) => Ok(Answer::Text(answered(client, alloc, question)?)),
         Task::Put(path, bytes) => {
             client.put(path, bytes.as_slice())?;
             Ok(Answer::Done)
         }
-        Task::Wish(Wish::Send { .. }) => Err(Fault::Unread),
+        Task::Wish(
+            Wish::Send { .. } | Wish::Why { .. } | Wish::Who { .. } | Wish::ChangeFacl { .. },
+        ) => Err(Fault::Unread),
     }
 }
 
@@ -72,9 +137,31 @@ fn file_of<'a>(wish: &Wish<'a>) -> Option<&'a str> {
 }
 
 /// The task of a wish: what is sent is read before anything is asked of the server.
-fn task_of<'a, R: Files + Input>(rt: &R, alloc: Global, wish: Wish<'a>) -> Result<Task<'a>, Fault> {
+fn task_of<'a, R: Files + Input>(
+    rt: &R,
+    alloc: Global,
+    around: &'a Around,
+    wish: Wish<'a>,
+) -> Result<Task<'a>, Fault> {
     match wish {
         Wish::Send { file, path } => Ok(Task::Put(path, bytes::read(rt, alloc, file)?)),
+        Wish::Why { user, rights, path } => Ok(Task::Question(Question {
+            user: Some(user),
+            rights,
+            path,
+            around,
+        })),
+        Wish::ChangeFacl {
+            path,
+            change,
+            is_forced,
+        } => Ok(Task::Facl(path, (change, is_forced), around)),
+        Wish::Who { rights, path } => Ok(Task::Question(Question {
+            user: None,
+            rights,
+            path,
+            around,
+        })),
         wish => Ok(Task::Wish(wish)),
     }
 }
@@ -162,15 +249,16 @@ impl<
     }
 
     /// Does what is wished.
-    pub(crate) fn run(
+    pub(crate) fn run<'w>(
         &mut self,
         rt: &R,
         alloc: Global,
+        around: &'w Around,
         place: Place,
-        wish: Wish<'_>,
+        wish: Wish<'w>,
     ) -> Result<Answer, Fault> {
         let file = file_of(&wish);
-        let task = task_of(rt, alloc, wish)?;
+        let task = task_of(rt, alloc, around, wish)?;
         let answer = self.act(Voice { rt, place }, alloc, task)?;
         kept(rt, file, answer)
     }
@@ -184,16 +272,18 @@ impl<
 /// Does what is wished in a session of its own, which is ended also where the wish was refused.
 pub(crate) fn call<
     'a,
+    'w,
     R: Net<Stream = TcpStream> + Clock + RandomSource + Files + Input + Print + Eprint,
 >(
     rt: &'a R,
     alloc: Global,
     options: &Options<'_>,
     groups: &'a [u32],
-    wish: Wish<'_>,
+    around: &'w Around,
+    wish: Wish<'w>,
 ) -> Result<Answer, Fault> {
     let file = file_of(&wish);
-    let task = task_of(rt, alloc, wish)?;
+    let task = task_of(rt, alloc, around, wish)?;
     let is_late = Cell::new(false);
     let mut session = Session::open(rt, alloc, options, groups, &is_late)?;
     let voice = Voice {

@@ -1,9 +1,9 @@
 //! Commands over an object and all below it, and directories that are made with those above them.
-use crate::facl;
 use crate::fault::Fault;
 use crate::shown::Shown;
 use crate::telling::Place;
 use crate::tree::{Kind, Object, Tree, Unlisted};
+use crate::{facl, object};
 use nfs_client::{Answer, Client, ToolFault, read_mode};
 use nfs_types::Status;
 use std::alloc::Global;
@@ -154,7 +154,70 @@ fn tree_at<S: Read + Write>(
     Ok(Tree { objects, unlisted })
 }
 
-/// Prints the lines of what is below a directory, as `ls` does with the path in place of the name.
+/// The lines of what is in a directory by its names, or the line of another object by its path.
+pub(crate) fn list_one<S: Read + Write>(
+    client: &mut Client<S>,
+    alloc: Global,
+    path: &[u8],
+) -> Result<Answer, Fault> {
+    let mut text = Vec::new(alloc);
+    if facl::is_directory(client, path)? {
+        let tree = Tree::within(client, alloc, path)?;
+        for found in &tree.objects {
+            let name = name_of(found.path.as_slice());
+            object::put_found(client, alloc, &mut text, found, name)?;
+        }
+    } else {
+        object::put_line(client, alloc, &mut text, path)?;
+    }
+    Ok(Answer::Text(text))
+}
+
+/// The last name of a path.
+fn name_of(path: &[u8]) -> &[u8] {
+    path.rsplit(|byte| *byte == b'/').next().unwrap_or(path)
+}
+
+/// Whether the object of a path has this number. One that the caller can't reach hasn't.
+fn has_number<S: Read + Write>(
+    client: &mut Client<S>,
+    path: &[u8],
+    number: u64,
+) -> Result<bool, Fault> {
+    match object::attributes(client, path) {
+        Ok(given) => Ok(object::read(&given)?.number == Some(number)),
+        Err(Fault::Tool(ToolFault::Refused(_, _))) => Ok(false),
+        Err(fault) => Err(fault),
+    }
+}
+
+/// Prints the paths of the object of a number, by a look at each object below the root.
+pub(crate) fn paths_of<S: Read + Write, R: Print + Eprint>(
+    client: &mut Client<S>,
+    voice: Voice<'_, R>,
+    alloc: Global,
+    number: u64,
+) -> Result<Answer, Fault> {
+    let root = b"/";
+    let mut text = Vec::new(alloc);
+    if has_number(client, root, number)? {
+        put_path(alloc, &mut text, root)?;
+    }
+    let tree = Tree::below(client, alloc, root)?;
+    for found in &tree.objects {
+        let path = found.path.as_slice();
+        if has_number(client, path, number)? {
+            put_path(alloc, &mut text, path)?;
+        }
+    }
+    if text.is_empty() {
+        voice.say_unlisted(tree.unlisted.as_slice())?;
+        return Err(Fault::NoObject);
+    }
+    Ok(Answer::Text(text))
+}
+
+/// Prints the lines of what is below a directory, as `list` does with the path in place of the name.
 fn list<S: Read + Write, R: Print + Eprint>(
     client: &mut Client<S>,
     voice: Voice<'_, R>,
@@ -163,9 +226,9 @@ fn list<S: Read + Write, R: Print + Eprint>(
 ) -> Result<Answer, Fault> {
     let tree = Tree::below(client, alloc, path)?;
     let mut text = Vec::new(alloc);
-    for object in &tree.objects {
-        text.extend_from_slice(object.columns.as_slice())?;
-        put_path(alloc, &mut text, object.path.as_slice())?;
+    for found in &tree.objects {
+        let path = found.path.as_slice();
+        object::put_found(client, alloc, &mut text, found, path)?;
     }
     if tree.unlisted.is_empty() {
         return Ok(Answer::Text(text));

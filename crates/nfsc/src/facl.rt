@@ -1,5 +1,7 @@
 //! Access control lists in words.
+use crate::around::Around;
 use crate::fault::Fault;
+use crate::judged::keeps_rights;
 use crate::wish::place_in;
 use acl_list::Kind;
 use acl_words::Words;
@@ -14,7 +16,7 @@ const LOOKUP: u32 = 2;
 type Entries = Vec<Vec<u8>>;
 
 /// The lines of a text.
-fn lines_of(alloc: Global, text: &[u8]) -> Result<Entries, Fault> {
+pub(crate) fn lines_of(alloc: Global, text: &[u8]) -> Result<Entries, Fault> {
     let mut lines = Vec::new(alloc);
     for line in text.split(|byte| *byte == b'\n') {
         if !line.is_empty() {
@@ -116,30 +118,19 @@ pub(crate) fn get<S: Read + Write>(
     Ok(text)
 }
 
-/// Sets the list of an object to entries in words.
-pub(crate) fn replace<S: Read + Write>(
-    client: &mut Client<S>,
-    alloc: Global,
-    path: &[u8],
-    entries: &[&[u8]],
-) -> Result<(), Fault> {
-    let object = kind_at(client, path)?;
-    let texts = texts_of(alloc, object, entries)?;
-    set(client, alloc, path, texts.as_slice())
+/// A change of a list, in words.
+#[derive(Clone, Copy)]
+pub(crate) enum Change<'a> {
+    /// To these entries.
+    Set(&'a [&'a [u8]]),
+    /// These entries are put before the one of this number, counted from 1; at the end for the number after the last.
+    Add(usize, &'a [&'a [u8]]),
+    /// The entries of these numbers are taken out.
+    Remove(&'a [&'a str]),
 }
 
-/// Puts entries in words before the one of this number, or at the end for the number after the last.
-pub(crate) fn add<S: Read + Write>(
-    client: &mut Client<S>,
-    alloc: Global,
-    path: &[u8],
-    place: usize,
-    entries: &[&[u8]],
-) -> Result<(), Fault> {
-    let object = kind_at(client, path)?;
-    let more = texts_of(alloc, object, entries)?;
-    let listed = client.getacl(path)?;
-    let old = lines_of(alloc, listed.as_slice())?;
+/// The entries of a list with more of them before the one of this number.
+fn added(alloc: Global, old: &[Vec<u8>], place: usize, more: &[Vec<u8>]) -> Result<Entries, Fault> {
     let before = place.saturating_sub(1);
     if before > old.len() {
         return Err(Fault::NoSuch);
@@ -152,7 +143,7 @@ pub(crate) fn add<S: Read + Write>(
     {
         all.push(text.clone()?)?;
     }
-    set(client, alloc, path, all.as_slice())
+    Ok(all)
 }
 
 /// The numbers of words. `NoSuch`: one is no number, or the list has no such entry.
@@ -167,15 +158,8 @@ fn places(alloc: Global, words: &[&str], most: usize) -> Result<Vec<usize>, Faul
     Ok(places)
 }
 
-/// Takes out the entries of these numbers.
-pub(crate) fn remove<S: Read + Write>(
-    client: &mut Client<S>,
-    alloc: Global,
-    path: &[u8],
-    numbers: &[&str],
-) -> Result<(), Fault> {
-    let listed = client.getacl(path)?;
-    let old = lines_of(alloc, listed.as_slice())?;
+/// The entries of a list without those of these numbers.
+fn removed(alloc: Global, old: &[Vec<u8>], numbers: &[&str]) -> Result<Entries, Fault> {
     let gone = places(alloc, numbers, old.len())?;
     let mut left = Vec::new(alloc);
     for (index, text) in old.iter().enumerate() {
@@ -183,5 +167,56 @@ pub(crate) fn remove<S: Read + Write>(
             left.push(text.clone()?)?;
         }
     }
-    set(client, alloc, path, left.as_slice())
+    Ok(left)
+}
+
+/// The list of an object, each entry as text.
+fn entries_of<S: Read + Write>(
+    client: &mut Client<S>,
+    alloc: Global,
+    path: &[u8],
+) -> Result<Entries, Fault> {
+    let listed = client.getacl(path)?;
+    lines_of(alloc, listed.as_slice())
+}
+
+/// The entries that a change leaves.
+fn changed<S: Read + Write>(
+    client: &mut Client<S>,
+    alloc: Global,
+    path: &[u8],
+    change: Change<'_>,
+) -> Result<Entries, Fault> {
+    match change {
+        Change::Set(entries) => {
+            let object = kind_at(client, path)?;
+            texts_of(alloc, object, entries)
+        }
+        Change::Add(place, entries) => {
+            let object = kind_at(client, path)?;
+            let more = texts_of(alloc, object, entries)?;
+            let old = entries_of(client, alloc, path)?;
+            added(alloc, old.as_slice(), place, more.as_slice())
+        }
+        Change::Remove(numbers) => {
+            let old = entries_of(client, alloc, path)?;
+            removed(alloc, old.as_slice(), numbers)
+        }
+    }
+}
+
+/// Changes the list of an object. Unless it is forced, a list that leaves the caller without the right to read it and to
+/// change it again is refused.
+pub(crate) fn apply<S: Read + Write>(
+    client: &mut Client<S>,
+    alloc: Global,
+    around: &Around,
+    path: &[u8],
+    (change, is_forced): (Change<'_>, bool),
+) -> Result<(), Fault> {
+    let entries = changed(client, alloc, path, change)?;
+    if !is_forced && !entries.is_empty() {
+        keeps_rights(client, alloc, around, path, entries.as_slice())?;
+    }
+    set(client, alloc, path, entries.as_slice())
 }

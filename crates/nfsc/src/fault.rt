@@ -31,6 +31,27 @@ pub(crate) enum Fault {
     /// The list has no entry of this number.
     #[error("number")]
     NoSuch,
+    /// The words name no right.
+    #[error("right")]
+    NoRight,
+    /// The words name no user.
+    #[error("user")]
+    NoUser,
+    /// There is no book, whose users are asked about.
+    #[error("book")]
+    NoBook,
+    /// The entry of this number, counted from 1, is of one whose number isn't known.
+    #[error("entry {0}")]
+    Stranger(usize),
+    /// The owner or the owning group is one whose number isn't known.
+    #[error("owner")]
+    NoNumber,
+    /// No object of this number was found.
+    #[error("object")]
+    NoObject,
+    /// The caller would lose the right to read the list or to change it again.
+    #[error("locked")]
+    Locked,
     /// No entry would be left.
     #[error("list")]
     NoneLeft,
@@ -102,7 +123,7 @@ fn refusal(status: Status) -> &'static str {
         Status::WrongType => "an object of this type has no such operation",
         Status::Inval =>
             "the server doesn't take these words: an entry, a mode, or a move into itself",
-        Status::BadOwner => "a name in an entry isn't in the server's book",
+        Status::BadOwner => "a name isn't in the server's book",
         Status::AttrNotSupp => "the server doesn't take such entries",
         Status::FBig => "a file has at most 1,048,576 bytes",
         Status::NoSpc => "the server has no room left",
@@ -146,6 +167,23 @@ impl Fault {
             Fault::TooLarge => "a file has at most 1,048,576 bytes; nothing was changed",
             Fault::Entry(_, field) => field.help(),
             Fault::NoSuch => "the list has no entry of this number; getfacl shows them from 1 on",
+            Fault::NoRight => {
+                "a right is read, write, list, execute, delete, or a name or letters of 'nfsc help lists', with commas between names"
+            }
+            Fault::NoUser => {
+                "a user is a name of --book FILE, or a number; with groups, as in 1002:100,200, where no book has members"
+            }
+            Fault::NoBook => "the users are those of a book: name it with --book FILE",
+            Fault::Stranger(_) => {
+                "the entry's name isn't in the book: name the server's with --book FILE"
+            }
+            Fault::NoNumber => {
+                "the owner or the group isn't in the book: name the server's with --book FILE"
+            }
+            Fault::NoObject => "no object of this number is below what this user can list",
+            Fault::Locked => {
+                "this list would leave you without the right to read it or to change it again (c, C); with --force after the command it is set"
+            }
             Fault::NoneLeft => "a list has at least one entry",
             Fault::Name =>
                 "a name below it has a line break, which this command doesn't take; nothing was changed",

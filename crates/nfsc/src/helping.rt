@@ -15,20 +15,31 @@ Commands for files and lists in words:
     setfacl P ENTRY..      sets the list                                              setfacl /notes A::OWNER@:RW
     addfacl P [N] ENTRY..  puts entries before entry N, or before the first           addfacl /notes D::1002:r
     delfacl P N..          takes out the entries of these numbers, from 1 on          delfacl /notes 1
+    why USER RIGHTS P      says whether a user has rights, and what each entry does   why 1002 write /notes
+    who RIGHTS P           prints the users of --book FILE that have these rights     who read,write /notes
+    stat P                 prints what is known of an object, an attribute a line     stat /notes
+    list P                 lists what is in a directory, with numbers and times       list /docs
+    path N                 prints the paths of the object of this number              path 3
+    chown OWNER P          sets the owner                                             chown 1002 /notes
+    chgrp GROUP P          sets the owning group                                      chgrp 200 /notes
+    readlink P             prints the text of a symbolic link                         readlink /latest
+    cp OLD NEW             makes the bytes of OLD those of NEW                        cp /notes /docs/notes
 ";
 
 /// The commands over an object and all below it, and over many lines. The line of a command, and no other, begins with
 /// four spaces.
 const DEEP_COMMANDS: &str = "\
-Commands over an object and all below it, which '--dry-run' only lists, and over many commands:
+Commands with a flag, over an object and all below it, which '--dry-run' only lists, and over many commands:
 
     list -R P                         lists what is below a directory, each with its path      list -R /docs
     mkdir -p P                        makes a directory, and those above it that aren't there  mkdir -p /docs/2026/may
+    ln -s TEXT P                      makes a symbolic link with this text                     ln -s notes /latest
     chmod -R [--dry-run] OCTAL P      sets the modes                                           chmod -R 0750 /docs
     setfacl -R [--dry-run] P ENTRY..  sets the lists                                           setfacl -R /docs A::OWNER@:RWX
     rm -R [--dry-run] P               removes them                                             rm -R --dry-run /docs
     batch                             runs the commands of standard input, a line a command    batch
 
+A list that its user can't read or change back is set by setfacl, addfacl and delfacl only with '--force' after the command's name.
 'nfsc help lists' says what the words of an entry are, and 'nfsc COMMAND --help' what a command wants.
 ";
 

@@ -5,6 +5,7 @@
 //! wrong, and what would do, is told on standard error too.
 #![tactic(auto)]
 
+mod around;
 mod batch;
 mod bytes;
 mod calling;
@@ -14,18 +15,27 @@ mod fault;
 mod given;
 mod grouped;
 mod helping;
+mod judged;
 mod link;
+mod names;
+mod object;
 mod person;
 mod quoting;
+mod rights;
 mod shown;
 mod starting;
 mod telling;
 mod tree;
+mod user;
+mod why;
 mod wish;
 
 use anyhow::Result;
+use around::Around;
+use given::value_of;
 use grouped::groups_in;
 use helping::{Help, Usages};
+use names::Names;
 use nfsc_options::{Options, wrong_command};
 use person::{NoPerson, Person};
 use std::alloc::{AllocError, Global};
@@ -40,6 +50,9 @@ use wish::Wish;
 /// The sentence on groups that can't be read.
 const GROUPS: &str =
     "--groups wants numbers from 0 to 4294967295, at most 16, with commas between them, as in 100,200";
+
+/// The sentence on a book that nothing is looked up in.
+const BOOK: &str = "--book wants --as NAME too, but for the commands 'why', 'who' and 'batch'";
 
 /// Tells that words are no command, and the words of the command of this name.
 fn refuse<R: Eprint>(rt: &R, alloc: Global, name: &str) -> Result<ExitCode> {
@@ -89,19 +102,29 @@ fn run<R: Net<Stream = TcpStream> + Clock + RandomSource + Files + Input + Print
     alloc: Global,
     options: &Options<'_>,
     groups: &[u32],
+    around: &Around,
 ) -> Result<ExitCode> {
     let words = options.words.as_slice();
     if let ["batch"] = words {
-        return Ok(status(batch::run(rt, alloc, options, groups)?));
+        return Ok(status(batch::run(rt, alloc, options, groups, around)?));
     }
     let said: Vec<&[u8]> = words.iter().map(|word| word.as_bytes()).collect(alloc)?;
     match Wish::read(words, said.as_slice()) {
         Some(wish) => {
-            let told = calling::call(rt, alloc, options, groups, wish);
+            let told = calling::call(rt, alloc, options, groups, around, wish);
             Ok(status(tell(rt, Place::Call, options, told)?))
         }
         None => refuse(rt, alloc, words.first().copied().unwrap_or("")),
     }
+}
+
+/// Whether a book is named that nothing is looked up in.
+fn is_book_unused(options: &Options<'_>) -> bool {
+    let takes_book = matches!(
+        options.words.first().copied(),
+        Some("why" | "who" | "batch")
+    );
+    options.book.is_some() && options.person.is_none() && !takes_book
 }
 
 /// Runs the command of words, of which the first is the program's name.
@@ -109,6 +132,7 @@ fn start<R: Net<Stream = TcpStream> + Clock + RandomSource + Files + Input + Pri
     rt: &R,
     alloc: Global,
     words: &[String],
+    names: Names,
 ) -> Result<ExitCode> {
     let options = match Options::read(alloc, words) {
         Ok(options) => options,
@@ -120,8 +144,17 @@ fn start<R: Net<Stream = TcpStream> + Clock + RandomSource + Files + Input + Pri
     if let Some(help) = Help::read(options.words.as_slice()) {
         return Ok(tell_help(rt, help)?);
     }
+    if is_book_unused(&options) {
+        eprintln!(rt; "nfsc: {BOOK}")?;
+        return Ok(ExitCode::from(2));
+    }
     match groups_in(alloc, options.groups)? {
-        Some(groups) => run(rt, alloc, &options, groups.as_slice()),
+        Some(groups) => {
+            let is_named = options.book.is_some();
+            let (uid, gid) = (options.uid, options.gid);
+            let around = Around::new(names, is_named, uid, gid, groups.as_slice());
+            run(rt, alloc, &options, groups.as_slice(), &around)
+        }
         None => {
             eprintln!(rt; "nfsc: {GROUPS}")?;
             Ok(ExitCode::from(2))
@@ -135,17 +168,49 @@ fn refuse_person<R: Eprint>(rt: &R, why: &NoPerson) -> io::Result<ExitCode> {
     Ok(ExitCode::from(why.status()))
 }
 
-fn main(rt: HostRuntime) -> Result<ExitCode> {
-    let alloc = rt.alloc();
-    let words: Vec<String> = env::args(&rt)?.collect(alloc)?;
-    if let Some(help) = asked(alloc, words.as_slice())? {
-        return Ok(tell_help(&rt, help)?);
+/// The book that the words name, or the one without names.
+fn names_of(rt: &HostRuntime, alloc: Global, words: &[String]) -> Result<Names, NoPerson> {
+    match value_of(words, "--book") {
+        Some(file) => Names::read(rt, alloc, file),
+        None => Ok(Names::none(alloc)),
     }
-    match Person::read(&rt, alloc, words.as_slice()) {
+}
+
+/// Runs the command of words by the user that they name.
+fn start_as(rt: &HostRuntime, alloc: Global, words: &[String], names: Names) -> Result<ExitCode> {
+    match Person::read(alloc, words, &names) {
         Ok(person) => {
-            let words = given::with_given(&rt, alloc, words.as_slice(), person.as_ref())?;
-            start(&rt, alloc, words.as_slice())
+            let words = given::with_given(rt, alloc, words, person.as_ref())?;
+            start(rt, alloc, words.as_slice(), names)
         }
-        Err(why) => Ok(refuse_person(&rt, &why)?),
+        Err(why) => Ok(refuse_person(rt, &why)?),
+    }
+}
+
+/// Runs the command of words, of which the first is the program's name, or prints help.
+fn run_words(rt: &HostRuntime, alloc: Global, words: &[String]) -> Result<ExitCode> {
+    if let Some(help) = asked(alloc, words)? {
+        return Ok(tell_help(rt, help)?);
+    }
+    match names_of(rt, alloc, words) {
+        Ok(names) => start_as(rt, alloc, words, names),
+        Err(why) => Ok(refuse_person(rt, &why)?),
+    }
+}
+
+/// Runs the words that the program was started with.
+fn run_all(rt: &HostRuntime) -> Result<ExitCode> {
+    let alloc = rt.alloc();
+    let words: Vec<String> = env::args(rt)?.collect(alloc)?;
+    run_words(rt, alloc, words.as_slice())
+}
+
+fn main(rt: HostRuntime) -> ExitCode {
+    match run_all(&rt) {
+        Ok(status) => status,
+        Err(error) => {
+            let _ = eprintln!(rt; "nfsc: {error}");
+            ExitCode::FAILURE
+        }
     }
 }

@@ -1,12 +1,11 @@
 //! A user by the book: `--as NAME --book FILE`.
 use crate::given::value_of;
-use book_words::explain;
+use crate::names::{Names, number_of};
 use rpc_record::Caller;
 use std::alloc::{AllocError, Global};
+use std::fmt;
 use std::fmt::{Display, Formatter};
-use std::rt::Files;
-use std::{fmt, fs};
-use who_book::{Book, NameKind};
+use who_book::Book;
 
 /// The group that a user is called in who is in none.
 const NOBODY: u32 = 65_534;
@@ -63,44 +62,22 @@ fn own(alloc: Global, text: &str) -> Result<String, AllocError> {
     String::from_str(alloc, text)
 }
 
-/// The book of a file.
-fn book_of<R: Files + Alloc>(rt: &R, alloc: Global, file: &str) -> Result<Book, NoPerson> {
-    let text = match fs::read_to_string(rt, file) {
-        Ok(text) => text,
-        Err(error) => {
-            let why = format!(in alloc; "{error}")?;
-            return Err(NoPerson::Book(own(alloc, file)?, why));
-        }
-    };
-    match Book::read(alloc, text.as_str()) {
-        Ok(book) => Ok(book),
-        Err(fault) => {
-            let why = explain(alloc, text.as_str(), fault)?;
-            Err(NoPerson::Book(own(alloc, file)?, why))
-        }
-    }
-}
-
-/// The number of a user, by its name with or without the domain.
-fn number_of(book: &Book, name: &str) -> Option<u32> {
-    match book.number_of(NameKind::User, name.as_bytes()) {
-        Some(number) => Some(number),
-        None => book.principal(NameKind::User, name.as_bytes()),
-    }
-}
-
 /// Whether a book says which users are in which groups: whether a user that sends different groups has the same ones by
 /// the book.
-fn has_members(book: &Book) -> bool {
+pub(crate) fn has_members(book: &Book) -> bool {
     let first = book.member(&Caller::new(0, 0, &[]));
     let second = book.member(&Caller::new(0, 1, &[]));
     first.groups() == second.groups()
 }
 
-/// The user of this number in a book.
-fn person_of(book: &Book, uid: u32) -> Person {
-    let member = has_members(book).then_some(book.member(&Caller::new(uid, NOBODY, &[])));
-    Person { uid, member }
+/// The user of this number in its groups by the book. `None`: the book doesn't say which users are in which groups.
+pub(crate) fn member_of(book: &Book, uid: u32) -> Option<Caller> {
+    has_members(book).then_some(book.member(&Caller::new(uid, NOBODY, &[])))
+}
+
+/// The user of this number in no group.
+pub(crate) fn alone(uid: u32) -> Caller {
+    Caller::new(uid, NOBODY, &[])
 }
 
 /// Whether the words have an option that says what the book says too.
@@ -115,23 +92,23 @@ fn said_twice(words: &[String], person: &Person) -> Option<&'static str> {
 }
 
 impl Person {
-    /// The user that the words name, by the book that they name. `None`: they name none.
-    pub(crate) fn read<R: Files + Alloc>(
-        rt: &R,
+    /// The user that the words name by this book. `None`: they name none.
+    pub(crate) fn read(
         alloc: Global,
         words: &[String],
+        names: &Names,
     ) -> Result<Option<Self>, NoPerson> {
-        let (name, file) = match (value_of(words, "--as"), value_of(words, "--book")) {
-            (Some(name), Some(file)) => (name, file),
-            (None, None) => return Ok(None),
-            (Some(_), None) => return Err(NoPerson::Words("--as wants --book FILE too")),
-            (None, Some(_)) => return Err(NoPerson::Words("--book wants --as NAME too")),
+        let Some(name) = value_of(words, "--as") else {
+            return Ok(None);
         };
-        let book = book_of(rt, alloc, file)?;
-        let Some(uid) = number_of(&book, name) else {
+        let Some(file) = value_of(words, "--book") else {
+            return Err(NoPerson::Words("--as wants --book FILE too"));
+        };
+        let Some(uid) = number_of(&names.book, name) else {
             return Err(NoPerson::Unknown(own(alloc, file)?, own(alloc, name)?));
         };
-        let person = person_of(&book, uid);
+        let member = member_of(&names.book, uid);
+        let person = Person { uid, member };
         match said_twice(words, &person) {
             Some(why) => Err(NoPerson::Words(why)),
             None => Ok(Some(person)),

@@ -2,7 +2,7 @@
 use std::alloc::{AllocError, Global};
 
 /// The quote that is open. It takes characters up to its end:
-#[derive(Clone, Copy, PartialEq, Eq)]
+#[derive(Clone, Copy)]
 enum Quote {
     /// `'`: all but a `'` as it is.
     Single,

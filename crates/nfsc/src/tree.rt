@@ -173,8 +173,8 @@ impl Tree {
         }
     }
 
-    /// The objects below a directory. A refusal to list the directory itself is the command's.
-    pub(crate) fn below<S: Read + Write>(
+    /// The objects in a directory. A refusal to list it is the command's.
+    pub(crate) fn within<S: Read + Write>(
         client: &mut Client<S>,
         alloc: Global,
         path: &[u8],
@@ -185,6 +185,16 @@ impl Tree {
         };
         let listing = client.ls(path)?;
         tree.put(alloc, path, listing.as_slice())?;
+        Ok(tree)
+    }
+
+    /// The objects below a directory. A refusal to list the directory itself is the command's.
+    pub(crate) fn below<S: Read + Write>(
+        client: &mut Client<S>,
+        alloc: Global,
+        path: &[u8],
+    ) -> Result<Self, Fault> {
+        let mut tree = Tree::within(client, alloc, path)?;
         for index in 0..MOST_OBJECTS {
             if index >= tree.objects.len() {
                 return Ok(tree);

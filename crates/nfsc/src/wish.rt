@@ -1,5 +1,6 @@
 //! The command that the words of a call ask for.
 use crate::deep::Deep;
+use crate::facl::Change;
 use nfs_client::Command;
 
 /// The command that the words of a call ask for: one as the client has it, or one for people over several of them.
@@ -18,14 +19,42 @@ pub(crate) enum Wish<'a> {
     },
     /// `getfacl P`: the list in words.
     GetFacl(&'a [u8]),
-    /// `setfacl P ENTRY..`: sets the list.
-    SetFacl(&'a [u8], &'a [&'a [u8]]),
-    /// `addfacl P [N] ENTRY..`: puts entries before the one of this number, counted from 1.
-    AddFacl(&'a [u8], usize, &'a [&'a [u8]]),
-    /// `delfacl P N..`: takes out the entries of these numbers, counted from 1.
-    DelFacl(&'a [u8], &'a [&'a str]),
+    /// `setfacl P ENTRY..`, `addfacl P [N] ENTRY..`, `delfacl P N..`: changes the list, with `--force` also where the caller
+    /// can't change it back.
+    ChangeFacl {
+        path: &'a [u8],
+        change: Change<'a>,
+        is_forced: bool,
+    },
     /// `mkdir -p P`: makes a directory, and those above it that aren't there.
     MakeAll(&'a [u8]),
+    /// `stat P`: what is known of an object.
+    Stat(&'a [u8]),
+    /// `list P`: the lines of what is in a directory, or of another object.
+    List(&'a [u8]),
+    /// `path N`: the paths of the object of this number.
+    PathOf(u64),
+    /// `chown OWNER P`: sets the owner.
+    ChOwn(&'a [u8], &'a [u8]),
+    /// `chgrp GROUP P`: sets the owning group.
+    ChGrp(&'a [u8], &'a [u8]),
+    /// `ln -s TEXT P`: makes a symbolic link.
+    SymLink(&'a [u8], &'a [u8]),
+    /// `readlink P`: the text of a symbolic link.
+    ReadLink(&'a [u8]),
+    /// `cp OLD NEW`: makes the bytes of a file those of another.
+    Copy(&'a [u8], &'a [u8]),
+    /// `why USER RIGHTS P`: whether a user has rights, and by which entries.
+    Why {
+        user: &'a str,
+        rights: &'a str,
+        path: &'a [u8],
+    },
+    /// `who RIGHTS P`: which users of a book have rights.
+    Who {
+        rights: &'a str,
+        path: &'a [u8],
+    },
     /// A command with `-R`, and whether it only says what would be done.
     Deep {
         deep: Deep<'a>,
@@ -97,14 +126,62 @@ pub(crate) fn place_in(word: &str) -> Option<usize> {
     }
 }
 
-/// `addfacl P [N] ENTRY..`. Where no number is given, entries are put before the first.
-fn adding<'a>(path: &'a [u8], first: &str, rest: &'a [&'a [u8]]) -> Option<Wish<'a>> {
+/// The words of `addfacl` after the path, `[N] ENTRY..`. Where no number is given, entries are put before the first.
+fn adding<'a>(first: &str, rest: &'a [&'a [u8]]) -> Option<Change<'a>> {
     match place_in(first) {
         Some(place) => match rest {
-            [_, entries @ ..] if !entries.is_empty() => Some(Wish::AddFacl(path, place, entries)),
+            [_, entries @ ..] if !entries.is_empty() => Some(Change::Add(place, entries)),
             _ => None,
         },
-        None => Some(Wish::AddFacl(path, 1, rest)),
+        None => Some(Change::Add(1, rest)),
+    }
+}
+
+/// The change of a list by the command of this name, from its path on.
+fn change_in<'a>(
+    name: &str,
+    words: &'a [&'a str],
+    bytes: &'a [&'a [u8]],
+    is_forced: bool,
+) -> Option<Wish<'a>> {
+    let (path, change) = match (name, words, bytes) {
+        ("setfacl", _, [path, entries @ ..]) if !entries.is_empty() => (
+            *path,
+            Change::Set(entries),
+        ),
+        ("addfacl", [_, first, ..], [path, rest @ ..]) => (*path, adding(first, rest)?),
+        ("delfacl", [_, numbers @ ..], [path, ..]) if !numbers.is_empty() => (
+            *path,
+            Change::Remove(numbers),
+        ),
+        _ => return None,
+    };
+    Some(Wish::ChangeFacl {
+        path,
+        change,
+        is_forced,
+    })
+}
+
+/// The change of a list by the words of a command.
+fn facl_in<'a>(words: &'a [&'a str], bytes: &'a [&'a [u8]]) -> Option<Wish<'a>> {
+    match (words, bytes) {
+        ([name, "--force", words @ ..], [_, _, bytes @ ..]) => change_in(name, words, bytes, true),
+        ([name, words @ ..], [_, bytes @ ..]) => change_in(name, words, bytes, false),
+        _ => None,
+    }
+}
+
+/// A command whose words are bytes alone.
+fn of_paths<'a>(words: &[&str], bytes: &'a [&'a [u8]]) -> Option<Wish<'a>> {
+    match (words, bytes) {
+        (["stat", _], [_, path]) => Some(Wish::Stat(path)),
+        (["list", _], [_, path]) => Some(Wish::List(path)),
+        (["readlink", _], [_, path]) => Some(Wish::ReadLink(path)),
+        (["chown", _, _], [_, owner, path]) => Some(Wish::ChOwn(owner, path)),
+        (["chgrp", _, _], [_, group, path]) => Some(Wish::ChGrp(group, path)),
+        (["cp", _, _], [_, old, new]) => Some(Wish::Copy(old, new)),
+        _ => Command::read(bytes).map(Wish::Plain),
     }
 }
 
@@ -124,10 +201,15 @@ impl<'a> Wish<'a> {
             }),
             (["send", file, _], [_, _, path]) => Some(Wish::Send { file, path }),
             (["getfacl", _], [_, path]) => Some(Wish::GetFacl(path)),
-            (["setfacl", _, _, ..], [_, path, entries @ ..]) => Some(Wish::SetFacl(path, entries)),
-            (["addfacl", _, first, ..], [_, path, entries @ ..]) => adding(path, first, entries),
-            (["delfacl", _, _, ..], [_, path, ..]) => Some(Wish::DelFacl(path, &words[2..])),
-            _ => Command::read(bytes).map(Wish::Plain),
+            (["setfacl" | "addfacl" | "delfacl", ..], _) => facl_in(words, bytes),
+            (["ln", "-s", _, _], [_, _, text, path]) => Some(Wish::SymLink(text, path)),
+            (["why", user, rights, _], [_, _, _, path]) => Some(Wish::Why { user, rights, path }),
+            (["who", rights, _], [_, _, path]) => Some(Wish::Who { rights, path }),
+            (["path", number], _) => match number.parse::<u64>() {
+                Ok(number) => Some(Wish::PathOf(number)),
+                Err(_) => None,
+            },
+            _ => of_paths(words, bytes),
         }
     }
 

@@ -1,0 +1,9 @@
+use Rattle.std.proofs.Common.{true}
+use Rattle.nfs_client.specs.GetAttr.{attributes_in}
+use Rattle.nfs_client.specs.GetAttrViews.{given_value}
+use Rattle.nfs_client.proofs.Commands.{concluded}
+use Rattle.nfs_client.proofs.client.Client.ask_attributes.Goals as goal
+
+pub returns : goal.returns
+returns g c = λ ops asks.
+    concluded _ _ attributes_in ops c.args.self.now c.exchange.new.self c.in-Ok.reply (c.in-Ok.ensures ops asks) given_value true c.given-told.result c.conclude.new.self c.given-told.ensures c.conclude.ensures

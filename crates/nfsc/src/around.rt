@@ -1,0 +1,35 @@
+//! What a call is made with, beside its options.
+use crate::names::Names;
+use crate::person::member_of;
+use rpc_record::{Caller, MOST_FURTHER};
+
+/// The book of a call, and its caller as the server takes it.
+#[derive(Drop)]
+pub(crate) struct Around {
+    /// The book, or the one without names where none is given.
+    pub(crate) names: Names,
+    /// A book is given.
+    pub(crate) is_named: bool,
+    pub(crate) caller: Caller,
+}
+
+/// The caller of this user and these groups, of which the first is its own; of those of the book, where it says them.
+fn caller_of(names: &Names, uid: u32, gid: u32, groups: &[u32]) -> Caller {
+    let further = groups.get(..MOST_FURTHER.min(groups.len())).unwrap_or(&[]);
+    match member_of(&names.book, uid) {
+        Some(member) => member,
+        None => Caller::new(uid, gid, further),
+    }
+}
+
+impl Around {
+    /// Of a caller of this user and these groups, of which the book may say others.
+    pub(crate) fn new(names: Names, is_named: bool, uid: u32, gid: u32, groups: &[u32]) -> Self {
+        let caller = caller_of(&names, uid, gid, groups);
+        Around {
+            names,
+            is_named,
+            caller,
+        }
+    }
+}

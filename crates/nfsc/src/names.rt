@@ -1,0 +1,76 @@
+//! The book of `--book FILE`, with the names of its users.
+use crate::person::NoPerson;
+use book_words::explain;
+use std::alloc::{AllocError, Global};
+use std::fs;
+use std::rt::Files;
+use who_book::{Book, NameKind};
+
+/// A book of names, and the names of its users.
+#[derive(Drop)]
+pub(crate) struct Names {
+    pub(crate) book: Book,
+    /// The names of the users without the domain, in the order of their bytes.
+    pub(crate) users: Vec<String>,
+}
+
+/// The names of the users of a text that is a book.
+fn users_in(alloc: Global, text: &str) -> Result<Vec<String>, AllocError> {
+    let mut users = Vec::new(alloc);
+    let Ok(document) = toml::table_from_str(alloc, text) else {
+        return Ok(users);
+    };
+    if let Some(rows) = document.get("users").and_then(|value| value.as_table()) {
+        for (name, _) in rows {
+            users.push(String::from_str(alloc, name.as_str())?)?;
+        }
+    }
+    Ok(users)
+}
+
+impl Names {
+    /// The book without names.
+    pub(crate) fn none(alloc: Global) -> Self {
+        Names {
+            book: Book::default(alloc),
+            users: Vec::new(alloc),
+        }
+    }
+
+    /// The book of the text of a file.
+    fn of(alloc: Global, file: &str, text: &str) -> Result<Self, NoPerson> {
+        match Book::read(alloc, text) {
+            Ok(book) => Ok(Names {
+                book,
+                users: users_in(alloc, text)?,
+            }),
+            Err(fault) => {
+                let why = explain(alloc, text, fault)?;
+                Err(NoPerson::Book(String::from_str(alloc, file)?, why))
+            }
+        }
+    }
+
+    /// Reads the book of a file.
+    pub(crate) fn read<R: Files + Alloc>(
+        rt: &R,
+        alloc: Global,
+        file: &str,
+    ) -> Result<Self, NoPerson> {
+        match fs::read_to_string(rt, file) {
+            Ok(text) => Names::of(alloc, file, text.as_str()),
+            Err(error) => {
+                let why = format!(in alloc; "{error}")?;
+                Err(NoPerson::Book(String::from_str(alloc, file)?, why))
+            }
+        }
+    }
+}
+
+/// The number of a user of a book, by its name with or without the domain.
+pub(crate) fn number_of(book: &Book, name: &str) -> Option<u32> {
+    match book.number_of(NameKind::User, name.as_bytes()) {
+        Some(number) => Some(number),
+        None => book.principal(NameKind::User, name.as_bytes()),
+    }
+}

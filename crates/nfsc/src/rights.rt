@@ -1,0 +1,165 @@
+//! The rights that `why` and `who` are asked about (RFC 8881, section 6.2.1.3.1).
+use acl_list::{Kind, mask};
+use acl_words::Words;
+use std::fmt;
+use std::fmt::{Display, Formatter};
+
+/// The rights, in the order of their bits.
+pub(crate) const RIGHTS: [u32; 16] = [
+    mask::READ_DATA,
+    mask::WRITE_DATA,
+    mask::APPEND_DATA,
+    mask::READ_NAMED_ATTRS,
+    mask::WRITE_NAMED_ATTRS,
+    mask::EXECUTE,
+    mask::DELETE_CHILD,
+    mask::READ_ATTRIBUTES,
+    mask::WRITE_ATTRIBUTES,
+    mask::WRITE_RETENTION,
+    mask::WRITE_RETENTION_HOLD,
+    mask::DELETE,
+    mask::READ_ACL,
+    mask::WRITE_ACL,
+    mask::WRITE_OWNER,
+    mask::SYNCHRONIZE,
+];
+
+/// The name of a right on an object that is no directory.
+fn name_of(bit: u32) -> &'static str {
+    match bit {
+        mask::READ_DATA => "read-data",
+        mask::WRITE_DATA => "write-data",
+        mask::APPEND_DATA => "append-data",
+        mask::READ_NAMED_ATTRS => "read-named-attrs",
+        mask::WRITE_NAMED_ATTRS => "write-named-attrs",
+        mask::EXECUTE => "execute",
+        mask::DELETE_CHILD => "delete-child",
+        mask::READ_ATTRIBUTES => "read-attributes",
+        mask::WRITE_ATTRIBUTES => "write-attributes",
+        mask::WRITE_RETENTION => "write-retention",
+        mask::WRITE_RETENTION_HOLD => "write-retention-hold",
+        mask::DELETE => "delete",
+        mask::READ_ACL => "read-acl",
+        mask::WRITE_ACL => "write-acl",
+        mask::WRITE_OWNER => "write-owner",
+        _ => "synchronize",
+    }
+}
+
+/// The name of a right on a directory.
+fn directory_name_of(bit: u32) -> &'static str {
+    match bit {
+        mask::LIST_DIRECTORY => "list-directory",
+        mask::ADD_FILE => "add-file",
+        mask::ADD_SUBDIRECTORY => "add-subdirectory",
+        _ => name_of(bit),
+    }
+}
+
+/// The rights of a mask, as they are named on an object of this kind, the lowest first.
+#[derive(Clone, Copy)]
+pub(crate) struct Named {
+    pub(crate) mask: u32,
+    pub(crate) object: Kind,
+}
+
+impl Display for Named {
+    fn fmt<W: fmt::Write>(&self, f: &mut Formatter<W>) -> fmt::Result {
+        let mut is_first = true;
+        for bit in RIGHTS {
+            if self.mask & bit != 0 {
+                f.write_str(if is_first { "" } else { ", " })?;
+                f.write_str(match self.object {
+                    Kind::Directory => directory_name_of(bit),
+                    Kind::File | Kind::Link => name_of(bit),
+                })?;
+                is_first = false;
+            }
+        }
+        Ok(())
+    }
+}
+
+/// The right that a word names.
+fn bit_of(word: &str) -> Option<u32> {
+    match word {
+        "read" | "list" => Some(mask::READ_DATA),
+        "write" => Some(mask::WRITE_DATA),
+        "append" => Some(mask::APPEND_DATA),
+        "search" => Some(mask::EXECUTE),
+        _ => {
+            for bit in RIGHTS {
+                if word == directory_name_of(bit) || word == name_of(bit) {
+                    return Some(bit);
+                }
+            }
+            None
+        }
+    }
+}
+
+/// The mask of words with commas between them.
+fn mask_of_words(text: &str) -> Option<u32> {
+    let mut rights = 0;
+    for word in text.split(',') {
+        rights |= bit_of(word)?;
+    }
+    Some(rights)
+}
+
+/// The mask of the letters of an entry's permissions.
+fn mask_of_letters(object: Kind, entry: &str) -> Option<u32> {
+    match Words::read(object, entry.as_bytes()) {
+        Ok(words) if words.mask & !mask::DEFINED == 0 => Some(words.mask),
+        _ => None,
+    }
+}
+
+/// The mask of a word on an object of this kind: of names with commas between them, or of letters. The entry is
+/// `A::EVERYONE@:` and the word.
+fn mask_in(object: Kind, text: &str, entry: &str) -> Option<u32> {
+    if text.contains(':') {
+        return None;
+    }
+    let found = match mask_of_words(text) {
+        Some(rights) => rights,
+        None => mask_of_letters(object, entry)?,
+    };
+    (found != 0).then_some(found)
+}
+
+/// What is asked about.
+#[derive(Clone, Copy)]
+pub(crate) enum Rights {
+    /// Whether the object's name may be removed, as `rm` and `mv` do: two lists decide that (section 6.2.1.3.2).
+    Removal,
+    /// Rights by their masks, on a directory and on any other object: the letter `W` has another meaning there.
+    Masks { on_directory: u32, on_other: u32 },
+}
+
+impl Rights {
+    /// What a word asks about. The entry is `A::EVERYONE@:` and the word. `None`: it says no right.
+    pub(crate) fn read(text: &str, entry: &str) -> Option<Self> {
+        if text == "delete" || text == "remove" {
+            return Some(Rights::Removal);
+        }
+        Some(Rights::Masks {
+            on_directory: mask_in(Kind::Directory, text, entry)?,
+            on_other: mask_in(Kind::File, text, entry)?,
+        })
+    }
+
+    /// The mask on an object of this kind. `None`: the removal of a name is asked about.
+    pub(crate) fn mask(self, object: Kind) -> Option<u32> {
+        match self {
+            Rights::Removal => None,
+            Rights::Masks {
+                on_directory,
+                on_other,
+            } => Some(match object {
+                Kind::Directory => on_directory,
+                Kind::File | Kind::Link => on_other,
+            }),
+        }
+    }
+}
