@@ -11,6 +11,8 @@ pub(crate) struct Around {
     /// A book is given.
     pub(crate) is_named: bool,
     pub(crate) caller: Caller,
+    /// Standard error is a terminal: how far a long command is, is said there.
+    pub(crate) is_watched: bool,
 }
 
 /// The caller of this user and these groups, of which the first is its own; of those of the book, where it says them.
@@ -24,12 +26,19 @@ fn caller_of(names: &Names, uid: u32, gid: u32, groups: &[u32]) -> Caller {
 
 impl Around {
     /// Of a caller of this user and these groups, of which the book may say others.
-    pub(crate) fn new(names: Names, is_named: bool, uid: u32, gid: u32, groups: &[u32]) -> Self {
+    pub(crate) fn new(
+        names: Names,
+        (is_named, is_watched): (bool, bool),
+        uid: u32,
+        gid: u32,
+        groups: &[u32],
+    ) -> Self {
         let caller = caller_of(&names, uid, gid, groups);
         Around {
             names,
             is_named,
             caller,
+            is_watched,
         }
     }
 }

@@ -259,7 +259,15 @@ impl<
     ) -> Result<Answer, Fault> {
         let file = file_of(&wish);
         let task = task_of(rt, alloc, around, wish)?;
-        let answer = self.act(Voice { rt, place }, alloc, task)?;
+        let answer = self.act(
+            Voice {
+                rt,
+                place,
+                is_watched: around.is_watched,
+            },
+            alloc,
+            task,
+        )?;
         kept(rt, file, answer)
     }
 
@@ -289,6 +297,7 @@ pub(crate) fn call<
     let voice = Voice {
         rt,
         place: Place::Call,
+        is_watched: around.is_watched,
     };
     let told = session.act(voice, alloc, task);
     session.end();

@@ -28,7 +28,12 @@ pub(crate) enum Deep<'a> {
 pub(crate) struct Voice<'a, R> {
     pub(crate) rt: &'a R,
     pub(crate) place: Place,
+    /// How far a command is, is said too.
+    pub(crate) is_watched: bool,
 }
+
+/// After how many objects it is said how far a command is.
+const STRIDE: usize = 100;
 
 impl<R: Eprint> Voice<'_, R> {
     /// Says what is wrong with one object.
@@ -38,6 +43,22 @@ impl<R: Eprint> Voice<'_, R> {
         match eprintln!(rt; "nfsc: {place}{}: {why}", Shown(path)) {
             Ok(()) => Ok(()),
             Err(_) => Err(Fault::Unsaid),
+        }
+    }
+
+    /// Says how many objects of all are done, on a line that the next one takes the place of.
+    fn say_done(&self, done: usize, all: usize) {
+        let rt = self.rt;
+        if self.is_watched && all > STRIDE && done % STRIDE == 0 {
+            let _ = eprint!(rt; "\rnfsc: {done} of {all}");
+        }
+    }
+
+    /// Takes that line away.
+    fn clear(&self, all: usize) {
+        let rt = self.rt;
+        if self.is_watched && all > STRIDE {
+            let _ = eprint!(rt; "\r\x1b[K");
         }
     }
 
@@ -250,7 +271,8 @@ fn change_all<S: Read + Write, R: Eprint>(
     objects: &[Object],
 ) -> Result<Answer, Fault> {
     let mut refused = 0usize;
-    for object in objects.iter().rev() {
+    for (done, object) in objects.iter().rev().enumerate() {
+        voice.say_done(done, objects.len());
         if wanted.is_of(object) {
             match wanted.act(client, alloc, object) {
                 Ok(()) => {}
@@ -262,6 +284,7 @@ fn change_all<S: Read + Write, R: Eprint>(
             }
         }
     }
+    voice.clear(objects.len());
     if refused == 0 {
         Ok(Answer::Done)
     } else {

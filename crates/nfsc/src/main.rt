@@ -39,6 +39,7 @@ use names::Names;
 use nfsc_options::{Options, wrong_command};
 use person::{NoPerson, Person};
 use std::alloc::{AllocError, Global};
+use std::io::IsTerminal;
 use std::net::{Net, TcpStream};
 use std::process::ExitCode;
 use std::random::RandomSource;
@@ -133,6 +134,7 @@ fn start<R: Net<Stream = TcpStream> + Clock + RandomSource + Files + Input + Pri
     alloc: Global,
     words: &[String],
     names: Names,
+    is_watched: bool,
 ) -> Result<ExitCode> {
     let options = match Options::read(alloc, words) {
         Ok(options) => options,
@@ -152,7 +154,7 @@ fn start<R: Net<Stream = TcpStream> + Clock + RandomSource + Files + Input + Pri
         Some(groups) => {
             let is_named = options.book.is_some();
             let (uid, gid) = (options.uid, options.gid);
-            let around = Around::new(names, is_named, uid, gid, groups.as_slice());
+            let around = Around::new(names, (is_named, is_watched), uid, gid, groups.as_slice());
             run(rt, alloc, &options, groups.as_slice(), &around)
         }
         None => {
@@ -181,7 +183,13 @@ fn start_as(rt: &HostRuntime, alloc: Global, words: &[String], names: Names) -> 
     match Person::read(alloc, words, &names) {
         Ok(person) => {
             let words = given::with_given(rt, alloc, words, person.as_ref())?;
-            start(rt, alloc, words.as_slice(), names)
+            start(
+                rt,
+                alloc,
+                words.as_slice(),
+                names,
+                rt.stderr().is_terminal(),
+            )
         }
         Err(why) => Ok(refuse_person(rt, &why)?),
     }
