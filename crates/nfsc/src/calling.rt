@@ -12,6 +12,7 @@ use crate::user::Asked;
 use crate::wish::Wish;
 use crate::{bytes, deep, facl, object, why};
 use nfs_client::{Answer, Client, ToolFault};
+use nfs_ops::{OP_CLOSE, OP_SETATTR, OP_WRITE};
 use nfsc_options::Options;
 use std::alloc::Global;
 use std::cell::Cell;
@@ -70,6 +71,30 @@ fn answered<S: Read + Write>(
     }
 }
 
+/// Whether a refusal of this operation can have left a part of what was sent in the file.
+fn may_leave(op: u32) -> bool {
+    op == OP_WRITE || op == OP_SETATTR || op == OP_CLOSE
+}
+
+/// Makes bytes those of a file. Where the server refused some of them, it is said how many the file has.
+fn send<S: Read + Write, R: Eprint>(
+    client: &mut Client<S>,
+    voice: Voice<'_, R>,
+    path: &[u8],
+    bytes: &[u8],
+) -> Result<(), Fault> {
+    match client.put(path, bytes) {
+        Err(fault @ ToolFault::Refused(op, _)) if may_leave(op) => {
+            if let Ok(Some(size)) = object::size(client, path) {
+                voice.say_size(path, size);
+            }
+            Err(Fault::Tool(fault))
+        }
+        Err(fault) => Err(Fault::Tool(fault)),
+        Ok(()) => Ok(()),
+    }
+}
+
 /// Does a task by a client. The answer is to be printed.
 fn done<S: Read + Write, R: Print + Eprint>(
     client: &mut Client<S>,
@@ -119,7 +144,7 @@ fn done<S: Read + Write, R: Print + Eprint>(
         }
         Task::Question(question) => Ok(Answer::Text(answered(client, alloc, question)?)),
         Task::Put(path, bytes) => {
-            client.put(path, bytes.as_slice())?;
+            send(client, voice, path, bytes.as_slice())?;
             Ok(Answer::Done)
         }
         Task::Wish(

@@ -46,6 +46,12 @@ impl<R: Eprint> Voice<'_, R> {
         }
     }
 
+    /// Says how many bytes a file has now.
+    pub(crate) fn say_size(&self, path: &[u8], size: u64) {
+        let (rt, place) = (self.rt, self.place);
+        let _ = eprintln!(rt; "nfsc: {place}{} has {size} bytes now", Shown(path));
+    }
+
     /// Says how many objects of all are done, on a line that the next one takes the place of.
     fn say_done(&self, done: usize, all: usize) {
         let rt = self.rt;

@@ -132,6 +132,16 @@ fn put_known(alloc: Global, out: &mut Vec<u8>, stat: &Stat<'_>) -> Result<(), Fa
     Ok(())
 }
 
+/// How many bytes the object of a path has, where the caller may know it.
+pub(crate) fn size<S: Read + Write>(
+    client: &mut Client<S>,
+    path: &[u8],
+) -> Result<Option<u64>, Fault> {
+    let given = attributes(client, path)?;
+    let stat = read(&given)?;
+    Ok(stat.size)
+}
+
 /// What is known of an object, an attribute a line.
 pub(crate) fn stat<S: Read + Write>(
     client: &mut Client<S>,
