@@ -36,7 +36,7 @@ fn caller_of(alloc: Global, uid: &str, groups: &str) -> Result<Option<Caller>, A
     }
 }
 
-/// What a line asks of a caller: an object, whom, and which rights.
+/// A question of `judge` or `why`: an object, a caller, and a mask.
 #[derive(Drop)]
 struct Question {
     list: AclList,

@@ -2,7 +2,7 @@
 use clap::{Arg, ArgAction, Command, Error, value_parser};
 use std::alloc::{AllocError, Global};
 
-/// What it does.
+/// The help before the options.
 const ABOUT: &str = "\
 Answers questions on access control lists, one a line of standard input, with a line of standard output each:
 

@@ -18,7 +18,7 @@ use xdr_wire::{Reader, Wire, XdrFault};
 /// A moment: seconds since the epoch, below 0 before it, and nanoseconds on top of them (RFC 8881, section 3.3.1).
 type Time = (i64, u32);
 
-/// What a server gave of an object: each attribute if it was given.
+/// Attributes of an object, each if the server gave it.
 #[derive(Clone, Copy, Debug)]
 pub struct Stat<'a> {
     /// 1, type, `nfs_ftype4`.

@@ -1,4 +1,4 @@
-//! What a call is made with, beside its options.
+//! The book and the caller of a call, beside its options.
 use crate::names::Names;
 use crate::person::member_of;
 use rpc_record::{Caller, MOST_FURTHER};

@@ -28,13 +28,13 @@ pub(crate) enum Task<'a> {
     Wish(Wish<'a>),
     /// These bytes become those of a file.
     Put(&'a [u8], Vec<u8>),
-    /// What is asked of the rights of users.
+    /// A question on the rights of users.
     Question(Question<'a>),
     /// A change of the list of an object, and whether it is forced.
     Facl(&'a [u8], (Change<'a>, bool), &'a Around),
 }
 
-/// What is asked of the rights of users on the object of a path.
+/// A question on the rights of a user, or of all users of the book, on the object of a path.
 #[derive(Clone, Copy)]
 pub(crate) struct Question<'a> {
     /// The user, or all users of the book.
@@ -53,7 +53,7 @@ fn rights_in(alloc: Global, text: &str) -> Result<Rights, Fault> {
     }
 }
 
-/// What the server's lists say to a question.
+/// The answer to a question, by the server's lists.
 fn answered<S: Read + Write>(
     client: &mut Client<S>,
     alloc: Global,

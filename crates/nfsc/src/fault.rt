@@ -70,7 +70,7 @@ pub(crate) enum Fault {
     /// This many objects were refused.
     #[error("refused {0}")]
     Partly(usize),
-    /// What is printed can't be written.
+    /// Standard output can't be written.
     #[error("output")]
     Unsaid,
     /// A line of a batch wants standard input.
@@ -111,7 +111,7 @@ impl<T: Drop> From<AllocFailed<T>> for Fault {
     }
 }
 
-/// What a refusal means (RFC 8881, section 15.1).
+/// The meaning of a refusal (RFC 8881, section 15.1).
 fn refusal(status: Status) -> &'static str {
     match status {
         Status::Access | Status::Perm => "the access control list doesn't allow it to this user",
@@ -139,7 +139,7 @@ fn refusal(status: Status) -> &'static str {
     }
 }
 
-/// What a fault of the client means, and what would do.
+/// The meaning of a fault of the client, and what would do.
 fn sentence_of(fault: ToolFault) -> &'static str {
     match fault {
         ToolFault::Path => "a path is '/', or names each with '/' in front, as in /docs/notes",
@@ -156,7 +156,7 @@ fn sentence_of(fault: ToolFault) -> &'static str {
 }
 
 impl Fault {
-    /// What was wrong, and what would do.
+    /// A sentence on the fault: what was wrong, and what would do.
     pub(crate) fn sentence(self) -> &'static str {
         match self {
             Fault::Socket => "nothing listens there, or it takes no connection",

@@ -11,7 +11,7 @@ use std::alloc::Global;
 use std::io::{Read, Write};
 use who_book::{Book, NameKind};
 
-/// What decides on access to an object.
+/// The list, the owner and the group of an object, which decide on access to it.
 #[derive(Drop)]
 pub(crate) struct Judged {
     pub(crate) list: AclList,
@@ -73,7 +73,7 @@ impl Judged {
         })
     }
 
-    /// The same, lent.
+    /// Lends the list, as `why_removal` takes it.
     pub(crate) fn governed(&self) -> Governed<'_> {
         Governed {
             list: &self.list,

@@ -1,4 +1,4 @@
-//! What objects are: `stat`, the lines of `list`, and the paths of a number.
+//! The attributes of objects, as `stat` and the lines of `list` print them.
 use crate::fault::Fault;
 use crate::shown::Shown;
 use crate::tree::Object;
@@ -11,7 +11,7 @@ use std::fmt;
 use std::fmt::{Display, Formatter};
 use std::io::{Read, Write};
 
-/// What stands in place of an attribute that the server doesn't give.
+/// Stands in place of an attribute that the server doesn't give.
 const UNKNOWN: &str = "?";
 
 /// A value, or `?` where the server didn't give it.
@@ -142,7 +142,7 @@ pub(crate) fn size<S: Read + Write>(
     Ok(stat.size)
 }
 
-/// What is known of an object, an attribute a line.
+/// The attributes of an object, one a line.
 pub(crate) fn stat<S: Read + Write>(
     client: &mut Client<S>,
     alloc: Global,
@@ -166,7 +166,7 @@ fn put_end(alloc: Global, out: &mut Vec<u8>, stat: &Stat<'_>, name: &[u8]) -> Re
     Ok(())
 }
 
-/// What is known where nothing is given.
+/// No attribute.
 fn nothing<'a>() -> Stat<'a> {
     Stat {
         kind: None,

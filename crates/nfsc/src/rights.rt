@@ -128,7 +128,7 @@ fn mask_in(object: Kind, text: &str, entry: &str) -> Option<u32> {
     (found != 0).then_some(found)
 }
 
-/// What is asked about.
+/// A question of `why` and `who`.
 #[derive(Clone, Copy)]
 pub(crate) enum Rights {
     /// Whether the object's name may be removed, as `rm` and `mv` do: two lists decide that (section 6.2.1.3.2).
@@ -138,7 +138,7 @@ pub(crate) enum Rights {
 }
 
 impl Rights {
-    /// What a word asks about. The entry is `A::EVERYONE@:` and the word. `None`: it says no right.
+    /// The question of a word. The entry is `A::EVERYONE@:` and the word. `None`: the word names no right.
     pub(crate) fn read(text: &str, entry: &str) -> Option<Self> {
         if text == "delete" || text == "remove" {
             return Some(Rights::Removal);

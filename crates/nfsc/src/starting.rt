@@ -1,4 +1,4 @@
-//! What tells this run of the client from others beside it, and from those before it.
+//! The owner and the verifier of this run of the client, by which a server knows it from others.
 use std::io;
 use std::random::RandomSource;
 use std::rt::Clock;

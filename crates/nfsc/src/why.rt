@@ -47,7 +47,7 @@ fn decided_by(judged: &Judged, asked: &Asked<'_>, rights: u32, index: usize) -> 
     decided
 }
 
-/// What an entry that applies does to the rights that are asked about.
+/// The rights that an entry allows or denies, of those that are asked about, and those that were decided before it.
 fn doing(
     alloc: Global,
     judged: &Judged,
@@ -79,7 +79,7 @@ fn doing(
     }
 }
 
-/// What an entry is to a caller.
+/// Whether an entry applies to a caller and what it decides, or why it doesn't apply.
 fn part_of(
     alloc: Global,
     judged: &Judged,
