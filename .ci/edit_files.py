@@ -174,8 +174,9 @@ def edits_of(folder):
 
 # ---- what the verdict on an edit rests on
 
-# proofs of single functions, by which no other function is proved
-OWN_PROOFS = ("Answers.antt", "Invariants.antt")
+# a proof of a single function, by which no other function is proved, in a folder of the function's name; a module of lemmas may have this name too, right in
+# proofs/, and what several functions that call each other go down by stands in a folder that begins with a +
+OWN_PROOF = re.compile(r"proofs/(?:[^/]+/)*[^/+][^/]*/(?:Answers|Invariants)\.antt")
 # a text of a source, which stays, or a comment, which goes
 TEXT_OR_COMMENT = re.compile(r"""r(#*)"(?s:.*?)"\1|"(?:[^"\\]|\\(?s:.))*"|'(?:[^'\\\n]|\\[^\n]{1,8}?)'|\n[ \t]*//[^\n]*|[ \t]*//[^\n]*""")
 # a line of definitions or of a proof that is a comment
@@ -219,7 +220,7 @@ def sum_of_files(folder, paths, made=lambda text: text):
 
 def outside_of(folder):
     """A sum of all of a crate by which functions are proved that are others than those that a body, or a proof of its own, is of."""
-    lemmas = [path for path in files_of(folder, "specs", "proofs") if os.path.basename(path) not in OWN_PROOFS]
+    lemmas = [path for path in files_of(folder, "specs", "proofs") if not OWN_PROOF.fullmatch(path)]
     return sum_of([sum_of_files(folder, files_of(folder, "src"), without_bodies), sum_of_files(folder, lemmas)])
 
 
