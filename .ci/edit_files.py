@@ -177,17 +177,20 @@ def edits_of(folder):
 # a proof of a single function, by which no other function is proved, in a folder of the function's name; a module of lemmas may have this name too, right in
 # proofs/, and what several functions that call each other go down by stands in a folder that begins with a +
 OWN_PROOF = re.compile(r"proofs/(?:[^/]+/)*[^/+][^/]*/(?:Answers|Invariants)\.antt")
-# a text of a source, which stays, or a comment, which goes
-TEXT_OR_COMMENT = re.compile(r"""r(#*)"(?s:.*?)"\1|"(?:[^"\\]|\\(?s:.))*"|'(?:[^'\\\n]|\\[^\n]{1,8}?)'|\n[ \t]*//[^\n]*|[ \t]*//[^\n]*""")
+# a text of a source, which stays; beside it a comment, which goes, or line breaks and blanks, which say nothing
+TEXT = r"""r(#*)"(?s:.*?)"\1|"(?:[^"\\]|\\(?s:.))*"|'(?:[^'\\\n]|\\[^\n]{1,8}?)'"""
+TEXT_OR_COMMENT = re.compile(TEXT + r"|[ \t]*//[^\n]*")
+TEXT_OR_BLANKS = re.compile(TEXT + r"|\s+")
 # a line of definitions or of a proof that is a comment
 COMMENT_LINE = re.compile(r"(?m)^[ \t]*--(?: .*)?\n")
 
 
 def code_of(path, text):
-    """A source, or definitions, without comments."""
-    if path.endswith(".rt"):
-        return TEXT_OR_COMMENT.sub(lambda it: "" if it[0].lstrip().startswith("//") else it[0], text)
-    return COMMENT_LINE.sub("", text)
+    """A source without comments, and without line breaks and blanks that say nothing; or definitions without lines of comments, where lines say something."""
+    if not path.endswith(".rt"):
+        return COMMENT_LINE.sub("", text)
+    bare = TEXT_OR_COMMENT.sub(lambda it: " " if it[0].lstrip().startswith("//") else it[0], text)
+    return TEXT_OR_BLANKS.sub(lambda it: " " if it[0].isspace() else it[0], bare).strip()
 
 
 def without_bodies(text):

@@ -1,3 +1,4 @@
+//! ACCESS (RFC 8881, section 18.1): its arguments and its result.
 use std::alloc::Allocator;
 use xdr_wire::{Full, Reader, Spell, Wire, Writer, XdrFault};
 

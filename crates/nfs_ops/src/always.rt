@@ -1,3 +1,4 @@
+//! A number that is always the same.
 use std::alloc::Allocator;
 use xdr_wire::{Full, Reader, Spell, Wire, Writer, XdrFault};
 

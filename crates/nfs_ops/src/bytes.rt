@@ -1,3 +1,4 @@
+//! Opaque data of any length (RFC 4506, section 4.10).
 use xdr_wire::Opaque;
 
 /// Opaque data or a string with no bound but the record's (`opaque<>` and `string<>` in RFC 5662): names, the texts of

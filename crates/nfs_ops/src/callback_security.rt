@@ -1,3 +1,4 @@
+//! The security of callbacks (RFC 8881, section 18.36).
 use crate::bytes::Bytes;
 use std::alloc::Allocator;
 use xdr_wire::{Array, Full, Opaque, Reader, Spell, Wire, Writer, XdrFault};

@@ -1,3 +1,4 @@
+//! The change of a directory, `change_info4` (RFC 8881, section 3.3.9).
 use crate::always::Always;
 use std::alloc::Allocator;
 use xdr_wire::{Full, Reader, Spell, Wire, Writer, XdrFault};

@@ -1,3 +1,4 @@
+//! The attributes of a channel, `channel_attrs4` (RFC 8881, section 18.36).
 use std::alloc::Allocator;
 use xdr_wire::{AtMostOne, Full, Reader, Spell, Wire, Writer, XdrFault};
 

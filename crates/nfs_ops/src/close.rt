@@ -1,3 +1,4 @@
+//! CLOSE (RFC 8881, section 18.2): its arguments and its result.
 use nfs_types::StateId;
 use std::alloc::Allocator;
 use xdr_wire::{Full, Reader, Spell, Wire, Writer, XdrFault};

@@ -1,3 +1,4 @@
+//! CREATE (RFC 8881, section 18.4): its arguments and its result.
 use crate::bytes::Bytes;
 use crate::change_info::ChangeInfo;
 use nfs_types::{Attributes, Bitmap};

@@ -1,3 +1,4 @@
+//! CREATE_SESSION (RFC 8881, section 18.36): its arguments and its result.
 use crate::callback_security::CallbackSecurity;
 use crate::channel::Channel;
 use std::alloc::Allocator;

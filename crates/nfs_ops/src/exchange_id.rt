@@ -1,3 +1,4 @@
+//! EXCHANGE_ID (RFC 8881, section 18.35): its arguments and its result.
 use crate::always::{Always, Zeros};
 use crate::implementation::Implementation;
 use std::alloc::Allocator;

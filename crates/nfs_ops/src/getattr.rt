@@ -1,3 +1,4 @@
+//! GETATTR (RFC 8881, section 18.7): its arguments and its result.
 ghost use Rattle.std.specs.Prelude.{◌≤◌, OnOk};
 ghost use Rattle.nfs_ops.specs.Given.{PutsWithin, getattr_outcome};
 ghost use Rattle.nfs_ops.specs.ItemViews.{given_value};

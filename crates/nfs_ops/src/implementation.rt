@@ -1,3 +1,4 @@
+//! The implementation of a client or a server, `nfs_impl_id4` (RFC 8881, section 3.3).
 use crate::bytes::Bytes;
 use std::alloc::Allocator;
 use xdr_wire::{Full, Reader, Spell, Wire, Writer, XdrFault};

@@ -1,3 +1,4 @@
+//! Laws of the forms: each is the contract of a function with an empty body.
 ghost use Rattle.std.specs.Prelude.{◌≡◌, ◌≤◌, ◌↔◌, ◌++◌, ℕ, List, length, Ok, true};
 ghost use Rattle.nfs_ops.specs.Items.{Stands, ItemHasSpelling, ItemIsNormal, item_spelling};
 ghost use Rattle.nfs_ops.specs.Forms.{change_size, setattr_refused_size};

@@ -1,3 +1,4 @@
+//! LINK (RFC 8881, section 18.9): its arguments and its result.
 use crate::bytes::Bytes;
 use crate::change_info::ChangeInfo;
 use std::alloc::Allocator;

@@ -1,3 +1,4 @@
+//! LOOKUP (RFC 8881, section 18.13): its arguments and its result.
 use crate::bytes::Bytes;
 use std::alloc::Allocator;
 use xdr_wire::{Full, Reader, Spell, Wire, Writer, XdrFault};

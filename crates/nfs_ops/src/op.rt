@@ -1,3 +1,4 @@
+//! An operation with its arguments.
 ghost use Rattle.std.specs.Prelude.{◌≡◌};
 ghost use Rattle.nfs_ops.specs.Operations.{kind_in, number_of, placement_of};
 

@@ -1,3 +1,4 @@
+//! The operations' rows: number, name, place in a COMPOUND, and what they may do.
 ghost use Rattle.std.specs.Prelude.{◌≡◌, ◌≤◌, length, IfSome};
 ghost use Rattle.std.specs.Option.{option_copied};
 ghost use Rattle.nfs_ops.specs.Names as names;

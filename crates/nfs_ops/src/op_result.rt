@@ -1,3 +1,4 @@
+//! The result of an operation.
 ghost use Rattle.std.specs.Prelude.{◌≡◌};
 ghost use Rattle.nfs_types.specs.Status as statuses;
 ghost use Rattle.nfs_ops.specs.Results.{outcome_number, outcome_status};

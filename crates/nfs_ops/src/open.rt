@@ -1,3 +1,4 @@
+//! OPEN (RFC 8881, section 18.16): its arguments and its result.
 use crate::always::Always;
 use crate::bytes::Bytes;
 use crate::change_info::ChangeInfo;

@@ -1,3 +1,4 @@
+//! PUTFH (RFC 8881, section 18.19): its arguments and its result.
 use nfs_types::Handle;
 use std::alloc::Allocator;
 use xdr_wire::{Full, Reader, Spell, Wire, Writer, XdrFault};

@@ -1,3 +1,4 @@
+//! READ (RFC 8881, section 18.22): its arguments and its result.
 ghost use Rattle.std.specs.Prelude.{◌≤◌, ◌+◌, ◌++◌, length};
 ghost use Rattle.std.specs.Int.{w32, to_be_bytes};
 ghost use Rattle.xdr_wire.specs.Xdr.{number_of_bool};

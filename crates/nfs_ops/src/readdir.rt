@@ -1,3 +1,4 @@
+//! READDIR (RFC 8881, section 18.23): its arguments and its result.
 use crate::always::Zeros;
 use crate::bytes::Bytes;
 use nfs_types::{Attributes, Bitmap, GivenAttributes};

@@ -1,3 +1,4 @@
+//! Reading operations.
 ghost use Rattle.std.specs.Prelude.{◌≡◌};
 ghost use Rattle.xdr_wire.specs.Reading.{Gives};
 ghost use Rattle.nfs_ops.specs.Operations.{next_at, arguments_at, arguments_of};

@@ -1,3 +1,4 @@
+//! READLINK (RFC 8881, section 18.24): its arguments and its result.
 use std::alloc::Allocator;
 use xdr_wire::{Full, Opaque, Reader, Spell, Wire, Writer, XdrFault};
 

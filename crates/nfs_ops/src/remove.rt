@@ -1,3 +1,4 @@
+//! REMOVE (RFC 8881, section 18.25): its arguments and its result.
 use crate::bytes::Bytes;
 use crate::change_info::ChangeInfo;
 use std::alloc::Allocator;

@@ -1,3 +1,4 @@
+//! RENAME (RFC 8881, section 18.26): its arguments and its result.
 use crate::bytes::Bytes;
 use crate::change_info::ChangeInfo;
 use std::alloc::Allocator;

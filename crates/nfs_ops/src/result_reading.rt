@@ -1,3 +1,4 @@
+//! Reading results.
 ghost use Rattle.std.specs.Prelude.{◌≡◌, option_map, Some};
 ghost use Rattle.xdr_wire.specs.Reading.{Gives};
 ghost use Rattle.nfs_types.specs.Status.{number_of};

@@ -1,3 +1,4 @@
+//! Writing results.
 ghost use Rattle.std.specs.Prelude.{◌≡◌, ◌≤◌, length, OnOk, IsTrue, is_ok};
 ghost use Rattle.xdr_wire.specs.Buffer.{Puts};
 ghost use Rattle.nfs_ops.specs.Items.{ItemHasSpelling, ItemIsNormal, item_spelling};

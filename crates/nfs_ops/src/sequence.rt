@@ -1,3 +1,4 @@
+//! SEQUENCE (RFC 8881, section 18.46): its arguments and its result.
 use crate::always::Always;
 use std::alloc::Allocator;
 use xdr_wire::{Full, Reader, Spell, Wire, Writer, XdrFault};

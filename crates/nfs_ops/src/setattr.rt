@@ -1,3 +1,4 @@
+//! SETATTR (RFC 8881, section 18.30): its arguments and its result.
 use nfs_types::{Attributes, Bitmap, StateId};
 use std::alloc::Allocator;
 use xdr_wire::{Full, Reader, Spell, Wire, Writer, XdrFault};

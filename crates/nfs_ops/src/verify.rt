@@ -1,3 +1,4 @@
+//! VERIFY (RFC 8881, section 18.31): its arguments and its result.
 use nfs_types::Attributes;
 use std::alloc::Allocator;
 use xdr_wire::{Full, Reader, Spell, Wire, Writer, XdrFault};

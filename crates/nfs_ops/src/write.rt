@@ -1,3 +1,4 @@
+//! WRITE (RFC 8881, section 18.32): its arguments and its result.
 use crate::always::{Always, Zeros};
 use crate::bytes::Bytes;
 use nfs_types::StateId;

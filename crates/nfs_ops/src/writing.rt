@@ -1,3 +1,4 @@
+//! Writing operations.
 ghost use Rattle.std.specs.Prelude.{◌≡◌, OnOk};
 ghost use Rattle.xdr_wire.specs.Buffer.{Puts};
 ghost use Rattle.nfs_ops.specs.Items.{ItemHasSpelling, ItemIsNormal, item_spelling};

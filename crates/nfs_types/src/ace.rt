@@ -1,3 +1,4 @@
+//! An entry of a list, `nfsace4` (RFC 8881, section 6.2.1).
 use std::alloc::Allocator;
 use xdr_wire::{Full, Opaque, Reader, Spell, Wire, Writer, XdrFault};
 

@@ -1,3 +1,4 @@
+//! The entries of a list.
 ghost use Rattle.std.specs.Prelude.{◌≡◌, ◌<◌, ◌≤◌, ◌↔◌, length, IfSome, IsNone};
 
 use crate::ace::Ace;

@@ -1,3 +1,4 @@
+//! A list with its flags, `nfsacl41` (RFC 8881, section 6.4.3.2).
 use std::alloc::Allocator;
 use xdr_wire::{Full, Reader, Spell, Wire, Writer, XdrFault};
 

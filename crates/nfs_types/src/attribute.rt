@@ -1,3 +1,4 @@
+//! The attributes (RFC 8881, section 5).
 ghost use Rattle.std.specs.Prelude.{◌≡◌};
 
 /// The attributes that are supported (RFC 8881, sections 5.6 to 5.8 and 6.2), each with its number.

@@ -1,3 +1,4 @@
+//! A set of attributes with their values, `fattr4` (RFC 8881, section 3.3).
 use crate::bitmap::Bitmap;
 use std::alloc::Allocator;
 use xdr_wire::{Full, Opaque, Reader, Spell, Wire, Writer, XdrFault};

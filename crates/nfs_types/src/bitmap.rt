@@ -1,3 +1,4 @@
+//! A set of attributes, `bitmap4` (RFC 8881, section 3.3).
 ghost use Rattle.std.specs.Prelude.{◌≡◌, ◌≤◌, ◌<◌, ◌||◌, ◌==◌, ℕ, [], ◌∷◌, length};
 ghost use Rattle.nfs_types.specs.Forms as forms;
 

@@ -1,3 +1,4 @@
+//! The facts of an object, from which its attributes are written.
 ghost use Rattle.std.specs.Prelude.{◌≤◌, length};
 
 use crate::moment::Moment;

@@ -1,3 +1,4 @@
+//! Bytes that are all the same.
 ghost use Rattle.std.specs.Prelude.{◌≡◌, ◌==◌};
 ghost use Rattle.std.specs.List.{list_all};
 

@@ -1,3 +1,4 @@
+//! Filehandles, `nfs_fh4` (RFC 8881, section 4).
 ghost use Rattle.std.specs.Prelude.{◌≡◌};
 ghost use Rattle.nfs_types.specs.Handles.{object_handle, object_of};
 ghost use Rattle.nfs_types.specs.Views.{handle_value};

@@ -1,3 +1,4 @@
+//! A moment, `nfstime4` (RFC 8881, section 3.3).
 ghost use Rattle.std.specs.Prelude.{◌≡◌, ◌<◌, ◌+◌, ◌*◌, ◌^◌};
 
 use std::alloc::Allocator;

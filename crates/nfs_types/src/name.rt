@@ -1,3 +1,4 @@
+//! Names of objects, `component4` (RFC 8881, section 3.3).
 ghost use Rattle.std.specs.Prelude.{◌≡◌};
 ghost use Rattle.std.specs.List.{list_any};
 ghost use Rattle.nfs_types.specs.Name.{name_fault, separates};

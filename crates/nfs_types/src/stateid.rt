@@ -1,3 +1,4 @@
+//! Stateids (RFC 8881, section 8.2).
 ghost use Rattle.std.specs.Prelude.{◌≡◌, ◌==◌, ◌&&◌};
 ghost use Rattle.std.specs.List.{list_all};
 ghost use Rattle.nfs_types.specs.StateIds as specs;

@@ -1,3 +1,4 @@
+//! Statuses, `nfsstat4` (RFC 8881, section 15).
 ghost use Rattle.std.specs.Prelude.{◌≡◌};
 
 /// The outcome of an operation, `nfsstat4` (RFC 8881, section 15.1), as far as this server answers it.

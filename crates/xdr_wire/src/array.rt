@@ -1,3 +1,4 @@
+//! Arrays of any length (RFC 4506, section 4.13).
 ghost use Rattle.std.specs.Prelude.{◌≡◌, ◌≤◌, length, is_ok, IsTrue};
 ghost use Rattle.xdr_wire.specs.Reading.{Gives, read_at, items_at};
 ghost use Rattle.xdr_wire.specs.Wire.{array_values, values_of, TakesFirst};

@@ -1,3 +1,4 @@
+//! Pairs and optional data (RFC 4506, sections 4.14 and 4.19).
 use crate::fault::XdrFault;
 use crate::reader::Reader;
 use crate::wire::{Spell, Wire};

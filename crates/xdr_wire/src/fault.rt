@@ -1,3 +1,4 @@
+//! Why bytes are no spelling of a value.
 use thiserror::Error;
 
 /// The fault of bytes that spell no value of a type: the first from the left (RFC 4506).

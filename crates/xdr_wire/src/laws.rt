@@ -1,3 +1,4 @@
+//! Laws of spelling: each is the contract of a function with an empty body.
 ghost use Rattle.std.specs.Prelude.{◌≡◌, ◌++◌, ◌↔◌, ℕ, List, Ok, IsErr};
 ghost use Rattle.xdr_wire.specs.Xdr.{Xdr, AreBytes, Value, HasSpelling, Spells, Begins, spelling};
 ghost use Rattle.xdr_wire.specs.Reading.{read_at};

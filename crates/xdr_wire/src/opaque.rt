@@ -1,3 +1,4 @@
+//! Opaque data, of fixed and of any length (RFC 4506, sections 4.9 and 4.10).
 ghost use Rattle.std.specs.Prelude.{◌≡◌, ◌<◌, ◌≤◌, ◌↔◌, length, IfSome, IsNone};
 
 use crate::fault::XdrFault;

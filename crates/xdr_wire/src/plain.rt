@@ -1,3 +1,4 @@
+//! Numbers and booleans (RFC 4506, sections 4.1 to 4.5).
 use crate::fault::XdrFault;
 use crate::reader::Reader;
 use crate::wire::{Spell, Wire};

@@ -1,3 +1,4 @@
+//! Reading from the front of bytes.
 ghost use Rattle.std.specs.Prelude.{◌≡◌, ◌<◌, ◌≤◌, ◌+◌, ◌↔◌, List, [], length, MatchResult, IfOk, IsTrue};
 ghost use Rattle.std.specs.Int.{w32, w64};
 ghost use Rattle.xdr_wire.specs.Xdr.{uint, hyper, signed_hyper, boolean, fixed, opaque, padding};

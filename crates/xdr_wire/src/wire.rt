@@ -1,3 +1,4 @@
+//! Values that have a spelling in XDR (RFC 4506).
 ghost use Rattle.std.specs.Prelude.{◌≡◌, OnOk};
 ghost use Rattle.xdr_wire.specs.Xdr.{Xdr, Value, HasSpelling, spelling};
 ghost use Rattle.xdr_wire.specs.Reading.{Gives, read_at};
