@@ -1,5 +1,5 @@
--- The summary of a list for a requester: the bits that it allows, and the bits that it watches (RFC
--- 8881, section 6.2.1).
+-- The summary of a list for a requester: the bits that it allows, and the bits that it watches
+-- (RFC 8881, section 6.2.1).
 use Rattle.std.specs.Prelude.{ℕ, Bool, not, ◌&&◌, if◌then◌else◌, List, bit_and}
 use Rattle.std.specs.List.{list_any}
 use Rattle.acl_list.specs.Mask.{has_bit, BitsAre, mask_of}

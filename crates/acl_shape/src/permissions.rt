@@ -115,8 +115,8 @@ fn list_after<A: Allocator, B: Allocator>(
     }
 }
 
-/// The list and the high bits of an object of this kind after a mode, a list or both were set (RFC
-/// 8881, section 6.4.1). It had this list and these high bits before.
+/// The list and the high bits of an object of this kind after a mode, a list or both were set
+/// (RFC 8881, section 6.4.1). It had this list and these high bits before.
 ///
 /// | Given | The list | The high bits |
 /// |---|---|---|

@@ -1,5 +1,5 @@
--- The open files of a realm: each is a file that is there, within the limit of open files (RFC
--- 8881, sections 18.2, 18.16 and 18.25).
+-- The open files of a realm: each is a file that is there, within the limit of open files
+-- (RFC 8881, sections 18.2, 18.16 and 18.25).
 use Rattle.std.specs.Prelude.{◌≡◌, ◌≤◌, ◌<◌, ℕ, length, Some, IsSome}
 use Rattle.std.specs.List.{AllByRecursion}
 use Rattle.acl_list.specs.declared.entry.Kind.TheVariants.{File}

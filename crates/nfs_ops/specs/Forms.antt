@@ -1,6 +1,6 @@
--- The XDR types of each operation's arguments and of its result, in the order of the standard (RFC
--- 8881, section 18; RFC 5662). They have the names of their parts and of the arms of their unions.
--- A result stands after the number and the status, where the status is OK.
+-- The XDR types of each operation's arguments and of its result, in the order of the standard
+-- (RFC 8881, section 18; RFC 5662). They have the names of their parts and of the arms of their
+-- unions. A result stands after the number and the status, where the status is OK.
 use Rattle.std.specs.Prelude.{ℕ, Bool, ◌+◌, ◌*◌, List, [], ◌∷◌, length, map}
 use Rattle.std.proofs.Common.{inl, inr}
 use Rattle.std.specs.List.{sum_by}

@@ -1,6 +1,6 @@
--- An operation with its arguments as it stands in a COMPOUND, and how the next one is read (RFC
--- 8881, sections 16.2 and 18). The names of the reading's steps and of how they go on (`.._from`,
--- `or_bad`) are for the prover alone.
+-- An operation with its arguments as it stands in a COMPOUND, and how the next one is read
+-- (RFC 8881, sections 16.2 and 18). The names of the reading's steps and of how they go on
+-- (`.._from`, `or_bad`) are for the prover alone.
 use Rattle.std.specs.Prelude.{ℕ, Bool, true, false, ◌&&◌, ◌||◌, nat_le, if◌then◌else◌, List, [], ◌∷◌, Option, Some, None, Ok, Err, is_ok}
 use Rattle.std.specs.Option.{option_map}
 use Rattle.xdr_wire.specs.Xdr.{Xdr, Value, uint}

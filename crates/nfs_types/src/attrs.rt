@@ -246,8 +246,8 @@ fn attrs_of<'a, A: Allocator + Copy>(
     each_of(alloc, book, kind, sent)
 }
 
-/// The values that sent attributes set on an object of this kind, with the list over `alloc` (RFC
-/// 8881, sections 5.8, 5.9 and 6.2). They are any of 4 size, 12 acl, 33 mode, 36 owner, 37
+/// The values that sent attributes set on an object of this kind, with the list over `alloc`
+/// (RFC 8881, sections 5.8, 5.9 and 6.2). They are any of 4 size, 12 acl, 33 mode, 36 owner, 37
 /// owner_group, 58 dacl and 59 sacl.
 ///
 /// They are refused for the first of these over the whole set: an attribute that isn't supported,
