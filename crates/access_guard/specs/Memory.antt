@@ -78,8 +78,8 @@ tells None mask = false
 tells (Some s) mask = grants s mask && is_quiet s mask
 
 -- The summaries of the target and of the parent alone tell that a removal is granted and that no
--- line is written. It is granted so by DELETE or by DELETE_CHILD, and not by ADD_FILE. For a
--- summary doesn't distinguish a denied bit from a bit that isn't mentioned.
+-- line is written. It is granted so by DELETE or by DELETE_CHILD, and not by ADD_FILE. A summary
+-- doesn't distinguish a denied bit from a bit that isn't mentioned.
 abbrev pub tells_removal : Option Summary → Option Summary → Bool
 tells_removal None on_parent = false
 tells_removal (Some on_target) None = false

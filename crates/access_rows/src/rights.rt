@@ -34,7 +34,7 @@ pub struct Rights {
 }
 
 /// The result of ACCESS for an object of this kind, where these rights are requested and its list
-/// grants the caller these bits of a mask. It is READ by READ_DATA, LOOKUP by EXECUTE, MODIFY by
+/// grants the caller these bits of a mask. It has READ by READ_DATA, LOOKUP by EXECUTE, MODIFY by
 /// WRITE_DATA, EXTEND by APPEND_DATA, DELETE by DELETE_CHILD, EXECUTE by EXECUTE. DELETE and LOOKUP
 /// are supported for directories, EXECUTE for files, MODIFY and EXTEND for both, READ for every
 /// kind. ACCESS has no demands in the table: it is never refused by a list.

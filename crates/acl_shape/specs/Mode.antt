@@ -100,8 +100,8 @@ abbrev pub everyone_always : ℕ
 everyone_always = mask.READ_ATTRIBUTES + mask.READ_ACL + mask.SYNCHRONIZE
 
 -- The owner's two entries, the entries kept in their order, the group's two, and everyone's. An
--- ALLOW of the class bits and a DENY of the other class bits decide each class bit for their class,
--- so that the entries after them don't.
+-- ALLOW of the class bits and a DENY of the other class bits decide each class bit for their class.
+-- So the entries after them don't.
 abbrev pub set_mode : List Entry → Kind → ℕ → List Entry
 set_mode entries kind mode =
     plain Allow (bit_or (class_mask kind (owner_digit mode)) owner_always) Owner

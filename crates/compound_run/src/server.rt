@@ -195,11 +195,11 @@ impl<A: Allocator + Copy> Server<A> {
     /// [`MAX_RESULTS`] bytes, for which there has to be room.
     ///
     /// After a SEQUENCE the operations run in turn, up to and with the first that isn't OK, within
-    /// what the session was granted, and their results are kept. A repeat of the last call of a
-    /// slot gets the kept results, and changes nothing. EXCHANGE_ID, CREATE_SESSION,
-    /// DESTROY_SESSION and DESTROY_CLIENTID are each the only operation of their COMPOUND. DELAY is
-    /// answered where memory is refused, as in [`Server::run_bare`], and of these also at
-    /// EXCHANGE_ID and at a new CREATE_SESSION. Then nothing changes.
+    /// what the session was granted. Their results are kept. A repeat of the last call of a slot
+    /// gets the kept results, and changes nothing. EXCHANGE_ID, CREATE_SESSION, DESTROY_SESSION and
+    /// DESTROY_CLIENTID are each the only operation of their COMPOUND. DELAY is answered where
+    /// memory is refused, as in [`Server::run_bare`], and of these also at EXCHANGE_ID and at a new
+    /// CREATE_SESSION. Then nothing changes.
     #[tactic(auto, unfolding(crate::specs::InSession::fate))]
     pub fn run(
         &mut self,

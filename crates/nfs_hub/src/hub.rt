@@ -298,7 +298,7 @@ impl<A: Allocator + Copy> Hub<A> {
     /// It goes up to and with the last byte of the first record that ends in it, or is all of it
     /// where none does. The record is answered at this moment, and its reply is pending. So what is
     /// left of the piece, fed after that, has the effect that [`Hub::feed`] of the whole piece
-    /// would have, and at most one record is run.
+    /// would have. At most one record is run.
     ///
     /// The faults are those of [`Hub::feed`]; a piece that breaks the connection answers no record.
     pub fn feed_record(

@@ -143,9 +143,9 @@ fn refused(fault: HubFault) -> ServeEnd
 }
 
 /// Opens a connection. For at most this many turns it reads at most 4,096 bytes, feeds them at the
-/// clock's moment, and then writes the pending bytes, also where the piece broke the connection. At
-/// the end it closes the connection. Answers how it ended; nothing was read where the connection
-/// was refused. Where the writer failed, it took a front of the bytes to be written.
+/// clock's moment, and then writes the pending bytes. It does so also where the piece broke the
+/// connection. At the end it closes the connection. Answers how it ended; nothing was read where
+/// the connection was refused. Where the writer failed, it took a front of the bytes to be written.
 pub fn serve<A: Allocator + Copy, R: Read, W: Write, C: Clock>(
     hub: &mut Hub<A>,
     reader: &mut R,

@@ -38,7 +38,7 @@ with_padding n = n + padding n
 abbrev pub plain_size : ℕ
 plain_size = 8
 
--- The most bytes of a result of any operation that can change the tree: with as much room it runs,
+-- The most bytes of a result of any operation that can change the tree. With as much room it runs,
 -- and its result can be sent.
 abbrev pub change_size : ℕ
 change_size = 256

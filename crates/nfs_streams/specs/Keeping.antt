@@ -33,9 +33,9 @@ IsQuiet (Unwritten place) = ⊥
 IsQuiet act = Unit {0}
 
 -- What is kept is what outlives a restart of the server, but for slots, on each of which fewer than
--- 2^20 calls came. It is so as the server is at the end of a run, or as it was before the last acts
--- of the run, by which no bytes were written to a stream. So what is kept has all that was done for
--- each reply that was written.
+-- 2^20 calls came. The server is taken as it is at the end of a run. Or it is taken as it was
+-- before the last acts of the run, by which no bytes were written to a stream. So what is kept has
+-- all that was done for each reply that was written.
 abbrev pub IsShown : (limits : Limits) (acts : List Act) (start s : State) → Runs limits acts start s → Kept → Type 0
 IsShown limits [] start s run kept = Covers (kept_of s.served.state) kept
 IsShown limits (act ∷ acts) start s run kept =

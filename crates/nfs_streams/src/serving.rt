@@ -229,7 +229,7 @@ fn free_places<A: Allocator + Copy>(alloc: A) -> Result<Vec<Option<Peer<A>>, A>,
 /// at most 128 KiB of each connection, as far as the streams take them.
 ///
 /// The store is one over the files of `streams` that was begun with the tree and the numbers that
-/// the server has, and the server has noted the changes of its tree since then.
+/// the server has. The server has noted the changes of its tree since then.
 ///
 /// A stream that ends or fails is let go at once and its connection closed. A stream whose
 /// connection is broken or has had its turns is let go after its replies. The others go on; `close`
