@@ -20,10 +20,11 @@ answer object mask verdicts.Granted = Granted
 answer object mask (verdicts.Denied index) = Refused object mask (ByEntry index)
 answer object mask (verdicts.Missing bit) = Refused object mask (Missing bit)
 
--- Whether a name of the target may be removed from the parent, by DELETE in the target's list, and DELETE_CHILD and ADD_FILE in the
--- parent's (RFC 8881, section 6.2.1.3.2). An ALLOW of DELETE or of DELETE_CHILD suffices, whatever the other list says; ADD_FILE
--- suffices where neither is mentioned. A refusal names the parent's DENY of DELETE_CHILD if there is one, else the target's of DELETE
--- if there is one, else the refusal of ADD_FILE.
+-- Whether a name of the target may be removed from the parent (RFC 8881, section 6.2.1.3.2). It
+-- goes by DELETE in the target's list, and by DELETE_CHILD and ADD_FILE in the parent's. An ALLOW
+-- of DELETE or of DELETE_CHILD suffices, whatever the other list says; ADD_FILE suffices where
+-- neither is mentioned. A refusal names the parent's DENY of DELETE_CHILD if there is one, else the
+-- target's of DELETE if there is one, else the refusal of ADD_FILE.
 abbrev pub removal : ℕ → ℕ → Mention → Mention → Verdict → Decision
 removal parent target (AllowedBy index) on_parent add = Granted
 removal parent target (DeniedBy index) (AllowedBy other) add = Granted

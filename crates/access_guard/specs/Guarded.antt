@@ -1,5 +1,5 @@
--- A tree beside the guard of its lists, and the book of its callers. The summaries that the guard remembers make no difference,
--- only how many they may be.
+-- A tree beside the guard of its lists, and the book of its callers. The summaries that the guard
+-- remembers make no difference, only how many they may be.
 use Rattle.std.specs.Prelude.{ℕ, []}
 use Rattle.who_book.specs.Content.{Content}
 use Rattle.node_tree.specs.World.{World}

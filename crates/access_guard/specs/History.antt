@@ -12,8 +12,8 @@ use Rattle.access_guard.specs.Keys.{is_key}
 use Rattle.access_guard.specs.Lists.{Lists, sum_of}
 use Rattle.access_guard.specs.Memory.{key_of}
 
--- A look-up of a summary that is there moves it to the front. Another summary goes in front, and the last one goes if the list was
--- full; or, where memory is refused for it, the list stays.
+-- A look-up of a summary that is there moves it to the front. Another summary goes in front, and
+-- the last one goes if the list was full; or, where memory is refused for it, the list stays.
 abbrev pub IsLookUp : ℕ → Key × Summary → List (Key × Summary) → List (Key × Summary) → Type 0
 IsLookUp capacity (key, sum) old new =
     MatchOption (lookup (is_key key) old)

@@ -33,8 +33,8 @@ line_kind kinds.Deny = None
 line_kind kinds.Audit = Some Audit
 line_kind kinds.Alarm = Some Alarm
 
--- The line of the entry at an index, where the mask was granted or refused: it has the bits of the mask that the entry
--- watches. An entry that watches no bit writes no line.
+-- The line of the entry at an index, where the mask was granted or refused. It has the bits of the
+-- mask that the entry watches. An entry that watches no bit writes no line.
 abbrev pub watch_line : Identity → ℕ → ℕ → ℕ → Bool → Judged → ℕ × Entry → Option Line
 watch_line caller op object mask granted j (index, e) =
     let bits = watched_bits (names j caller) (told granted) mask e in

@@ -19,7 +19,7 @@ MOST_KEPT = 4096
 abbrev pub held : List Line → Log → Log
 held lines log = record log { held = log.held ++ lines }
 
--- the operation ends, and its lines go behind those before it, or are dropped
+-- the operation ends, and its lines go after those before it, or are dropped
 abbrev pub settled : Bool → Log → Log
 settled keep log = record {
   held = [];

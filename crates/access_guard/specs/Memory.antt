@@ -26,8 +26,8 @@ pub record Memory : Type 0 where
 
 -- ---- agreement
 
--- Each summary of this epoch is the summary of the list with that stamp now, for the caller by the book. No stamp and no
--- epoch is yet to come.
+-- Each summary of this epoch is the summary of the list with that stamp now, for the caller by the
+-- book. No stamp and no epoch is yet to come.
 pub record Agrees (remembered : List (Key × Summary)) (book : Content) (epoch : ℕ) (w : World) : Type 0 where
   pub known : (key : Key) (sum : Summary) → Contains remembered (key, sum) → key.stamp < w.next_stamp
   pub past : (key : Key) (sum : Summary) → Contains remembered (key, sum) → key.epoch ≤ epoch
@@ -40,7 +40,7 @@ pub record Agrees (remembered : List (Key × Summary)) (book : Content) (epoch :
 abbrev pub key_of : Judged → Asker → Key
 key_of j asker = record { epoch = asker.epoch; stamp = j.stamp; caller = asker.sent }
 
--- so many more entries were looked at
+-- this many more entries were looked at
 abbrev pub examined_more : ℕ → Memory → Memory
 examined_more entries m = record m { examined = min (m.examined + entries) (2 ^ 64 - 1) }
 
@@ -52,8 +52,8 @@ used key m = record m { remembered = promoted (is_key key) m.remembered }
 abbrev pub learnt : Key → Summary → Memory → Memory
 learnt key sum m = record m { remembered = (key, sum) ∷ take (m.capacity - 1) m.remembered }
 
--- A look-up of the summary of an object's list. A summary that isn't remembered is computed from the whole list and put first, or,
--- where memory is refused for it, isn't remembered.
+-- A look-up of the summary of an object's list. A summary that isn't remembered is computed from
+-- the whole list and put first, or, where memory is refused for it, isn't remembered.
 abbrev pub LooksUp : Judged → Asker → Memory → Memory → Type 0
 LooksUp j asker old new =
     MatchOption (lookup (is_key (key_of j asker)) old.remembered)
@@ -77,9 +77,9 @@ abbrev pub tells : Option Summary → ℕ → Bool
 tells None mask = false
 tells (Some s) mask = grants s mask && is_quiet s mask
 
--- The summaries of the target and of the parent alone tell that a removal is granted and that no line is written. It is granted so
--- by DELETE or by DELETE_CHILD, and not by ADD_FILE: a summary doesn't distinguish a denied bit from a bit that isn't
--- mentioned.
+-- The summaries of the target and of the parent alone tell that a removal is granted and that no
+-- line is written. It is granted so by DELETE or by DELETE_CHILD, and not by ADD_FILE. A summary
+-- doesn't distinguish a denied bit from a bit that isn't mentioned.
 abbrev pub tells_removal : Option Summary → Option Summary → Bool
 tells_removal None on_parent = false
 tells_removal (Some on_target) None = false

@@ -33,7 +33,7 @@ abbrev pub cause_text : Cause → List ℕ
 cause_text (ByEntry index) = codes " entry=" ++ decimal index
 cause_text (Missing bit) = codes " missing=" ++ mask_text bit
 
--- a number behind its name
+-- a number after its name
 abbrev pub number_text : List ℕ → ℕ → List ℕ
 number_text name number = name ++ decimal number
 

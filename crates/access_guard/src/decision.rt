@@ -22,8 +22,8 @@ pub enum Decision {
     Refused {
         /// The object whose list refuses it.
         object: u64,
-        /// The bits demanded of that object: the whole mask of the demand, also the bits that the list grants. Of a removal
-        /// DELETE_CHILD, DELETE or ADD_FILE.
+        /// The bits demanded of that object: the whole mask of the demand, also the bits that the
+        /// list grants. Of a removal DELETE_CHILD, DELETE or ADD_FILE.
         mask: u32,
         /// The first entry that denies a bit of it, else the lowest bit that no entry allows.
         cause: Cause,

@@ -49,8 +49,9 @@ impl<A: Allocator> Model for Guard<A> {
 }
 
 impl<A: Allocator + Copy> Guard<A> {
-    /// A guard that has decided nothing yet. It remembers at most `capacity` summaries, and hashes their keys by `hasher`. It
-    /// agrees with every tree and every book. `Err`: there is no memory for it.
+    /// A guard that has decided nothing yet. It remembers at most `capacity` summaries, and hashes
+    /// their keys by `hasher`. It agrees with every tree and every book. `Err`: there is no memory
+    /// for it.
     pub fn new(alloc: A, capacity: NonZeroUsize, hasher: RandomState) -> Result<Self, AllocError>
         ensures value { IfOk result (λ guard. guard ≡ fresh (non_zero_usize_get capacity)) }
         ensures agrees { IfOk result (λ guard. (book : Content) (epoch : ℕ) (w : World) → Agrees guard.memory.remembered book epoch w) }
@@ -61,14 +62,16 @@ impl<A: Allocator + Copy> Guard<A> {
         })
     }
 
-    /// Whether the lists of the tree, as they are now, grant a demand to the caller by the book (RFC 8881, section 6.2.1).
-    /// `epoch` is that of the book, and `op` the number of the operation. It takes no memory that it needs.
+    /// Whether the lists of the tree, as they are now, grant a demand to the caller by the book
+    /// (RFC 8881, section 6.2.1). `epoch` is that of the book, and `op` the number of the
+    /// operation. It takes no memory that it needs.
     ///
-    /// [`Demand::Bits`] is granted where the object's list grants each bit of the mask, by first mention. Else the refusal names
-    /// the first entry that denies one, else the lowest bit that no entry allows. An object that isn't there grants nothing.
+    /// [`Demand::Bits`] is granted where the object's list grants each bit of the mask, by first
+    /// mention. Else the refusal names the first entry that denies one, else the lowest bit that no
+    /// entry allows. An object that isn't there grants nothing.
     ///
-    /// [`Demand::Removal`] goes by this table (RFC 8881, section 6.2.1.3.2). The rows are DELETE in the target's list, the
-    /// columns DELETE_CHILD in the parent's.
+    /// [`Demand::Removal`] goes by this table (RFC 8881, section 6.2.1.3.2). The rows are DELETE in
+    /// the target's list, the columns DELETE_CHILD in the parent's.
     ///
     /// | | ALLOW | DENY | not mentioned |
     /// |---|---|---|---|
@@ -76,14 +79,16 @@ impl<A: Allocator + Copy> Guard<A> {
     /// | DENY | granted | refused by the parent's DENY | refused by the target's DENY |
     /// | not mentioned | granted | refused by the parent's DENY | as the parent's list decides ADD_FILE |
     ///
-    /// The lines are held until [`Guard::settle`]. First come those of the AUDIT and ALARM entries that watch, entry by entry:
-    /// of a removal the target's with DELETE, then the parent's with DELETE_CHILD, and with ADD_FILE too where neither DELETE nor
-    /// DELETE_CHILD is mentioned. Then on refusal comes the DENY line. A grant has at most one line for each entry of the lists
-    /// that it checks: 64 of [`Demand::Bits`], and 128 of [`Demand::Removal`].
+    /// The lines are held until [`Guard::settle`]. First come those of the AUDIT and ALARM entries
+    /// that watch, entry by entry. Of a removal these are the target's with DELETE, then the
+    /// parent's with DELETE_CHILD, and with ADD_FILE too where neither DELETE nor DELETE_CHILD is
+    /// mentioned. Then on refusal comes the DENY line. A grant has at most one line for each entry
+    /// of the lists that it checks: 64 of [`Demand::Bits`], and 128 of [`Demand::Removal`].
     ///
-    /// Summaries of lists are remembered by epoch, stamp and caller as sent, if there is memory for them: the decision and the
-    /// lines are the same without. Each object is looked up once, of a removal the target first. Where remembered summaries tell
-    /// that the demand is granted and that no entry watches it, no list is walked; they never tell so of a removal by ADD_FILE.
+    /// Summaries of lists are remembered by epoch, stamp and caller as sent, if there is memory for
+    /// them. The decision and the lines are the same without. Each object is looked up once, of a
+    /// removal the target first. Where remembered summaries tell that the demand is granted and
+    /// that no entry watches it, no list is walked. They never tell so of a removal by ADD_FILE.
     pub fn decide<B: Allocator + Copy>(
         &mut self,
         demand: Demand,
@@ -225,8 +230,8 @@ impl<A: Allocator + Copy> Guard<A> {
         self.memory.iter()
     }
 
-    /// The number of entries of lists that were looked at. It stays at 2^64 - 1. A list counts whole where a look-up doesn't find its
-    /// summary, and once more where a decision walks it.
+    /// The number of entries of lists that were looked at. It stays at 2^64 - 1. A list counts
+    /// whole where a look-up doesn't find its summary, and once more where a decision walks it.
     pub fn examined(&self) -> u64
         ensures { result ≡ self.now.memory.examined }
     {

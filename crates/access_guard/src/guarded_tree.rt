@@ -32,8 +32,9 @@ use std::mem;
 use std::num::NonZeroUsize;
 use who_book::Book;
 
-/// A tree, the guard of its lists, and the book of its callers. The guard's remembered summaries are those of the lists now,
-/// through every change of the tree and every reload of the book: so nothing here has a condition on it.
+/// A tree, the guard of its lists, and the book of its callers. The guard's remembered summaries
+/// are those of the lists now, through every change of the tree and every reload of the book. So
+/// nothing here has a condition on it.
 #[derive(Drop)]
 pub struct GuardedTree<A: Allocator = Global> {
     tree: Tree<A>,
@@ -55,8 +56,8 @@ impl<A: Allocator> Model for GuardedTree<A> {
 
 // Decisions.
 impl<A: Allocator + Copy> GuardedTree<A> {
-    /// The tree and its first book, beside a guard that has decided nothing yet and remembers at most `capacity` summaries. `Err`:
-    /// there is no memory for the guard.
+    /// The tree and its first book, beside a guard that has decided nothing yet and remembers at
+    /// most `capacity` summaries. `Err`: there is no memory for the guard.
     pub fn new(
         alloc: A,
         tree: Tree<A>,
@@ -122,9 +123,10 @@ impl<A: Allocator + Copy> GuardedTree<A> {
 
 // The book. None of these calls takes memory.
 impl<A: Allocator + Copy> GuardedTree<A> {
-    /// Takes another book, and gives the old one back. The epoch rises by 1, so that no summary that was remembered under the old
-    /// book is used again; the tree, the lines and the trail stay. `Err`: the epoch has none after it ([`next_epoch`]), the new book
-    /// is handed back, and nothing changes.
+    /// Takes another book, and gives the old one back. The epoch rises by 1, so that no summary
+    /// that was remembered under the old book is used again. The tree, the lines and the trail
+    /// stay. `Err`: the epoch has none after it ([`next_epoch`]), the new book is handed back, and
+    /// nothing changes.
     pub fn reload(&mut self, book: Book) -> Result<Book, Book>
         ensures given { MatchOption (epochs.next_epoch self.old.epoch) (result ≡ Err book) (λ epoch. result ≡ Ok self.old.book) }
         ensures ok { OnOk result (self.new ≡ record self.old { book = book; epoch = self.old.epoch + 1 }) }
@@ -159,7 +161,7 @@ impl<A: Allocator + Copy> GuardedTree<A> {
     }
 }
 
-// What is noted of the changes, for a store.
+// The changes are noted for a store.
 impl<A: Allocator + Copy> GuardedTree<A> {
     /// As [`Tree::begin_notes`].
     pub fn begin_notes(&mut self, room: usize) -> Result<(), AllocError>

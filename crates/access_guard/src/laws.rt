@@ -15,8 +15,8 @@ ghost use Rattle.access_guard.specs.Memory.{Memory, Agrees, LooksUp, LooksUpAt, 
 ghost use Rattle.access_guard.specs.History.{AreLookUps, looks_at, looks_for};
 ghost use Rattle.access_guard.specs.Telling.{IsAllowed, IsQuiet, AreHits};
 
-/// A change of the tree that keeps the access attributes of old stamps keeps the agreement with the remembered summaries.
-/// Every change of a tree does.
+/// A change of the tree that keeps the access attributes of old stamps keeps the agreement with the
+/// remembered summaries. Every change of a tree does.
 pub fn changes_keep_agreement()
     ensures { (remembered : List (Key × Summary)) (book : Content) (epoch : ℕ) (old new : World) → KeepsJudged old new →
         Agrees remembered book epoch old → Agrees remembered book epoch new }
@@ -49,8 +49,8 @@ pub fn misses_are_counted()
         new.examined ≡ old.examined }
 {}
 
-/// A granted decision whose look-ups are all hits, with none of its bits watched for success, looks at no entry. A removal that
-/// is granted by ADD_FILE alone is excepted.
+/// A granted decision whose look-ups are all hits, with none of its bits watched for success, looks
+/// at no entry. A removal that is granted by ADD_FILE alone is excepted.
 pub fn quiet_hits_count_nothing()
     ensures bits { (lists : Lists) (asker : Asker) (object mask : ℕ) (old new : Memory) → mask < 2 ^ 32 →
         IsAllowed lists (member_of asker) (Bits object mask) → IsQuiet lists (member_of asker) (Bits object mask) → AreHits (looks_for lists asker (Bits object mask)) old.remembered →

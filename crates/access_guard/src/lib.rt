@@ -1,4 +1,5 @@
-//! Decides on demands by the lists of objects, remembers summaries of lists, and writes the trail (RFC 8881, section 6.2.1).
+//! Decides on demands by the lists of objects, remembers summaries of lists, and writes the trail
+//! (RFC 8881, section 6.2.1).
 #![tactic(auto)]
 
 mod asker;

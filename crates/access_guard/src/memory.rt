@@ -33,8 +33,8 @@ use std::num::NonZeroUsize;
 pub struct Key {
     /// The epoch of the book.
     pub epoch: u64,
-    /// The stamp of the list. An object has a new one whenever its list, its owner or its group may have changed, and no two
-    /// objects ever have the same.
+    /// The stamp of the list. An object has a new one whenever its list, its owner or its group may
+    /// have changed, and no two objects ever have the same.
     pub stamp: u64,
     /// The caller, as the call was sent.
     pub caller: Caller,
@@ -61,8 +61,8 @@ impl Eq for Key {
     ghost laws = { Prim.search (comparing, rules) };
 }
 
-/// Of a key each number is hashed as a word of 64 bits, which a hasher takes faster than its bytes. The epoch isn't hashed: few
-/// keys differ in it alone.
+/// Of a key each number is hashed as a word of 64 bits, which a hasher takes faster than its bytes.
+/// The epoch isn't hashed: few keys differ in it alone.
 impl Hash for Key {
     ghost use Rattle.std.specs.Cmp.Rules.{hashing};
     ghost use Rattle.std.proofs.Common.{rules};
@@ -82,8 +82,8 @@ impl Hash for Key {
     }
 }
 
-/// An object's list, if there is such an object, that a decision may walk. [`Summaries::open`] alone makes it, and counts
-/// its entries.
+/// An object's list, if there is such an object, that a decision may walk. [`Summaries::open`]
+/// alone makes it, and counts its entries.
 #[derive(Drop)]
 pub(crate) struct Opened<'n, A: Allocator> {
     node: Option<&'n Node<A>>,
@@ -235,7 +235,8 @@ impl<A: Allocator + Copy> Summaries<A> {
         }
     }
 
-    /// Lends an object's list to a decision that walks it. Its entries are counted here, so that none is looked at uncounted.
+    /// Lends an object's list to a decision that walks it. Its entries are counted here, so that
+    /// none is looked at uncounted.
     pub(crate) fn open<'n, B: Allocator + Copy>(
         &mut self,
         object: u64,

@@ -19,8 +19,9 @@ use node_tree::Node;
 use std::alloc::{AllocError, Allocator};
 use std::marker::Model;
 
-/// The lines that wait at most for the end of an operation. No operation has more: RENAME has two demands of EXECUTE, two
-/// removals and one demand on the target directory, which check seven lists of at most 64 entries, and one DENY line.
+/// The lines that wait at most for the end of an operation. No operation has more. RENAME has the
+/// most: two demands of EXECUTE, two removals and one demand on the target directory, which check
+/// seven lists of at most 64 entries, and one DENY line.
 pub const MOST_HELD: usize = 449;
 
 /// The lines that the trail keeps at most.
@@ -81,7 +82,7 @@ impl<A: Allocator + Copy> Trail<A> {
         self.total
     }
 
-    /// Puts the lines that wait behind the others, or drops them.
+    /// Puts the lines that wait after the others, or drops them.
     pub(crate) fn settle(&mut self, keep: bool)
         ensures { self.new ≡ settled keep self.old }
     {

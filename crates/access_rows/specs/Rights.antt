@@ -17,7 +17,8 @@ meaningful Link = 0x01
 abbrev pub right : ℕ → ℕ → ℕ → ℕ → ℕ
 right supported r grants bit = if (bit_and supported r == 0) || (bit_and grants bit == 0) then 0 else r
 
--- READ by READ_DATA, LOOKUP by EXECUTE, MODIFY by WRITE_DATA, EXTEND by APPEND_DATA, DELETE by DELETE_CHILD, EXECUTE by EXECUTE
+-- READ by READ_DATA, LOOKUP by EXECUTE, MODIFY by WRITE_DATA, EXTEND by APPEND_DATA, DELETE by
+-- DELETE_CHILD, EXECUTE by EXECUTE
 abbrev pub granted_rights : ℕ → ℕ → ℕ
 granted_rights supported grants =
     bit_or (bit_or (bit_or (bit_or (bit_or (right supported 0x01 grants mask.READ_DATA) (right supported 0x02 grants mask.EXECUTE))
@@ -27,8 +28,8 @@ granted_rights supported grants =
 abbrev pub rights_of : Kind → ℕ → ℕ → Rights
 rights_of kind asked grants = record { supported = bit_and asked (meaningful kind); granted = granted_rights (bit_and asked (meaningful kind)) grants }
 
--- Each right is in the granted word exactly where it is supported and the list allows the bit of the mask that it takes, by the
--- bit's place; and no other bit is there.
+-- Each right is in the granted word exactly where it is supported and the list allows the bit of
+-- the mask that it takes, by the bit's place. No other bit is there.
 pub record RightsAre (allows : ℕ → Bool) (supported granted : ℕ) : Type 0 where
   pub read : has_bit granted 0 ≡ has_bit supported 0 && allows read_data
   pub lookup : has_bit granted 1 ≡ has_bit supported 1 && allows execute

@@ -1,4 +1,5 @@
--- The bits that each operation demands of the lists (RFC 8881, sections 6.2.1.3.1 and 18): a line for each operation, by its number.
+-- The bits that each operation demands of the lists (RFC 8881, sections 6.2.1.3.1 and 18): a line
+-- for each operation, by its number.
 use Rattle.std.specs.Prelude.{ℕ, ◌+◌, ◌%◌, Bool, true, false, ◌==◌, ◌&&◌, ◌||◌, nat_le, if◌then◌else◌, List, [], ◌∷◌, length, Option, Some, None, bit_or}
 use Rattle.std.specs.List.{list_any}
 use Rattle.std.specs.Option.{option_map_or}
@@ -112,7 +113,8 @@ setting_mask set facts =
     bit_or (bit_or (if has_number set 4 then sizing_mask facts.size facts.new_size else 0) (if has_any set list_setting then WRITE_ACL else 0))
     (if has_any set owner_setting then WRITE_OWNER else 0)
 
--- Writing within the file, or nothing, takes WRITE_DATA; writing at its end APPEND_DATA; across the end or past it both.
+-- Writing within the file, or nothing, takes WRITE_DATA; writing at its end APPEND_DATA; across the
+-- end or past it both.
 abbrev pub writing_mask : Option ℕ → ℕ → ℕ → ℕ
 writing_mask None offset count = bit_or WRITE_DATA APPEND_DATA
 writing_mask (Some size) offset count =
@@ -175,8 +177,8 @@ open_second parts.ByHandle access how facts = bits facts.current (opening_mask a
 
 -- ---- RENAME (section 18.26)
 
--- The source's and the target's directory are checked once if they are the same. Then the child goes from its directory and comes
--- into the other, and a target of the new name goes.
+-- The source's and the target's directory are checked once if they are the same. Then the child
+-- goes from its directory and comes into the other, and a target of the new name goes.
 abbrev pub is_one : Option Object → Option Object → Bool
 is_one (Some a) (Some b) = a.number == b.number
 is_one (Some a) None = false
@@ -191,7 +193,8 @@ rename_second facts =
 
 -- ---- the table
 
--- The demands of an operation before it looks up a name: EXECUTE on the directories of its names, or all if it has no names.
+-- The demands of an operation before it looks up a name: EXECUTE on the directories of its names,
+-- or all if it has no names.
 abbrev pub first_demands : Operation → First → Demands
 first_demands (Known kinds.Create v) facts = row (bits facts.current (creating_mask (created_type v)))
 first_demands (Known kinds.GetAttr v) facts = row (bits facts.current (reading_mask v))

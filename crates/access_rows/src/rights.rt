@@ -1,4 +1,5 @@
-//! The result of ACCESS: the rights that are supported for an object, and those that its list grants (RFC 8881, section 18.1).
+//! The result of ACCESS: the rights that are supported for an object, and those that its list
+//! grants (RFC 8881, section 18.1).
 ghost use Rattle.std.specs.Prelude.{◌≡◌, bit_and};
 ghost use Rattle.acl_list.specs.Mask.{has_bit};
 ghost use Rattle.access_rows.specs.Rights as specs;
@@ -32,10 +33,11 @@ pub struct Rights {
     pub granted: u32,
 }
 
-/// The result of ACCESS for an object of this kind, where these rights are requested and its list grants the caller these bits
-/// of a mask: READ by READ_DATA, LOOKUP by EXECUTE, MODIFY by WRITE_DATA, EXTEND by APPEND_DATA, DELETE by DELETE_CHILD, EXECUTE
-/// by EXECUTE. DELETE and LOOKUP are supported for directories, EXECUTE for files, MODIFY and EXTEND for both, READ for
-/// every kind. ACCESS has no demands in the table: it is never refused by a list.
+/// The result of ACCESS for an object of this kind, where these rights are requested and its list
+/// grants the caller these bits of a mask. It has READ by READ_DATA, LOOKUP by EXECUTE, MODIFY by
+/// WRITE_DATA, EXTEND by APPEND_DATA, DELETE by DELETE_CHILD, EXECUTE by EXECUTE. DELETE and LOOKUP
+/// are supported for directories, EXECUTE for files, MODIFY and EXTEND for both, READ for every
+/// kind. ACCESS has no demands in the table: it is never refused by a list.
 pub fn rights_of(kind: Kind, asked: u32, grants: u32) -> Rights
     ensures value { result ≡ specs.rights_of kind asked grants }
     ensures exact { specs.RightsAre (has_bit grants) result.supported result.granted }

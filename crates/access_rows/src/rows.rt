@@ -14,8 +14,9 @@ use acl_list::{Kind, mask};
 use nfs_ops::{CreateType, Op, OpenArgs, OpenClaim, OpenHow};
 use nfs_types::Bitmap;
 
-/// The first demands of an operation on lists, in order (RFC 8881, sections 6.2.1.3.1 and 18): EXECUTE on the directories of
-/// its names, or all demands of an operation without names. It takes no memory, and reads at most two lists.
+/// The first demands of an operation on lists, in order (RFC 8881, sections 6.2.1.3.1 and 18). They
+/// are EXECUTE on the directories of its names, or all demands of an operation without names. It
+/// takes no memory, and reads at most two lists.
 ///
 /// | Operation | Demands |
 /// |---|---|
@@ -33,7 +34,8 @@ use nfs_types::Bitmap;
 /// | SETATTR | for a size WRITE_DATA, with APPEND_DATA where the file grows; for mode, acl, dacl and sacl WRITE_ACL; for owner and group WRITE_OWNER |
 /// | all others, ACCESS among them | nothing |
 ///
-/// The demands behind a "then" are those of `second_demands`. Bits of one object in one phase are one demand.
+/// The demands after a "then" are those of `second_demands`. Bits of one object in one phase are
+/// one demand.
 #[tactic(auto, using(crate::proofs::Most::first_few))]
 pub fn first_demands(op: &Op<'_>, facts: &First) -> [Option<Demand>; 2]
     ensures value { result ≡ specs.first_demands (op_view op.now) facts.now }
@@ -68,8 +70,9 @@ pub fn first_demands(op: &Op<'_>, facts: &First) -> [Option<Demand>; 2]
     }
 }
 
-/// The demands of an operation on lists once its names are known to be there, in order: those behind a "then" in
-/// the table of `first_demands`. It takes no memory, and reads at most five lists.
+/// The demands of an operation on lists once its names are known to be there, in order. They are
+/// those after a "then" in the table of `first_demands`. It takes no memory, and reads at most five
+/// lists.
 #[tactic(auto, using(crate::proofs::Most::second_few))]
 pub fn second_demands(op: &Op<'_>, facts: &Second) -> [Option<Demand>; 3]
     ensures value { result ≡ specs.second_demands (op_view op.now) facts.now }
@@ -83,8 +86,9 @@ pub fn second_demands(op: &Op<'_>, facts: &Second) -> [Option<Demand>; 3]
     }
 }
 
-/// The demands of READDIR on an entry's list as it is listed, for these attributes: READ_ATTRIBUTES, and then READ_ACL, each a
-/// demand of its own (RFC 8881, section 18.23). It takes no memory, and reads the list at most twice.
+/// The demands of READDIR on an entry's list as it is listed, for these attributes (RFC 8881,
+/// section 18.23). They are READ_ATTRIBUTES, and then READ_ACL, each a demand of its own. It takes
+/// no memory, and reads the list at most twice.
 #[tactic(auto, using(crate::proofs::Most::entry_few))]
 pub fn entry_demands(asked: &Bitmap, entry: Option<Object>) -> [Option<Demand>; 2]
     ensures value { result ≡ specs.entry_demands (bitmap_value asked.now) entry }
@@ -170,8 +174,9 @@ fn reading_mask(set: &Bitmap) -> u32
     attributes_mask(set) | list_mask(set)
 }
 
-/// The supported attributes that are returned of an object where READ_ATTRIBUTES and READ_ACL are granted, each or not: without
-/// a bit's grant none that it governs (RFC 8881, section 6.2.1.3.1).
+/// The supported attributes that are returned of an object where READ_ATTRIBUTES and READ_ACL are
+/// granted, each or not. Without a bit's grant none is returned that it governs (RFC 8881, section
+/// 6.2.1.3.1).
 pub fn granted_attributes(attributes: bool, list: bool) -> Bitmap
     ensures { bitmap_value result ≡ specs.granted_words attributes list }
 {
@@ -224,7 +229,7 @@ fn sizing_mask(size: Option<u64>, new_size: Option<u64>) -> u32
     }
 }
 
-/// The bits for writing so many bytes.
+/// The bits for writing this many bytes.
 fn writing_mask(size: Option<u64>, offset: u64, count: u64) -> u32
     ensures { result ≡ specs.writing_mask size offset count }
 {

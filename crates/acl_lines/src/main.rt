@@ -1,5 +1,6 @@
-//! Puts the functions on access control lists beside any other implementation: reads questions from standard input, one a
-//! line, and answers each with a line on standard output. `docs/acl_lines.md` has the lines.
+//! Puts the functions on access control lists beside any other implementation. It reads questions
+//! from standard input, one a line, and answers each with a line on standard output.
+//! `docs/acl_lines.md` has the lines.
 #![tactic(auto)]
 
 mod answer;

@@ -22,7 +22,8 @@ use Rattle.acl_list.proofs.Bits.{has_bit-zero, has_bit-and, has_bit-without, low
 abbrev pub mention_from : (Who → Bool) → ℕ → List Entry → ℕ → Option (ℕ × Entry)
 mention_from names index entries bit = find (λ p. counts_for names bit p.1) (enumerate_from index entries)
 
--- the entries before the index have allowed the bits of the mask that are not left, and mention none of the bits that are
+-- the entries before the index have allowed the bits of the mask that are not left, and mention
+-- none of the bits that are
 pub record Progress (names : Who → Bool) (entries : List Entry) (mask left index : ℕ) : Type 0 where
   pub within : (bit : ℕ) → has_bit left bit ≡ true → has_bit mask bit ≡ true
   pub ahead : (bit : ℕ) → has_bit left bit ≡ true → mention names entries bit ≡ mention_from names index (drop index entries) bit

@@ -1,4 +1,5 @@
--- The summary of a list for a requester: the bits that it allows, and the bits that it watches (RFC 8881, section 6.2.1).
+-- The summary of a list for a requester: the bits that it allows, and the bits that it watches
+-- (RFC 8881, section 6.2.1).
 use Rattle.std.specs.Prelude.{ℕ, Bool, not, ◌&&◌, if◌then◌else◌, List, bit_and}
 use Rattle.std.specs.List.{list_any}
 use Rattle.acl_list.specs.Mask.{has_bit, BitsAre, mask_of}
@@ -8,8 +9,8 @@ use Rattle.acl_list.specs.declared.entry.Entry.{Entry}
 use Rattle.acl_list.specs.declared.entry.Who.{Who}
 use Rattle.acl_list.specs.declared.answer.Summary.{Summary}
 
--- an AUDIT or ALARM entry that concerns the requester and has this flag: SUCCESSFUL for granted access, FAILED for refused
--- access (section 6.2.1.4.1)
+-- an AUDIT or ALARM entry that concerns the requester and has this flag: SUCCESSFUL for granted
+-- access, FAILED for refused access (section 6.2.1.4.1)
 abbrev pub is_watching : (Who → Bool) → ℕ → Entry → Bool
 is_watching names flag e = not (allows_or_denies e.kind) && concerns names e && has_bit e.flags flag
 

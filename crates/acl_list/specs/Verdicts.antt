@@ -30,7 +30,8 @@ IsDenial names entries mask index = (bit : ℕ) × (has_bit mask bit ≡ true) �
 abbrev pub IsUnsaid : (Who → Bool) → List Entry → ℕ → ℕ → Type 0
 IsUnsaid names entries mask bit = (has_bit mask bit ≡ true) × (mention names entries bit ≡ None)
 
--- each bit of the mask is allowed; or else the first denial stands; or else the lowest bit that no entry mentions is missing
+-- each bit of the mask is allowed; or else the first denial stands; or else the lowest bit that no
+-- entry mentions is missing
 abbrev pub IsVerdict : (Who → Bool) → List Entry → ℕ → Verdict → Type 0
 IsVerdict names entries mask Granted = (bit : ℕ) → has_bit mask bit ≡ true → Allows (mention names entries bit)
 IsVerdict names entries mask (Denied index) =

@@ -25,8 +25,8 @@ fn is_true_of(who: Who, owner: u32, group: u32, caller: &Caller) -> bool
     }
 }
 
-/// Whether an entry is for the object itself, which has this owner and group, and for this caller: it isn't
-/// INHERIT_ONLY, and its who is true of the caller.
+/// Whether an entry is for the object itself, which has this owner and group, and for this caller.
+/// It isn't INHERIT_ONLY then, and its who is true of the caller.
 pub fn concerns(entry: &Entry, owner: u32, group: u32, caller: &Caller) -> bool
     ensures { result ≡ specs.concerns (is_true_for owner group caller.now) entry.now }
 {
@@ -124,9 +124,9 @@ fn judge_entries(entries: &[Entry], owner: u32, group: u32, caller: &Caller, mas
     }
 }
 
-/// The bits that the list allows a class, for its mode (RFC 8881, section 6.3.2): only the entries of this special
-/// identifier and of EVERYONE@ count. For the who of a user or a group of its own, only those of EVERYONE@ count. It
-/// takes no memory.
+/// The bits that the list allows a class, for its mode (RFC 8881, section 6.3.2). Only the entries
+/// of this special identifier and of EVERYONE@ count. For the who of a user or a group of its own,
+/// only those of EVERYONE@ count. It takes no memory.
 pub fn class_grant<A: Allocator>(list: &AclList<A>, class: Who) -> u32
     ensures exact { result ≡ mask_of (allows (is_class class) list.now) }
     ensures bitwise { BitsAre result (allows (is_class class) list.now) }

@@ -18,8 +18,8 @@ pub const SUCCESSFUL: u32 = 0x10;
 /// ACE4_FAILED_ACCESS_ACE_FLAG: an AUDIT or ALARM entry is for refused access.
 pub const FAILED: u32 = 0x20;
 
-/// ACE4_IDENTIFIER_GROUP: the who is the name of a group. A [`crate::Who`] says that by itself: the flag is kept with the
-/// entry and decides nothing.
+/// ACE4_IDENTIFIER_GROUP: the who is the name of a group. A [`crate::Who`] says that by itself: the
+/// flag is kept with the entry and decides nothing.
 pub const IDENTIFIER_GROUP: u32 = 0x40;
 
 /// ACE4_INHERITED_ACE: the entry was inherited. Kept with the entry.

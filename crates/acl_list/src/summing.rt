@@ -26,9 +26,9 @@ fn mask_under(entry: &Entry, flag: u32) -> u32
 
 /// The bits of the mask that an entry of the object's list watches, where the mask is granted to the caller or refused.
 ///
-/// An AUDIT or ALARM entry watches that isn't INHERIT_ONLY, whose who is true of the caller, and that has the flag
-/// SUCCESSFUL for granted access, FAILED for refused access (RFC 8881, section 6.2.1.4.1). Any other entry watches no
-/// bit. The object has this owner and group.
+/// An AUDIT or ALARM entry watches where it isn't INHERIT_ONLY, its who is true of the caller, and
+/// it has the flag: SUCCESSFUL for granted access, FAILED for refused access (RFC 8881, section
+/// 6.2.1.4.1). Any other entry watches no bit. The object has this owner and group.
 pub fn watched_bits(
     entry: &Entry,
     owner: u32,
@@ -63,8 +63,9 @@ fn is_watching(entry: &Entry, owner: u32, group: u32, caller: &Caller, granted: 
 /// The summary of an object's list for the caller: the bits that it grants, and the bits that it watches for
 /// success and for failure. The object has this owner and group. It takes no memory.
 ///
-/// A mask is granted exactly where the bits `granted` cover it: [`crate::covered_is_granted`]. An entry writes a line on
-/// a mask exactly where the bits that are watched meet it: [`crate::unwatched_writes_nothing`].
+/// A mask is granted exactly where the bits `granted` cover it: [`crate::covered_is_granted`]. An
+/// entry writes a line on a mask exactly where the bits that are watched meet it:
+/// [`crate::unwatched_writes_nothing`].
 pub fn summary<A: Allocator>(list: &AclList<A>, owner: u32, group: u32, caller: &Caller) -> Summary
     ensures exact { result ≡ specs.summary (is_true_for owner group caller.now) list.now }
     ensures bitwise { IsSummary (is_true_for owner group caller.now) list.now result }

@@ -13,7 +13,7 @@ use Rattle.acl_list.specs.declared.answer.Verdict.TheVariants as verdicts
 use Rattle.acl_reasons.specs.declared.removal.RemovalReason.{RemovalReason}
 use Rattle.acl_reasons.specs.declared.removal.RemovalReason.TheVariants.{ByDelete, ByDeleteChild, ByAddFile, DeleteChildDenied, DeleteDenied, AddFileDenied, AddFileMissing}
 
--- what decides on access to an object
+-- an object's list, owner and group, by which access to it is decided
 pub record Side : Type 0 where
   pub owner : ℕ
   pub group : ℕ

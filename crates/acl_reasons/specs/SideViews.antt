@@ -1,4 +1,5 @@
--- What decides on access to an object, without the place of its list.
+-- An object's list, owner and group, by which access to it is decided, without the place of its
+-- list.
 use Rattle.acl_reasons.specs.Removals.{Side}
 use Rattle.acl_reasons.specs.declared.removal.Governed.{Governed}
 

@@ -8,7 +8,7 @@ use acl_list::{AclList, Mention, Verdict, judge, mention};
 use rpc_record::Caller;
 use std::alloc::{Allocator, Global};
 
-/// What decides on access to an object: its list, its owner and its group.
+/// An object's list, its owner and its group, by which access to it is decided.
 #[derive(Clone, Copy, Debug)]
 pub struct Governed<'a, A: Allocator = Global> {
     /// The list of the object.

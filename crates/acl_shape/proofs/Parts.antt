@@ -151,7 +151,8 @@ too_many_in_all xs ys w a h k p q =
 
 -- ---- the entries that are set
 
--- each entry of the list that is set passes the test, where each entry that was sent is set as one that does, or left out
+-- each entry of the set list passes the test, where each entry that was sent is set as one that
+-- does, or left out
 pub each_becomes : (test : Entry → Bool) (kind : Kind) (raws : List Raw) → list_all (λ raw. list_all test (cons_option (entry_of kind raw) [])) raws ≡ list_all test (admitted kind raws)
 each_becomes test kind [] = refl
 each_becomes test kind (raw ∷ raws) = go (entry_of kind raw) (each_becomes test kind raws)

@@ -1,4 +1,5 @@
--- The list that is set where a client asks for one, or for a part of one (RFC 8881, sections 6.2.1 to 6.2.3 and 6.4.1.2).
+-- The list that is set where a client asks for one, or for a part of one (RFC 8881, sections 6.2.1
+-- to 6.2.3 and 6.4.1.2).
 use Rattle.std.specs.Prelude.{◌==◌, nat_lt, not, ◌||◌, is_none, if◌then◌else◌, List, length, Option, Some, None, slice_get}
 use Rattle.std.specs.List.{filter_map, list_all}
 use Rattle.acl_list.specs.Kinds.{kind_of}
@@ -18,7 +19,8 @@ use Rattle.acl_shape.specs.declared.request.Raw.{Raw}
 use Rattle.acl_shape.specs.declared.request.AdmitFault.{AdmitFault}
 use Rattle.acl_shape.specs.declared.request.AdmitFault.TheVariants.{NoSpc, AttrNotSupp, Inval, BadOwner}
 
--- the fault of an entry, if any: its type (section 6.2.1.1), its flags and its mask (6.2.1.4, 6.2.1.3), its who (6.2.1.5)
+-- the fault of an entry, if any: its type (section 6.2.1.1), its flags and its mask (6.2.1.4,
+-- 6.2.1.3), its who (6.2.1.5)
 abbrev pub fault_of : Raw → Option AdmitFault
 fault_of raw =
     if is_none (kind_of raw.kind) then Some AttrNotSupp

@@ -6,8 +6,8 @@ use Rattle.acl_list.specs.Whos.{is_special}
 use Rattle.acl_list.specs.Deciding.{allows_or_denies}
 use Rattle.acl_list.specs.declared.entry.Entry.{Entry}
 
--- whether a new mode keeps the entry, perhaps changed: all but the ALLOW and DENY entries of OWNER@, GROUP@ and EVERYONE@ that
--- are for the object alone
+-- Whether a new mode keeps the entry, perhaps changed. It keeps all but the ALLOW and DENY entries
+-- of OWNER@, GROUP@ and EVERYONE@ that are for the object alone.
 abbrev pub keeps : Entry → Bool
 keeps e = not (allows_or_denies e.kind) || has_bit e.flags inherit_only || not (is_special e.who) || has_bit e.flags file_inherit || has_bit e.flags directory_inherit
 

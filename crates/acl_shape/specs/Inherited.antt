@@ -15,7 +15,8 @@ is_directory File = false
 is_directory Directory = true
 is_directory Link = false
 
--- the entry for the object alone: FILE_INHERIT, DIRECTORY_INHERIT, NO_PROPAGATE and INHERIT_ONLY cleared, the other four kept
+-- the entry for the object alone: FILE_INHERIT, DIRECTORY_INHERIT, NO_PROPAGATE and INHERIT_ONLY
+-- cleared, the other four kept
 abbrev pub settled : Entry → Entry
 settled e = record e { flags = bit_and e.flags 0xf0 }
 
@@ -23,8 +24,9 @@ settled e = record e { flags = bit_and e.flags 0xf0 }
 abbrev pub passed_on : Entry → Entry
 passed_on e = record e { flags = bit_and e.flags (bit_not w32 flag.INHERIT_ONLY) }
 
--- The entry that a new directory inherits. With DIRECTORY_INHERIT it applies to the new directory, and is passed on unless
--- NO_PROPAGATE is set. With FILE_INHERIT alone it doesn't apply; it is only passed on, so NO_PROPAGATE leaves nothing of it.
+-- The entry that a new directory inherits. With DIRECTORY_INHERIT it applies to the new directory,
+-- and is passed on unless NO_PROPAGATE is set. With FILE_INHERIT alone it doesn't apply; it is only
+-- passed on, so NO_PROPAGATE leaves nothing of it.
 abbrev pub directory_child : Entry → Option Entry
 directory_child e =
     if has_bit e.flags directory_inherit then (if has_bit e.flags no_propagate then Some (settled e) else Some (passed_on e))

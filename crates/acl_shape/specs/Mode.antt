@@ -19,14 +19,14 @@ use Rattle.acl_list.specs.declared.flag.TheConstants as flag
 
 -- ---- the mode of a list (section 6.3.2)
 
--- The three bits of a mode for a class: 4 to read, where READ_DATA is allowed; 2 to write, where WRITE_DATA and APPEND_DATA
--- both are; 1 to execute, where EXECUTE is.
+-- The three bits of a mode for a class. They are 4 to read, where READ_DATA is allowed; 2 to write,
+-- where WRITE_DATA and APPEND_DATA both are; 1 to execute, where EXECUTE is.
 abbrev pub digit_of : (ℕ → Bool) → ℕ
 digit_of allowed =
     4 * (if allowed read_data then 1 else 0) + 2 * (if allowed write_data && allowed append_data then 1 else 0) + (if allowed execute then 1 else 0)
 
--- The mode of a list: the bits of OWNER@, GROUP@ and EVERYONE@, each by its own entries and those of EVERYONE@ alone: a bit is
--- allowed where the first of them that has it is an ALLOW.
+-- The mode of a list: the bits of OWNER@, GROUP@ and EVERYONE@, each by its own entries and those
+-- of EVERYONE@ alone. A bit is allowed where the first of them that has it is an ALLOW.
 abbrev pub mode_of : List Entry → ℕ
 mode_of entries =
     64 * digit_of (allows (is_class Owner) entries) + 8 * digit_of (allows (is_class Group) entries) + digit_of (allows (is_class Everyone) entries)
@@ -69,10 +69,11 @@ without mask other = bit_and mask (bit_not w32 other)
 abbrev pub set_aside : Entry → Entry
 set_aside e = record e { flags = bit_or e.flags flag.INHERIT_ONLY }
 
--- The entry that a new mode keeps, where the group's three bits lack these bits of a mask. AUDIT, ALARM and INHERIT_ONLY
--- entries allow or deny nothing on the object, and stay. Other ALLOW and DENY entries of OWNER@, GROUP@ and EVERYONE@ are
--- dropped, or stay as INHERIT_ONLY if they are inherited. The DENY entries of a user or a group of its own stay, and its ALLOW
--- entries lose the bits that the group's three bits don't allow.
+-- The entry that a new mode keeps, where the group's three bits lack these bits of a mask. AUDIT,
+-- ALARM and INHERIT_ONLY entries allow or deny nothing on the object, and stay. Other ALLOW and
+-- DENY entries of OWNER@, GROUP@ and EVERYONE@ are dropped, or stay as INHERIT_ONLY if they are
+-- inherited. The DENY entries of a user or a group of its own stay. Its ALLOW entries lose the bits
+-- that the group's three bits don't allow.
 abbrev pub kept : ℕ → Entry → Option Entry
 kept lacking e =
     if not (allows_or_denies e.kind) || has_bit e.flags inherit_only then Some e
@@ -98,8 +99,9 @@ owner_always = mask.READ_ATTRIBUTES + mask.WRITE_ATTRIBUTES + mask.READ_ACL + ma
 abbrev pub everyone_always : ℕ
 everyone_always = mask.READ_ATTRIBUTES + mask.READ_ACL + mask.SYNCHRONIZE
 
--- The owner's two entries, the entries kept in their order, the group's two, and everyone's. An ALLOW of the class bits and a
--- DENY of the other class bits decide each class bit for their class, so that the entries behind them don't.
+-- The owner's two entries, the entries kept in their order, the group's two, and everyone's. An
+-- ALLOW of the class bits and a DENY of the other class bits decide each class bit for their class.
+-- So the entries after them don't.
 abbrev pub set_mode : List Entry → Kind → ℕ → List Entry
 set_mode entries kind mode =
     plain Allow (bit_or (class_mask kind (owner_digit mode)) owner_always) Owner

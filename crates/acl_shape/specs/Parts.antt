@@ -16,8 +16,8 @@ is_of Sacl e = not (allows_or_denies e.kind)
 abbrev pub part_of : Part → List Entry → List Entry
 part_of part entries = filter (is_of part) entries
 
--- The ALLOW and DENY entries of the dacl, and behind them the AUDIT and ALARM entries of the sacl. For a part that isn't given
--- the list's own entries are taken.
+-- The ALLOW and DENY entries of the dacl, and after them the AUDIT and ALARM entries of the sacl.
+-- For a part that isn't given the list's own entries are taken.
 abbrev pub combined : List Entry → Option (List Entry) → Option (List Entry) → List Entry
 combined entries dacl sacl = part_of Dacl (unwrap_or dacl entries) ++ part_of Sacl (unwrap_or sacl entries)
 

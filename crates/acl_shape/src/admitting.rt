@@ -63,13 +63,16 @@ fn entry(raw: &Raw, kind: Kind) -> Option<Entry>
     }
 }
 
-/// The list that is set on an object of this kind, over `alloc`: a client's, checked (RFC 8881, sections 6.2.1 and 6.4.1.2).
+/// The list that is set on an object of this kind, over `alloc`: a client's, checked (RFC 8881,
+/// sections 6.2.1 and 6.4.1.2).
 ///
-/// A list is refused for the first of these that it has: more than [`MAX_KEPT`] entries (`NoSpc`); then entry by entry,
-/// in their order, a type above 3 (`AttrNotSupp`), a flag above 0xff or an undefined bit of the mask (`Inval`), a who that
-/// isn't known (`BadOwner`). Inheritance flags are taken on every kind of object: on a file or a link, INHERIT_ONLY entries
-/// are left out and FILE_INHERIT, DIRECTORY_INHERIT and NO_PROPAGATE are cleared. IDENTIFIER_GROUP is kept, also on OWNER@,
-/// GROUP@ and EVERYONE@, where it says nothing. `Memory` is given only for a list that has no fault.
+/// A list is refused for the first of these that it has. First comes that it has more than
+/// [`MAX_KEPT`] entries (`NoSpc`). Then entry by entry, in their order, come a type above 3
+/// (`AttrNotSupp`), a flag above 0xff or an undefined bit of the mask (`Inval`), and a who that
+/// isn't known (`BadOwner`). Inheritance flags are taken on every kind of object. On a file or a
+/// link, INHERIT_ONLY entries are left out and FILE_INHERIT, DIRECTORY_INHERIT and NO_PROPAGATE are
+/// cleared. IDENTIFIER_GROUP is kept, also on OWNER@, GROUP@ and EVERYONE@, where it says nothing.
+/// `Memory` is given only for a list that has no fault.
 pub fn admit<A: Allocator>(alloc: A, raws: &[Raw], kind: Kind) -> Result<AclList<A>, AdmitFault>
     ensures refused { (fault : AdmitFault) → first_fault raws.now ≡ Some fault → result ≡ Err fault }
     ensures taken { first_fault raws.now ≡ None → MatchResult result (λ new. new ≡ admitted kind raws.now) (λ fault. fault ≡ Memory) }
@@ -119,10 +122,12 @@ fn become_of(raws: &[Raw], kind: Kind, part: Part) -> bool
     raws.iter().all(|raw| becomes_of(raw, kind, part))
 }
 
-/// The part that is set on an object of this kind, over `alloc`: a client's, checked (RFC 8881, sections 6.2.2 and 6.2.3).
+/// The part that is set on an object of this kind, over `alloc`: a client's, checked (RFC 8881,
+/// sections 6.2.2 and 6.2.3).
 ///
-/// It is refused and taken as [`admit`] does it, and then for an entry of the other part among those that are taken
-/// (`Inval`): the type of an entry that is left out doesn't count. `Memory` is given only for a part that has no fault.
+/// It is refused and taken as [`admit`] does it, and then for an entry of the other part among
+/// those that are taken (`Inval`). The type of an entry that is left out doesn't count. `Memory` is
+/// given only for a part that has no fault.
 pub fn admit_part<A: Allocator>(
     alloc: A,
     raws: &[Raw],

@@ -85,11 +85,13 @@ fn joined<A: Allocator>(alloc: A, dacl: &[Entry], sacl: &[Entry]) -> Result<AclL
     Ok(new)
 }
 
-/// The list that two parts make, over `alloc` (RFC 8881, sections 6.2.2 and 6.2.3): the ALLOW and DENY entries of `dacl`, and
-/// behind them the AUDIT and ALARM entries of `sacl`, each in their order. Where a part isn't given, the entries of `list` are
-/// taken for it; so with nothing given they are sorted, first those that allow or deny. Other entries of a part are left out.
+/// The list that two parts make, over `alloc` (RFC 8881, sections 6.2.2 and 6.2.3). It has the
+/// ALLOW and DENY entries of `dacl`, and after them the AUDIT and ALARM entries of `sacl`, each in
+/// their order. Where a part isn't given, the entries of `list` are taken for it. So with nothing
+/// given they are sorted, first those that allow or deny. Other entries of a part are left out.
 ///
-/// `NoSpc`: the list would not be within the bounds of [`crate::is_bounded`]. `Memory`: there is no memory for a list within.
+/// `NoSpc`: the list would not be within the bounds of [`crate::is_bounded`]. `Memory`: there is no
+/// memory for a list within.
 pub fn combine<A: Allocator, B: Allocator, C: Allocator>(
     alloc: A,
     list: &AclList<B>,
@@ -108,10 +110,11 @@ pub fn combine<A: Allocator, B: Allocator, C: Allocator>(
     joined(alloc, dacl, sacl).map_err(|_| CombineFault::Memory)
 }
 
-/// The list with the parts that are given put into it by [`combine`], over `alloc`; the list itself where none is given.
+/// The list with the parts that are given put into it by [`combine`], over `alloc`; the list itself
+/// where none is given.
 ///
-/// `NoSpc`: the list would not be within the bounds of [`crate::is_bounded`]. `Memory`: a part is given, and there is no
-/// memory for the list, which would be within them.
+/// `NoSpc`: the list would not be within the bounds of [`crate::is_bounded`]. `Memory`: a part is
+/// given, and there is no memory for the list, which would be within them.
 pub fn with_parts<A: Allocator>(
     alloc: A,
     list: AclList<A>,

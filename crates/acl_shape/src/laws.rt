@@ -24,8 +24,9 @@ pub fn mode_again_is_same()
     ensures { (entries : List Entry) (kind : Kind) (mode : ℕ) → set_mode (set_mode entries kind mode) kind mode ≡ set_mode entries kind mode }
 {}
 
-/// Where no user or group of its own has an ALLOW or DENY entry for the object itself, a mode allows of the class bits exactly
-/// those of the caller's three bits: the owner's, else the group's for a member of the group, else those of the others.
+/// Where no user or group of its own has an ALLOW or DENY entry for the object itself, a mode
+/// allows of the class bits exactly those of the caller's three bits. These are the owner's, else
+/// the group's for a member of the group, else those of the others.
 pub fn mode_gives_class_bits()
     ensures { (entries : List Entry) (kind : Kind) (mode owner group : ℕ) (caller : Identity) (bit : ℕ) →
         All (λ e. is_named e ≡ false) entries → has_bit (class_mask kind 7) bit ≡ true →
@@ -33,8 +34,8 @@ pub fn mode_gives_class_bits()
         ≡ has_bit (class_mask kind (class_digit owner group caller mode)) bit }
 {}
 
-/// Lists within the bounds stay within them when they are changed, and a list that is admitted is within them. The bounds
-/// count the entries that a new mode keeps.
+/// Lists within the bounds stay within them when they are changed, and a list that is admitted is
+/// within them. The bounds count the entries that a new mode keeps.
 pub fn bounds_are_kept()
     ensures mode { (entries : List Entry) (kind : Kind) (mode : ℕ) → IsBounded entries → IsBounded (set_mode entries kind mode) }
     ensures inherited { (entries : List Entry) (kind : Kind) → IsBounded entries → IsBounded (inherit entries kind) }

@@ -33,9 +33,9 @@ fn digit(granted: u32) -> u32
 
 /// The mode that a list stands for: its lowest nine bits (RFC 8881, section 6.3.2).
 ///
-/// The bits of OWNER@, GROUP@ and EVERYONE@, each by its own entries and those of EVERYONE@ alone: read is set where
-/// READ_DATA is allowed, write where WRITE_DATA and APPEND_DATA both are, execute where EXECUTE is. It takes no
-/// memory.
+/// The bits of OWNER@, GROUP@ and EVERYONE@, each by its own entries and those of EVERYONE@ alone.
+/// Read is set where READ_DATA is allowed, write where WRITE_DATA and APPEND_DATA both are, execute
+/// where EXECUTE is. It takes no memory.
 pub fn mode_of<A: Allocator>(list: &AclList<A>) -> u32
     ensures value { result ≡ specs.mode_of list.now }
     ensures small { result < 512 }
@@ -114,8 +114,8 @@ fn plain(kind: EntryKind, mask: u32, who: Who) -> Entry
 /// | ALLOW | a user or a group of its own | as it is | without the class bits that the group's three bits lack | likewise, also where no bit is left |
 /// | DENY | a user or a group of its own | as it is | as it is | as it is |
 ///
-/// Bits of a mask that the standard doesn't define stay. From a list within the bounds of [`crate::is_bounded`] it makes
-/// a list within them. `Err`: there is no memory for the list.
+/// Bits of a mask that the standard doesn't define stay. From a list within the bounds of
+/// [`crate::is_bounded`] it makes a list within them. `Err`: there is no memory for the list.
 pub fn set_mode<A: Allocator, B: Allocator>(
     alloc: A,
     list: &AclList<B>,

@@ -80,8 +80,8 @@ fn list_of_new<A: Allocator + Copy, B: Allocator>(
 /// | a list, or both | the list |
 /// | neither | the inherited list; where that is empty, the list for the mode 0o600, on a directory 0o700 |
 ///
-/// The high bits are those of the mode, and 0 where none is given. `Err`: there is no memory for the list; where a list is
-/// given, none is needed.
+/// The high bits are those of the mode, and 0 where none is given. `Err`: there is no memory for
+/// the list; where a list is given, none is needed.
 pub fn created_permissions<A: Allocator + Copy, B: Allocator>(
     alloc: A,
     parent: &AclList<B>,
@@ -115,8 +115,8 @@ fn list_after<A: Allocator, B: Allocator>(
     }
 }
 
-/// The list and the high bits of an object of this kind after a mode, a list or both were set, where it had this list and
-/// these high bits (RFC 8881, section 6.4.1).
+/// The list and the high bits of an object of this kind after a mode, a list or both were set
+/// (RFC 8881, section 6.4.1). It had this list and these high bits before.
 ///
 /// | Given | The list | The high bits |
 /// |---|---|---|

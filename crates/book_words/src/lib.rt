@@ -1,4 +1,5 @@
-//! What is wrong with a text that is no book of names, in a sentence: key, names, line, and what would do.
+//! Says what is wrong with a text that is no book of names, in a sentence: key, names, line, and
+//! what would do.
 #![tactic(auto)]
 
 mod members;

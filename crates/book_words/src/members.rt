@@ -7,7 +7,7 @@ use toml::{Table, Value};
 /// The most groups of a user.
 const MOST_GROUPS: usize = 17;
 
-/// What is wrong with the members of a table of the right shape, if anything is.
+/// Says what is wrong with the members of a table of the right shape, if anything is.
 pub(crate) fn member(alloc: Global, table: &Table) -> Result<Option<String>, AllocError> {
     let Some(rolls) = names_at(table, "members") else {
         return Ok(None);
@@ -28,7 +28,7 @@ fn has(table: &Table, key: &str, name: &str) -> bool {
     }
 }
 
-/// What is wrong with the array of a group.
+/// Says what is wrong with the array of a group.
 fn roll(
     alloc: Global,
     table: &Table,

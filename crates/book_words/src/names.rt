@@ -24,7 +24,7 @@ const LONGEST_DOMAIN: usize = 128;
 
 const LONGEST_NAME: usize = 64;
 
-/// What is out of range in a table of the right shape, if anything is.
+/// Says what is out of range in a table of the right shape, if anything is.
 pub(crate) fn range(alloc: Global, table: &Table) -> Result<Option<String>, AllocError> {
     if let Some(words) = domain(alloc, table)? {
         return Ok(Some(words));
@@ -72,7 +72,7 @@ fn is_up_to(integer: i64, limit: u32) -> bool
     (0..=i64::from(limit)).contains(&integer)
 }
 
-/// Whether a text has 1 to so many bytes and no `@`.
+/// Whether a text has 1 to `most` bytes and no `@`.
 fn is_word(text: &str, most: usize) -> bool
     ensures { result ≡ is_word most text.now }
 {
@@ -92,7 +92,7 @@ fn is_name(text: &str) -> bool
     is_word(text, LONGEST_NAME) && !is_digits(text.as_bytes())
 }
 
-/// What is wrong with the domain.
+/// Says what is wrong with the domain.
 fn domain(alloc: Global, table: &Table) -> Result<Option<String>, AllocError>
     ensures { IfOk result (λ words. Says (is_right_domain (text_at (codes "domain") (table_view table.now))) words) }
 {
@@ -169,7 +169,7 @@ fn rows(alloc: Global, table: &Table, key: &str) -> Result<Option<String>, Alloc
     Ok(None)
 }
 
-/// What is out of range in a row of a table.
+/// Says what is out of range in a row of a table.
 fn row(
     alloc: Global,
     key: &str,

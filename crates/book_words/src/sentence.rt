@@ -8,8 +8,9 @@ use std::alloc::{AllocError, Global};
 use toml::Table;
 use who_book::BookFault;
 
-/// What is wrong with a text that has this fault, without the name of its file: as `users: carol and bob are both 1002`. It is one sentence,
-/// of the first place that is found. `Err`: there is no memory for it.
+/// Says what is wrong with a text that has this fault, without the name of its file: as
+/// `users: carol and bob are both 1002`. It is one sentence, of the first place that is found.
+/// `Err`: there is no memory for it.
 pub fn explain(alloc: Global, text: &str, fault: BookFault) -> Result<String, AllocError>
     ensures { fault ≡ BookFault.Memory → IfOk result (λ words. string_bytes words ≡ codes "there is no memory for it") }
 {
@@ -22,7 +23,7 @@ pub fn explain(alloc: Global, text: &str, fault: BookFault) -> Result<String, Al
     }
 }
 
-/// What is wrong with a table that has this fault.
+/// Says what is wrong with a table that has this fault.
 fn of_table(alloc: Global, table: &Table, fault: BookFault) -> Result<String, AllocError> {
     let found = match fault {
         BookFault::Shape => shape(alloc, table)?,

@@ -46,7 +46,7 @@ fn keys() -> &'static [Key] {
     &KEYS
 }
 
-/// What is wrong with the keys of a table, or the types of their values, if anything is.
+/// Says what is wrong with the keys of a table, or the types of their values, if anything is.
 pub(crate) fn shape(alloc: Global, table: &Table) -> Result<Option<String>, AllocError> {
     if let Some(words) = unknown(alloc, table)? {
         return Ok(Some(words));
@@ -77,7 +77,7 @@ fn is_known(name: &str) -> bool {
     name == MEMBERS || keys().iter().any(|key| key.name == name)
 }
 
-/// What is wrong with a key that each book has.
+/// Says what is wrong with a key that each book has.
 fn of_key(alloc: Global, table: &Table, key: &Key) -> Result<Option<String>, AllocError> {
     let (name, example) = (key.name, key.example);
     let Some(value) = table.get(name) else {
@@ -99,7 +99,7 @@ fn of_key(alloc: Global, table: &Table, key: &Key) -> Result<Option<String>, All
     Ok(Some(words))
 }
 
-/// What is wrong with the type of a table of names, or of a number in it.
+/// Says what is wrong with the type of a table of names, or of a number in it.
 fn rows(
     alloc: Global,
     key: &str,
@@ -119,7 +119,7 @@ fn rows(
     Ok(None)
 }
 
-/// What is wrong with the type of `members`, or of an array in it.
+/// Says what is wrong with the type of `members`, or of an array in it.
 fn rolls(alloc: Global, table: &Table) -> Result<Option<String>, AllocError> {
     let Some(value) = table.get(MEMBERS) else {
         return Ok(None);

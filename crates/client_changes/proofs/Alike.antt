@@ -1,4 +1,4 @@
--- What is known of clients, compared.
+-- Two states of what is known of clients are compared.
 use Rattle.std.proofs.Common.{List, length, get_or, ◌≡◌, ◌⊎◌, ℕ, ◌<◌, inl, inr, refl, sym, ap, ◌∙◌, subst, arith, Some, None, IsTrue}
 use Rattle.std.specs.Prelude.{Option, slice_get}
 use Rattle.std.specs.Option.{option_map, option_and_then}

@@ -1,4 +1,4 @@
--- What a change that is applied makes of what is known of clients.
+-- A change that is applied leads on from what is known of clients.
 use Rattle.std.proofs.Common.{◌≡◌, ℕ, Bool, true, false, if◌then◌else◌, List, refl, sym, ap, ◌∙◌, subst}
 use Rattle.std.specs.Prelude.{Option}
 use Rattle.std.specs.Option.{option_map}

@@ -93,7 +93,7 @@ leads_one old bytes a b x y r q =
 
 -- ---- what is left
 
--- what is left of so many changes leads to where all of them lead
+-- the changes that are left of n lead to where all n lead
 pub record IsLeading (n : ℕ) (old : Known) (bytes : List ℕ) (left : ℕ) (now : Known) (rest : List ℕ) : Type 0 where
   pub whole : (new : Known) (after : List ℕ) → LeadsAll left now rest new after → LeadsAll n old bytes new after
   pub back : (new : Known) (after : List ℕ) → LeadsAll n old bytes new after → LeadsAll left now rest new after

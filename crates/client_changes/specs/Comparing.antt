@@ -1,4 +1,4 @@
--- What is known of clients, compared: as it is kept, and as it is now.
+-- The clients as they are kept are compared with the clients as they are known now.
 use Rattle.std.specs.Prelude.{◌≡◌, ◌⊎◌, ◌<◌, ℕ, min, Option, Some, None}
 use Rattle.std.specs.Option.{option_map}
 use Rattle.session_slots.specs.Counting.{ahead, last_number}
@@ -16,8 +16,8 @@ first_of (Some m) (Some n) = Some (min m n)
 first_of (Some m) None = Some m
 first_of None o = o
 
--- The last call of a slot as it is kept, and as it is now: fewer than 2^20 calls came after it; or it is the same;
--- or nothing is said of it.
+-- The last call of a slot as it is kept, and as it is now. Fewer than 2^20 calls came after it; or
+-- it is the same; or nothing is said of it.
 abbrev pub IsClose : Closeness → Option Kept → Option Kept → Type 0
 IsClose closeness.Near old new = (old ≡ new) ⊎ (ahead (last_number number_of old) (last_number number_of new) < WRITTEN_EVERY)
 IsClose closeness.Same old new = old ≡ new

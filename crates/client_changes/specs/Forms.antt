@@ -16,8 +16,9 @@ numbers = fields (hyper ∷ hyper ∷ [])
 abbrev pub opened : Xdr
 opened = fields (hyper ∷ hyper ∷ opaque 1024 ∷ hyper ∷ uint ∷ uint ∷ [])
 
--- The next client and session get these numbers; a record, a session or a call is there; the first N of the open files
--- stay open alone; a file is open, after the others; or a client is gone, with its sessions.
+-- A change says one of these. The next client and session get these numbers; a record, a session or
+-- a call is there; the first N of the open files stay open alone; a file is open, after the others;
+-- or a client is gone, with its sessions.
 abbrev pub change : Xdr
 change = union (arm 0 numbers (arm 1 client (arm 2 session (arm 3 call (arm 4 uint (arm 5 opened (arm 6 hyper no_more)))))))
 
@@ -25,7 +26,7 @@ change = union (arm 0 numbers (arm 1 client (arm 2 session (arm 3 call (arm 4 ui
 abbrev pub front : Xdr
 front = fields (hyper ∷ uint ∷ [])
 
--- what a change that was read says
+-- the value of a change that was read
 abbrev pub said_value : SaidChange → Value change
 said_value (said.Numbers next_client next_session) = inl (next_client, next_session)
 said_value (said.Record form) = inr (inl (client_value (form_client form)))

@@ -1,4 +1,4 @@
-//! What is known of clients, compared: as it is kept, and as it is now.
+//! The clients as they are kept are compared with the clients as they are known now.
 ghost use Rattle.std.specs.Prelude.{◌≡◌, ◌<◌, ◌↔◌, ℕ, IsTrue};
 ghost use Rattle.std.specs.Option.{option_map};
 ghost use Rattle.session_slots.specs.Counting.{ahead, last_number};

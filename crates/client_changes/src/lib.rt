@@ -1,5 +1,6 @@
-//! What is known of clients, kept over a restart (RFC 8881, section 2.10.6.5): their records, sessions and slots, and the
-//! open files; its changes as data, spelled by XDR (RFC 4506), read again and applied again.
+//! Changes of what is known of clients, which is kept over a restart (RFC 8881, section 2.10.6.5):
+//! their records, sessions and slots, and the open files. They are data, spelled by XDR (RFC 4506),
+//! read again and applied again.
 #![tactic(auto)]
 
 mod applying;

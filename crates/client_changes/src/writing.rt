@@ -1,5 +1,5 @@
-//! Changes that are written. No contract says which they are: whoever writes them leads on by them ([`crate::lead`]), and
-//! sees whether that comes to what is to be kept ([`crate::are_close`]).
+//! Changes that are written. No contract says which they are. Whoever writes them leads on by them
+//! ([`crate::lead`]), and sees whether that comes to what is to be kept ([`crate::are_close`]).
 use crate::change::SaidOpen;
 use crate::comparing::{are_calls_same, first, is_record_same, is_same_open};
 use compound_run::{Lent, Open};
@@ -211,7 +211,7 @@ impl<A: Allocator + Copy> Draft<A> {
     }
 }
 
-/// What is kept of clients.
+/// This is what is kept of clients.
 #[derive(Clone, Copy)]
 struct Before<'b, A: Allocator> {
     clients: &'b Clients<A>,
@@ -316,9 +316,10 @@ fn front_of<A: Allocator + Copy>(old: &[Open<A>], new: &[Open<A>]) -> usize {
     most
 }
 
-/// The bytes of changes that lead from what is kept to what is known now. A client of which the record or a session is
-/// another one is gone, and comes again as it is now, with its sessions and their calls. Of the others the calls are
-/// written that aren't kept, and of the open files those from the first one on that is another one.
+/// The bytes of changes that lead from what is kept to what is known now. A client of which the
+/// record or a session is another one is gone. It comes again as it is now, with its sessions and
+/// their calls. Of the others the calls are written that aren't kept, and of the open files those
+/// from the first one on that is another one.
 pub fn write_changes<A: Allocator + Copy>(
     alloc: A,
     old: Lent<'_, A>,
@@ -341,7 +342,8 @@ pub fn write_changes<A: Allocator + Copy>(
     draft.finish(alloc, new.next_open)
 }
 
-/// The bytes of changes that lead from nothing to all records and sessions, with no call on a slot, and to all open files.
+/// The bytes of changes that lead from nothing to all records and sessions, with no call on a slot,
+/// and to all open files.
 pub fn write_clients<A: Allocator + Copy>(
     alloc: A,
     new: Lent<'_, A>,
@@ -354,8 +356,8 @@ pub fn write_clients<A: Allocator + Copy>(
     draft.finish(alloc, new.next_open)
 }
 
-/// The bytes of changes that lead to the calls on the slots of half of the sessions, the first one or the second one. Each
-/// has at most 34 MB.
+/// The bytes of changes that lead to the calls on the slots of half of the sessions, the first one
+/// or the second one. Each has at most 34 MB.
 pub fn write_calls<A: Allocator + Copy>(
     alloc: A,
     new: Lent<'_, A>,

@@ -155,7 +155,8 @@ noted_after : (base w : World) (steps : List Step) → Noted base w → Noted ba
 noted_after base w [] noted = noted
 noted_after base w (s ∷ steps) noted = noted_after base (stepped w s) steps (noted_more base w s noted)
 
--- what leads from a base to a world is noted also of a world that comes of it by changes that are data
+-- notes that lead from a base to a world are noted also of a world that comes of it by changes that
+-- are data
 pub noted_by_steps : (base old new : World) → ComesBySteps old new → Noted base old → Noted base new
 noted_by_steps base old new by noted = subst (Noted base) (sym by.comes) (noted_after base old by.steps noted)
 

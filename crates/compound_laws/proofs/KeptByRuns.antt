@@ -1,4 +1,4 @@
--- What each operation keeps of a realm, runs and calls keep.
+-- A fact of a realm that each operation keeps is kept by runs and calls.
 use Rattle.std.proofs.Common.{◌≡◌, ℕ, zero, suc, Bool, true, false, List, sym, subst}
 use Rattle.std.specs.Prelude.{[], ◌∷◌, Option, Some, None, Result, Ok, Err, MatchResult, length}
 use Rattle.nfs_types.specs.declared.status.Status.{Status}
@@ -26,7 +26,7 @@ step_keeps : (P : Realm → Type 0) → Keeps P → (c : Context) (op : Operatio
 step_keeps P keeps c op old (Ok o) new hold steps = subst P (sym steps.realm) (keeps.operations c old.handles op old.realm o hold (sym (meant (may_delay c op) o _ steps.outcome)))
 step_keeps P keeps c op old (Err status) new hold steps = subst P (sym steps.realm_stays) hold
 
--- the run behind an operation, by its result
+-- the run after an operation, by its result
 rest_keeps : (P : Realm → Type 0) (r : Result Outcome Status) (mid new : Point) (results : List Given) (Rest : Type 0) → P mid.realm → (Rest → P new.realm)
     → MatchResult r (λ outcome. Rest) (λ status. (results ≡ []) × (new ≡ mid)) → P new.realm
 rest_keeps P (Ok o) mid new results Rest held goes rest = goes rest

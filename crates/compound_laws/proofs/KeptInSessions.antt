@@ -1,4 +1,4 @@
--- What each operation keeps of a realm, calls of sessions keep, and so do whole runs.
+-- A fact of a realm that each operation keeps is kept by calls of sessions, and by whole runs.
 use Rattle.std.proofs.Common.{◌≡◌, ℕ, true, List, sym, subst}
 use Rattle.std.specs.Prelude.{[], ◌∷◌, Option, Some, None, Result, Ok, Err, OnOk, OnErr, ◌-◌}
 use Rattle.std.specs.List.{AllByRecursion}
@@ -41,7 +41,7 @@ alone_keeps P keeps caller (Known kinds.DestroySession v) old outcome new hold a
 alone_keeps P keeps caller (Known kinds.DestroyClientId v) old outcome new hold acts = changed_or_not P keeps outcome old new _ hold acts.ok acts.err
 alone_keeps P keeps caller op old outcome new hold acts = absurd acts
 
--- ---- operations behind a SEQUENCE
+-- ---- operations after a SEQUENCE
 
 by_begin : (P : Realm → Type 0) → Keeps P → (b : Begin) (call : Call) (tag : List ℕ) (count : ℕ) (v : Value sequence_args) (operations : List ℕ) (old : State) (bytes : List ℕ) (new : State) → P old.realm
     → RunsBy b call tag count v operations old bytes new → P new.realm

@@ -139,7 +139,7 @@ first_granted c h (Unsupported n) s p = refl
 first_granted c h Illegal s p = refl
 first_granted c h (Bad n) s p = refl
 
--- what stands after a question that may suffice
+-- one of these stands after a question that may suffice
 unless : {A B C : Type 0} → (A → B) → C ⊎ A → B ⊎ C
 unless goes (inl is) = inr is
 unless goes (inr more) = inl (goes more)

@@ -27,8 +27,9 @@ DisclosesNothing m = (q r : Realm) → view q m.caller ≡ view r m.caller → s
 
 -- ---- clients and sessions, which are equal in realms that look alike to anyone
 
--- an operation that is the only one of its COMPOUND has an equal result in each realm that looks alike to anyone (to the caller as sent, or
--- to the member of the book), with equal clients, sessions and opens afterwards
+-- An operation that is the only one of its COMPOUND has an equal result in each realm that looks
+-- alike to anyone. Anyone is the caller as sent, or the member of the book. Clients, sessions and
+-- opens are equal afterwards.
 abbrev pub DisclosesNothingAlone : Identity → Operation → Type 0
 DisclosesNothingAlone caller op =
     (viewer : Identity) (q r new : Realm) (outcome : Result Outcome Status) → view q viewer ≡ view r viewer → ActsAlone caller op q outcome new

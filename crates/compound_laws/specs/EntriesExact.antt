@@ -1,4 +1,5 @@
--- The attributes in the entries that READDIR returns, and when an entry refuses it (RFC 8881, sections 5.8, 6.2.1 and 18.23).
+-- The attributes in the entries that READDIR returns, and when an entry refuses it (RFC 8881,
+-- sections 5.8, 6.2.1 and 18.23).
 use Rattle.std.specs.Prelude.{◌≡◌, ◌≤◌, ◌⊎◌, ℕ, false, true, ◌&&◌, List, [], ◌∷◌, ◌++◌, map, IsSome, Some, Ok}
 use Rattle.std.specs.List.{AllByRecursion}
 use Rattle.xdr_wire.specs.Xdr.{Value}
@@ -35,9 +36,10 @@ abbrev pub ungoverned : List ℕ
 ungoverned =
     0 ∷ 1 ∷ 2 ∷ 5 ∷ 6 ∷ 7 ∷ 8 ∷ 9 ∷ 10 ∷ 11 ∷ 13 ∷ 19 ∷ 20 ∷ 27 ∷ 29 ∷ 30 ∷ 31 ∷ 55 ∷ 75 ∷ []
 
--- The entry is of this name. An attribute that READ_ATTRIBUTES governs is in it exactly where it is requested and the list of the
--- name's object grants READ_ATTRIBUTES; acl, dacl and sacl are each in it exactly where requested and the list grants READ_ACL; and
--- one that everyone can read is in it exactly where it is requested.
+-- The entry is of this name. An attribute that READ_ATTRIBUTES governs is in it exactly where it is
+-- requested and the list of the name's object grants READ_ATTRIBUTES. Each of acl, dacl and sacl is
+-- in it exactly where requested and the list grants READ_ACL. One that everyone can read is in it
+-- exactly where it is requested.
 pub record IsExact (lists : Lists) (caller : Identity) (asked : List ℕ) (n : Name) (e : Value entry) : Type 0 where
   pub cookie : entry_cookie e ≡ n.cookie
   pub name : entry_name e ≡ n.name
@@ -70,8 +72,9 @@ pub record IsUnlisted (c : Context) (h : Handles) (v : Value readdir_args) (s : 
   pub passed : ArePassed c.caller s (before_row c h v)
   pub refused : all_granted s.lists c.caller (first_demands (Known kinds.ReadDir v) (first_facts s h)) ≡ false
 
--- A refused entry is met, without rdattr_error (11) requested: the list of its object refuses an attribute that is requested. The
--- entries before it, if there are any, are returned and within the limit.
+-- A refused entry is met, without rdattr_error (11) requested: the list of its object refuses an
+-- attribute that is requested. The entries before it, if there are any, are returned and within the
+-- limit.
 pub record MeetsRefused (c : Context) (h : Handles) (v : Value readdir_args) (s : Sight) : Type 0 where
   pub passed : ArePassed c.caller s (before_row c h v)
   pub granted : all_granted s.lists c.caller (first_demands (Known kinds.ReadDir v) (first_facts s h)) ≡ true

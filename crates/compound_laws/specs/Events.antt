@@ -1,5 +1,5 @@
--- Calls where sessions are in use, and what comes between them: a book of names is loaded, a client is let go, or the
--- notes of changes are begun anew (RFC 8881, sections 2.10.6.1, 5.9 and 8.3).
+-- Calls where sessions are in use, and other events between them (RFC 8881, sections 2.10.6.1, 5.9
+-- and 8.3). A book of names is loaded, a client is let go, or the notes of changes are begun anew.
 use Rattle.std.specs.Prelude.{◌≡◌, ℕ, Bool, true, false, None}
 use Rattle.std.specs.Option.{option_map_or}
 use Rattle.who_book.specs.Content.{Content}
@@ -20,14 +20,14 @@ pub data Event : Type 0 where
 abbrev pub loaded : Content → State → State
 loaded book s = option_map_or (λ epoch. with_book book s) (next_epoch s.settings.epoch) s
 
--- what isn't a call is never one that came before
+-- an event that isn't a call is never one that came before
 abbrev pub event_fate : State → Event → Fate Reply
 event_fate s (Comes call) = fate s call
 event_fate s (Loads book) = Runs
 event_fate s (LetsGo client) = Runs
 event_fate s (Begins notes) = Runs
 
--- what isn't a call has no reply
+-- an event that isn't a call has no reply
 abbrev pub RunsEvent : Event → State → Reply → State → Type 0
 RunsEvent (Comes call) old reply new = RunsCall call old reply new
 RunsEvent (Loads book) old reply new = (reply ≡ None) × (new ≡ loaded book old)

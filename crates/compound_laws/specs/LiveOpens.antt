@@ -1,4 +1,5 @@
--- The open files of a realm: each is a file that is there, within the limit of open files (RFC 8881, sections 18.2, 18.16 and 18.25).
+-- The open files of a realm: each is a file that is there, within the limit of open files
+-- (RFC 8881, sections 18.2, 18.16 and 18.25).
 use Rattle.std.specs.Prelude.{◌≡◌, ◌≤◌, ◌<◌, ℕ, length, Some, IsSome}
 use Rattle.std.specs.List.{AllByRecursion}
 use Rattle.acl_list.specs.declared.entry.Kind.TheVariants.{File}
@@ -6,8 +7,8 @@ use Rattle.node_tree.specs.World.{World, kind_of}
 use Rattle.compound_run.specs.Limits.{MAX_OPENS}
 use Rattle.compound_run.specs.Realm.{Realm}
 
--- Each name leads to an object that is there, and no object has the next number or a higher one: so the object of a name can be
--- opened, and a new object takes no open file's number.
+-- Each name leads to an object that is there, and no object has the next number or a higher one. So
+-- the object of a name can be opened, and a new object takes no open file's number.
 pub record IsKept (w : World) : Type 0 where
   pub led : AllByRecursion (λ n. IsSome (kind_of w n.child)) w.names
   pub numbered : (number : ℕ) → IsSome (kind_of w number) → number < w.next_number

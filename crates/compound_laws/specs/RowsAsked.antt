@@ -1,5 +1,5 @@
--- The rows of each operation by the table of demands, at the facts of its place, and their place among its questions
--- (RFC 8881, sections 6.2.1.3 and 18).
+-- The rows of each operation and their place among its questions (RFC 8881, sections 6.2.1.3 and
+-- 18). They are those of the table of demands, at the facts of the operation's place.
 use Rattle.std.specs.Prelude.{◌≡◌, ◌⊎◌, List, [], ◌∷◌, Some, None, true}
 use Rattle.nfs_ops.specs.Operations.{Operation, Known}
 use Rattle.nfs_ops.specs.declared.op_kind.OpKind.TheVariants as kinds

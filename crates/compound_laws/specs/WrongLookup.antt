@@ -1,4 +1,5 @@
--- A LOOKUP that says whether a name is there before EXECUTE is asked, and two worlds that it tells apart (RFC 8881, section 18.13).
+-- A LOOKUP that says whether a name is there before EXECUTE is asked, and two worlds that it tells
+-- apart (RFC 8881, section 18.13).
 use Rattle.std.specs.Prelude.{ℕ, List, [], ◌∷◌}
 use Rattle.acl_list.specs.declared.entry.Kind.{Kind}
 use Rattle.acl_list.specs.declared.entry.Kind.TheVariants.{File, Directory}

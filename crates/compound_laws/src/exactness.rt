@@ -23,7 +23,8 @@ ghost use Rattle.compound_run.specs.Exact.{ArePassed, ArePassedOrSuffice, IsRefu
 ghost use Rattle.compound_laws.specs.EntriesExact.{GivesExactly, IsUnlisted, MeetsRefused};
 ghost use Rattle.compound_laws.specs.RowsAsked.{first_of, second_of, HasNoFirst, HasNoSecond, IsAmong, IsOntoItself, SomeSuffices};
 
-/// An outcome behind a row of demands comes only where the lists grant each of them; else the outcome is ACCESS.
+/// An outcome after a row of demands comes only where the lists grant each of them; else the
+/// outcome is ACCESS.
 pub fn rows_decide()
     ensures { (caller : Identity) (s : Sight) (before behind : List Question) (demands : Sight → List (Option Demand)) → ArePassed caller s before →
         failure caller s (before ++ Row demands ∷ behind) ≡ (if all_granted s.lists caller (demands s) then failure caller s behind else Some statuses.Access) }
@@ -34,18 +35,19 @@ pub fn ok_is_exact()
     ensures { (caller : Identity) (s : Sight) (questions : List Question) → (failure caller s questions ≡ None) ↔ ArePassedOrSuffice caller s questions }
 {}
 
-/// An operation answers ACCESS exactly where a row of demands is its first question that fails (`exact`). Its last line is then the
-/// DENY line of the first demand of that row that isn't granted: it names the first denying entry, else the lowest bit that none allows
-/// (`told`).
-/// By a step's definition nothing changes where the outcome isn't OK.
+/// An operation answers ACCESS exactly where a row of demands is its first question that fails
+/// (`exact`). Its last line is then the DENY line of the first demand of that row that isn't
+/// granted. It names the first denying entry, else the lowest bit that none allows (`told`). By a
+/// step's definition nothing changes where the outcome isn't OK.
 pub fn access_is_exact()
     ensures exact { (m : Meaning) (r : Realm) → (outcome m r ≡ Err statuses.Access) ↔ IsRefusedByRow m.caller (whole r) m.questions }
     ensures told { (m : Meaning) (r : Realm) → outcome m r ≡ Err statuses.Access →
         (row : IsRefusedByRow m.caller (whole r) m.questions) × EndsInRefusal m.caller m.number (judged_of r.world) (row.demands (whole r)) (traced m r) }
 {}
 
-/// Each row that the table of demands has for an operation stands among its questions: the first row, and the second, which
-/// depends on the objects of the operation's names. Else the table has no such row for it, whatever the facts are.
+/// Each row that the table of demands has for an operation stands among its questions. This holds
+/// of the first row, and of the second, which depends on the objects of the operation's names. Else
+/// the table has no such row for it, whatever the facts are.
 pub fn each_row_is_asked()
     ensures first { (c : Context) (h : Handles) (op : Operation) →
         IsAmong (first_of c h op) (meaning c h op).questions ⊎ HasNoFirst op }
@@ -53,8 +55,8 @@ pub fn each_row_is_asked()
         IsAmong (second_of c h op) (meaning c h op).questions ⊎ HasNoSecond op }
 {}
 
-/// So an operation that is OK was granted each demand of its rows; but for the second row of a RENAME whose names are those
-/// of one object, which changes nothing.
+/// So an operation that is OK was granted each demand of its rows. One row is left out: the second
+/// of a RENAME whose names are those of one object, which changes nothing.
 pub fn ok_is_granted()
     ensures first { (c : Context) (h : Handles) (op : Operation) (r : Realm) (o : Outcome) →
         outcome (meaning c h op) r ≡ Ok o →
@@ -73,20 +75,21 @@ pub fn refused_is_access()
         ⊎ SomeSuffices (whole r) before }
 {}
 
-/// An operation that takes no memory never answers DELAY: all but CREATE, LINK, NVERIFY, OPEN, RENAME, SETATTR, VERIFY and
-/// WRITE; nor does an operation without place or room.
+/// An operation that takes no memory never answers DELAY. These are all but CREATE, LINK, NVERIFY,
+/// OPEN, RENAME, SETATTR, VERIFY and WRITE. Nor does an operation without place or room.
 pub fn others_never_delay()
     ensures { (c : Context) (op : Operation) (old new : Point) (result : Result Outcome Status) → may_delay c op ≡ false → Steps c op old result new → result ≢ Err statuses.Delay }
 {}
 
-/// In each entry that READDIR returns an attribute that a bit governs is there exactly where it is requested, and the list of the
-/// entry's object grants that bit. Every other supported attribute is there exactly where it is requested.
+/// In each entry that READDIR returns an attribute that a bit governs is there exactly where it is
+/// requested, and the list of the entry's object grants that bit. Every other supported attribute
+/// is there exactly where it is requested.
 pub fn readdir_gives_exactly()
     ensures { (c : Context) (h : Handles) (v : Value readdir_args) (r : Realm) (o : Outcome) → IsSound r.world → outcome (meaning c h (Known kinds.ReadDir v)) r ≡ Ok o → GivesExactly c h v (whole r) o }
 {}
 
-/// READDIR answers ACCESS exactly where LIST_DIRECTORY is demanded and isn't granted, or where a refused entry is met without
-/// rdattr_error requested.
+/// READDIR answers ACCESS exactly where LIST_DIRECTORY is demanded and isn't granted, or where a
+/// refused entry is met without rdattr_error requested.
 pub fn readdir_is_refused_exactly()
     ensures { (c : Context) (h : Handles) (v : Value readdir_args) (r : Realm) →
         (outcome (meaning c h (Known kinds.ReadDir v)) r ≡ Err statuses.Access) ↔ (IsUnlisted c h v (whole r) ⊎ MeetsRefused c h v (whole r)) }

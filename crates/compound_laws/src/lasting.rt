@@ -16,9 +16,9 @@ pub fn operations_leave_lasting()
         ((meaning c h op).effect r).lasting ≡ r.lasting }
 {}
 
-/// Nor does a call, where no session is in use (`bare`) and where sessions are (`in_session`), however its operations end;
-/// nor a book that is loaded (`book`), a client that is let go (`gone`), or notes that are begun anew (`notes`). So it is
-/// settled as a server begins.
+/// Nor does a call, where no session is in use (`bare`) and where sessions are (`in_session`),
+/// however its operations end. Nor does a book that is loaded (`book`), a client that is let go
+/// (`gone`), or notes that are begun anew (`notes`). So it is settled as a server begins.
 pub fn calls_leave_lasting()
     ensures bare { (old : State) (call : Call) (results : Option (List ℕ)) (new : State) →
         Answers old call results new → new.realm.lasting ≡ old.realm.lasting }

@@ -43,8 +43,9 @@ pub fn operations_are_noted()
         Noted base r.world → Noted base ((meaning c h op).effect r).world }
 {}
 
-/// So it is with each call, without sessions (`bare`) and with them (`in_session`), with a book that is loaded
-/// (`book`), with a client that is let go (`gone`), and with any run in which notes go on (`run`).
+/// So it is with each call, without sessions (`bare`) and with them (`in_session`). So it is with a
+/// book that is loaded (`book`), with a client that is let go (`gone`), and with any run in which
+/// notes go on (`run`).
 pub fn calls_are_noted()
     ensures bare { (base : World) (old : State) (call : Call) (results : Option (List ℕ)) (new : State) →
         Noted base old.realm.world → Answers old call results new → Noted base new.realm.world }

@@ -16,8 +16,8 @@ ghost use Rattle.compound_run.specs.InSession.{Reply, AnswersInSession};
 ghost use Rattle.compound_laws.specs.LiveOpens.{OpensHold};
 ghost use Rattle.compound_laws.specs.Events.{loaded};
 
-/// The law of open files holds as a server begins: in a new world, in which there are none (`fresh`), and after a restart
-/// with open files that may stand in their world (`restarted`).
+/// The law of open files holds as a server begins. It does in a new world, in which there are none
+/// (`fresh`), and after a restart with open files that may stand in their world (`restarted`).
 pub fn opens_hold_at_first()
     ensures fresh { (w : World) → IsSound w → OpensHold (unopened w) }
     ensures restarted { (w : World) (k : Known) (book : Content) (capacity : ℕ) →
@@ -31,9 +31,10 @@ pub fn operations_keep_opens()
         OpensHold r → outcome (meaning c h op) r ≡ Ok o → OpensHold ((meaning c h op).effect r) }
 {}
 
-/// So each call keeps the law, where no session is in use (`bare`) and where sessions are (`in_session`), however its
-/// operations end. So do a book that is loaded (`book`), a client that is let go (`gone`), and notes that are begun
-/// anew (`notes`): the law holds in every state that a server comes to.
+/// So each call keeps the law, where no session is in use (`bare`) and where sessions are
+/// (`in_session`), however its operations end. So do a book that is loaded (`book`), a client that
+/// is let go (`gone`), and notes that are begun anew (`notes`). So the law holds in every state
+/// that a server comes to.
 pub fn calls_keep_opens()
     ensures bare { (old : State) (call : Call) (results : Option (List ℕ)) (new : State) →
         OpensHold old.realm → Answers old call results new → OpensHold new.realm }

@@ -5,10 +5,11 @@ ghost use Rattle.compound_run.specs.State.{Call, State};
 ghost use Rattle.compound_run.specs.InSession.{Reply, RunsCall, fate};
 ghost use Rattle.compound_laws.specs.Events.{Event, RunsEvent, event_fate};
 
-/// Where sessions are in use: for every run over a list of calls there is one over the list without the repeats, with
-/// equal replies to the rest and an equal state (`calls`). So there is where books are loaded, clients are let go and
-/// notes are begun between the calls, and all of these stay (`events`): a call is a repeat by the caller as sent,
-/// whatever book was loaded since it was first answered.
+/// Where sessions are in use: for every run over a list of calls there is one over the list without
+/// the repeats, with equal replies to the rest and an equal state (`calls`). So there is where
+/// books are loaded, clients are let go and notes are begun between the calls, and all of these
+/// stay (`events`). A call is a repeat by the caller as sent, whatever book was loaded since it was
+/// first answered.
 #[tactic(auto, using(session_slots::proofs::Repeating::repeats_go))]
 pub fn repeats_change_nothing()
     ensures calls { (calls : List Call) (replies : List Reply) (old new : State) →

@@ -15,7 +15,7 @@ use Rattle.compound_run.specs.State.{State, Call, Answers, AnswersBy, fate, fate
 use Rattle.compound_run.specs.Views.{point_at, realm_of, settings_of, state_of}
 use Rattle.compound_run.specs.Written.{RunGives, Opens, OpensTo, OpensBehind}
 
--- ---- operations behind a head
+-- ---- operations after a head
 
 none_run : {A : Type 0} (status : Status) (tag : List ℕ) (c : Context) (operations : List ℕ) (e : realms.Realm A) (out : Buffer)
     → OpensBehind (Some status) tag c operations e out (record { status = status; ran = 0 }) e out

@@ -1,4 +1,4 @@
--- The answer behind questions that pass.
+-- The answer after questions that pass.
 use Rattle.std.proofs.Common.{◌≡◌, ℕ, true, false, refl, append-nil, List, ap, sym, ◌∙◌, subst}
 use Rattle.std.specs.Prelude.{◌++◌, ◌∷◌, Option, Result, Err}
 use Rattle.std.proofs.lemmas.List.{append_assoc}

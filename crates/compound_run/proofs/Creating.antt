@@ -1,4 +1,4 @@
--- The answers to a CREATE behind its row.
+-- The answers to a CREATE after its row.
 use Rattle.std.proofs.Common.{◌≡◌, ◌∙◌, ℕ, Bool, cond, true, false, refl, sym, ap, append-nil}
 use Rattle.std.specs.Prelude.{List, [], ◌++◌, Some, None, Result, Err, IsOkUnless, unwrap_or}
 use Rattle.xdr_wire.specs.Buffer.{Buffer}
@@ -37,7 +37,8 @@ world_created c h v new m want w d a here is_draft is_wanted when kind bytes own
     (λ i. with_new w d (created_name v) (new_object (kind i) (bytes i) (owner i) (group i) (list i) (high i) w.next_stamp (when i)) (when i))
     ∙ (λ i. with_new w (number_in (sym here i)) (created_name v) (created c (sym is_draft i) (sym is_wanted i) (list_at w (number_in (sym here i))) w.next_stamp (at c w)) (at c w))
 
--- A tick is left, and the list is within its bounds; so the object and its name are created, or there is no space or no memory for them.
+-- A tick is left, and the list is within its bounds. So the object and its name are created, or
+-- there is no space or no memory for them.
 module _ {A : Type 0} (room : ℕ) (c : Context) (h : FileHandles) (v : Value create_args) (e new : realms.Realm A) (out : Buffer) (d : ℕ)
     (left : has_left (sight_of e).next_tick ≡ true) (bounds : new_fits (specs.wanted c v) (specs.draft v).kind (list_at e.tree.world d) ≡ true) where
   fails : failure c.caller (sight_of e) (making v d c h).questions ≡ cond (can_add (sight_of e) d) None (Some statuses.NoSpc)

@@ -25,7 +25,7 @@ pub record Asking {A : Type 0} (lists : Lists) (caller : Identity) (op : ℕ) (d
   pub granted : all_granted lists caller demands ≡ all_granted lists caller (drop i demands)
   pub few : length now.tree.log.held + MAX_ENTRIES * lists_in (drop i demands) ≤ length old.tree.log.held + MAX_ENTRIES * lists_in demands
 
--- lines behind lines
+-- lines after lines
 pub held_together : (first second : List Line) (t : Guarded) → record t { log = held second (record t { log = held first t.log }).log } ≡ record t { log = held (first ++ second) t.log }
 held_together first second t = ap (λ h. record t { log = record t.log { held = h } }) (append_assoc t.log.held first second)
 

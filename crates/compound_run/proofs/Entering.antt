@@ -1,4 +1,4 @@
--- An operation behind its place and its room.
+-- An operation after its place and its room.
 use Rattle.std.proofs.Common.{◌≡◌, ℕ, ◌+◌, ◌≤◌, Bool, true, false, ◌&&◌, cond, refl, sym, ap, append-nil, subst}
 use Rattle.std.specs.Prelude.{Option, Some, None, is_none, nat_lt, Result, Err}
 use Rattle.std.proofs.lemmas.Bool.{ltb-false}

@@ -78,7 +78,7 @@ no_access status is e = subst IsFault e is
 some_same : (status other : Status) → Some status ≡ Some other → status ≡ other
 some_same status other h = cc
 
--- a fault, or the fault behind it
+-- a fault, or the fault after it
 fault_or : (fault more : Option Status) → MayFault fault → first_fault fault more ≡ Some statuses.Access → (fault ≡ None) × (more ≡ Some statuses.Access)
 fault_or None more may h = (refl, h)
 fault_or (Some status) more may h = absurd (no_access status may (some_same status statuses.Access h))

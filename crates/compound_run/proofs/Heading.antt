@@ -18,7 +18,7 @@ use Rattle.compound_run.specs.Runs.{result_bytes, status_in}
 use Rattle.compound_run.specs.InSession.{ActsTo, given_alone}
 use Rattle.compound_run.specs.SessionViews.{ActedSo, WritesWithin}
 
--- the bytes behind the status
+-- the bytes after the status
 abbrev tail : List ℕ → ℕ → List ℕ
 tail tag n = spelling (fields (opaque MAX_TAG ∷ uint ∷ [])) (tag, n)
 

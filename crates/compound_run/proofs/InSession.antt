@@ -1,4 +1,4 @@
--- The operations that are run behind a SEQUENCE.
+-- The operations that are run after a SEQUENCE.
 use Rattle.std.proofs.Common.{◌≡◌, ℕ, ◌+◌, ◌-◌, ◌<◌, ◌≤◌, List, refl, sym, ap, ◌∙◌, subst, length, append_assoc, arith}
 use Rattle.std.specs.Prelude.{[], ◌∷◌, ◌++◌, drop, Some, Ok, IfSome}
 use Rattle.std.specs.Int.{w32, to_be_bytes}
@@ -29,12 +29,12 @@ use Rattle.compound_run.specs.Views.{point_at}
 use Rattle.compound_run.specs.Written.{RunGives}
 use Rattle.compound_run.proofs.Staying.{runs_stay}
 
--- behind a result that is OK the other results tell the status
+-- after a result that is OK the other results tell the status
 last_behind : (given : Given) (results : List Given) → status_of given ≡ statuses.Ok → last_status (given ∷ results) ≡ last_status results
 last_behind given [] ok = ok
 last_behind given (next ∷ results) ok = refl
 
--- operations that are run behind a result that is OK
+-- operations that are run after a result that is OK
 pub sequenced : {A : Type 0} (most : ℕ) (c : Context) (room : ℕ) (tag : List ℕ) (number : ℕ) (o : Outcome) (operations : List ℕ) (old new : realms.Realm A) (before mid after : Buffer) (end : Ended)
     → c.position ≡ 1 → c.room ≡ room → Appends before mid (result_bytes (record { number = number; outcome = Ok o })) → RunGives c operations old mid end new after → length after.bytes ≤ most
     → SequencedBehind most (record c { room = room }) tag (record { number = number; outcome = Ok o }) operations old before end new after
@@ -155,6 +155,6 @@ kept_so {A} limit other c d tag v given done operations old mid new before after
 pub few_appended : {X : List ℕ → Type 0} (limit start : ℕ) (before after : Buffer) (w : WritesWithin limit X before after) → start ≡ length before.bytes → length (drop start after.bytes) ≤ limit
 few_appended limit start before after w from = subst (λ bytes. length bytes ≤ limit) (sym (ap (λ n. drop n after.bytes) from ∙ appended before after w.0 w.2)) w.3
 
--- the bytes are appended behind the buffer's
+-- the bytes are appended after the buffer's
 pub from_within : {X : List ℕ → Type 0} (limit start : ℕ) (before after : Buffer) (w : WritesWithin limit X before after) → start ≡ length before.bytes → start ≤ length after.bytes
 from_within limit start before after w from = let long = ap length w.2.behind ∙ length-append before.bytes w.0 in omega (arith, long, from)

@@ -1,4 +1,4 @@
--- The answer to an OPEN behind its rows.
+-- The answer to an OPEN after its rows.
 use Rattle.std.proofs.Common.{◌≡◌, ◌≢◌, ◌≤◌, ◌+◌, ◌∙◌, ℕ, Bool, true, false, ◌&&◌, cond, inl, List, refl, sym, ap, subst, append-nil, length}
 use Rattle.std.specs.Prelude.{[], ◌∷◌, ◌++◌, Option, Some, None, Result, Ok, Err, IsOkUnless, unwrap_or}
 use Rattle.xdr_wire.specs.Xdr.{Value}

@@ -76,7 +76,7 @@ longer before after item appends = ap length appends.behind ∙ length-append be
 less : (limit b i a : ℕ) → a ≡ b + i → limit - b - i ≡ limit - a
 less limit b i a is = omega (arith, is)
 
--- one item behind the others
+-- one item after the others
 both : (start before after : Buffer) (results : List Given) (given : Given) → Appends start before (results_bytes results) → Appends before after (result_bytes given) → Appends start after (results_bytes (results ++ given ∷ []))
 both start before after results given first second = record {
   behind = second.behind ∙ ap (λ b. b ++ result_bytes given) first.behind ∙ append_assoc start.bytes (results_bytes results) (result_bytes given) ∙ ap (λ b. start.bytes ++ b) (sym (bytes-behind results given));
@@ -98,7 +98,7 @@ starts b = record {
     all : length b.out.bytes + b.context.room - length b.out.bytes ≡ b.context.room
     all = omega arith
 
--- the next operation, and those behind it
+-- the next operation, and those after it
 goes_behind : {A : Type 0} (b : Begun A) (s : Stand A) (r : Running b s) → s.position < b.context.count
     → (given : Given) (mid : Point) → given.number ≡ number_of (next_at s.rest).0 → Steps (here_at b s) (next_at s.rest).0 (point_at s.realm s.handles) given.outcome mid
     → (rest : List Given) (new : Point)

@@ -226,7 +226,8 @@ same_list number o wanted a (Some p) before w there some is =
     (λ i. with_list w number (list i) (high i) a)
     ∙ (λ i. if some i then with_list w number (set_list wanted o.kind o.list) (changed_high o.high wanted.mode) a else w)
 
--- setting the size, the list, and the owner with the group, one behind the other, sets all attributes
+-- setting the size, the list, and the owner with the group, one after the other, sets all
+-- attributes
 pub set_by_parts : {A : Type 0} (number : ℕ) (o : Object) (wanted : Wanted) (a : At) (made : Option (Permissions A)) (w : World)
     → object w number ≡ Some o → is_some made ≡ sets_list wanted → IfSome made (Permits w number wanted)
     → entitled number wanted.owner wanted.group (o.owner, o.group) a (permitted number made a (sized number wanted.size a w)) ≡ setting number wanted a w

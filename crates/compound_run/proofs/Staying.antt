@@ -1,4 +1,4 @@
--- No operation behind a SEQUENCE creates or destroys a session.
+-- No operation after a SEQUENCE creates or destroys a session.
 use Rattle.std.proofs.Common.{◌≡◌, ℕ, zero, suc, Bool, true, false, cond, List, refl, ap, ◌∙◌, length}
 use Rattle.std.specs.Prelude.{[], ◌∷◌, unwrap_or, Option, Some, None, Result, Ok, Err, MatchResult}
 use Rattle.xdr_wire.specs.Xdr.{Value}
@@ -70,7 +70,7 @@ step_stays : (c : Context) (op : Operation) (old : Point) (result : Result Outco
 step_stays c op old (Ok outcome) new steps = ap sessions steps.realm ∙ effect_stays c old.handles op old.realm
 step_stays c op old (Err status) new steps = ap sessions steps.realm_stays
 
--- the operations behind a step
+-- the operations after a step
 more_stay : (mid : Point) (results : List Given) (new : Point) (outcome : Result Outcome Status) (Goes : Type 0) → (Goes → sessions new.realm ≡ sessions mid.realm)
     → MatchResult outcome (λ o. Goes) (λ status. (results ≡ []) × (new ≡ mid)) → sessions new.realm ≡ sessions mid.realm
 more_stay mid results new (Ok outcome) Goes stays more = stays more

@@ -10,7 +10,7 @@ use Rattle.compound_run.specs.Runs.{spelled}
 pub written_as : (before after : Buffer) (given meant : Outcome) → Appends before after (spelled given) → given ≡ meant → Appends before after (spelled meant)
 written_as before after given meant written is = subst (λ o. Appends before after (spelled o)) is written
 
--- the number of bytes there are behind it
+-- the number of bytes there are after it
 pub no_longer : (before after : Buffer) (o : Outcome) (most : ℕ) → Appends before after (spelled o) → length (spelled o) ≤ most → length after.bytes ≤ length before.bytes + most
 no_longer before after o most written short =
     let long = ap length written.behind ∙ length-append before.bytes (spelled o) in

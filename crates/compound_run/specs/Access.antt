@@ -1,5 +1,5 @@
--- ACCESS (RFC 8881, section 18.1): the rights requested that are supported for the object, and those that its list grants. It has no
--- demands on the list, and writes no line.
+-- ACCESS (RFC 8881, section 18.1): the rights requested that are supported for the object, and
+-- those that its list grants. It has no demands on the list, and writes no line.
 use Rattle.std.specs.Prelude.{ℕ, []}
 use Rattle.xdr_wire.specs.Xdr.{Value}
 use Rattle.nfs_ops.specs.Forms.{access_result}

@@ -1,4 +1,5 @@
--- The beginning of a COMPOUND where sessions are in use: its first operation (RFC 8881, sections 2.10.6.2 to 2.10.6.4 and 16.2).
+-- The beginning of a COMPOUND where sessions are in use: its first operation (RFC 8881, sections
+-- 2.10.6.2 to 2.10.6.4 and 16.2).
 use Rattle.std.specs.Prelude.{ℕ, ◌==◌, nat_lt, if◌then◌else◌, List}
 use Rattle.xdr_wire.specs.Xdr.{Value}
 use Rattle.nfs_types.specs.declared.status.Status.{Status}
@@ -16,14 +17,14 @@ pub data Beginning : Type 0 where
   Refuses : ℕ → Status → Beginning
   -- the operation is the only one
   Acts : Operation → Beginning
-  -- SEQUENCE, and the bytes of the operations behind it
+  -- SEQUENCE, and the bytes of the operations after it
   Follows : Value sequence_args → List ℕ → Beginning
 
 -- an operation that is to be the only one
 abbrev pub only : ℕ → Operation → Beginning
 only count op = if nat_lt 1 count then Refuses (number_of op) statuses.NotOnlyOp else Acts op
 
--- the beginning by the first of so many operations, with the bytes behind it
+-- the beginning by the first of this many operations, with the bytes after it
 abbrev pub beginning_with : ℕ → Operation → List ℕ → Beginning
 beginning_with count (Known kinds.Sequence v) rest = Follows v rest
 beginning_with count (Known kinds.ExchangeId v) rest = only count (Known kinds.ExchangeId v)

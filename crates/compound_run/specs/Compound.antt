@@ -12,7 +12,7 @@ use Rattle.compound_run.specs.Runs.{Given, status_of, results_bytes}
 abbrev pub args_form : Xdr
 args_form = fields (opaque MAX_TAG ∷ uint ∷ uint ∷ [])
 
--- the tag, the minor version and the count, with the bytes behind them, if they can be read
+-- the tag, the minor version and the count, with the bytes after them, if they can be read
 abbrev pub args_in : Read (Value args_form) → Option (Value args_form × List ℕ)
 args_in (Ok (v, rest)) = Some (v, rest)
 args_in (Err fault) = None
@@ -28,7 +28,7 @@ head s tag count = spelling head_form (status_number s, (tag, count))
 abbrev pub before_results : List ℕ → ℕ
 before_results tag = REPLY_HEADER + 12 + length (padded tag)
 
--- the room of the first operation, in a reply of at most so many bytes
+-- the room of the first operation, in a reply of at most this many bytes
 abbrev pub first_room : ℕ → List ℕ → ℕ
 first_room limit tag = limit - before_results tag - REFUSAL_ROOM
 

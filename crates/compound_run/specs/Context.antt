@@ -20,7 +20,7 @@ pub record Context : Type 0 where
   -- the most bytes of its result
   pub room : ℕ
 
--- the context behind an operation whose result takes so many bytes
+-- the context after an operation whose result takes this many bytes
 abbrev pub behind : Context → ℕ → Context
 behind c taken = record c { position = c.position + 1; room = c.room - taken }
 

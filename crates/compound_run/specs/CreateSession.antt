@@ -31,7 +31,7 @@ channel_of c = record {
 abbrev pub PERSIST : ℕ
 PERSIST = 1
 
--- what is asked of a server whose sessions outlive a restart, or don't
+-- a server whose sessions outlive a restart, or don't, is asked for this
 abbrev pub create_of : Bool → Identity → Value create_session_args → Create
 create_of lasting caller v = record {
   client = session_client v;

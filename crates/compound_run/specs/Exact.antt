@@ -53,8 +53,9 @@ IsReached lists caller demand [] = ⊥
 IsReached lists caller demand (None ∷ demands) = IsReached lists caller demand demands
 IsReached lists caller demand (Some d ∷ demands) = (demand ≡ d) ⊎ ((decision lists caller d ≡ decisions.Granted) × IsReached lists caller demand demands)
 
--- The last line is the DENY line of the first demand of the row that the lists refuse: it has the object, the bits demanded of it,
--- and the first entry that denies it, else the lowest bit that no entry allows.
+-- The last line is the DENY line of the first demand of the row that the lists refuse. It has the
+-- object and the bits demanded of it. It also has the first entry that denies it, else the lowest
+-- bit that no entry allows.
 pub record EndsInRefusal (caller : Identity) (op : ℕ) (lists : Lists) (demands : List (Option Demand)) (lines : List Line) : Type 0 where
   pub demand : Demand
   pub reached : IsReached lists caller demand demands

@@ -1,5 +1,5 @@
--- The statuses by which a question of an operation may fail: not OK; not ACCESS, by which rows fail alone; and not DELAY, which means
--- that memory was refused.
+-- The statuses by which a question of an operation may fail. They aren't OK, nor ACCESS, by which
+-- rows fail alone, nor DELAY, which means that memory was refused.
 use Rattle.std.specs.Prelude.{Option, Some, None, Result, Ok, Err}
 use Rattle.nfs_types.specs.declared.status.Status.{Status}
 use Rattle.nfs_types.specs.declared.status.Status.TheVariants as statuses

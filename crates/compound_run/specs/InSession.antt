@@ -57,9 +57,10 @@ ActsAlone caller _ old outcome new = ⊥
 abbrev pub ActsTo : Identity → Operation → List ℕ → Realm → List ℕ → Realm → Type 0
 ActsTo caller op tag old bytes new = (outcome : Result Outcome Status) × ActsAlone caller op old outcome new × (bytes ≡ given_alone tag (number_of op) outcome)
 
--- ---- operations behind a SEQUENCE
+-- ---- operations after a SEQUENCE
 
--- The operations are run in turn from this context of the first, and their results are put behind that of SEQUENCE.
+-- The operations are run in turn from this context of the first, and their results are put after
+-- that of SEQUENCE.
 abbrev pub RunsTo : Context → List ℕ → Given → List ℕ → Point → List ℕ → Point → Type 0
 RunsTo c tag given operations old bytes new =
     (results : List Given) × runs.Runs c (c.count - c.position) operations old results new × (bytes ≡ together tag (given ∷ results))
@@ -79,7 +80,7 @@ begin_in r call count v operations = sequence_begin r.registry (session_of (sequ
 abbrev pub begun_in : Realm → Call → ℕ → Value sequence_args → List ℕ → Registry
 begun_in r call count v operations = sequence_begun r.registry (session_of (sequence_session v)) (asked_in r.lasting call count v operations)
 
--- the context of the first operation behind SEQUENCE
+-- the context of the first operation after SEQUENCE
 abbrev pub context_behind : State → Call → List ℕ → ℕ → Value sequence_args → NewCall → Context
 context_behind s call tag count v new = record {
   caller = member s.settings.book call.caller;
@@ -91,8 +92,8 @@ context_behind s call tag count v new = record {
   room = room_behind tag v new;
 }
 
--- The operations are run in the realm after the beginning of the call, and at the end its slot keeps all results. They are no more than
--- a reply of the granted size may have.
+-- The operations are run in the realm after the beginning of the call, and at the end its slot
+-- keeps all results. They are no more than a reply of the granted size may have.
 abbrev pub RunsOnSlot : State → Call → List ℕ → ℕ → Value sequence_args → List ℕ → NewCall → List ℕ → State → Type 0
 RunsOnSlot old call tag count v operations granted bytes new =
     (end : Point)

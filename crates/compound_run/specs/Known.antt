@@ -1,5 +1,6 @@
--- What is known of clients: their records with their sessions and slots, the open files, and the number that the next one gets;
--- and the open files that may stand in a world after a restart (RFC 8881, section 2.10.6.5).
+-- This is what is known of clients: their records with their sessions and slots, the open files,
+-- and the number that the next one gets. Of the open files it is said which may stand in a world
+-- after a restart (RFC 8881, section 2.10.6.5).
 use Rattle.std.specs.Prelude.{ℕ, ◌^◌, ◌&&◌, Bool, true, nat_lt, nat_le, List, [], ◌∷◌, length, is_some}
 use Rattle.std.specs.List.{list_all}
 use Rattle.node_tree.specs.World.{World}

@@ -42,11 +42,11 @@ pub record IsNext (s : Sight) (directory cookie : ℕ) (found : Option Name) (ne
 abbrev pub written_entry : Content → ObjectFacts → Name → List ℕ → Value entry
 written_entry book facts n asked = (n.cookie, (n.name, (given_set asked, given_values book facts asked)))
 
--- an entry behind its link
+-- an entry after its link
 unfoldable pub linked : Value entry → List ℕ
 linked e = linked_bytes e
 
--- The entry is written behind its link, or there is no room for it, and nothing is.
+-- The entry is written after its link, or there is no room for it, and nothing is.
 pub record PutsEntry (e : Value entry) (old new : Buffer) (result : Result (Unit {0}) Full) : Type 0 where
   pub sendable : OnOk result (IsSendable e)
   pub puts : Puts old new (linked e) result

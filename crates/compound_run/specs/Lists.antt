@@ -1,5 +1,5 @@
--- The list that attributes give an object, by the whole list, the mode and the parts of a list that they set (RFC 8881, sections 6.2.2, 6.2.3,
--- 6.4.1 and 6.4.3).
+-- The list that attributes give an object, by the whole list, the mode and the parts of a list that
+-- they set (RFC 8881, sections 6.2.2, 6.2.3, 6.4.1 and 6.4.3).
 use Rattle.std.specs.Prelude.{◌≡◌, ◌≢◌, Bool, true, false, List, [], Option, Some, None, Result, Ok, Err}
 use Rattle.acl_list.specs.declared.entry.Entry.{Entry}
 use Rattle.acl_list.specs.declared.entry.Kind.{Kind}
@@ -11,8 +11,9 @@ use Rattle.nfs_types.specs.declared.status.Status.TheVariants as statuses
 
 -- ---- a new object, in a directory of this list
 
--- The list that a new object is given before its parts: the empty list where a dacl is given, so that nothing is inherited and a
--- mode beside it gives its high bits alone; else the list that was sent, if any, so that a sacl goes into the list made without it.
+-- The list that a new object is given before its parts. It is the empty list where a dacl is given,
+-- so that nothing is inherited and a mode beside it gives its high bits alone. Else it is the list
+-- that was sent, if any, so that a sacl goes into the list made without it.
 abbrev pub base_of : Option (List Entry) → Option (List Entry) → Option (List Entry)
 base_of list (Some dacl) = Some []
 base_of list None = list

@@ -1,5 +1,6 @@
--- The meaning of an operation at its place in a COMPOUND: its questions in order, its result, and its effect on the realm and on the
--- filehandles; and the questions of several operations (RFC 8881, sections 2.10, 16.2 and 18).
+-- The meaning of an operation at its place in a COMPOUND, and the questions of several operations
+-- (RFC 8881, sections 2.10, 16.2 and 18). A meaning is the operation's questions in order, its
+-- result, and its effect on the realm and on the filehandles.
 use Rattle.std.specs.Prelude.{ℕ, ◌&&◌, Bool, true, false, not, nat_le, if◌then◌else◌, List, [], ◌∷◌, length, is_some, unwrap_or, Option, Some, None}
 use Rattle.std.proofs.Common.{inl}
 use Rattle.std.specs.Option.{option_map_or}
@@ -79,7 +80,7 @@ is_set handle = Holds (λ s. is_some handle) statuses.NoFileHandle tt
 abbrev pub is_live : Option ℕ → Question
 is_live handle = Holds (λ s. is_some (s.kinds (number_in handle))) statuses.Stale tt
 
--- these questions behind those of a filehandle
+-- these questions after those of a filehandle
 abbrev pub with_handle : Option ℕ → List Question → List Question
 with_handle handle questions = is_set handle ∷ is_live handle ∷ questions
 
@@ -141,7 +142,7 @@ too_big_may (Some calling) = of calling.keeps_reply
     of true = tt
     of false = tt
 
--- there is room for a result of so many bytes
+-- there is room for a result of this many bytes
 abbrev pub has_room : Context → (Sight → ℕ) → Question
 has_room c size = Holds (λ s. nat_le (size s) c.room) (too_big_for c.calling) (too_big_may c.calling)
 

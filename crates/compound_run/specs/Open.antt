@@ -1,5 +1,6 @@
--- OPEN (RFC 8881, section 18.16): a file is opened, by its name in the current directory or by the current filehandle; an absent file
--- may be created, an existing file truncated. The file becomes current.
+-- OPEN (RFC 8881, section 18.16): a file is opened, by its name in the current directory or by the
+-- current filehandle. An absent file may be created, an existing file truncated. The file becomes
+-- current.
 use Rattle.std.specs.Prelude.{ℕ, ◌+◌, ◌==◌, ◌%◌, Bool, true, false, ◌&&◌, ◌||◌, nat_lt, nat_eq, if◌then◌else◌, List, [], ◌∷◌, ◌++◌, length, map, find, unwrap_or, bit_or, Option, Some, None, Result, Ok}
 use Rattle.std.proofs.Common.{inl}
 use Rattle.std.specs.Option.{option_map}
@@ -217,7 +218,7 @@ found_may (Unchecked set) (Some File) = tt
 found_may (Unchecked set) (Some Directory) = tt
 found_may (Unchecked set) (Some Link) = tt
 
--- ---- the questions behind the second row
+-- ---- the questions after the second row
 
 -- a new file is the caller's, and within the limit
 abbrev pub is_permitted : Context → Value open_args → Option ℕ → Bool

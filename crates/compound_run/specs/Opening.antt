@@ -36,7 +36,7 @@ IsPlace owner (Some o) (places.New bytes) = ⊥
 IsPlace owner None (places.Again number seqid) = ⊥
 IsPlace owner None (places.New bytes) = bytes.items ≡ owner
 
--- there is room for the open, among so many opens in so much room, with this next number
+-- there is room for the open, beside `len` opens in room for `capacity`, with this next number
 abbrev pub HasPlace : {A : Type 0} → (next len capacity : ℕ) → Place A → Type 0
 HasPlace next len capacity (places.Again number seqid) = Unit {0}
 HasPlace next len capacity (places.New bytes) = (next < 2 ^ 63) × (len + 1 ≤ capacity)

@@ -1,6 +1,7 @@
--- The meaning of each operation at its place (RFC 8881, section 18): a line for each that is supported, in the order of the standard.
--- Others answer NOTSUPP once they are read, and so do the operations of sessions where there is none. Of these RECLAIM_COMPLETE alone
--- runs behind a SEQUENCE.
+-- The meaning of each operation at its place (RFC 8881, section 18): a line for each that is
+-- supported, in the order of the standard. Others answer NOTSUPP once they are read, and so do the
+-- operations of sessions where there is none. Of these RECLAIM_COMPLETE alone runs after a
+-- SEQUENCE.
 use Rattle.std.specs.Prelude.{ℕ, Bool, true, false, ◌&&◌, nat_lt, is_none, if◌then◌else◌, ◌∷◌, Option, Some, None}
 use Rattle.nfs_types.specs.declared.status.Status.{Status}
 use Rattle.nfs_types.specs.declared.status.Status.TheVariants as statuses
@@ -43,8 +44,9 @@ use Rattle.compound_run.specs.ReclaimComplete.{reclaim_complete}
 
 -- ---- place
 
--- The fault of an operation by its place. Where there is no session the operations of sessions aren't supported. After a SEQUENCE there is
--- no place for a further one, nor for an operation that has to be the only one of its COMPOUND.
+-- The fault of an operation by its place. Where there is no session the operations of sessions
+-- aren't supported. After a SEQUENCE there is no place for a further one, nor for an operation that
+-- has to be the only one of its COMPOUND.
 abbrev pub refused_place : Option Calling → Placement → Option Status
 refused_place calling Anywhere = None
 refused_place None InSession = Some statuses.NotSupp
@@ -118,7 +120,7 @@ entry_may c op = first_may (place_fault c op) (room_fault c op) (place_may c op)
 
 -- ---- the operations
 
--- the meaning behind place and room
+-- the meaning after place and room
 abbrev pub body : Context → FileHandles → Operation → Meaning
 body c h (Known kinds.Access v) = access v c h
 body c h (Known kinds.Close v) = close v c h
@@ -149,7 +151,7 @@ body c h (Unsupported n) = refusing c h n statuses.NotSupp tt
 body c h Illegal = refusing c h illegal statuses.OpIllegal tt
 body c h (Bad n) = refusing c h n statuses.BadXdr tt
 
--- a meaning behind a fault, if there is one
+-- a meaning after a fault, if there is one
 abbrev pub entered : (fault : Option Status) → MayFault fault → Meaning → Meaning
 entered fault may m = record m { questions = is_valid fault may ∷ m.questions }
 
@@ -158,7 +160,8 @@ meaning c h op = entered (entry_fault c op) (entry_may c op) (body c h op)
 
 -- ---- memory
 
--- Of the supported operations CREATE, LINK, NVERIFY, OPEN, RENAME, SETATTR, VERIFY and WRITE take memory, which may be refused.
+-- Of the supported operations CREATE, LINK, NVERIFY, OPEN, RENAME, SETATTR, VERIFY and WRITE take
+-- memory, which may be refused.
 abbrev pub takes_memory : Operation → Bool
 takes_memory (Known k v) = (row k).delays && is_run (Known k v)
 takes_memory _ = false

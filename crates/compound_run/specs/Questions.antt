@@ -1,5 +1,6 @@
--- An operation puts its questions in order. Its outcome is the status of the first that fails, else OK; the decisions of its rows
--- write lines into the trail, up to and with the first that is refused (RFC 8881, sections 6.2.1 and 18).
+-- An operation puts its questions in order. Its outcome is the status of the first that fails, else
+-- OK. The decisions of its rows write lines into the trail, up to and with the first that is
+-- refused (RFC 8881, sections 6.2.1 and 18).
 use Rattle.std.specs.Prelude.{ℕ, Bool, true, ◌&&◌, if◌then◌else◌, List, [], ◌∷◌, ◌++◌, Option, Some, None, Result, Ok, Err}
 use Rattle.rpc_record.specs.Identity.{Identity}
 use Rattle.nfs_types.specs.declared.status.Status.{Status}

@@ -16,11 +16,12 @@ use Rattle.compound_run.specs.Stateids.{has_stateid}
 use Rattle.compound_run.specs.Rows.{first_row}
 use Rattle.compound_run.specs.Meaning.{Meaning, stays, with_handle, here, is_no_directory, is_no_link}
 
--- the most bytes of data of a result in so much room: its number, its status, the mark of the end and the length take 16
+-- the most bytes of data of a result in this much room: its number, its status, the mark of the end
+-- and the length take 16
 abbrev pub data_room : ℕ → ℕ
 data_room room = (room - 16) / 4 * 4
 
--- the most bytes that are returned, of so many requested, in so much room
+-- the most bytes that are returned, of this many requested, in this much room
 abbrev pub most_of : ℕ → ℕ → ℕ
 most_of count room = min (data_room room) (min count MAX_READ)
 

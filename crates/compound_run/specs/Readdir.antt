@@ -49,8 +49,8 @@ abbrev pub permitted : Lists → Identity → ℕ → List ℕ → List ℕ
 permitted lists caller number asked =
     trimmed (common asked (granted_words (allows lists caller number READ_ATTRIBUTES) (allows lists caller number READ_ACL)))
 
--- The rdattr_error (11) and the attributes of an entry's object, where this demand is the first that its list refuses. Where
--- rdattr_error isn't requested, the demand refuses the entry.
+-- The rdattr_error (11) and the attributes of an entry's object, where this demand is the first
+-- that its list refuses. Where rdattr_error isn't requested, the demand refuses the entry.
 abbrev pub judgment : Lists → Identity → List ℕ → ℕ → Option Demand → Result (Status × List ℕ) Demand
 judgment lists caller asked number None = Ok (statuses.Ok, asked)
 judgment lists caller asked number (Some d) =

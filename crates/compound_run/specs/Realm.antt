@@ -33,8 +33,8 @@ unopened w = record { world = w; opens = []; next_open = 1; registry = nobody; l
 
 -- ---- opens end with their object
 
--- An object that has lost its last name is gone, and its opens are closed: the opens that are left in a world where this object has lost
--- a name.
+-- An object that has lost its last name is gone, and its opens are closed. These opens are left in
+-- a world where this object has lost a name.
 abbrev pub opens_left : World → Option ℕ → List Opened → List Opened
 opens_left w None opens = opens
 opens_left w (Some number) opens = if is_some (kind_of w number) then opens else filter (λ o. not (o.object == number)) opens

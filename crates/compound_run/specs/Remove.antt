@@ -1,4 +1,5 @@
--- REMOVE (RFC 8881, section 18.25): a name of the current directory goes. With its last name the object goes, and its opens are closed.
+-- REMOVE (RFC 8881, section 18.25): a name of the current directory goes. With its last name the
+-- object goes, and its opens are closed.
 use Rattle.std.specs.Prelude.{ℕ, not, List, [], ◌∷◌, None}
 use Rattle.nfs_types.specs.declared.status.Status.TheVariants as statuses
 use Rattle.nfs_ops.specs.Operations.{Known}

@@ -1,5 +1,6 @@
--- RENAME (RFC 8881, section 18.26): a child of the saved directory gets a new name in the current one, and a target of that name loses
--- it. An object that has lost its last name goes, and its opens are closed.
+-- RENAME (RFC 8881, section 18.26): a child of the saved directory gets a new name in the current
+-- one, and a target of that name loses it. An object that has lost its last name goes, and its
+-- opens are closed.
 use Rattle.std.specs.Prelude.{ℕ, Bool, not, if◌then◌else◌, List, [], ◌∷◌, Option}
 use Rattle.xdr_wire.specs.Xdr.{Value}
 use Rattle.nfs_types.specs.declared.status.Status.TheVariants as statuses

@@ -1,5 +1,5 @@
--- The facts of the realm for the table of demands, and so the demands of an operation at its place (RFC 8881, sections 6.2.1.3
--- and 18).
+-- The facts of the realm for the table of demands, and so the demands of an operation at its place
+-- (RFC 8881, sections 6.2.1.3 and 18).
 use Rattle.std.specs.Prelude.{ℕ, ◌*◌, Option, Some, None}
 use Rattle.std.specs.Option.{option_map}
 use Rattle.acl_shape.specs.declared.bounds.TheConstants.{MAX_ENTRIES}
@@ -25,7 +25,8 @@ first_facts s h = record { current = object_of s h.current; saved = object_of s 
 abbrev pub sized_facts : Sight → FileHandles → Option ℕ → First
 sized_facts s h new_size = record (first_facts s h) { size = option_map s.sizes h.current; new_size = new_size }
 
--- The facts that are known once the names are looked up: the child of the name, and the target of the new name of a RENAME.
+-- The facts that are known once the names are looked up: the child of the name, and the target of
+-- the new name of a RENAME.
 abbrev pub second_facts : Sight → FileHandles → Option ℕ → Option ℕ → Second
 second_facts s h child replaced = record {
   current = object_of s h.current;

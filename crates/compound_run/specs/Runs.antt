@@ -38,9 +38,10 @@ abbrev pub Unless : Bool → Result Outcome Status → Type 0 → Type 0
 Unless true result A = result ≢ Err statuses.Delay → A
 Unless false result A = A
 
--- An operation is answered: its outcome is the status of the first question that fails, else its result; its lines are held, and
--- then pass through `ends`; and where it is OK it has its effect, else none. An operation that may be delayed answers DELAY in the place
--- of any outcome, where memory was refused: then it has no line in the trail.
+-- An operation is answered. Its outcome is the status of the first question that fails, else its
+-- result. Its lines are held, and then pass through `ends`. Where it is OK it has its effect, else
+-- none. An operation that may be delayed answers DELAY in the place of any outcome, where memory
+-- was refused. Then it has no line in the trail.
 pub record Answered (may : Bool) (m : Meaning) (ends : Log → Log) (old : Point) (result : Result Outcome Status) (new : Point) : Type 0 where
   pub outcome : Unless may result (result ≡ outcome m old.realm)
   pub log : Unless may result (new.log ≡ ends (held (traced m old.realm) old.log))
@@ -91,8 +92,9 @@ status_in (Err status) = status
 abbrev pub status_of : Given → Status
 status_of given = status_in given.outcome
 
--- The results of so many operations in these bytes, from this context of the first. Each is that of the next operation, at
--- the place that the operations before it have reached; those behind the first that isn't OK aren't read.
+-- The results of this many operations in these bytes, from this context of the first. Each is that
+-- of the next operation, at the place that the operations before it have reached. Those after the
+-- first that isn't OK aren't read.
 abbrev pub Runs : Context → ℕ → List ℕ → Point → List Given → Point → Type 0
 Runs c zero bytes old [] new = new ≡ old
 Runs c zero bytes old (given ∷ results) new = ⊥

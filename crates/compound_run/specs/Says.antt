@@ -35,7 +35,7 @@ values_given g = given_values g.book.now g.facts.now (bitmap_value g.asked)
 abbrev pub given_outcome : GivenAttributes → Outcome
 given_outcome g = Done kinds.GetAttr (given_set (bitmap_value g.asked), values_given g)
 
--- A result is written where it has at most so many bytes, and else nothing is.
+-- A result is written where it has at most `room` bytes, and else nothing is.
 abbrev pub PutsWithin : {E : Type 0} → ℕ → Outcome → Buffer → Result (Unit {0}) E → Buffer → Type 0
 PutsWithin room o before (Ok done) after =
     Appends before after (spelled o) × (nat_le (most o) room ≡ true) × (length after.bytes ≤ length before.bytes + room)

@@ -27,9 +27,10 @@ asked_by v count record_len caller arguments = record {
   call = record { number = sequence_number v; caller = caller; arguments = arguments };
 }
 
--- The bytes that a repeat of a call has to have, of those after its header: all. Where sessions outlive a restart they are all
--- but sa_highest_slotid, since a client may send a call again with another one (RFC 8881, section 18.46.3). It stands before
--- sa_cachethis and the bytes of the operations after SEQUENCE, which are this many.
+-- The bytes that a repeat of a call has to have, of those after its header: all. Where sessions
+-- outlive a restart they are all but sa_highest_slotid, since a client may send a call again with
+-- another one (RFC 8881, section 18.46.3). It stands before sa_cachethis and the bytes of the
+-- operations after SEQUENCE, which are this many.
 abbrev pub compared : Bool → List ℕ → ℕ → List ℕ
 compared false arguments behind = arguments
 compared true arguments behind = take (length arguments - behind - 8) arguments ++ drop (length arguments - behind - 4) arguments
@@ -41,7 +42,7 @@ sequence_given v highest = (sequence_session v, (sequence_number v, (sequence_sl
 abbrev pub sequence_done : Value sequence_args → ℕ → Given
 sequence_done v highest = record { number = (row kinds.Sequence).number; outcome = Ok (Done kinds.Sequence (sequence_given v highest)) }
 
--- the session for the operations behind SEQUENCE
+-- the session for the operations after SEQUENCE
 abbrev pub calling_by : Value sequence_args → NewCall → Calling
 calling_by v new = record { client = new.client; keeps_reply = keeps_reply v }
 

@@ -71,20 +71,20 @@ pub record ActedSo (caller : Identity) (op : Operation) (old : Realm) (before : 
   pub told : status ≡ status_in outcome
   pub within : length after.bytes ≤ length before.bytes + MIN_ROOM
 
--- These bytes are put behind the buffer's, and are within the limit.
+-- These bytes are put after the buffer's, and are within the limit.
 abbrev pub Writes : ℕ → List ℕ → Buffer → Buffer → Type 0
 Writes limit bytes before after = Appends before after bytes × (length bytes ≤ limit)
 
--- The answer is put behind the buffer's bytes, and is within the limit.
+-- The answer is put after the buffer's bytes, and is within the limit.
 abbrev pub WritesWithin : ℕ → (List ℕ → Type 0) → Buffer → Buffer → Type 0
 WritesWithin limit answers before after = (bytes : List ℕ) × answers bytes × Appends before after bytes × (length bytes ≤ limit)
 
--- ---- operations behind a SEQUENCE
+-- ---- operations after a SEQUENCE
 
 abbrev pub SequencedTo : {A : Type 0} → Context → List ℕ → Given → List ℕ → realms.Realm A → List ℕ → realms.Realm A → Type 0
 SequencedTo c tag given operations old bytes new = (handles : FileHandles) × RunsTo c tag given operations (point_at old no_handles) bytes (point_at new handles)
 
--- The results are put behind the buffer's bytes; with a head in front they would be the answer.
+-- The results are put after the buffer's bytes; with a head in front they would be the answer.
 abbrev pub SequencedBehind : {A : Type 0} → ℕ → Context → List ℕ → Given → List ℕ → realms.Realm A → Buffer → Ended → realms.Realm A → Buffer → Type 0
 SequencedBehind most c tag given operations old before end new after =
     (results : List ℕ) × SequencedTo c tag given operations old (head end.status tag end.ran ++ results) new
@@ -94,7 +94,7 @@ SequencedBehind most c tag given operations old before end new after =
 abbrev pub sequence_told : SequenceResult → Given
 sequence_told r = record { number = (row kinds.Sequence).number; outcome = Ok (Done kinds.Sequence (sequence_result_value r)) }
 
--- the context of the first operation behind a SEQUENCE
+-- the context of the first operation after a SEQUENCE
 abbrev pub coming_behind : Content → Coming → Value sequence_args → NewCall → Context
 coming_behind book c v new = record {
   caller = member book c.caller.now;

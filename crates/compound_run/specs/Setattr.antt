@@ -96,7 +96,7 @@ sets_any wanted = is_some wanted.size || sets_list wanted || sets_owner wanted
 abbrev pub stamps : Wanted → ℕ
 stamps wanted = (if sets_list wanted then 1 else 0) + (if sets_owner wanted then 1 else 0)
 
--- a tick is left, and so many stamps; where no attribute is set none is taken
+-- a tick is left, and as many stamps as it takes; where no attribute is set none is taken
 unfoldable pub has_counts : Wanted → Sight → Bool
 has_counts wanted s = if sets_any wanted then has_left s.next_tick && nat_le (s.next_stamp + stamps wanted) (2 ^ 63) else true
 

@@ -1,5 +1,6 @@
--- An operation's sight of the realm: part by part, and the parts that lists govern as far as they may be seen. The questions, result
--- and lines of an operation are functions of a sight, so they are defined once for the whole realm and for a caller's view.
+-- An operation's sight of the realm, part by part. The parts that lists govern are there as far as
+-- they may be seen. The questions, result and lines of an operation are functions of a sight, so
+-- they are defined once for the whole realm and for a caller's view.
 use Rattle.std.specs.Prelude.{ℕ, Bool, true, ◌||◌, if◌then◌else◌, List, [], length, unwrap_or, Option, None}
 use Rattle.std.specs.Option.{option_map, option_map_or}
 use Rattle.rpc_record.specs.Identity.{Identity}
@@ -24,9 +25,9 @@ pub record Details : Type 0 where
   pub time_metadata : Moment
 
 pub record Sight : Type 0 where
-  -- these are seen by all: kinds; how many bytes a file or a link's text has; the list, owner and group of an object; how many names an
-  -- object has; whether a directory has names; the parent of a directory; the change of a directory; how many objects there
-  -- are; the counters;
+  -- these are seen by all: kinds; how many bytes a file or a link's text has; the list, owner and
+  -- group of an object; how many names an object has; whether a directory has names; the parent of
+  -- a directory; the change of a directory; how many objects there are; the counters;
   pub kinds : ℕ → Option Kind
   pub sizes : ℕ → ℕ
   pub lists : Lists

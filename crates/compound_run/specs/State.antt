@@ -36,8 +36,8 @@ pub record State : Type 0 where
 abbrev pub fresh : World → Content → ℕ → State
 fresh w book capacity = record { realm = unopened w; trail = []; total = 0; settings = first_settings capacity book }
 
--- A server that goes on after a restart over what was kept: this world, and what was known of clients. Its sessions outlive
--- the next restart too (RFC 8881, section 2.10.6.5).
+-- A server that goes on after a restart over what was kept: this world, and what was known of
+-- clients. Its sessions outlive the next restart too (RFC 8881, section 2.10.6.5).
 abbrev pub restored : World → Known → Content → ℕ → State
 restored w k book capacity = record {
   realm = record { world = w; opens = k.opens; next_open = k.next_open; registry = k.registry; lasting = true };
@@ -46,7 +46,7 @@ restored w k book capacity = record {
   settings = first_settings capacity book;
 }
 
--- what a server knows of its clients
+-- this is what a server knows of its clients
 abbrev pub known_of : State → Known
 known_of s = record { registry = s.realm.registry; opens = s.realm.opens; next_open = s.realm.next_open }
 
@@ -132,7 +132,8 @@ AnswersBy (Run tag c operations) old results new = RunsSo tag c operations old r
 abbrev pub Answers : State → Call → Option (List ℕ) → State → Type 0
 Answers old call results new = AnswersBy (fate old call) old results new
 
--- The results are put behind the buffer's bytes, and are within the limit of a reply; or there are none.
+-- The results are put after the buffer's bytes, and are within the limit of a reply; or there are
+-- none.
 abbrev pub RunsBare : (Option (List ℕ) → State → Type 0) → RunEnd → Buffer → Buffer → State → Type 0
 RunsBare answers Replied before after new = (results : List ℕ) × answers (Some results) new × Appends before after results × (length results ≤ MAX_RESULTS)
 RunsBare answers Garbage before after new = answers None new × (after ≡ before)

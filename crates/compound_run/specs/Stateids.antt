@@ -1,5 +1,5 @@
--- The stateid of an operation on the current object: a special stateid serves every file (RFC 8881, section 8.2.3), and the stateid of
--- an open serves the client and the object of that open alone.
+-- The stateid of an operation on the current object. A special stateid serves every file (RFC 8881,
+-- section 8.2.3). The stateid of an open serves the client and the object of that open alone.
 use Rattle.std.specs.Prelude.{ℕ, Bool, true, false, ◌==◌, ◌&&◌, not, nat_lt, if◌then◌else◌, List, find, filter, Option, Some, None}
 use Rattle.std.specs.Option.{option_map_or}
 use Rattle.xdr_wire.specs.Xdr.{Value}
@@ -51,7 +51,8 @@ seqid_fault seqid o =
 abbrev pub mode_fault : (ℕ → Bool) → Opened → Option Status
 mode_fault serves o = if serves o.access then None else Some statuses.OpenMode
 
--- the fault of an open's stateid: there is no such open, the seqid isn't its present one, or it isn't opened for this access
+-- the fault of an open's stateid: there is no such open, the seqid isn't its present one, or it
+-- isn't opened for this access
 abbrev pub open_fault : (ℕ → Bool) → ℕ → Option Opened → Option Status
 open_fault serves seqid None = Some statuses.BadStateId
 open_fault serves seqid (Some o) = first_fault (seqid_fault seqid o) (mode_fault serves o)

@@ -1,5 +1,5 @@
--- The value of each attribute of an object, by the sight of it (RFC 8881, sections 5.6 to 5.8 and 6.2). The values that all objects
--- share, and their spelling, are in the table of attributes.
+-- The value of each attribute of an object, by the sight of it (RFC 8881, sections 5.6 to 5.8 and
+-- 6.2). The values that all objects share, and their spelling, are in the table of attributes.
 use Rattle.std.specs.Prelude.{ℕ, ◌≤◌, if◌then◌else◌, List, [], length, take, unwrap_or, bit_or}
 use Rattle.std.specs.Option.{option_map_or}
 use Rattle.std.proofs.Common.{arith}

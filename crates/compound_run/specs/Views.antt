@@ -46,7 +46,7 @@ open_view o = record { number = o.number; client = o.client; owner = o.owner.ite
 abbrev pub opens_view : {A : Type 0} → List (Open A) → List Opened
 opens_view opens = map open_view opens
 
--- what is known of clients, lent
+-- this is what is known of clients, lent
 abbrev pub lent_view : {A : Type 0} → Lent A → Known
 lent_view l = record { registry = l.clients.now; opens = opens_view l.opens.now; next_open = l.next_open }
 

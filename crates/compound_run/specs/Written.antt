@@ -41,12 +41,12 @@ Opens None tag c operations old bytes new = (results : List Given) × Runs c c.c
 abbrev pub OpensTo : {A : Type 0} → Option Status → List ℕ → Context → List ℕ → realms.Realm A → List ℕ → realms.Realm A → Type 0
 OpensTo fault tag c operations old bytes new = (handles : FileHandles) × Opens fault tag c operations (point_at old no_handles) bytes (point_at new handles)
 
--- The results are put behind the buffer's bytes; with a head in front they would be the answer.
+-- The results are put after the buffer's bytes; with a head in front they would be the answer.
 abbrev pub OpensBehind : {A : Type 0} → Option Status → List ℕ → Context → List ℕ → realms.Realm A → Buffer → Ended → realms.Realm A → Buffer → Type 0
 OpensBehind fault tag c operations old before end new after =
     (results : List ℕ) × OpensTo fault tag c operations old (head end.status tag end.ran ++ results) new
     × Appends before after results × (length after.bytes ≤ length before.bytes + c.room + REFUSAL_ROOM)
 
--- The answer is put behind the buffer's bytes, and is within the limit of a reply.
+-- The answer is put after the buffer's bytes, and is within the limit of a reply.
 abbrev pub WritesAnswer : (List ℕ → Type 0) → Buffer → Buffer → Type 0
 WritesAnswer answers before after = (bytes : List ℕ) × answers bytes × Appends before after bytes × (length bytes ≤ MAX_RESULTS)

@@ -111,7 +111,7 @@ impl<'a> CompoundArgs<'a> {
         None
     }
 
-    /// Runs the operations behind what `out` holds, unless none is to be run.
+    /// Runs the operations after what `out` holds, unless none is to be run.
     fn run_operations<A: Allocator + Copy>(
         &self,
         realm: &mut Realm<A>,
@@ -132,8 +132,9 @@ impl<'a> CompoundArgs<'a> {
         realm.run_all(context, self.operations, out)
     }
 
-    /// Writes the results of the COMPOUND behind what `out` holds: its status and the number of its results are filled in once they
-    /// are known. The room of the context is that of the head and the results together.
+    /// Writes the results of the COMPOUND after what `out` holds. Its status and the number of its
+    /// results are filled in once they are known. The room of the context is that of the head and
+    /// the results together.
     pub fn run<A: Allocator + Copy>(
         &self,
         realm: &mut Realm<A>,

@@ -5,7 +5,7 @@ ghost use Rattle.compound_run.specs.Meaning.{too_big_for};
 use nfs_types::{Moment, Status};
 use rpc_record::Caller;
 
-/// The session behind whose SEQUENCE operations are run (RFC 8881, section 18.46).
+/// The session after whose SEQUENCE operations are run (RFC 8881, section 18.46).
 #[derive(Clone, Copy, Debug, PartialEq, Eq)]
 pub(crate) struct Calling {
     /// The client of the session.

@@ -84,7 +84,8 @@ pub(crate) fn is_own<A: Allocator>(caller: &Caller, wanted: &Attrs<A>) -> bool
     owner && group
 }
 
-/// The given list of a new object before its parts: the empty list where a dacl is given, else the list that was sent, if any.
+/// The given list of a new object before its parts: the empty list where a dacl is given, else the
+/// list that was sent, if any.
 fn base_of<A: Allocator>(
     alloc: A,
     list: Option<AclList<A>>,
@@ -145,8 +146,8 @@ impl<A: Allocator + Copy> Realm<A> {
         }
     }
 
-    /// The list of a new object by its attributes, with the high bits of its mode. `NoSpc`: it would not be within the bounds of
-    /// a list. `Delay`: there is no memory for it.
+    /// The list of a new object by its attributes, with the high bits of its mode. `NoSpc`: it
+    /// would not be within the bounds of a list. `Delay`: there is no memory for it.
     fn new_permissions(
         &self,
         directory: u64,
@@ -177,7 +178,8 @@ impl<A: Allocator + Copy> Realm<A> {
         Ok(Permissions { list, high })
     }
 
-    /// The new object for a directory. `NoSpc`: its list would not be within the bounds of a list. `Delay`: there is no memory for it.
+    /// The new object for a directory. `NoSpc`: its list would not be within the bounds of a list.
+    /// `Delay`: there is no memory for it.
     pub fn new_object(
         &self,
         directory: u64,

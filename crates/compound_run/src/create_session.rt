@@ -73,7 +73,8 @@ fn put_created<A: Allocator>(created: Created, out: &mut Writer<A>)
 }
 
 impl<A: Allocator + Copy> Realm<A> {
-    /// Asks for a session; the client counts as heard at this moment. The opens of a client whose record goes are closed.
+    /// Asks for a session; the client counts as heard at this moment. The opens of a client whose
+    /// record goes are closed.
     fn make_session(&mut self, caller: &Caller, now: Moment, args: &CreateSessionArgs<'_>) -> Made
         ensures creates { Creates self.old.clients (create_of self.old.lasting caller.now (create_session_args_value args.now)) result self.new.clients }
         ensures opens { opens_view self.new.opens.items ≡ opens_without result.gone (opens_view self.old.opens.items) }

@@ -49,7 +49,8 @@ impl<A: Allocator + Copy> Realm<A> {
         self.grants(&first_demands(op, &facts), step.context.caller, op.number())
     }
 
-    /// Whether the lists grant an operation's first demands by the size of the current object and the new size. Its lines are held.
+    /// Whether the lists grant an operation's first demands by the size of the current object and
+    /// the new size. Its lines are held.
     pub fn grants_sized(&mut self, step: Step<'_>, op: &Op<'_>, new_size: Option<u64>) -> bool
         requires { self.old.tree.log.held ≡ [] }
         ensures answer { result ≡ grants_all self.old step.entry.context.caller.now (sized_of self.old op.now step.entry.handles new_size) }
@@ -70,8 +71,8 @@ impl<A: Allocator + Copy> Realm<A> {
         self.grants(&first_demands(op, &facts), step.context.caller, op.number())
     }
 
-    /// Whether the lists grant the demands of an operation once it has looked up its names: the child of the name, and the target
-    /// of the new name of a RENAME. Its lines are held.
+    /// Whether the lists grant the demands of an operation once it has looked up its names. These
+    /// are the child of the name, and the target of the new name of a RENAME. Its lines are held.
     pub fn grants_second(
         &mut self,
         step: Step<'_>,
@@ -98,7 +99,8 @@ impl<A: Allocator + Copy> Realm<A> {
         )
     }
 
-    /// Whether the lists grant the demands of OPEN on the existing file, if there is one, and by the new size. Its lines are held.
+    /// Whether the lists grant the demands of OPEN on the existing file, if there is one, and by
+    /// the new size. Its lines are held.
     pub fn grants_opening(
         &mut self,
         step: Step<'_>,
@@ -125,7 +127,8 @@ impl<A: Allocator + Copy> Realm<A> {
         )
     }
 
-    /// Whether the lists grant the demands, each where there is one; none is checked behind a refused one. Their lines are held.
+    /// Whether the lists grant the demands, each where there is one. None is checked after a
+    /// refused one. Their lines are held.
     pub fn grants(&mut self, demands: &[Option<Demand>], caller: &Caller, op: u32) -> bool
         requires { length self.old.tree.log.held + MAX_ENTRIES * lists_in demands.now < MOST_HELD }
         ensures answer { result ≡ grants_all self.old caller.now demands.now }

@@ -64,7 +64,8 @@ impl<A: Allocator + Copy> Realm<A> {
         })
     }
 
-    /// A client is made known, and counts as heard at this moment. DELAY: there is no memory for a new record, and nothing changes.
+    /// A client is made known, and counts as heard at this moment. DELAY: there is no memory for a
+    /// new record, and nothing changes.
     pub fn exchange_id(
         &mut self,
         caller: &Caller,

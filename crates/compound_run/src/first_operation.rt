@@ -31,11 +31,11 @@ pub(crate) enum Beginning<'a> {
     Refuses(u32, Status),
     /// The operation is the only one.
     Acts(Lone<'a>),
-    /// SEQUENCE, and the bytes of the operations behind it.
+    /// SEQUENCE, and the bytes of the operations after it.
     Follows(SequenceArgs, &'a [u8]),
 }
 
-/// Begins with an operation that has to be the only one of so many, and has this number.
+/// Begins with an operation that has to be the only one of `count`, and has this number.
 fn only(count: u32, number: u32, lone: Lone<'_>) -> Beginning<'_>
     requires { number ≡ number_of (lone_view lone) }
     ensures { beginning_view result ≡ specs.only count (lone_view lone.entry) }
@@ -46,7 +46,7 @@ fn only(count: u32, number: u32, lone: Lone<'_>) -> Beginning<'_>
     Beginning::Acts(lone)
 }
 
-/// Begins with the first of so many operations.
+/// Begins with the first of this many operations.
 fn begin_with<'a>(count: u32, op: Op<'a>, rest: &'a [u8]) -> Beginning<'a>
     ensures { beginning_view result ≡ specs.beginning_with count (op_view op.entry) rest.now }
 {
@@ -64,7 +64,7 @@ fn begin_with<'a>(count: u32, op: Op<'a>, rest: &'a [u8]) -> Beginning<'a>
     }
 }
 
-/// The beginning of a COMPOUND of this minor version and so many operations in these bytes.
+/// The beginning of a COMPOUND of this minor version and this many operations in these bytes.
 pub(crate) fn begin(minor_version: u32, count: u32, operations: &[u8]) -> Beginning<'_>
     ensures { beginning_view result ≡ specs.beginning minor_version count operations.now }
 {

@@ -19,7 +19,7 @@ use nfs_types::{Bitmap, GivenAttributes, Status};
 use std::alloc::Allocator;
 use xdr_wire::{Full, Writer};
 
-/// Writes the result of a GETATTR, of at most so many bytes; else nothing.
+/// Writes the result of a GETATTR, of at most `room` bytes; else nothing.
 #[tactic(auto, unfolding(crate::specs::Runs::spelled))]
 fn put_attributes<A: Allocator>(
     given: GivenAttributes<'_>,

@@ -49,8 +49,9 @@ fn sequence_given(args: &SequenceArgs, new: NewCall) -> SequenceResult
     }
 }
 
-/// The bytes that a repeat of a call has to have, of those after its header, where the operations after its SEQUENCE have
-/// `behind` bytes: all, or where sessions outlive a restart all but sa_highest_slotid.
+/// The bytes that a repeat of a call has to have, of those after its header, where the operations
+/// after its SEQUENCE have `behind` bytes. They are all, or where sessions outlive a restart all
+/// but sa_highest_slotid.
 fn compared(lasting: bool, arguments: &[u8], behind: usize) -> CallBytes<'_>
     ensures bytes { bytes_of result ≡ specs.compared lasting arguments.now behind }
     ensures short { length (bytes_of result) ≤ length arguments.now }
@@ -69,7 +70,7 @@ fn compared(lasting: bool, arguments: &[u8], behind: usize) -> CallBytes<'_>
 }
 
 impl<A: Allocator + Copy> Realm<A> {
-    /// Keeps the bytes behind the first ones as the results of a call.
+    /// Keeps the bytes after the first ones as the results of a call.
     fn keep_from(&mut self, args: &SequenceArgs, out: &Writer<A>, start: usize)
         requires start { start ≤ length out.now.bytes }
         requires slot { IfSome (session_at self.old.clients (session_of args.now.session)) (λ s. args.now.slot < s.granted.slots) }
@@ -81,7 +82,7 @@ impl<A: Allocator + Copy> Realm<A> {
             .keep(session_of(&args.session), args.slot, results);
     }
 
-    /// Runs the operations behind a SEQUENCE that has begun a new call, and keeps their results.
+    /// Runs the operations after a SEQUENCE that has begun a new call, and keeps their results.
     fn answer_new(
         &mut self,
         call: Coming<'_>,
@@ -153,7 +154,7 @@ impl<A: Allocator + Copy> Realm<A> {
         }
     }
 
-    /// Answers a COMPOUND where sessions are in use, behind what `out` holds.
+    /// Answers a COMPOUND where sessions are in use, after what `out` holds.
     pub fn answer_in_session(&mut self, call: Coming<'_>, out: &mut Writer<A>)
         requires short { length call.compound.tag.now ≤ limits.MAX_TAG }
         requires whole { length call.args.bytes.now ≤ call.args.record_len }

@@ -1,4 +1,4 @@
-//! What is known of clients, which is kept over a restart (RFC 8881, section 2.10.6.5).
+//! This is what is known of clients and kept over a restart (RFC 8881, section 2.10.6.5).
 ghost use Rattle.std.specs.Prelude.{◌≡◌, is_some};
 ghost use Rattle.std.specs.List.{list_all};
 ghost use Rattle.node_tree.specs.Steps.{is_file_at};
@@ -18,8 +18,8 @@ use std::marker::Model;
 /// The most clients.
 const MOST: u32 = 64;
 
-/// What is known of clients: their records with their sessions and slots, the open files, and the number that the next
-/// one gets.
+/// This is what is known of clients: their records with their sessions and slots, the open files,
+/// and the number that the next one gets.
 #[derive(Drop)]
 pub struct Known<A: Allocator = Global> {
     /// The clients with their sessions.
@@ -39,7 +39,7 @@ impl<A: Allocator> Model for Known<A> {
     ghost view = { λ k. record { registry = k.clients; opens = opens_view k.opens.items; next_open = k.next_open } };
 }
 
-/// What is known of clients, lent.
+/// This is what is known of clients, lent.
 #[derive(Clone, Copy)]
 pub struct Lent<'a, A: Allocator = Global> {
     /// The clients with their sessions.
@@ -164,7 +164,8 @@ impl<A: Allocator + Copy> Known<A> {
         }
     }
 
-    /// All clients were heard in this second, which is no part of the model: so a client that is restored has a lease again.
+    /// All clients were heard in this second, which is no part of the model: so a client that is
+    /// restored has a lease again.
     pub fn hear_all(&mut self, now: u64)
         ensures { self.new ≡ self.old }
     {
@@ -182,7 +183,7 @@ impl<A: Allocator + Copy> Known<A> {
 }
 
 impl<'a, A: Allocator + Copy> Lent<'a, A> {
-    /// What a server knows of its clients.
+    /// Lends what a server knows of its clients.
     pub fn of(server: &'a Server<A>) -> Self
         ensures { lent_view result ≡ known_of server.now }
     {

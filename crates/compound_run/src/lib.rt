@@ -1,6 +1,8 @@
-//! Runs a COMPOUND over a tree of objects, with access control lists checked for each operation (RFC 8881, sections 16.2 and 18).
+//! Runs a COMPOUND over a tree of objects, with access control lists checked for each operation
+//! (RFC 8881, sections 16.2 and 18).
 //!
-//! Each operation has one file here, and one in `specs/` with its questions in order, its result and its effect on the tree.
+//! Each operation has one file here, and one in `specs/` with its questions in order, its result
+//! and its effect on the tree.
 #![tactic(auto)]
 
 mod access;

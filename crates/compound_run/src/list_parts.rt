@@ -9,8 +9,8 @@ use acl_shape::{CombineFault, with_parts};
 use nfs_types::Status;
 use std::alloc::Allocator;
 
-/// A list with the parts that are given put into it. `NoSpc`: it would not be within the bounds of a list. `Delay`: there is no
-/// memory for it.
+/// A list with the parts that are given put into it. `NoSpc`: it would not be within the bounds of
+/// a list. `Delay`: there is no memory for it.
 pub(crate) fn put_parts<A: Allocator>(
     alloc: A,
     list: AclList<A>,

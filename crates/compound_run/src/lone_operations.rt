@@ -72,7 +72,7 @@ impl<A: Allocator + Copy> Realm<A> {
         }
     }
 
-    /// Answers a COMPOUND of this operation alone, behind what `out` holds.
+    /// Answers a COMPOUND of this operation alone, after what `out` holds.
     pub fn answer_alone(
         &mut self,
         tag: &[u8],

@@ -15,7 +15,8 @@ use std::alloc::Allocator;
 use xdr_wire::Writer;
 
 impl<A: Allocator + Copy> Realm<A> {
-    /// OK where attributes of the current object don't all have these values. `Delay`: there is no memory to compare them.
+    /// OK where attributes of the current object don't all have these values. `Delay`: there is no
+    /// memory to compare them.
     pub fn nverify(
         &mut self,
         step: Step<'_>,

@@ -51,8 +51,8 @@ fn is_truncating(how: &OpenHow<'_>, size: Option<u64>) -> bool
     }
 }
 
-/// The access is neither missing nor unknown, the share deny is 0, and the name is valid; a file that has a filehandle exists
-/// already.
+/// The access is neither missing nor unknown, the share deny is 0, and the name is valid; a file
+/// that has a filehandle exists already.
 fn check_arguments(args: &OpenArgs<'_>) -> Result<(), Status>
     ensures fault { MatchResult result (λ done. specs.arguments_fault (open_args_value args.now) ≡ None) (λ status. specs.arguments_fault (open_args_value args.now) ≡ Some status) }
     ensures short { OnOk result (length (specs.name_in (parts.claim (open_claim_value args.now.claim))) ≤ 255) }
@@ -244,8 +244,8 @@ impl<A: Allocator + Copy> Realm<A> {
         })
     }
 
-    /// Makes room for the open of a file, and truncates the file, if it is to be. `NoSpc`: there is no room, or no tick is left.
-    /// `Delay`: there is no memory for it.
+    /// Makes room for the open of a file, and truncates the file, if it is to be. `NoSpc`: there is
+    /// no room, or no tick is left. `Delay`: there is no memory for it.
     fn place_found(
         &mut self,
         context: Context<'_>,
@@ -350,8 +350,9 @@ impl<A: Allocator + Copy> Realm<A> {
         }
     }
 
-    /// Opens a file, by its name in the current directory or by the current filehandle. It becomes current. An absent file may
-    /// be created, an existing file truncated. `Delay`: there is no memory for it, and nothing has changed.
+    /// Opens a file, by its name in the current directory or by the current filehandle. It becomes
+    /// current. An absent file may be created, an existing file truncated. `Delay`: there is no
+    /// memory for it, and nothing has changed.
     pub fn open(
         &mut self,
         step: Step<'_>,

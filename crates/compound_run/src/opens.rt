@@ -132,8 +132,9 @@ impl<A: Allocator + Copy> Realm<A> {
         Ok(copy)
     }
 
-    /// The place of the open of a file: the owner's open, if there is one, else a new one, for which room is made. `NoSpc`: too
-    /// many files are open, or no number is left. `Delay`: there is no memory for it.
+    /// The place of the open of a file: the owner's open, if there is one, else a new one, for
+    /// which room is made. `NoSpc`: too many files are open, or no number is left. `Delay`: there
+    /// is no memory for it.
     pub fn place(
         &mut self,
         context: Context<'_>,

@@ -41,7 +41,8 @@ fn has_all(granted: u32, mask: u32) -> bool
     mask & granted == mask
 }
 
-/// The first of the two demands of an entry that is refused, where READ_ATTRIBUTES and READ_ACL are granted, each or not.
+/// The first of the two demands of an entry that is refused, where READ_ATTRIBUTES and READ_ACL are
+/// granted, each or not.
 fn first_refused(demands: &[Option<Demand>], attributes: bool, list: bool) -> Option<Demand>
     requires { length demands.now ≡ 2 }
     ensures { result ≡ refused_of attributes list demands.now }
@@ -55,7 +56,8 @@ fn first_refused(demands: &[Option<Demand>], attributes: bool, list: bool) -> Op
     None
 }
 
-/// Writes an entry behind its link, with these attributes of its object. `Full` exactly where there is no room; then nothing is written.
+/// Writes an entry after its link, with these attributes of its object. `Full` exactly where there
+/// is no room; then nothing is written.
 fn put_entry<'t, A: Allocator, B: Allocator>(
     book: &'t Book,
     facts: &'t ObjectFacts<'_>,
@@ -94,8 +96,8 @@ impl<A: Allocator + Copy> Realm<A> {
         Some((name.cookie(), object))
     }
 
-    /// The attributes of an entry's object, with rdattr_error, or the demand that refuses the entry. The grants of its list are
-    /// looked up once.
+    /// The attributes of an entry's object, with rdattr_error, or the demand that refuses the
+    /// entry. The grants of its list are looked up once.
     fn judge(
         &mut self,
         caller: &Caller,
@@ -119,8 +121,9 @@ impl<A: Allocator + Copy> Realm<A> {
         Ok((Status::Access, given))
     }
 
-    /// Writes the next entry of a directory above a cookie behind its link, with these attributes of its object and this status as
-    /// rdattr_error. `Full` exactly where there is no room; then nothing is written.
+    /// Writes the next entry of a directory above a cookie after its link, with these attributes of
+    /// its object and this status as rdattr_error. `Full` exactly where there is no room; then
+    /// nothing is written.
     fn put_next<B: Allocator>(
         &self,
         context: Context<'_>,
@@ -216,7 +219,8 @@ impl<A: Allocator + Copy> Realm<A> {
         write_readdir(&mut children, args.maxcount, context.room, out)
     }
 
-    /// Writes the listing of a directory. Where an entry is refused for want of rdattr_error, the lines of the refused demand are held.
+    /// Writes the listing of a directory. Where an entry is refused for want of rdattr_error, the
+    /// lines of the refused demand are held.
     fn list(
         &mut self,
         step: Step<'_>,

@@ -20,7 +20,7 @@ use node_tree::Kind;
 use std::alloc::Allocator;
 use xdr_wire::{Source, Spell, Writer};
 
-/// The bytes of a result with a text of so many.
+/// The bytes of a result with a text of this length.
 fn text_size(length: u64) -> u64
     requires { length ≤ 1024 }
     ensures { result ≡ readlink_size length }
@@ -53,7 +53,8 @@ fn put_head<A: Allocator>(out: &mut Writer<A>)
     (OP_READLINK, 0u32).write(out).unwrap();
 }
 
-/// Writes the text of a link, which has so many bytes and for which there is room, straight from the tree.
+/// Writes the text of a link, which has `len` bytes and for which there is room, straight from the
+/// tree.
 fn put_text<A: Allocator + Copy>(tree: &GuardedTree<A>, link: u64, len: usize, out: &mut Writer<A>)
     requires all { length (bytes_of tree.now.world link) ≡ len }
     requires short { len ≤ 1024 }

@@ -176,8 +176,8 @@ impl<A: Allocator + Copy> Realm<A> {
         }
     }
 
-    /// Gives a child another name that it may have. A target of that name loses it; where that was its last name its opens are
-    /// closed. `Delay`: there is no memory for it.
+    /// Gives a child another name that it may have. A target of that name loses it; where that was
+    /// its last name its opens are closed. `Delay`: there is no memory for it.
     pub fn rename_child(&mut self, moved: Move<'_>, at: At) -> Result<(), Status>
         requires tick { IsTick self.old.tree.world at.tick }
         requires live { kind_of self.old.tree.world moved.to ≡ Some Kind.Directory }

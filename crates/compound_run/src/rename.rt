@@ -25,7 +25,8 @@ struct Found {
 }
 
 impl<A: Allocator + Copy> Realm<A> {
-    /// Gives a child of the saved directory a new name in the current one, which it may have. A target of that name loses it.
+    /// Gives a child of the saved directory a new name in the current one, which it may have. A
+    /// target of that name loses it.
     fn move_child(
         &mut self,
         step: Step<'_>,

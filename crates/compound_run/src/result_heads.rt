@@ -24,7 +24,7 @@ pub(crate) fn put_head<A: Allocator>(status: Status, tag: &[u8], count: u32, out
     put_word(out, count);
 }
 
-/// Answers a COMPOUND of which no operation is run, behind what `out` holds.
+/// Answers a COMPOUND of which no operation is run, after what `out` holds.
 pub(crate) fn put_ended<A: Allocator>(tag: &[u8], status: Status, out: &mut Writer<A>)
     requires short { length tag.now ≤ limits.MAX_TAG }
     requires room { limits.MAX_RESULTS ≤ out.old.room }
@@ -33,7 +33,7 @@ pub(crate) fn put_ended<A: Allocator>(tag: &[u8], status: Status, out: &mut Writ
     put_head(status, tag, 0, out);
 }
 
-/// Answers a COMPOUND whose first operation, of this number, is refused, behind what `out` holds.
+/// Answers a COMPOUND whose first operation, of this number, is refused, after what `out` holds.
 pub(crate) fn put_refused<A: Allocator>(
     tag: &[u8],
     number: u32,
@@ -48,7 +48,7 @@ pub(crate) fn put_refused<A: Allocator>(
     put_refusal(number, status, out);
 }
 
-/// Writes results that are kept, behind what `out` holds.
+/// Writes results that are kept, after what `out` holds.
 pub(crate) fn put_kept<A: Allocator>(results: &[u8], out: &mut Writer<A>)
     requires few { length results.now ≤ limits.MAX_RESULTS }
     requires room { limits.MAX_RESULTS ≤ out.old.room }

@@ -21,8 +21,9 @@ use nfs_types::Status;
 use std::alloc::Allocator;
 use xdr_wire::Writer;
 
-/// The fault of an operation's place, if any: where there is no session its operations aren't supported. After a SEQUENCE
-/// there is no place for a further one, nor for an operation that has to be the only one of its COMPOUND.
+/// The fault of an operation's place, if any: where there is no session its operations aren't
+/// supported. After a SEQUENCE there is no place for a further one, nor for an operation that has
+/// to be the only one of its COMPOUND.
 fn place_fault(context: Context<'_>, op: &Op<'_>) -> Option<Status>
     ensures { result ≡ specs.place_fault_in context.entry.calling (op_view op.now) }
 {

@@ -1,4 +1,4 @@
-//! Operations behind a SEQUENCE (RFC 8881, sections 2.10.6.4 and 18.46).
+//! Operations after a SEQUENCE (RFC 8881, sections 2.10.6.4 and 18.46).
 ghost use Rattle.std.specs.Prelude.{◌≡◌, ◌+◌, ◌-◌, ◌≤◌, [], length};
 ghost use Rattle.nfs_ops.specs.Results.{Done};
 ghost use Rattle.nfs_ops.specs.Views.{sequence_result_value};
@@ -19,7 +19,8 @@ use std::alloc::Allocator;
 use xdr_wire::Writer;
 
 impl CompoundArgs<'_> {
-    /// Writes the result of SEQUENCE, and runs the operations behind it. The results end before `end`.
+    /// Writes the result of SEQUENCE, and runs the operations after it. The results end before
+    /// `end`.
     fn run_sequenced<A: Allocator + Copy>(
         &self,
         realm: &mut Realm<A>,
@@ -45,8 +46,9 @@ impl CompoundArgs<'_> {
         realm.run_all(second, operations, out)
     }
 
-    /// Writes the results of a COMPOUND with this SEQUENCE and these operations behind it, behind what `out` holds: at
-    /// most so many bytes. Status and number of the results are filled in once they are known.
+    /// Writes the results of a COMPOUND with this SEQUENCE and these operations after it. They come
+    /// after what `out` holds, and are at most `limit` bytes. Status and number of the results are
+    /// filled in once they are known.
     pub fn run_behind<A: Allocator + Copy>(
         &self,
         realm: &mut Realm<A>,

@@ -46,7 +46,7 @@ const MANY_OPENS: usize = 2_048;
 /// The arguments of a COMPOUND.
 #[derive(Clone, Copy, Debug)]
 pub struct Args<'a> {
-    /// The bytes behind the call's header.
+    /// The bytes after the call's header.
     pub bytes: &'a [u8],
     /// The number of bytes that the call's record has.
     pub record_len: usize,
@@ -80,8 +80,9 @@ impl<A: Allocator + Copy> Model for Server<A> {
 }
 
 impl<A: Allocator + Copy> Server<A> {
-    /// A server of this tree, which has run nothing yet, and whose sessions don't outlive a restart. It remembers summaries of at most
-    /// `capacity` pairs of a list and a caller, whose keys are hashed by `hasher`. `Err`: there is no memory for it.
+    /// A server of this tree, which has run nothing yet, and whose sessions don't outlive a
+    /// restart. It remembers summaries of at most `capacity` pairs of a list and a caller, whose
+    /// keys are hashed by `hasher`. `Err`: there is no memory for it.
     pub fn new(
         alloc: A,
         tree: Tree<A>,
@@ -103,7 +104,8 @@ impl<A: Allocator + Copy> Server<A> {
         })
     }
 
-    /// A server over a tree and the clients that were kept before a restart, which fit. `Err`: there is no memory for it.
+    /// A server over a tree and the clients that were kept before a restart, which fit. `Err`:
+    /// there is no memory for it.
     fn lasting(
         alloc: A,
         tree: Tree<A>,
@@ -127,13 +129,14 @@ impl<A: Allocator + Copy> Server<A> {
         })
     }
 
-    /// A server that goes on after a restart over what was kept: the tree, the clients with their sessions, and the open files
-    /// (RFC 8881, section 2.10.6.5). Its sessions outlive the next restart too: CREATE_SESSION grants
-    /// CREATE_SESSION4_FLAG_PERSIST where it is asked for.
+    /// A server that goes on after a restart over what was kept: the tree, the clients with their
+    /// sessions, and the open files (RFC 8881, section 2.10.6.5). Its sessions outlive the next
+    /// restart too: CREATE_SESSION grants CREATE_SESSION4_FLAG_PERSIST where it is asked for.
     ///
-    /// Misfit: an open file can't stand. Its number isn't above those before it, or wasn't given yet; its file isn't there, or its
-    /// client has no record; its owner has more than 1,024 bytes, its access isn't 1, 2 or 3, or its seqid is 0. Or there are more
-    /// than 4,096 of them, or the number of the next one is 0 or above 2^63.
+    /// Misfit: an open file can't stand. Its number isn't above those before it, or wasn't given
+    /// yet; its file isn't there, or its client has no record; its owner has more than 1,024 bytes,
+    /// its access isn't 1, 2 or 3, or its seqid is 0. Or there are more than 4,096 of them, or the
+    /// number of the next one is 0 or above 2^63.
     pub fn restored(
         alloc: A,
         tree: Tree<A>,
@@ -153,12 +156,14 @@ impl<A: Allocator + Copy> Server<A> {
         Ok(Server::lasting(alloc, tree, known, book, capacity, hasher)?)
     }
 
-    /// Runs a COMPOUND without a session at a moment (RFC 8881, section 16.2): its operations in turn, up to and with the first that
-    /// isn't OK. Its results are put behind what `out` holds, at most [`MAX_RESULTS`] bytes, for which there has to be room.
+    /// Runs a COMPOUND without a session at a moment (RFC 8881, section 16.2): its operations in
+    /// turn, up to and with the first that isn't OK. Its results are put after what `out` holds.
+    /// They are at most [`MAX_RESULTS`] bytes, for which there has to be room.
     ///
-    /// Another minor version than 1 answers MINOR_VERS_MISMATCH, and more than 16 operations TOO_MANY_OPS, with no results. The
-    /// operations of sessions, and unsupported ones, answer NOTSUPP. CREATE, LINK, NVERIFY, OPEN, RENAME, SETATTR, VERIFY and
-    /// WRITE answer DELAY where memory is refused, and then nothing changes; no other takes memory that it needs.
+    /// Another minor version than 1 answers MINOR_VERS_MISMATCH, and more than 16 operations
+    /// TOO_MANY_OPS, with no results. The operations of sessions, and unsupported ones, answer
+    /// NOTSUPP. CREATE, LINK, NVERIFY, OPEN, RENAME, SETATTR, VERIFY and WRITE answer DELAY where
+    /// memory is refused, and then nothing changes. No other takes memory that it needs.
     #[tactic(auto, unfolding(crate::specs::State::fate))]
     pub fn run_bare(
         &mut self,
@@ -185,13 +190,16 @@ impl<A: Allocator + Copy> Server<A> {
         RunEnd::Replied
     }
 
-    /// Runs a COMPOUND where sessions are in use, at a moment (RFC 8881, sections 2.10.6 and 16.2). It is refused, repeated or run. Its
-    /// results are put behind what `out` holds, at most [`MAX_RESULTS`] bytes, for which there has to be room.
+    /// Runs a COMPOUND where sessions are in use, at a moment (RFC 8881, sections 2.10.6 and 16.2).
+    /// It is refused, repeated or run. Its results are put after what `out` holds. They are at most
+    /// [`MAX_RESULTS`] bytes, for which there has to be room.
     ///
-    /// Behind a SEQUENCE the operations run in turn, up to and with the first that isn't OK, within what the session was granted,
-    /// and their results are kept. A repeat of the last call of a slot gets the kept results, and changes nothing. EXCHANGE_ID,
-    /// CREATE_SESSION, DESTROY_SESSION and DESTROY_CLIENTID are each the only operation of their COMPOUND. DELAY is answered where
-    /// memory is refused, as in [`Server::run_bare`], and of these also at EXCHANGE_ID and at a new CREATE_SESSION; then nothing changes.
+    /// After a SEQUENCE the operations run in turn, up to and with the first that isn't OK, within
+    /// what the session was granted. Their results are kept. A repeat of the last call of a slot
+    /// gets the kept results, and changes nothing. EXCHANGE_ID, CREATE_SESSION, DESTROY_SESSION and
+    /// DESTROY_CLIENTID are each the only operation of their COMPOUND. DELAY is answered where
+    /// memory is refused, as in [`Server::run_bare`], and of these also at EXCHANGE_ID and at a new
+    /// CREATE_SESSION. Then nothing changes.
     #[tactic(auto, unfolding(crate::specs::InSession::fate))]
     pub fn run(
         &mut self,
@@ -217,14 +225,15 @@ impl<A: Allocator + Copy> Server<A> {
         RunEnd::Replied
     }
 
-    /// Whether so many clients, sessions or open files are there that a silent client may be let go.
+    /// Whether enough clients, sessions or open files are there that a silent client may be let go.
     fn is_crowded(&self) -> bool {
         let (records, sessions) = self.realm.clients.counts();
         records > MANY_CLIENTS || sessions > MANY_SESSIONS || self.realm.opens.len() > MANY_OPENS
     }
 
-    /// The client to let go at this moment, if one is to go: more than 32 records, 32 sessions or 2,048 open files are there, and nothing was
-    /// heard of the client for more than 90 seconds. Of several it is the most silent one.
+    /// The client to let go at this moment, if one is to go. Then more than 32 records, 32 sessions
+    /// or 2,048 open files are there, and nothing was heard of the client for more than 90 seconds.
+    /// Of several it is the most silent one.
     pub fn silent(&self, now: Moment) -> Option<u64>
         ensures { IfSome result (λ client. IsSome (client_at self.now.realm.registry client)) }
     {
@@ -234,8 +243,9 @@ impl<A: Allocator + Copy> Server<A> {
         self.realm.clients.silent(second(now), LEASE)
     }
 
-    /// Lets a client go: its record goes with its sessions, and its open files are closed; all else stays (RFC 8881, section 8.3). `false`:
-    /// it has no record, and nothing changes. It takes no memory.
+    /// Lets a client go: its record goes with its sessions, and its open files are closed; all else
+    /// stays (RFC 8881, section 8.3). `false`: it has no record, and nothing changes. It takes no
+    /// memory.
     pub fn let_go(&mut self, client: u64) -> bool
         ensures live { result ≡ is_some (client_at self.old.realm.registry client) }
         ensures gone { self.new ≡ (if result then without_client client self.old else self.old) }
@@ -247,11 +257,13 @@ impl<A: Allocator + Copy> Server<A> {
         true
     }
 
-    /// Loads another book, and gives back the one before. From the next call on the lists decide for each caller by the new one,
-    /// and no summary that was remembered before is used again. The tree with its owner, the open files, the clients with their
-    /// sessions, and the trail stay. It takes no memory.
+    /// Loads another book, and gives back the one before. From the next call on the lists decide
+    /// for each caller by the new one, and no summary that was remembered before is used again. The
+    /// tree with its owner, the open files, the clients with their sessions, and the trail stay. It
+    /// takes no memory.
     ///
-    /// `Err`: the epoch of the book has none after it ([`next_epoch`]); the new book is given back, and nothing changes.
+    /// `Err`: the epoch of the book has none after it ([`next_epoch`]); the new book is given back,
+    /// and nothing changes.
     pub fn reload(&mut self, book: Book) -> Result<Book, Book>
         ensures given { MatchOption (next_epoch self.old.settings.epoch) (result ≡ Err book) (λ epoch. result ≡ Ok self.old.settings.book) }
         ensures ok { OnOk result (self.new ≡ with_book book self.old) }

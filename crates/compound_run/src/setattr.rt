@@ -133,7 +133,8 @@ impl<A: Allocator + Copy> Realm<A> {
         self.tree.next_tick() < MAX_COUNT && self.tree.next_stamp() <= MAX_COUNT - stamps(wanted)
     }
 
-    /// The list of an object after a mode and a list are set, and the high bits of its mode. `Delay`: there is no memory for it.
+    /// The list of an object after a mode and a list are set, and the high bits of its mode.
+    /// `Delay`: there is no memory for it.
     fn changed(&self, number: u64, given: Given<A>) -> Result<Permissions<A>, Status>
         requires there { IsSome (object self.now.tree.world number) }
         requires bounded { IfSome given.list IsBounded }
@@ -151,8 +152,9 @@ impl<A: Allocator + Copy> Realm<A> {
         }
     }
 
-    /// The list of an object after its attributes are set, and the high bits of its mode. `None`: it stays. `NoSpc`: it would not
-    /// be within the bounds of a list. `Delay`: there is no memory for it.
+    /// The list of an object after its attributes are set, and the high bits of its mode. `None`:
+    /// it stays. `NoSpc`: it would not be within the bounds of a list. `Delay`: there is no memory
+    /// for it.
     fn permissions(&self, number: u64, wanted: Attrs<A>) -> Result<Option<Permissions<A>>, Status>
         requires there { IsSome (object self.now.tree.world number) }
         requires bounded { IfSome wanted.list IsBounded }
@@ -227,8 +229,8 @@ impl<A: Allocator + Copy> Realm<A> {
         }
     }
 
-    /// Sets attributes of an object, all or none. `NoSpc`: its list would not be within the bounds of a list. `Delay`: there is no memory
-    /// for them.
+    /// Sets attributes of an object, all or none. `NoSpc`: its list would not be within the bounds
+    /// of a list. `Delay`: there is no memory for them.
     #[tactic(auto, unfolding(crate::specs::Setattr::setting))]
     fn set_all(&mut self, number: u64, wanted: Attrs<A>, at: At) -> Result<(), Status>
         requires tick { IsTick self.old.tree.world at.tick }
@@ -253,8 +255,8 @@ impl<A: Allocator + Copy> Realm<A> {
         Ok(())
     }
 
-    /// Sets these attributes; without any no tick is taken. `NoSpc`: the list would not be within the bounds of a list. `Delay`:
-    /// there is no memory for them.
+    /// Sets these attributes; without any no tick is taken. `NoSpc`: the list would not be within
+    /// the bounds of a list. `Delay`: there is no memory for them.
     #[tactic(auto, unfolding(crate::specs::Setattr::has_counts, crate::specs::Setattr::setting))]
     fn set_any(&mut self, now: Moment, number: u64, wanted: Attrs<A>) -> Result<(), Status>
         requires there { IsSome (object self.old.tree.world number) }

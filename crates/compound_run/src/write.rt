@@ -24,7 +24,8 @@ fn fits(offset: u64, more: &[u8]) -> bool
 }
 
 impl<A: Allocator + Copy> Realm<A> {
-    /// Writes bytes into the current file; no bytes take no tick. `Delay`: there is no memory for them, and nothing has changed.
+    /// Writes bytes into the current file; no bytes take no tick. `Delay`: there is no memory for
+    /// them, and nothing has changed.
     pub fn write(
         &mut self,
         step: Step<'_>,

@@ -1,4 +1,5 @@
-//! Samples of XDR forms of one's own, one of each shape (a struct, unions, a chain, an array with a normal form), and of names for READDIR.
+//! Samples of XDR forms of one's own, one of each shape: a struct, unions, a chain, an array with a
+//! normal form. There are samples of names for READDIR too.
 #![tactic(auto)]
 
 mod bitmap;

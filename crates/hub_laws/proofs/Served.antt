@@ -1,4 +1,4 @@
--- What each call of a server keeps of its realm, each step of the machine keeps.
+-- A fact of a realm that each call of a server keeps is kept by each step of the machine.
 use Rattle.std.proofs.Common.{◌≡◌, ◌≢◌, ℕ, Bool, true, false, List, [], ◌∷◌, ◌++◌, length, Option, Some, None, Result, Ok, Err, refl, sym, ap, subst, inl, inr}
 use Rattle.std.specs.Prelude.{◌⊎◌, MatchOption}
 use Rattle.std.specs.Option.{option_map_or}

@@ -29,7 +29,7 @@ head_again key generation number f rest fit =
     ∙ ap (fitting_head key) (again (pair head_form hyper) (head_value h, d) (head_bytes ++ digest_bytes) (body_bytes ++ rest) (spelled (pair head_form hyper) (head_value h, d) (fit.0, fit.1.0)))
     ∙ same_digest d (Some h) None
 
--- what a read took
+-- a read took this
 record Took (key : ℕ) (r : Read (Value form)) (after : Bytes) : Type 0 where
   value : Value form
   is : r ≡ Ok (value, after)

@@ -1,4 +1,5 @@
--- What a crash leaves of two files while records are appended to one of them.
+-- While records are appended to one of two files, a crash leaves its checkpoint and a front of the
+-- records, unless a digest fits by chance.
 use Rattle.std.proofs.Common.{◌≡◌, ◌≢◌, ◌⊎◌, inl, inr, ⊎_elim, ℕ, ◌<◌, ◌≤◌, ◌+◌, ◌*◌, Bool, true, false, List, [], ◌∷◌, ◌++◌, length, drop, Option, Some, None, nat_lt, refl, sym, ◌∙◌, ap, subst, arith, append_assoc, length-append, length-drop}
 use Rattle.std.specs.Bool.{if◌then◌else◌}
 use Rattle.std.specs.Prelude.{◌==◌}
@@ -63,7 +64,7 @@ generation_first key generation (f ∷ kept) c more is fit =
     ap (λ (b : Bytes). generation_in (head_at key b)) (append_assoc (framed key generation 0 f) (all_framed key generation 1 kept) more)
     ∙ ap generation_in (head_again key generation 0 f (all_framed key generation 1 kept ++ more) fit.0)
 
--- what stands of the live file
+-- this stands of the live file
 record Stays (key generation : ℕ) (kept later : List Frame) (checkpoint : Content) (x : File) : Type 0 where
   rank_is : rank x ≡ generation
   kept_stand : IsFront kept x.frames

@@ -1,4 +1,5 @@
--- What a crash leaves of two files while a checkpoint is written into one of them.
+-- A crash while a checkpoint is written leaves the old file or the whole new one, unless a digest
+-- fits by chance.
 use Rattle.std.proofs.Common.{◌≡◌, ◌≢◌, ◌⊎◌, inl, inr, ⊎_elim, ℕ, ◌<◌, ◌≤◌, ◌+◌, ◌*◌, Bool, true, false, List, [], ◌∷◌, ◌++◌, length, drop, Option, Some, None, nat_lt, refl, sym, ◌∙◌, ap, subst, arith, append_assoc}
 use Rattle.std.specs.Bool.{if◌then◌else◌}
 use Rattle.std.proofs.lemmas.Bool.{cases_eq, cases_lt}

@@ -1,4 +1,4 @@
--- What the acts of a disk do to the frames of a file.
+-- Acts of a disk empty a file of frames, append frames, and keep them.
 use Rattle.std.proofs.Common.{◌≡◌, ℕ, ◌+◌, ◌≤◌, true, false, List, [], ◌∷◌, ◌++◌, length, refl, sym, ◌∙◌, ap, subst, arith, append_assoc, length-append}
 use Rattle.std.proofs.lemmas.List.{append-nil}
 use Rattle.journal.specs.declared.disk.Slot.{Slot}

@@ -1,4 +1,4 @@
--- What a crash leaves of the frames of one file.
+-- A crash leaves a front of the frames of one file, unless digests fit by chance.
 use Rattle.std.specs.Prelude.{◌≡◌, ◌⊎◌, ◌≤◌, ◌<◌, ◌+◌, ℕ, Bool, true, List, [], ◌∷◌, ◌++◌, length, drop, Some}
 use Rattle.journal.specs.declared.head.Head.{Head}
 use Rattle.journal.specs.Disk.{Disk, MayLeave}
@@ -24,8 +24,8 @@ pub record IsWritten (key generation : ℕ) (kept later : List Frame) (going : B
   pub kept_marked : AreMarked (length kept) kept
   pub later_marked : AreMarked (length kept) later
 
--- What was torn has come out as a frame by chance: after some of the later frames, in their order, stands another frame
--- than the next of them, at its place, and its digests fit.
+-- Torn bytes have come out as a frame by chance. After some of the later frames, in their order,
+-- stands another frame than the next of them, at its place, and its digests fit.
 pub record Fluke (key generation number : ℕ) (later : List Frame) (more : Bytes) : Type 0 where
   pub front : List Frame
   pub left : List Frame
@@ -42,8 +42,8 @@ abbrev pub IsHeadOf : ℕ → ℕ → ℕ → List Frame → Head → Type 0
 IsHeadOf key generation number [] h = ⊥
 IsHeadOf key generation number (f ∷ frames) h = (h ≡ head_for key generation number f) ⊎ IsHeadOf key generation (number + 1) frames h
 
--- What was torn has come out as a head by chance: a head of no lesser generation whose digest fits, and it is that of
--- no frame that was appended.
+-- Torn bytes have come out as a head by chance. It is a head of no lesser generation whose digest
+-- fits, and it is that of no frame that was appended.
 pub record HeadFluke (key generation least : ℕ) (all : List Frame) (more : Bytes) : Type 0 where
   pub place : ℕ
   pub head : Head

@@ -50,7 +50,7 @@ after_sync d = settled (d.safe ++ d.unsynced)
 abbrev pub after_emptying : Disk → Disk
 after_emptying d = record { safe = []; unsynced = []; loose = length d.safe + d.loose }
 
--- what an act on one file does to a file
+-- an act on one file does this to a file
 abbrev pub if_same : Slot → Slot → (Disk → Disk) → Disk → Disk
 if_same A A f d = f d
 if_same A B f d = d

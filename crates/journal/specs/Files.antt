@@ -1,4 +1,4 @@
--- What a file has: a generation, frames, and in these a checkpoint and the records after it.
+-- A file has a generation and frames, and in these a checkpoint and the records after it.
 use Rattle.std.specs.Prelude.{◌≡◌, ◌≢◌, ◌==◌, ◌≤◌, ◌<◌, ◌*◌, ℕ, Bool, true, false, List, [], ◌∷◌, ◌++◌, length, drop, if◌then◌else◌, Option, Some, None}
 use Rattle.journal.specs.declared.head.Head.{Head}
 use Rattle.journal.specs.Frames.{Bytes, Frame, VERSION, END, head_at, Holds}
@@ -49,8 +49,8 @@ rank_of generation (Some x) = generation
 abbrev pub rank : File → ℕ
 rank x = rank_of x.generation (contents x.frames)
 
--- What a head after the frames of a file says where something is wrong: its version isn't known; or the file was
--- longer, since more frames than stand in it had been synced.
+-- A head after the frames of a file says this where something is wrong. Its version isn't known; or
+-- the file was longer, since more frames than stand in it had been synced.
 abbrev pub SaysSo : Bool → ℕ → Head → Type 0
 SaysSo true count h = h.version ≢ VERSION
 SaysSo false count h = (h.version ≡ VERSION) × (count < h.safe)
@@ -67,18 +67,18 @@ pub record Alarm (key least count : ℕ) (unknown : Bool) (rest : Bytes) : Type 
   pub place : ℕ
   pub alarm : AlarmAt key least count unknown (drop (4 * place) rest)
 
--- what a look at the front of bytes answers
+-- a look at the front of bytes answers this
 abbrev pub LooksSo : ℕ → ℕ → ℕ → Bytes → Option Bool → Type 0
 LooksSo key least count bytes None = (unknown : Bool) → AlarmAt key least count unknown bytes → ⊥
 LooksSo key least count bytes (Some unknown) = AlarmAt key least count unknown bytes
 
--- what a look at all places of the rest answers
+-- a look at all places of the rest answers this
 abbrev pub ScansSo : ℕ → ℕ → ℕ → Bytes → Option Bool → Type 0
 ScansSo key least count rest None = (unknown : Bool) → Alarm key least count unknown rest → ⊥
 ScansSo key least count rest (Some unknown) = Alarm key least count unknown rest
 
--- the content of a file of which some frames are left to read, by what was read so far: whether the end of the
--- checkpoint was, the parts, and the records
+-- The content of a file of which some frames are left to read. It goes by what was read so far:
+-- whether the end of the checkpoint was, the parts, and the records.
 abbrev pub after_those : List Bytes → List Bytes → Option Content → Option Content
 after_those parts records None = None
 after_those parts records (Some x) = Some (record { parts = parts ++ x.parts; records = records ++ x.records })
@@ -87,7 +87,7 @@ abbrev pub joined_to : Bool → List Bytes → List Bytes → List Frame → Opt
 joined_to true parts records frames = Some (record { parts = parts; records = records ++ bodies frames })
 joined_to false parts records frames = after_those parts records (contents frames)
 
--- what was read of a file whose checkpoint is whole, or isn't
+-- the content that was read of a file whose checkpoint is whole, or isn't
 abbrev pub if_whole : Bool → List Bytes → List Bytes → Option Content
 if_whole true parts records = Some (record { parts = parts; records = records })
 if_whole false parts records = None

@@ -1,4 +1,5 @@
--- The frames of a file, one after the other: each is a struct of a head, its digest and a body (RFC 4506, section 4.14).
+-- The frames of a file, one after the other: each is a struct of a head, its digest and a body
+-- (RFC 4506, section 4.14).
 use Rattle.std.specs.Prelude.{◌≡◌, ◌==◌, ◌+◌, ℕ, Bool, false, List, [], ◌∷◌, ◌++◌, length, if◌then◌else◌, Option, Some, None, Ok, Err}
 use Rattle.xdr_wire.specs.Xdr.{Xdr, Value, hyper, opaque, pair, HasSpelling, spelling}
 use Rattle.xdr_wire.specs.Reading.{Read, read_at}
@@ -36,7 +37,7 @@ head_value h = (h.version, (h.generation, (h.number, (h.safe, (h.kind, h.body)))
 abbrev pub head_of : Value head_form → Head
 head_of v = record { version = v.0; generation = v.1.0; number = v.1.1.0; safe = v.1.1.1.0; kind = v.1.1.1.1.0; body = v.1.1.1.1.1 }
 
--- what a head stands before
+-- a head stands before this
 abbrev pub tail_form : Xdr
 tail_form = pair hyper (opaque MAX_BODY)
 

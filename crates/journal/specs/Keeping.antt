@@ -1,4 +1,4 @@
--- What the calls of a checkpoint and of a journal do.
+-- Each call of a checkpoint or of a journal is given by its result and its acts of a disk.
 use Rattle.std.specs.Prelude.{◌≡◌, ◌⊎◌, ◌<◌, ◌+◌, ℕ, Bool, true, false, [], length, Result, Ok, Err, List}
 use Rattle.journal.specs.declared.disk.Slot.{Slot}
 use Rattle.journal.specs.declared.disk.Slot.TheVariants.{A, B}
@@ -11,7 +11,7 @@ use Rattle.journal.specs.declared.journal.Journal.{Journal}
 use Rattle.journal.specs.declared.journal.JournalFault.{JournalFault}
 use Rattle.journal.specs.declared.journal.JournalFault.TheVariants.{TooLong, Memory, Full, Failed}
 
--- what an act of a disk makes of it
+-- an act makes the second disk of the first one
 abbrev pub Adding : Type 0 → Type 1
 Adding D = D → Act → D → Type 0
 
@@ -21,8 +21,8 @@ pub record Twice {D : Type 0} (adds : Adding D) (first second : Act) (old new : 
   pub one : adds old first mid
   pub two : adds mid second new
 
--- The frame is appended, or it is too long, or memory is refused or no number is left, and nothing has changed; or the
--- disk has failed: before, or now, and then a crash may leave the frame.
+-- The frame is appended. Or it is too long, or memory is refused or no number is left, and nothing
+-- has changed. Or the disk has failed: before, or now, and then a crash may leave the frame.
 abbrev pub FrameGives : {D : Type 0} → Adding D → Slot → ℕ → ℕ → ℕ → Frame → Bool → ℕ → Bool → Result (Unit {0}) JournalFault → D → D → Type 0
 FrameGives adds slot key generation number f failed number' failed' (Ok done) old new =
     adds old (Appended slot (framed key generation number f)) new × IsFit key generation number f
@@ -44,8 +44,8 @@ SyncGives adds slot failed failed' false old new =
     ((failed ≡ true) × (new ≡ old) × (failed' ≡ true)) ⊎ (adds old (Unsynced slot) new × (failed ≡ false)
     × (failed' ≡ true))
 
--- A checkpoint of the next generation begins in the other file, which was emptied and then synced; or no generation is
--- left, and nothing has changed; or the disk has failed.
+-- A checkpoint of the next generation begins in the other file, which was emptied and then synced.
+-- Or no generation is left, and nothing has changed; or the disk has failed.
 abbrev pub BeginGives : {D : Type 0} → Adding D → ℕ → Slot → ℕ → Result Checkpoint JournalFault → D → D → Type 0
 BeginGives adds key slot generation (Ok c) old new =
     Twice adds (Emptied (other slot)) (Synced (other slot)) old new
@@ -59,8 +59,8 @@ BeginGives adds key slot generation (Err Failed) old new =
 abbrev pub end_frame : Frame
 end_frame = frame_with END 0 []
 
--- The checkpoint's end is appended, and then all of its file is synced; or memory is refused or no number is left, and
--- nothing has changed; or the disk has failed.
+-- The checkpoint's end is appended, and then all of its file is synced. Or memory is refused or no
+-- number is left, and nothing has changed; or the disk has failed.
 abbrev pub FinishGives : {D : Type 0} → Adding D → Checkpoint → Result Journal JournalFault → D → D → Type 0
 FinishGives adds c (Ok j) old new =
     Twice adds (Appended c.slot (framed c.key c.generation c.number end_frame)) (Synced c.slot) old new

@@ -1,4 +1,5 @@
--- What a crash leaves of two files while records are appended to one of them.
+-- While records are appended to one of two files, a crash leaves its checkpoint and a front of the
+-- records, unless a digest fits by chance.
 use Rattle.std.specs.Prelude.{◌≡◌, ◌⊎◌, ◌<◌, ℕ, Bool, List, [], ◌∷◌, ◌++◌, length, Option, Some, None}
 use Rattle.journal.specs.declared.disk.Slot.{Slot}
 use Rattle.journal.specs.declared.disk.Slot.TheVariants.{A, B}
@@ -14,8 +15,8 @@ pub record IsPassed (key generation : ℕ) (bytes : Bytes) : Type 0 where
   pub lesser : (x : File) → Has key bytes x → rank x < generation
   pub quiet : (x : File) → Has key bytes x → (unknown : Bool) → Alarm key generation (length x.frames) unknown x.rest → ⊥
 
--- After these acts this file counts: its checkpoint and the first records are kept, later ones were appended; and the
--- other file is settled, and passed by.
+-- After these acts this file counts. Its checkpoint and the first records are kept, and later ones
+-- were appended. The other file is settled, and passed by.
 pub record IsLive (key generation : ℕ) (s : Slot) (kept later : List Frame) (going : Bool) (checkpoint : Content) (acts : List Act) : Type 0 where
   pub written : IsWritten key generation kept later going (on_disk s acts)
   pub whole : contents kept ≡ Some checkpoint
@@ -38,8 +39,8 @@ Chance key generation kept later d more =
     (0 < d.loose) × (Fluke key generation (length kept) later more
     ⊎ HeadFluke key generation generation (kept ++ later) more)
 
--- **What is chosen after a crash is a checkpoint and records that are a front of what was appended, with all that is
--- kept; and nothing is refused**, unless a digest fits by chance.
+-- **Unless a digest fits by chance, two things hold after a crash. What is chosen is a checkpoint
+-- and records that are a front of what was appended, with all that is kept. Nothing is refused.**
 abbrev pub Survives : ℕ → ℕ → Slot → List Frame → List Frame → Content → Disk → Bytes → Bytes → Bytes → Type 0
 Survives key generation s kept later checkpoint d more a b =
     ((slot : Slot) (number : ℕ) (content : Option Content) → Chooses key a b slot number content

@@ -7,7 +7,7 @@ use Rattle.journal.specs.declared.opening.OpenFault.TheVariants.{Failed, Version
 use Rattle.journal.specs.Frames.{Bytes}
 use Rattle.journal.specs.Files.{File, Has, Content, contents, rank, Alarm}
 
--- what two files have
+-- two files have this
 pub record Both (key : ℕ) (a b : Bytes) : Type 0 where
   pub in_a : File
   pub has_a : Has key a in_a
@@ -25,9 +25,10 @@ abbrev pub in_slot : {X : Type 0} → Slot → X → X → X
 in_slot A x y = x
 in_slot B x y = y
 
--- Something is wrong with two files, of which the second has these bytes: in the rest of either stands a head, of no
--- lesser generation than the file that counts, that has a version that isn't known or says that its file was longer; or
--- no checkpoint is whole, and the second file isn't empty, which is begun only after the first one is kept.
+-- Something is wrong with two files, of which the second has these bytes. It may be that in the
+-- rest of either stands a head, of no lesser generation than the file that counts, that has a
+-- version that isn't known or says that its file was longer. Or no checkpoint is whole, and the
+-- second file isn't empty, which is begun only after the first one is kept.
 abbrev pub IsWrongAt : ℕ → Bool → ℕ → ℕ → Bytes → ℕ → Bytes → Bytes → Type 0
 IsWrongAt key unknown least count_a rest_a count_b rest_b b =
     Alarm key least count_a unknown rest_a ⊎ (Alarm key least count_b unknown rest_b
@@ -56,7 +57,7 @@ RefusesSo key a b Version = Refuses key a b true
 RefusesSo key a b Damaged = Refuses key a b false
 RefusesSo key a b Memory = Unit {0}
 
--- what a look at the rest of one file answers
+-- a look at the rest of one file answers this
 abbrev pub ChecksSo : ℕ → ℕ → ℕ → Bytes → Result (Unit {0}) OpenFault → Type 0
 ChecksSo key least count rest (Ok done) = (unknown : Bool) → Alarm key least count unknown rest → ⊥
 ChecksSo key least count rest (Err Failed) = ⊥
@@ -64,7 +65,7 @@ ChecksSo key least count rest (Err Version) = Alarm key least count true rest
 ChecksSo key least count rest (Err Damaged) = Alarm key least count false rest
 ChecksSo key least count rest (Err Memory) = ⊥
 
--- what a look at both files answers
+-- a look at both files answers this
 abbrev pub ExaminesSo : ℕ → ℕ → ℕ → Bytes → ℕ → Bytes → Bytes → Result (Unit {0}) OpenFault → Type 0
 ExaminesSo key least count_a rest_a count_b rest_b b (Ok done) = (unknown : Bool) → IsWrongAt key unknown least count_a rest_a count_b rest_b b → ⊥
 ExaminesSo key least count_a rest_a count_b rest_b b (Err Failed) = ⊥

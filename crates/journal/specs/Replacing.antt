@@ -1,4 +1,5 @@
--- What a crash leaves of two files while a checkpoint is written into one of them.
+-- A crash while a checkpoint is written leaves the old file or the whole new one, unless a digest
+-- fits by chance.
 use Rattle.std.specs.Prelude.{◌≡◌, ◌⊎◌, ◌<◌, ◌+◌, ℕ, Bool, true, List, [], ◌∷◌, ◌++◌, length, Option, Some, None}
 use Rattle.journal.specs.declared.disk.Slot.{Slot}
 use Rattle.journal.specs.declared.disk.Slot.TheVariants.{A, B}
@@ -45,8 +46,8 @@ pub record IsNew (s : Slot) (generation : ℕ) (later : List Frame) (slot : Slot
   pub content_is : chosen ≡ contents front
   pub whole : (x : Content) × (contents front ≡ Some x)
 
--- **What is chosen after a crash is the old file, as it was, or the new one, with its whole checkpoint; and nothing is
--- refused**, unless a digest fits by chance.
+-- **Unless a digest fits by chance, two things hold after a crash. What is chosen is the old file,
+-- as it was, or the new one, with its whole checkpoint. Nothing is refused.**
 abbrev pub ReplacingLaw : Type 0
 ReplacingLaw = (key generation : ℕ) (s : Slot) (content : Option Content) (later : List Frame) (going : Bool) (acts : List Act)
     → IsReplaced key generation s content later going acts
@@ -64,8 +65,8 @@ FinishLaw = (key generation : ℕ) (s : Slot) (content : Option Content) (later 
     → IsReplaced key generation s content later true acts → contents later ≡ Some checkpoint
     → IsLive key (generation + 1) (other s) later [] true checkpoint (Synced (other s) ∷ acts)
 
--- Two files that were found, of which one is chosen, are a base for a checkpoint in the other one, which is emptied and
--- then synced.
+-- Two files that were found, of which one is chosen, are a base for a checkpoint in the other one.
+-- That one is emptied and then synced.
 abbrev pub StartLaw : Type 0
 StartLaw = (key : ℕ) (a b : Bytes) (s : Slot) (generation : ℕ) (content : Option Content) → Chooses key a b s generation content
     → IsReplaced key generation s content [] true (Synced (other s) ∷ Emptied (other s) ∷ Found B b ∷ Found A a ∷ [])

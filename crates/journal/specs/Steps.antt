@@ -1,4 +1,4 @@
--- What the acts of a disk do to the frames of a file.
+-- Acts of a disk empty a file of frames, append frames, and keep them.
 use Rattle.std.specs.Prelude.{◌≡◌, ◌≤◌, ℕ, true, false, List, [], ◌∷◌, ◌++◌, length}
 use Rattle.journal.specs.declared.disk.Slot.{Slot}
 use Rattle.journal.specs.Disk.{Act, Appended, Tore, Synced, Unsynced, Emptied, other, on_disk}

@@ -4,8 +4,9 @@ ghost use Rattle.journal.specs.Files.{LooksSo, ScansSo};
 
 use crate::frames::{VERSION, head_at};
 
-/// Whether a head at the front of the bytes, of no lesser generation, says that more frames than stand in the file had
-/// been synced, or has a version that isn't known (`true`).
+/// Whether a head at the front of the bytes, of no lesser generation, says that something is wrong.
+/// It says that more frames than stand in the file had been synced, or it has a version that isn't
+/// known (`true`).
 fn alarm_at(key: u64, least: u64, count: u64, bytes: &[u8]) -> Option<bool>
     ensures { LooksSo key least count bytes.now result }
 {

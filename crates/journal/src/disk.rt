@@ -25,8 +25,8 @@ pub enum LoadFault {
 
 /// Two files that are only appended to and emptied. After a call that fails no other call is made.
 ///
-/// An implementation says by `adds` which act a call adds to a list of acts, wherever that list is kept, so that the
-/// acts of a disk can stand beside others in one list; a real file claims nothing.
+/// An implementation says by `adds` which act a call adds to a list of acts, wherever that list is
+/// kept. So the acts of a disk can stand beside others in one list. A real file claims nothing.
 pub trait Disk {
     // one of these was made of the other by this act
     ghost adds: { Self → Act → Self → Type 0 } = { λ old act new. Unit {0} };

@@ -29,7 +29,7 @@ pub(crate) enum FrameFault {
 /// A frame of a file, whose body is lent.
 #[derive(Clone, Copy, Debug)]
 pub struct Frame<'a> {
-    /// What it is: 0 a part of the checkpoint, 1 the checkpoint's end, 2 a record.
+    /// Its kind: 0 a part of the checkpoint, 1 the checkpoint's end, 2 a record.
     pub kind: u64,
     /// The number of frames of its file that had been synced when it was made.
     pub safe: u64,

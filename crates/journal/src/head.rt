@@ -4,7 +4,7 @@ ghost use Rattle.std.specs.Prelude.{◌≡◌};
 use std::alloc::Allocator;
 use xdr_wire::{Full, Reader, Spell, Wire, Writer, XdrFault};
 
-/// What a frame says of itself and its place. Heads keep this form in all versions.
+/// A frame says this of itself and its place. Heads keep this form in all versions.
 #[derive(Clone, Copy, Debug, PartialEq, Eq)]
 pub struct Head {
     /// The version of the format.
@@ -15,7 +15,7 @@ pub struct Head {
     pub number: u64,
     /// The number of frames of its file that had been synced when it was made.
     pub safe: u64,
-    /// What it is: 0 a part of the checkpoint, 1 the checkpoint's end, 2 a record.
+    /// The frame's kind: 0 a part of the checkpoint, 1 the checkpoint's end, 2 a record.
     pub kind: u64,
     /// The digest of its body.
     pub body: u64,

@@ -102,8 +102,9 @@ fn append_frame<D: Disk, A: Allocator>(
 }
 
 impl Checkpoint {
-    /// Begins a checkpoint of the next generation in the other file than the one that counts, which has this slot and
-    /// this generation: empties the other file and syncs it. At an error the file that counts is as it was.
+    /// Begins a checkpoint of the next generation in the other file than the one that counts, which
+    /// has this slot and this generation. It empties the other file and syncs it. At an error the
+    /// file that counts is as it was.
     pub fn begin<D: Disk>(
         disk: &mut D,
         key: u64,

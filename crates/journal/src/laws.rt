@@ -25,8 +25,9 @@ pub fn a_sync_keeps_all()
     ensures { SyncLaw }
 {}
 
-/// While records are appended to one file, a crash at any moment leaves what is chosen with all that is kept and a
-/// front of the rest, and nothing is refused, unless a digest fits by chance.
+/// While records are appended to one file, a crash may come at any moment. Unless a digest fits by
+/// chance, what is chosen then has all that is kept and a front of the rest, and nothing is
+/// refused.
 pub fn what_is_kept_is_chosen()
     ensures { LiveLaw }
 {}
@@ -41,8 +42,9 @@ pub fn what_is_kept_is_replaced()
     ensures { RenewLaw }
 {}
 
-/// While a checkpoint is written into one file, a crash at any moment leaves what is chosen with the other file as it
-/// was, or with the whole new checkpoint, and nothing is refused, unless a digest fits by chance.
+/// While a checkpoint is written into one file, a crash may come at any moment. Unless a digest
+/// fits by chance, what is chosen then is the other file as it was, or the whole new checkpoint,
+/// and nothing is refused.
 pub fn the_old_file_counts_until_the_new_one_is_whole()
     ensures { ReplacingLaw }
 {}

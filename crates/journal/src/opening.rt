@@ -41,8 +41,8 @@ pub struct Chosen<'a, A: Allocator> {
     pub records: Vec<&'a [u8], A>,
 }
 
-/// Loads both files, the first one first; each is synced before it is read, so that nothing is chosen that a later
-/// crash could take back.
+/// Loads both files, the first one first. Each is synced before it is read, so that nothing is
+/// chosen that a later crash could take back.
 pub fn load<D: Disk, A: Allocator + Copy>(
     disk: &mut D,
     alloc: A,
@@ -147,9 +147,10 @@ fn counting<'a, A: Allocator>(slot: Slot, file: FileRead<'a, A>) -> Chosen<'a, A
     }
 }
 
-/// Reads two files and chooses the one that counts: that of the greater generation, of those with a whole checkpoint.
-/// `Version` and `Damaged` where a head in either, of no lesser generation, says that something is wrong; `Damaged` too
-/// where neither checkpoint is whole and the second file isn't empty.
+/// Reads two files and chooses the one that counts. It is that of the greater generation, of those
+/// with a whole checkpoint. `Version` and `Damaged` where a head in either, of no lesser
+/// generation, says that something is wrong. `Damaged` too where neither checkpoint is whole and
+/// the second file isn't empty.
 pub fn choose<'a, A: Allocator + Copy>(
     alloc: A,
     key: u64,

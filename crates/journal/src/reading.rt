@@ -1,4 +1,4 @@
-//! What a file has: a checkpoint, and the records after it.
+//! A file has a checkpoint, and the records after it.
 ghost use Rattle.std.specs.Prelude.{◌≡◌, ◌∷◌, List, map, IfOk, OnOk};
 ghost use Rattle.journal.specs.Frames.{Frame as FrameSpec, lent};
 ghost use Rattle.journal.specs.Files.{IsRead, generation_at, joined_to};
@@ -36,7 +36,7 @@ impl<'a, A: Allocator> Bodies<'a, A> {
     }
 }
 
-/// What a file has.
+/// A file has these parts.
 #[derive(Drop)]
 pub(crate) struct FileRead<'a, A: Allocator> {
     /// The generation of its first head, and 0 where none fits.

@@ -51,7 +51,7 @@ consumes_kept (Some x) (Some y) (Some z) bs p q = p ∙ ap (λ (l : List ℕ). b
 pub written_more : (a b c : Option (List ℕ)) (done n : ℕ) (bytes : List ℕ) → Appends a b (take done bytes) → Appends b c (take n (drop done bytes)) → Appends a c (take (done + n) bytes)
 written_more a b c done n bytes p q = rw (take-add done n bytes) (appends_trans a b c (take done bytes) (take n (drop done bytes)) p q)
 
--- the writer failed behind these bytes
+-- the writer failed after these bytes
 pub keeps_front : (a b c : Option (List ℕ)) (bs : List ℕ) → Appends a b bs → Appends b c [] → Keeps b c
 keeps_front a None c bs p q = tt
 keeps_front a (Some y) None bs p q = absurd q
@@ -66,7 +66,7 @@ front_written a b c done bytes p q = (take done bytes, drop done bytes, sym (tak
     keeps (Some x) (Some y) None bs p q = absurd q
     keeps (Some x) (Some y) (Some z) bs p q = q ∙ p
 
--- whether a connection is broken behind a piece that came while it was whole
+-- whether a connection is broken after a piece that came while it was whole
 pub told_at : (o o' : Option Bool) (b : Bool) → o ≡ Some false → o' ≡ option_map (λ was. b) o → o' ≡ Some b
 told_at o o' b whole is = is ∙ ap (λ (x : Option Bool). option_map (λ was. b) x) whole
 
@@ -79,7 +79,7 @@ lent_at hub id None d bytes same is some = absurd (none_is (pending_at hub id) i
     none_is (Some x) e some = cc
 lent_at hub id (Some b) d bytes same is some = sym is ∙ ap (λ (x : Bor (List ℕ)). Some x.now) (sym same)
 
--- what consuming all pending bytes of an open connection gives
+-- consuming all pending bytes of an open connection gives this
 pub record AllConsumed {A : Type 0} (id : ℕ) (out : List ℕ) (old new : Hub A) : Type 0 where
   pub goes : Goes (Take id (length out)) old new
   pub broken : broken_at new id ≡ broken_at old id
@@ -102,7 +102,7 @@ passes id piece now old fed new out goes at takes s is =
     let b = takes a.0 a.2 in
     (b.0, record { fed = a.0; comes = a.1; pending = pending_is fed id out at a.0 a.2; taken = b.1 }, b.2)
 
--- the bytes that are pending behind a break are taken
+-- the bytes that are pending after a break are taken
 pub breaks_in : {A : Type 0} (id : ℕ) (piece : List ℕ) (now : Moment) (old fed new : Hub A) (out : List ℕ) → BreaksSo id piece now old fed → pending_at fed id ≡ Some out → new.service ≡ fed.service
     → (s : State) → IsHub old s → BreaksIn (piece, now) s id new.service out
 breaks_in id piece now old fed new out breaks at served s is = of (s.connection id) (breaks s is)
@@ -160,7 +160,7 @@ pieces_push (p ∷ pieces) piece all h = (all.0, pieces_push pieces piece all.1 
 pub length_push : (pieces : List Read_at) (piece : Read_at) → length (pieces ++ piece ∷ []) ≡ length pieces + 1
 length_push pieces piece = length-append pieces (piece ∷ [])
 
--- exactly so many turns so far, and the bytes that they wrote
+-- exactly this many turns so far, and the bytes that they wrote
 pub record Going {A : Type 0} (id count most : ℕ) (old : State) (hub : Hub A) (left left' held held' : Option (List ℕ)) : Type 0 where
   pub run : TurnsRun id most old hub left left'
   pub wrote : Appends held held' run.written

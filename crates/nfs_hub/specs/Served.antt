@@ -41,7 +41,8 @@ Writes end held held' out = Appends held held' out
 abbrev pub Passes : {A : Type 0} → ℕ → Read_at → Hub A → Hub A → List ℕ → Type 0
 Passes id piece old new out = (s : State) → IsHub old s → (t : State) × Turn id piece s out t × IsHub new t
 
--- the stream of a connection that was whole breaks in this piece, or a record of it does, behind which these bytes are pending
+-- the stream of a connection that was whole breaks in this piece, or a record of it does, after
+-- which these bytes are pending
 abbrev pub BreaksIn : Read_at → State → ℕ → Served → List ℕ → Type 0
 BreaksIn piece old id served out = IfSome (old.connection id) (λ c. CameToBreak piece.1 old.served c.pending (c.rest ++ piece.0) served out)
 
@@ -86,8 +87,8 @@ broken_end fault.NoSuch = Memory
 broken_end fault.TooMany = Memory
 broken_end fault.Exhausted = Memory
 
--- Turns of a connection that is open, from one state of the hub to another, at most so many: the pieces were read, each of
--- 1 to 4,096 bytes, and these bytes were taken.
+-- Turns of a connection that is open, from one state of the hub to another, at most this many. The
+-- pieces were read, each of 1 to 4,096 bytes, and these bytes were taken.
 pub record TurnsRun {A : Type 0} (id most : ℕ) (old : State) (hub : Hub A) (left left' : Option (List ℕ)) : Type 0 where
   pub pieces : List Read_at
   pub written : List ℕ
@@ -110,7 +111,7 @@ pub record BrokeLast (id : ℕ) (old : State) (pieces : List Read_at) (written :
   pub taken : written ≡ others ++ out
   pub breaks : BreaksIn last before id new.served out
 
--- The connection when its turns end: whole, behind a whole record or inside one; or broken.
+-- The connection when its turns end: whole, after a whole record or inside one; or broken.
 abbrev pub IsLeft : ServeEnd → Option Connected → Type 0
 IsLeft Ended (Some c) = (c.broken ≡ false) × (c.rest ≡ [])
 IsLeft Inside (Some c) = (c.broken ≡ false) × (c.rest ≢ [])
@@ -122,8 +123,8 @@ IsLeft TooMany (Some c) = ⊥
 IsLeft Write (Some c) = Unit {0}
 IsLeft end None = ⊥
 
--- Why turns end: the input is at its end; the stream or a record broke the connection; all turns are used up; or memory, the
--- reader or the writer failed.
+-- The reason why turns end. The input is at its end; the stream or a record broke the connection;
+-- all turns are used up; or memory, the reader or the writer failed.
 abbrev pub EndsFor : ServeEnd → ℕ → ℕ → Option (List ℕ) → State → List Read_at → List ℕ → State → Type 0
 EndsFor Ended id most left old pieces written new = IsAtEnd left
 EndsFor Inside id most left old pieces written new = IsAtEnd left
@@ -132,7 +133,7 @@ EndsFor TurnsUsedUp id most left old pieces written new = length pieces ≡ most
 EndsFor TooMany id most left old pieces written new = ⊥
 EndsFor end id most left old pieces written new = Unit {0}
 
--- so many turns at most, the bytes that they write, and why they ended
+-- this many turns at most, the bytes that they write, and why they ended
 abbrev pub TurnsEnd : {A : Type 0} → ℕ → ℕ → ServeEnd → State → Hub A → Option (List ℕ) → Option (List ℕ) → Option (List ℕ) → Option (List ℕ) → Type 0
 TurnsEnd id most end old hub left left' held held' =
     (run : TurnsRun id most old hub left left') × Writes end held held' run.written × IsLeft end (run.state.connection id)
@@ -165,8 +166,8 @@ pub record IsRefused {A : Type 0} (first : Served) (end : ServeEnd) (events : Li
   pub wrote : Appends held held' []
   pub ends : RefusedSo end old
 
--- Behind events that lead to the hub a connection is opened with the next number; its turns read and write these bytes; and
--- it is closed, which leads to the hub.
+-- After events that lead to the hub a connection is opened with the next number. Its turns read and
+-- write these bytes. Then it is closed, which leads to the hub.
 pub record IsServed {A : Type 0} (first : Served) (end : ServeEnd) (most : ℕ) (events : List Event) (old new : Hub A) (left left' held held' : Option (List ℕ)) : Type 0 where
   pub start : State
   pub leads : Leads first (Connect ∷ events) start

@@ -66,25 +66,27 @@ impl<A: Allocator + Copy> Hub<A> {
         }
     }
 
-    /// A hub over the sample tree, without sessions: a root with the file `notes` and the directory `pub`. The book of names takes
-    /// only `Global`; this one has no names, and takes no memory. The server's remembered summaries are found by `hasher`. `Err`:
-    /// there is no memory for the hub.
+    /// A hub over the sample tree, without sessions: a root with the file `notes` and the directory
+    /// `pub`. The book of names takes only `Global`; this one has no names, and takes no memory.
+    /// The server's remembered summaries are found by `hasher`. `Err`: there is no memory for the
+    /// hub.
     pub fn bare(alloc: A, global: Global, hasher: RandomState) -> Result<Self, AllocError>
         ensures { IfOk result (λ hub. LeadsTo without_sessions [] hub) }
     {
         Ok(Hub::over(alloc, Service::without_sessions(alloc, global, hasher)?))
     }
 
-    /// A hub over a root alone, with sessions. The root's owner, group and mode are those of the book. The server's remembered
-    /// summaries are found by `hasher`. `Err`: there is no memory for the hub.
+    /// A hub over a root alone, with sessions. The root's owner, group and mode are those of the
+    /// book. The server's remembered summaries are found by `hasher`. `Err`: there is no memory for
+    /// the hub.
     pub fn new(alloc: A, book: Book, hasher: RandomState) -> Result<Self, AllocError>
         ensures { IfOk result (λ hub. LeadsTo (with_sessions book) [] hub) }
     {
         Ok(Hub::over(alloc, Service::with_sessions(alloc, book, hasher)?))
     }
 
-    /// A hub over a root alone, with sessions that outlive a restart, for a store that begins. Otherwise it is that of [`Hub::new`].
-    /// `Err`: there is no memory for the hub.
+    /// A hub over a root alone, with sessions that outlive a restart, for a store that begins.
+    /// Otherwise it is that of [`Hub::new`]. `Err`: there is no memory for the hub.
     pub fn lasting(alloc: A, book: Book, hasher: RandomState) -> Result<Self, RestoreFault>
         ensures ok { IfOk result (λ hub. LeadsTo (with_lasting_sessions book) [] hub) }
         ensures err { IsOkUnless result RestoreFault.Memory }
@@ -92,8 +94,9 @@ impl<A: Allocator + Copy> Hub<A> {
         Ok(Hub::over(alloc, Service::with_lasting_sessions(alloc, book, hasher)?))
     }
 
-    /// A hub that goes on after a restart over what was kept: the tree, the clients with their sessions, which outlive the next restart
-    /// too, and the open files. The server's remembered summaries are found by `hasher`. Misfit: an open file can't stand, as
+    /// A hub that goes on after a restart over what was kept. That is the tree, the clients with
+    /// their sessions, which outlive the next restart too, and the open files. The server's
+    /// remembered summaries are found by `hasher`. Misfit: an open file can't stand, as
     /// [`Server::restored`] says.
     pub fn restored(
         alloc: A,
@@ -110,8 +113,9 @@ impl<A: Allocator + Copy> Hub<A> {
         Ok(Hub::over(alloc, Service::restored(alloc, tree, known, book, hasher)?))
     }
 
-    /// Lets the most silent client go, if one is to go at this moment: its record goes with its sessions, and its open files are closed; all
-    /// else stays (RFC 8881, section 8.3). Which one is [`Server::silent`]'s to say. `None`: none is to go, and nothing changes.
+    /// Lets the most silent client go, if one is to go at this moment (RFC 8881, section 8.3). Its
+    /// record goes with its sessions, and its open files are closed; all else stays. Which one is
+    /// [`Server::silent`]'s to say. `None`: none is to go, and nothing changes.
     pub fn let_go(&mut self, now: Moment) -> Option<u64>
         ensures leads { MatchOption result ((first : Served) (events : List Event) → LeadsTo first events self.old → LeadsTo first events self.new) (λ client. (first : Served) (events : List Event) → LeadsTo first events self.old → LeadsTo first (LetGo client ∷ events) self.new) }
         ensures goes { IfSome result (λ client. Goes (LetGo client) self.old self.new) }
@@ -124,8 +128,8 @@ impl<A: Allocator + Copy> Hub<A> {
         Some(client)
     }
 
-    /// Begins notes of the tree's changes, for a store: from now on each is noted, in this many bytes, where there is room for it. `Err`:
-    /// there is no memory for them, and nothing changes.
+    /// Begins notes of the tree's changes, for a store: from now on each is noted, in this many
+    /// bytes, where there is room for it. `Err`: there is no memory for them, and nothing changes.
     pub fn begin_notes(&mut self, room: usize) -> Result<(), AllocError>
         ensures leads { OnOk result ((first : Served) (events : List Event) → LeadsTo first events self.old → LeadsTo first (Note (begun_notes room) ∷ events) self.new) }
         ensures goes { OnOk result (Goes (Note (begun_notes room)) self.old self.new) }
@@ -149,13 +153,15 @@ impl<A: Allocator + Copy> Hub<A> {
         self.service.server()
     }
 
-    /// Loads another book of names, and gives back the one before. The lists decide by it for every call whose last byte comes from
-    /// now on (RFC 8881, section 5.9), also where its first byte came before. The tree with its root's owner, the connections with
-    /// their pending bytes, the sessions with the results that they keep, the open files and the trail stay. It takes no memory and
-    /// runs nothing.
+    /// Loads another book of names, and gives back the one before. The lists decide by it for every
+    /// call whose last byte comes from now on (RFC 8881, section 5.9), also where its first byte
+    /// came before. The tree with its root's owner, the connections with their pending bytes, the
+    /// sessions with the results that they keep, the open files and the trail stay. It takes no
+    /// memory and runs nothing.
     ///
-    /// `Exhausted` exactly where the epoch of the book, which begins at 1 and rises by 1 with each book, has none after it
-    /// ([`next_epoch`]); the new book is given back then, and nothing changes.
+    /// `Exhausted` exactly where the epoch of the book, which begins at 1 and rises by 1 with each
+    /// book, has none after it ([`next_epoch`]). The new book is given back then, and nothing
+    /// changes.
     pub fn reload(&mut self, book: Book) -> Result<Book, Unloaded>
         ensures leads { (first : Served) (events : List Event) → LeadsTo first events self.old → LeadsTo first (Reload book ∷ events) self.new }
         ensures goes { Goes (Reload book) self.old self.new }
@@ -170,8 +176,9 @@ impl<A: Allocator + Copy> Hub<A> {
         }
     }
 
-    /// Opens a connection. `TooMany` exactly where the limit of open connections is reached, else `Exhausted` exactly where no
-    /// number below 2^63 is left, else `Memory` where memory is refused; a refusal changes nothing.
+    /// Opens a connection. `TooMany` exactly where the limit of open connections is reached, else
+    /// `Exhausted` exactly where no number below 2^63 is left, else `Memory` where memory is
+    /// refused. A refusal changes nothing.
     pub fn connect(&mut self) -> Result<ConnId, HubFault>
         ensures leads { (first : Served) (events : List Event) → LeadsTo first events self.old → LeadsTo first (Connect ∷ events) self.new }
         ensures goes { Goes Connect self.old self.new }
@@ -191,8 +198,9 @@ impl<A: Allocator + Copy> Hub<A> {
         Ok(ConnId { number })
     }
 
-    /// Moves as many of a connection's first pending bytes as fit to the front of the buffer, and says how many. `NoSuch`
-    /// exactly where the number is no open connection's, and nothing happened. A broken connection gives its bytes until it is closed.
+    /// Moves as many of a connection's first pending bytes as fit to the front of the buffer, and
+    /// says how many. `NoSuch` exactly where the number is no open connection's, and nothing
+    /// happened. A broken connection gives its bytes until it is closed.
     pub fn take_out(&mut self, conn: ConnId, buf: &mut [u8]) -> Result<usize, HubFault>
         ensures leads { IfOk result (λ n. (first : Served) (events : List Event) → LeadsTo first events self.old → LeadsTo first (Take conn n ∷ events) self.new) }
         ensures goes { IfOk result (λ n. Goes (Take conn n) self.old self.new) }
@@ -215,8 +223,9 @@ impl<A: Allocator + Copy> Hub<A> {
         Some(connection.pending.bytes())
     }
 
-    /// Drops the first `most` pending bytes of a connection, or all where there are fewer, and says how many. `NoSuch` exactly where
-    /// the number is no open connection's. The memory of the bytes stays with the connection, for other replies.
+    /// Drops the first `most` pending bytes of a connection, or all where there are fewer, and says
+    /// how many. `NoSuch` exactly where the number is no open connection's. The memory of the bytes
+    /// stays with the connection, for other replies.
     pub fn consume(&mut self, conn: ConnId, most: usize) -> Result<usize, HubFault>
         ensures leads { IfOk result (λ n. (first : Served) (events : List Event) → LeadsTo first events self.old → LeadsTo first (Take conn n ∷ events) self.new) }
         ensures goes { IfOk result (λ n. Goes (Take conn n) self.old self.new) }
@@ -229,8 +238,8 @@ impl<A: Allocator + Copy> Hub<A> {
         }
     }
 
-    /// Whether a connection is broken: nothing of its stream is taken any more. `None` exactly where the number is no open
-    /// connection's.
+    /// Whether a connection is broken: nothing of its stream is taken any more. `None` exactly
+    /// where the number is no open connection's.
     pub fn is_broken(&self, conn: ConnId) -> Option<bool>
         ensures { result ≡ broken_at self.now conn }
     {
@@ -261,10 +270,11 @@ impl<A: Allocator + Copy> Hub<A> {
         }
     }
 
-    /// Takes the next piece of a connection's stream, all of whose calls have this moment. Each record that is whole
-    /// now is answered, and its reply is pending. `NoSuch` exactly where the number is no open connection's. Another
-    /// fault exactly where the connection is broken afterwards: `Broken` where its stream or a record of it breaks it,
-    /// or it was broken before; `Memory` where memory is refused, and the next record is not answered.
+    /// Takes the next piece of a connection's stream, all of whose calls have this moment. Each
+    /// record that is whole now is answered, and its reply is pending. `NoSuch` exactly where the
+    /// number is no open connection's. Another fault exactly where the connection is broken
+    /// afterwards. It is `Broken` where its stream or a record of it breaks it, or it was broken
+    /// before. It is `Memory` where memory is refused, and the next record is not answered.
     pub fn feed(&mut self, conn: ConnId, piece: &[u8], now: Moment) -> Result<(), HubFault>
         ensures leads { (first : Served) (events : List Event) → LeadsTo first events self.old → LeadsTo first (Piece conn piece.now now ∷ events) self.new }
         ensures goes { Goes (Piece conn piece.now now) self.old self.new }
@@ -284,9 +294,11 @@ impl<A: Allocator + Copy> Hub<A> {
                 ConnectionFault::Memory => HubFault::Memory,
             })
     }
-    /// Takes a front of the next piece of a connection's stream: up to and with the last byte of the first record that ends in it, or all of
-    /// it where none does, and says how many bytes that is. The record is answered at this moment, and its reply is pending. So what is left
-    /// of the piece, fed after that, has the effect that [`Hub::feed`] of the whole piece would have, and at most one record is run.
+    /// Takes a front of the next piece of a connection's stream, and says how many bytes that is.
+    /// It goes up to and with the last byte of the first record that ends in it, or is all of it
+    /// where none does. The record is answered at this moment, and its reply is pending. So what is
+    /// left of the piece, fed after that, has the effect that [`Hub::feed`] of the whole piece
+    /// would have. At most one record is run.
     ///
     /// The faults are those of [`Hub::feed`]; a piece that breaks the connection answers no record.
     pub fn feed_record(

@@ -26,7 +26,7 @@ pub trait Clock {
 /// The end of serving a connection.
 #[derive(Clone, Copy, Debug, PartialEq, Eq)]
 pub enum ServeEnd {
-    /// The input ended, behind a whole record.
+    /// The input ended, after a whole record.
     Ended = 1,
     /// The input ended inside a record.
     Inside = 2,
@@ -99,7 +99,7 @@ fn pass<A: Allocator + Copy, W: Write>(
     }
 }
 
-/// Serves an open connection for so many turns.
+/// Serves an open connection for this many turns.
 fn turn_by_turn<A: Allocator + Copy, R: Read, W: Write, C: Clock>(
     hub: &mut Hub<A>,
     conn: ConnId,
@@ -142,9 +142,10 @@ fn refused(fault: HubFault) -> ServeEnd
     }
 }
 
-/// Opens a connection, and for at most so many turns reads at most 4,096 bytes, feeds them at the clock's moment, and then writes
-/// the pending bytes, also where the piece broke the connection; at the end it closes the connection. Answers how it ended;
-/// nothing was read where the connection was refused. Where the writer failed, it took a front of the bytes to be written.
+/// Opens a connection. For at most this many turns it reads at most 4,096 bytes, feeds them at the
+/// clock's moment, and then writes the pending bytes. It does so also where the piece broke the
+/// connection. At the end it closes the connection. Answers how it ended; nothing was read where
+/// the connection was refused. Where the writer failed, it took a front of the bytes to be written.
 pub fn serve<A: Allocator + Copy, R: Read, W: Write, C: Clock>(
     hub: &mut Hub<A>,
     reader: &mut R,

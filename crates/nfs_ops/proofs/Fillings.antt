@@ -46,7 +46,7 @@ same_buffer a b p q =
     let bytes_then : a ≡ record { bytes = b.bytes; room = a.room } = ap (λ (x : List ℕ). let y : Buffer = record { bytes = x; room = a.room } in y) p in
     bytes_then ∙ ap (λ (n : ℕ). let y : Buffer = record { bytes = b.bytes; room = n } in y) q
 
--- the bytes that were written behind a place are cut off again
+-- the bytes that were written after a place are cut off again
 pub cut_back : (now then cut : Buffer) (item : List ℕ) (len : ℕ) → len ≡ length now.bytes → Appends now then item → cut.bytes ≡ take len then.bytes → cut.room + len ≡ then.room + length then.bytes → cut ≡ now
 cut_back now then cut item len at a bytes room =
     same_buffer cut now (bytes ∙ ap (take len) a.behind ∙ take_at now.bytes item len (sym at))

@@ -16,7 +16,7 @@ use Rattle.nfs_ops.specs.declared.op_kind.OpKind.{OpKind}
 use Rattle.nfs_ops.proofs.Numbers.{number_is}
 use Rattle.nfs_ops.proofs.Nexts.{next_is}
 
--- two fields are read one behind the other
+-- two fields are read one after the other
 pub pair_from : (t : Xdr) (bytes r rest : List ℕ) (k : ℕ) (v : Value t) → read_at uint bytes ≡ Ok (k, r) → read_at t r ≡ Ok (v, rest) → read_at (pair uint t) bytes ≡ Ok ((k, v), rest)
 pair_from t bytes r rest k v e f = rw e (rw f refl)
 
@@ -76,7 +76,7 @@ pub stands : (o : Operation) (bytes rest : List ℕ) → is_built o ≡ true →
 unfolding next_at
 stands o bytes rest built e = next_found bytes rest o (read_at uint bytes) built refl e
 
--- a spelling is cut off where it ends, whatever is behind it
+-- a spelling is cut off where it ends, whatever is after it
 pub same_front : (a b rest : List ℕ) → a ++ rest ≡ b ++ rest → a ≡ b
 same_front a b rest e = append_cancel_right a b rest e
 

@@ -20,7 +20,7 @@ isn't_le a b h = elim (leb_tells a b) as (λ t. nat_le a b ≡ false) [ inl p �
 one_more : (n : ℕ) → 1 + n ≡ suc n
 one_more n = omega arith
 
--- the entries that fit, and those behind them
+-- the entries that fit, and those after them
 abbrev pub parted : {R : Type 0} → List (Value entry) → List (Judged R) → List (Judged R)
 parted given rest = map Ok given ++ rest
 
@@ -130,7 +130,7 @@ too_small_listing {R} limit (Ok e ∷ others) passes granted few =
 
 -- ---- the facts of a listing
 
--- the entries that fit, and those behind them, with this size before them
+-- the entries that fit, and those after them, with this size at the start
 pub record Split {R : Type 0} (limit size : ℕ) (all : List (Judged R)) : Type 0 where
   pub given : List (Value entry)
   pub rest : List (Judged R)

@@ -22,7 +22,7 @@ pair_parts t bytes rest v e =
     let value_is : read_at t a.0.1 ≡ Ok (v.1, rest) = b.1 ∙ ap (λ (x : Value (pair uint t) × List ℕ). Ok (x.0.1, x.1)) c in
     (a.0.1, number_is, value_is)
 
--- behind the number of an operation, its arguments are read
+-- after the number of an operation, its arguments are read
 arguments_are : (k : OpKind) (v : Value (row k).takes.form) (r rest : List ℕ) → in_normal_form (row k).takes.normal (read_at (row k).takes.form r) ≡ Ok (v, rest)
     → arguments_at (row k).number r ≡ Ok (Known k v, rest)
 unfolding arguments_at arguments_of

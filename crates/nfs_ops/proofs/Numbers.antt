@@ -11,7 +11,7 @@ unfolding kind_at
 kind_is Access = refl
 kind_is _ = refl
 
--- one of the cases of a test of numbers, and the case behind it
+-- one of the cases of a test of numbers, and the case after it
 pub either : {A : Type 0} (P : Type 0) (n k : ℕ) (x y z : A) → cond (n == k) x y ≡ z → (n ≡ k → x ≡ z → P) → (y ≡ z → P) → P
 either P n k x y z e is_k other =
     elim (cases_eq n k) [

@@ -140,7 +140,7 @@ refusal_same : (s t : ℕ) → refusal_at s ≡ Some t → s ≡ t
 unfolding refusal_at
 refusal_same s t e = in_table s t (nat_lt s 100) (nat_lt s 10034) e
 
--- a refusal of SETATTR with the bitmap behind it
+-- a refusal of SETATTR with the bitmap after it
 abbrev with_bitmap : ℕ → List ℕ → ReadOf Outcome
 with_bitmap s q = in_normal_form (Some trimmed) (read_at bitmap q) >>= λ x. Ok (SetAttrRefused s, x.1)
 

@@ -16,7 +16,7 @@ use Rattle.nfs_ops.specs.declared.op_kind.OpKind.{OpKind}
 use Rattle.nfs_ops.proofs.Numbers.{kind_is}
 use Rattle.nfs_ops.proofs.Nexts.{pair_parts}
 
--- behind the number, and behind the status
+-- after the number, and after the status
 abbrev behind_number : ℕ × List ℕ → ReadOf Outcome
 behind_number n = read_at uint n.1 >>= λ status. behind_status n.0 status.0 status.1
 
@@ -27,7 +27,7 @@ two_read : (k s : ℕ) (bytes r q : List ℕ) → read_at uint bytes ≡ Ok (k, 
 unfolding result_at
 two_read k s bytes r q e f = ap (λ (m : ReadOf ℕ). m >>= behind_number) e ∙ ap (λ (m : ReadOf ℕ). m >>= behind_both k) f
 
--- behind the number of an operation and OK, its result is read
+-- after the number of an operation and OK, its result is read
 done_is : (k : OpKind) (v : Value (row k).gives.form) (r rest : List ℕ) → in_normal_form (row k).gives.normal (read_at (row k).gives.form r) ≡ Ok (v, rest) → behind_status (row k).number 0 r ≡ Ok (Done k v, rest)
 unfolding behind_status done_at done_of
 done_is k v r rest e =
@@ -46,7 +46,7 @@ done_next k w bytes rest s =
     let value_is : in_normal_form g.normal (read_at g.form q.0) ≡ Ok (w, rest) = to_normal g.normal (read_at g.form q.0) s.0.1.1 rest q.2 ∙ ap (λ (x : ℕ × Value g.form). Ok (x.1, rest)) inner in
     two_read n 0 bytes p.0 q.0 number_is status_is ∙ done_is k w q.0 rest value_is
 
--- a number and a status, and nothing behind them
+-- a number and a status, and nothing after them
 plain_next : (k s : ℕ) (bytes rest : List ℕ) → Stands (plain k s) bytes rest → result_at bytes ≡ behind_status k s rest
 plain_next k s bytes rest stands =
     let p = pair_parts uint bytes rest stands.0 (read_from_begins (pair uint uint) stands.0 bytes rest stands.1) in

@@ -30,7 +30,7 @@ size k v = length (item_spelling (done (row k).number (row k).gives v))
 
 -- ---- the parts of results
 
--- two fields, one behind the other
+-- two fields, one after the other
 two : (s t : Xdr) (v : Value (pair s t)) → length (spelling (pair s t) v) ≡ length (spelling s v.0) + length (spelling t v.1)
 two s t v = length-append (spelling s v.0) (spelling t v.1)
 
@@ -118,7 +118,7 @@ getattr_short v = omega (arith, getattr_is v)
 pub getfh_short : (v : Value getfh_result) → length v ≤ 128 → size GetFh v ≤ 140
 getfh_short v short = omega (arith, opaque_is 128 v, rounded (length v) 32 short)
 
--- the fields behind the change of an OPEN
+-- the fields after the change of an OPEN
 abbrev behind_change : Xdr
 behind_change = fields (always 0 ∷ bitmap ∷ always 0 ∷ [])
 

@@ -121,7 +121,7 @@ pub restored : {R : Type 0} (limit : ℕ) (all : List (Judged R)) (old new cut :
     → cut.bytes ≡ take start new.bytes → cut.room + start ≡ new.room + length new.bytes → cut ≡ old
 restored limit all old new cut most begin start rest s at bytes room = cut_back old new cut (head ++ entries_bytes s.given) start at s.behind bytes room
 
--- an entry is refused behind those that fit
+-- an entry is refused after those that fit
 pub refused : {R : Type 0} (limit : ℕ) (all : List (Judged R)) (old new : Buffer) (most begin : ℕ) (rest others : List (Judged R)) (refusal : R) → Standing limit all old new most begin rest → rest ≡ Err refusal ∷ others
     → listing limit all ≡ Err (Refused refusal)
 refused {R} limit all old new most begin rest others refusal s is =
@@ -189,7 +189,7 @@ more_left {R} limit room all old new then most begin start rest others e (Ok don
     ∙ given_listing limit s.given rest false le (passing limit all old new most begin rest others e s is lt) (λ f. absurd (some_given limit all old new most begin rest s some f)) (ap (λ (r : List (Judged R)). first_refusal (take 1 r)) is) more in
     listed limit room all old new then most begin rest false s fits whole ends.0 ends.1
 
--- then the buffer doesn't end behind the limit
+-- then the buffer doesn't end beyond the limit
 pub no_fault : {R : Type 0} (limit : ℕ) (all : List (Judged R)) (old new then : Buffer) (most begin start : ℕ) (rest : List (Judged R)) (r : Result (Unit {0}) (ListFault R)) → Standing limit all old new most begin rest
     → (length new.bytes ≡ begin → ⊥) → EndsAs start most false new r then → IfErr r (λ fault. (listing limit all ≡ Err fault) × (then ≡ old))
 no_fault limit all old new then most begin start rest (Ok done) s some e = tt

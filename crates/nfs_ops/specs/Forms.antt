@@ -1,5 +1,6 @@
--- The XDR types of each operation's arguments and of its result, with the names of their parts and of the arms of their unions, in
--- the order of the standard (RFC 8881, section 18; RFC 5662). A result stands behind the number and the status, where the status is OK.
+-- The XDR types of each operation's arguments and of its result, in the order of the standard
+-- (RFC 8881, section 18; RFC 5662). They have the names of their parts and of the arms of their
+-- unions. A result stands after the number and the status, where the status is OK.
 use Rattle.std.specs.Prelude.{ℕ, Bool, ◌+◌, ◌*◌, List, [], ◌∷◌, length, map}
 use Rattle.std.proofs.Common.{inl, inr}
 use Rattle.std.specs.List.{sum_by}
@@ -22,14 +23,14 @@ zeros = fields (always 0 ∷ always 0 ∷ [])
 abbrev pub change_info : Xdr
 change_info = fields (always 1 ∷ hyper ∷ hyper ∷ [])
 
--- attributes with their values (fattr4): their set, and the values one behind the other
+-- attributes with their values (fattr4): their set, and the values one after the other
 abbrev pub set_of : Value attributes → List ℕ
 set_of v = v.0
 
 abbrev pub values_of : Value attributes → List ℕ
 values_of v = v.1
 
--- how many bytes so many take with the zero bytes behind them
+-- how many bytes n bytes take with the zero bytes after them
 abbrev pub with_padding : ℕ → ℕ
 with_padding n = n + padding n
 
@@ -37,7 +38,8 @@ with_padding n = n + padding n
 abbrev pub plain_size : ℕ
 plain_size = 8
 
--- The most bytes of a result of any operation that can change the tree: with as much room it runs, and its result can be sent.
+-- The most bytes of a result of any operation that can change the tree. With as much room it runs,
+-- and its result can be sent.
 abbrev pub change_size : ℕ
 change_size = 256
 
@@ -145,7 +147,7 @@ getattr_args = bitmap
 abbrev pub getattr_result : Xdr
 getattr_result = attributes
 
--- of so many words of the bitmap, and so many bytes of values
+-- of this many words of the bitmap, and this many bytes of values
 abbrev pub getattr_size : ℕ → ℕ → ℕ
 getattr_size words values = 16 + 4 * words + with_padding values
 
@@ -192,8 +194,8 @@ open_how_normal (inr (inr v)) = elim v [ ]
 abbrev pub open_claim : Xdr
 open_claim = union (arm 0 bytes (arm 4 void no_more))
 
--- OPEN (18.16): a number that is ignored, access, deny, client, owner, how, claim; stateid, the directory's change, no
--- flags, the attributes that were set, no delegation
+-- OPEN (18.16): a number that is ignored, access, deny, client, owner, how, claim. Its result is
+-- stateid, the directory's change, no flags, the attributes that were set, no delegation.
 abbrev pub open_args : Xdr
 open_args = fields (uint ∷ uint ∷ uint ∷ hyper ∷ opaque 1024 ∷ open_how ∷ open_claim ∷ [])
 
@@ -209,8 +211,8 @@ open_size = 88
 abbrev pub open_result_normal : Value open_result → Value open_result
 open_result_normal v = (v.0, (v.1.0, (v.1.1.0, (trimmed v.1.1.1.0, v.1.1.1.1))))
 
--- The arguments of an OPEN that aren't supported, up to the unsupported word: exclusive creation (2, 3), and a claim of a
--- reclaim or a delegation (1, 2, 3, 5, 6).
+-- The arguments of an OPEN that aren't supported, up to the unsupported word. They are exclusive
+-- creation (2, 3), and a claim of a reclaim or a delegation (1, 2, 3, 5, 6).
 abbrev pub exclusive : Xdr
 exclusive = union (arm 2 void (arm 3 void no_more))
 
@@ -277,7 +279,7 @@ read_args = fields (stateid ∷ hyper ∷ uint ∷ [])
 abbrev pub read_result : Xdr
 read_result = fields (boolean ∷ opaque 32768 ∷ [])
 
--- of so many bytes of the file
+-- of this many bytes of the file
 abbrev pub read_size : ℕ → ℕ
 read_size count = 16 + with_padding count
 
@@ -294,8 +296,8 @@ read_count v = v.1.1
 abbrev pub read_gives : Bool → List ℕ → Value read_result
 read_gives eof item = (eof, item)
 
--- READDIR (18.23): cookie, a verifier and a count that are ignored, the most bytes, the attributes requested; a verifier,
--- the entries, whether the end was reached
+-- READDIR (18.23): cookie, a verifier and a count that are ignored, the most bytes, the attributes
+-- requested. Its result is a verifier, the entries, whether the end was reached.
 abbrev pub readdir_args : Xdr
 readdir_args = fields (hyper ∷ fixed 8 ∷ uint ∷ uint ∷ bitmap ∷ [])
 
@@ -315,7 +317,8 @@ readdir_result = fields (zeros ∷ chain entry ∷ boolean ∷ [])
 abbrev pub readdir_result_normal : Value readdir_result → Value readdir_result
 readdir_result_normal v = (v.0, (map entry_normal v.1.0, v.1.1))
 
--- an entry behind its link: of so many bytes of its name, so many words of its bitmap, and so many bytes of values
+-- an entry after its link: of this many bytes of its name, this many words of its bitmap, and this
+-- many bytes of values
 abbrev pub entry_size : ℕ → ℕ → ℕ → ℕ
 entry_size name words values = 24 + with_padding name + 4 * words + with_padding values
 
@@ -349,7 +352,7 @@ entry_attributes e = e.1.1
 abbrev pub readlink_result : Xdr
 readlink_result = opaque 1024
 
--- of so many bytes of the text
+-- of this many bytes of the text
 abbrev pub readlink_size : ℕ → ℕ
 readlink_size text = 12 + with_padding text
 
@@ -451,8 +454,9 @@ written_bytes v = v.1.1.1
 abbrev pub implementation : Xdr
 implementation = fields (bytes ∷ bytes ∷ time ∷ [])
 
--- EXCHANGE_ID (18.35): verifier, owner, flags, no protection, the client's implementation; client ID, sequence ID, flags, no
--- protection, the server's number and name, its scope, no implementation
+-- EXCHANGE_ID (18.35): verifier, owner, flags, no protection, the client's implementation. Its
+-- result is client ID, sequence ID, flags, no protection, the server's number and name, its scope,
+-- no implementation.
 abbrev pub exchange_id_args : Xdr
 exchange_id_args = fields (fixed 8 ∷ opaque 1024 ∷ uint ∷ always 0 ∷ array 1 implementation ∷ [])
 
@@ -462,8 +466,8 @@ exchange_id_result = fields (hyper ∷ uint ∷ uint ∷ always 0 ∷ zeros ∷ 
 abbrev pub exchange_id_size : ℕ
 exchange_id_size = 72
 
--- The arguments of an EXCHANGE_ID that aren't supported, up to the unsupported word: the protection of state by SP4_MACH_CRED
--- (1) or SP4_SSV (2).
+-- The arguments of an EXCHANGE_ID that aren't supported, up to the unsupported word: the protection
+-- of state by SP4_MACH_CRED (1) or SP4_SSV (2).
 abbrev pub protection : Xdr
 protection = union (arm 1 void (arm 2 void no_more))
 
@@ -495,8 +499,8 @@ gss_handles = fields (uint ∷ bytes ∷ bytes ∷ [])
 abbrev pub callback_security : Xdr
 callback_security = union (arm 0 void (arm 1 authsys (arm 6 gss_handles no_more)))
 
--- CREATE_SESSION (18.36): client ID, sequence ID, flags, the two channels, program and credentials of callbacks; session
--- ID, sequence ID, flags, the two channels
+-- CREATE_SESSION (18.36): client ID, sequence ID, flags, the two channels, program and credentials
+-- of callbacks; session ID, sequence ID, flags, the two channels
 abbrev pub create_session_args : Xdr
 create_session_args = fields (hyper ∷ uint ∷ uint ∷ channel ∷ channel ∷ uint ∷ array 8 callback_security ∷ [])
 
@@ -541,8 +545,8 @@ slots c = c.1.1.1.1.1.0
 abbrev pub destroy_session_args : Xdr
 destroy_session_args = fixed 16
 
--- SEQUENCE (18.46): session ID, sequence ID, slot, highest slot, whether the reply is to be cached; session ID, sequence
--- ID, slot, highest slot, target highest slot, no flags
+-- SEQUENCE (18.46): session ID, sequence ID, slot, highest slot, whether the reply is to be cached.
+-- Its result is session ID, sequence ID, slot, highest slot, target highest slot, no flags.
 abbrev pub sequence_args : Xdr
 sequence_args = fields (fixed 16 ∷ uint ∷ uint ∷ uint ∷ boolean ∷ [])
 

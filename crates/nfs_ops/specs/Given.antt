@@ -9,7 +9,7 @@ use Rattle.nfs_ops.specs.Listing.{Listing}
 use Rattle.nfs_ops.specs.Results.{Outcome, Done}
 use Rattle.nfs_ops.specs.declared.op_kind.OpKind.TheVariants.{GetAttr, Read, ReadDir}
 
--- these bytes of a file, and whether it ends behind them
+-- these bytes of a file, and whether it ends after them
 abbrev pub read_outcome : Bool → List ℕ → Outcome
 read_outcome eof item = Done Read (eof, item)
 
@@ -17,11 +17,12 @@ read_outcome eof item = Done Read (eof, item)
 abbrev pub getattr_outcome : Value attributes → Outcome
 getattr_outcome given = Done GetAttr given
 
--- these entries of a directory, and whether it ends behind them
+-- these entries of a directory, and whether it ends after them
 abbrev pub readdir_outcome : Listing → Outcome
 readdir_outcome given = Done ReadDir (zeros_value, (given.entries, given.eof))
 
--- The item is put behind the buffer's bytes, which fails exactly where it has more than so many bytes. Then nothing changes.
+-- The item is put after the buffer's bytes, which fails exactly where it has more bytes than the
+-- room. Then nothing changes.
 abbrev pub PutsWithin : {E : Type 0} → ℕ → Buffer → Buffer → Item → Result (Unit {0}) E → Type 0
 PutsWithin room old new item (Ok done) = Appends old new (item_spelling item) × (length (item_spelling item) ≤ room)
 PutsWithin room old new item (Err full) = (room < length (item_spelling item)) × (new ≡ old)

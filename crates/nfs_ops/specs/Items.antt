@@ -24,14 +24,14 @@ normally t f = record { form = t; normal = Some f }
 abbrev pub nothing : Spelled
 nothing = alone void
 
--- a number, and the value behind it
+-- a number, and the value after it
 abbrev pub numbered : ℕ → (s : Spelled) → Value s.form → Item
 numbered n s v = record { form = pair uint s.form; normal = both None s.normal; value = (n, v) }
 
 abbrev pub number : ℕ → Item
 number n = record { form = uint; normal = None; value = n }
 
--- a number, the status OK, and the value behind them
+-- a number, the status OK, and the value after them
 abbrev pub done : ℕ → (s : Spelled) → Value s.form → Item
 done n s v = record { form = fields (uint ∷ uint ∷ s.form ∷ []); normal = both None (both None s.normal); value = (n, (0, v)) }
 
@@ -48,6 +48,7 @@ ItemHasSpelling i = HasSpelling i.form i.value
 abbrev pub ItemIsNormal : Item → Type 0
 ItemIsNormal i = normalized i.normal i.value ≡ i.value
 
--- a spelling of the value, or of a value with this normal form, is at the front of the bytes, and the rest is behind it
+-- a spelling of the value, or of one with this normal form, is at the front of the bytes, and the
+-- rest is after it
 abbrev pub Stands : Item → List ℕ → List ℕ → Type 0
 Stands i bytes rest = (v : Value i.form) × Begins i.form v bytes rest × (normalized i.normal v ≡ i.value)

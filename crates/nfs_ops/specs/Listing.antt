@@ -1,4 +1,5 @@
--- The entries that READDIR returns: the longest beginning of those above the cookie that stays within a limit (RFC 8881, section 18.23).
+-- The entries that READDIR returns: the longest beginning of those above the cookie that stays
+-- within a limit (RFC 8881, section 18.23).
 use Rattle.std.specs.Prelude.{◌≡◌, ◌≤◌, ◌<◌, ◌⊎◌, ◌↔◌, ◌+◌, ◌-◌, ℕ, min, Bool, true, nat_le, nat_lt, if◌then◌else◌, List, [], ◌∷◌, ◌++◌, length, map, take, Option, Some, None, Result, Ok, Err}
 use Rattle.std.specs.List.{prefix_len, sum_by}
 use Rattle.xdr_wire.specs.Xdr.{Value, HasSpelling, spelling, link}
@@ -13,18 +14,18 @@ use Rattle.nfs_ops.specs.declared.listing.Next.TheVariants as next
 abbrev pub Judged : Type 0 → Type 0
 Judged Refusal = Result (Value entry) Refusal
 
--- the entries that are returned, and whether no entry is left behind them
+-- the entries that are returned, and whether no entry is left after them
 pub record Listing : Type 0 where
   pub entries : List (Value entry)
   pub eof : Bool
 
 -- ---- sizes
 
--- the bytes behind the status of a result without entries: the verifier, the end mark and eof
+-- the bytes after the status of a result without entries: the verifier, the end mark and eof
 abbrev pub empty_size : ℕ
 empty_size = 16
 
--- the bytes behind the status of a result with these entries
+-- the bytes after the status of a result with these entries
 abbrev pub listing_size : List (Value entry) → ℕ
 listing_size entries = empty_size + sum_by size_of_entry entries
 
@@ -33,7 +34,8 @@ abbrev pub sizes_after : ℕ → List (Value entry) → List ℕ
 sizes_after size [] = []
 sizes_after size (e ∷ others) = (size + size_of_entry e) ∷ sizes_after (size + size_of_entry e) others
 
--- The most bytes of a result behind its status: the client's maxcount, and the room without number and status.
+-- The most bytes of a result after its status: the client's maxcount, and the room without number
+-- and status.
 abbrev pub readdir_limit : ℕ → ℕ → ℕ
 readdir_limit maxcount room = min (room - 8) maxcount
 
@@ -49,7 +51,8 @@ given_before (Err refusal ∷ others) = []
 abbrev pub fitting : {R : Type 0} → ℕ → List (Judged R) → ℕ
 fitting limit all = prefix_len (λ size. nat_le size limit) (sizes_after empty_size (given_before all))
 
--- Each entry is judged before it is measured: the entries that fit are judged, and the one behind them.
+-- Each entry is judged before it is measured: the entries that fit are judged, and the one after
+-- them.
 abbrev pub judged_within : {R : Type 0} → ℕ → List (Judged R) → List (Judged R)
 judged_within limit all = take (1 + fitting limit all) all
 
@@ -72,13 +75,15 @@ abbrev pub listing_unless : {R : Type 0} → ℕ → List (Judged R) → Option 
 listing_unless limit all (Some refusal) = Err (Refused refusal)
 listing_unless limit all None = if some_fit limit all then Ok (those_fitting limit all) else Err TooSmall
 
--- The listing of all entries above the cookie, by rising cookie: those that fit, unless a judged entry is refused, or nothing fits.
+-- The listing of all entries above the cookie, by rising cookie: those that fit, unless a judged
+-- entry is refused, or nothing fits.
 unfoldable pub listing : {R : Type 0} → ℕ → List (Judged R) → Result Listing (ListFault R)
 listing limit all = listing_unless limit all (first_refusal (judged_within limit all))
 
 -- ---- the facts of a listing
 
--- The entries are a beginning of all, none of it refused, that fits. Behind it is no entry, or one that isn't refused and goes past the limit.
+-- The entries are a beginning of all, none of it refused, that fits. After it is no entry, or one
+-- that isn't refused and goes past the limit.
 pub record IsLongest {R : Type 0} (limit : ℕ) (all : List (Judged R)) (given : Listing) : Type 0 where
   pub rest : List (Judged R)
   pub parts : all ≡ map Ok given.entries ++ rest
@@ -108,7 +113,7 @@ IsListing limit all (Err TooSmall) = IsTooSmall limit all
 
 -- ---- the bytes that are written
 
--- an entry behind its link
+-- an entry after its link
 abbrev pub linked_bytes : Value entry → List ℕ
 linked_bytes e = link (spelling entry) e
 

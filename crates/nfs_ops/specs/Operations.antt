@@ -1,5 +1,6 @@
--- An operation with its arguments as it stands in a COMPOUND, and how the next one is read (RFC 8881, sections 16.2 and 18). The
--- names of the reading's steps and of how they go on (`.._from`, `or_bad`) are for the prover alone.
+-- An operation with its arguments as it stands in a COMPOUND, and how the next one is read
+-- (RFC 8881, sections 16.2 and 18). The names of the reading's steps and of how they go on
+-- (`.._from`, `or_bad`) are for the prover alone.
 use Rattle.std.specs.Prelude.{ℕ, Bool, true, false, ◌&&◌, ◌||◌, nat_le, if◌then◌else◌, List, [], ◌∷◌, Option, Some, None, Ok, Err, is_ok}
 use Rattle.std.specs.Option.{option_map}
 use Rattle.xdr_wire.specs.Xdr.{Xdr, Value, uint}
@@ -75,7 +76,7 @@ abbrev pub arguments_from : ℕ → List ℕ → Option OpKind → ReadOf Operat
 arguments_from n bytes (Some k) = arguments_of k bytes
 arguments_from n bytes None = Ok (no_operation n, bytes)
 
--- behind an operation's number: its arguments
+-- after an operation's number: its arguments
 unfoldable pub arguments_at : ℕ → List ℕ → ReadOf Operation
 arguments_at n bytes = arguments_from n bytes (kind_at n)
 
@@ -87,6 +88,6 @@ abbrev pub next_from : List ℕ → ReadOf ℕ → Operation × List ℕ
 next_from bytes (Ok (n, rest)) = or_bad n rest (arguments_at n rest)
 next_from bytes (Err fault) = (Bad illegal, bytes)
 
--- the next operation, and the bytes behind it
+-- the next operation, and the bytes after it
 unfoldable pub next_at : List ℕ → Operation × List ℕ
 next_at bytes = next_from bytes (read_at uint bytes)

@@ -5,7 +5,7 @@ use Rattle.nfs_ops.specs.declared.op_kind.OpKind.TheVariants.{SetAttr}
 use Rattle.nfs_ops.specs.Results.{Outcome, Refused, SetAttrRefused}
 use Rattle.nfs_ops.specs.ResultReading.{refusal_at}
 
--- A refusal has the number of a status that isn't OK, and SETATTR's refusal is told apart.
+-- A refusal has the number of a status that isn't OK, and SETATTR's refusal stands apart.
 abbrev pub IsResult : Outcome → Type 0
 IsResult (Refused n status) = (refusal_at status ≡ Some status) × (n ≢ (row SetAttr).number) × (status ≢ 0)
 IsResult (SetAttrRefused status) = (refusal_at status ≡ Some status) × (status ≢ 0)

@@ -80,7 +80,7 @@ session_refusal s =
 unfoldable pub refusal_at : ℕ → Option ℕ
 refusal_at s = if nat_lt s 100 then file_refusal s else if nat_lt s 10034 then state_refusal s else session_refusal s
 
--- behind OK: the result of this operation
+-- after OK: the result of this operation
 unfoldable pub done_of : OpKind → List ℕ → ReadOf Outcome
 done_of k bytes = in_normal_form (row k).gives.normal (read_at (row k).gives.form bytes) >>= λ x. Ok (Done k x.0, x.1)
 
@@ -88,11 +88,11 @@ abbrev pub done_from : List ℕ → Option OpKind → ReadOf Outcome
 done_from bytes (Some k) = done_of k bytes
 done_from bytes None = Err BadChoice
 
--- behind a number and OK
+-- after a number and OK
 unfoldable pub done_at : ℕ → List ℕ → ReadOf Outcome
 done_at n bytes = done_from bytes (kind_at n)
 
--- Behind another status than OK: nothing, or the bitmap of SETATTR, which means nothing then.
+-- After another status than OK: nothing, or the bitmap of SETATTR, which means nothing then.
 abbrev pub refused_from : ℕ → List ℕ → Option ℕ → ReadOf Outcome
 refused_from n bytes (Some status) =
     if n == (row SetAttr).number then (in_normal_form (Some trimmed) (read_at bitmap bytes) >>= λ x. Ok (SetAttrRefused status, x.1)) else Ok (Refused n status, bytes)
@@ -104,6 +104,6 @@ refused_at n status bytes = refused_from n bytes (refusal_at status)
 unfoldable pub behind_status : ℕ → ℕ → List ℕ → ReadOf Outcome
 behind_status n status bytes = if status == 0 then done_at n bytes else refused_at n status bytes
 
--- a result, and the bytes behind it
+-- a result, and the bytes after it
 unfoldable pub result_at : List ℕ → ReadOf Outcome
 result_at bytes = read_at uint bytes >>= λ n. read_at uint n.1 >>= λ status. behind_status n.0 status.0 status.1

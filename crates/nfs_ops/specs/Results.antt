@@ -1,5 +1,5 @@
--- The result of an operation as it stands in a COMPOUND's (RFC 8881, sections 16.2 and 18): its number, its status and,
--- where that is OK, the value of its form.
+-- The result of an operation as it stands in a COMPOUND's (RFC 8881, sections 16.2 and 18). It has
+-- its number, its status and, where that is OK, the value of its form.
 use Rattle.std.specs.Prelude.{ℕ, ◌==◌, Bool, true, false, if◌then◌else◌, [], ◌∷◌, Some}
 use Rattle.xdr_wire.specs.Xdr.{Value, uint, fields}
 use Rattle.nfs_types.specs.Forms.{bitmap}

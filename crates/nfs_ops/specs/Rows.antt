@@ -18,11 +18,12 @@ pub record Row : Type 0 where
   pub takes : Spelled
   -- the arguments that aren't supported, each up to the unsupported word
   pub unsupported : List Xdr
-  -- the result, behind number and status where that is OK
+  -- the result, after number and status where that is OK
   pub gives : Spelled
   -- the most bytes of the result with its number and its status
   pub most : Value gives.form → ℕ
-  -- whether the result has exactly so many bytes, since an object or a request decides its size
+  -- whether the result has exactly the bytes that `most` says, since an object or a request decides
+  -- its size
   pub carries : Bool
   -- whether the operation can change the tree
   pub changes : Bool

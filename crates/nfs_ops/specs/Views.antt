@@ -257,7 +257,7 @@ op_view (ops.Unsupported n) = Unsupported n
 op_view ops.Illegal = Illegal
 op_view (ops.Bad n) = Bad n
 
--- an operation that was read, and the bytes behind it
+-- an operation that was read, and the bytes after it
 abbrev pub after : Op → List ℕ → Operation × List ℕ
 after op rest = (op_view op, rest)
 

@@ -35,7 +35,8 @@ impl<'a> Wire<'a> for AccessArgs {
     }
 }
 
-/// The rights requested that are supported, and those that the caller has. The result of ACCESS (RFC 8881, section 18.1).
+/// The rights requested that are supported, and those that the caller has. The result of ACCESS
+/// (RFC 8881, section 18.1).
 #[derive(Clone, Copy)]
 pub struct AccessResult {
     /// The rights that the server can check for the object.

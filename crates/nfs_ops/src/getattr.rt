@@ -74,8 +74,8 @@ impl<'a> Wire<'a> for GetAttrResult<'a> {
     }
 }
 
-/// Writes the result of a GETATTR that is OK, each value once, straight to where the reply is taken from. `Full` exactly where it takes
-/// more than `room` bytes; then nothing is written.
+/// Writes the result of a GETATTR that is OK, each value once, straight to where the reply is taken
+/// from. `Full` exactly where it takes more than `room` bytes; then nothing is written.
 pub fn write_getattr<A: Allocator>(
     given: GivenAttributes<'_>,
     room: usize,

@@ -1,4 +1,5 @@
-//! READDIR's result (RFC 8881, section 18.23), written entry by entry to where the reply is taken from, as far as the entries fit.
+//! READDIR's result (RFC 8881, section 18.23), written entry by entry to where the reply is taken
+//! from, as far as the entries fit.
 ghost use Rattle.std.specs.Prelude.{◌≡◌, ◌≤◌, ◌+◌, ◌++◌, length, replicate, OnOk, IfErr, Err};
 ghost use Rattle.std.specs.Int.{w32, to_be_bytes};
 ghost use Rattle.xdr_wire.specs.Buffer.{Appends, Puts};
@@ -40,13 +41,14 @@ pub trait Entries {
 
     ghost kept: { Self → Self.Kept };
 
-    /// Judges the next entry, and then writes it behind its link.
+    /// Judges the next entry, and then writes it after its link.
     fn write_next<A: Allocator>(&mut self, writer: &mut Writer<A>) -> Next<Self::Refusal>
         ensures gives { NextGives (Self.left self.old) writer.old result (Self.left self.new) writer.new }
         ensures kept { Self.kept self.new ≡ Self.kept self.old };
 }
 
-/// Writes an entry behind its link. `Full` exactly where the room is less than that takes; then nothing is written.
+/// Writes an entry after its link. `Full` exactly where the room is less than that takes; then
+/// nothing is written.
 pub fn write_entry<A: Allocator>(given: GivenEntry<'_>, writer: &mut Writer<A>) -> Result<(), Full>
     ensures sendable { OnOk result (IsSendable (given_entry_value given.entry)) }
     ensures puts { Puts writer.old writer.new (linked_bytes (given_entry_value given.entry)) result }
@@ -71,7 +73,8 @@ pub(crate) enum Stop<R> {
     Full,
 }
 
-/// Writes as many of the entries as end within the first `most` bytes of the buffer. Each is judged before it is measured.
+/// Writes as many of the entries as end within the first `most` bytes of the buffer. Each is judged
+/// before it is measured.
 fn write_fitting<E: Entries, A: Allocator>(
     entries: &mut E,
     most: usize,
@@ -105,7 +108,8 @@ fn put_head<A: Allocator>(writer: &mut Writer<A>)
     (OP_READDIR, (0u32, Zeros)).write(writer).unwrap();
 }
 
-/// Writes the end mark of the entries and eof, or cuts the buffer back to its first `start` bytes where it has more than `most`.
+/// Writes the end mark of the entries and eof, or cuts the buffer back to its first `start` bytes
+/// where it has more than `most`.
 fn end_listing<R, A: Allocator>(
     start: usize,
     most: usize,
@@ -124,9 +128,10 @@ fn end_listing<R, A: Allocator>(
     Ok(())
 }
 
-/// Writes the result of a READDIR that is OK, each entry once, straight to where the reply is taken from: the longest beginning of
-/// the entries with which it takes, behind number and status, at most `maxcount` bytes, and in all at most `room`. Each entry is
-/// judged before it is measured. Where one is refused, or nothing fits, nothing is written.
+/// Writes the result of a READDIR that is OK, each entry once, straight to where the reply is taken
+/// from. It is the longest beginning of the entries with which it takes, after number and status,
+/// at most `maxcount` bytes, and in all at most `room`. Each entry is judged before it is measured.
+/// Where one is refused, or nothing fits, nothing is written.
 pub fn write_readdir<E: Entries, A: Allocator>(
     entries: &mut E,
     maxcount: u32,

@@ -91,8 +91,8 @@ pub enum Op<'a> {
     DestroyClientId(DestroyClientIdArgs),
     /// RECLAIM_COMPLETE: no more reclaims.
     ReclaimComplete(ReclaimCompleteArgs),
-    /// A number from 3 to 58 whose operation isn't supported, and whose arguments aren't read; or that of an OPEN or an
-    /// EXCHANGE_ID whose arguments aren't supported.
+    /// A number from 3 to 58 whose operation isn't supported, and whose arguments aren't read. It
+    /// may also be that of an OPEN or an EXCHANGE_ID whose arguments aren't supported.
     Unsupported(u32),
     /// A number that no operation has.
     Illegal,

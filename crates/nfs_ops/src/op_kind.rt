@@ -80,8 +80,9 @@ pub enum Placement {
     Alone,
 }
 
-/// The table of the operations, a row each: its variant, with its arguments if it takes any, its number, its name, its place
-/// in a COMPOUND, and its result if it has one. Hands all rows to the macro `$by`, after the tokens that are there for it.
+/// The table of the operations, a row each. A row has its variant, with its arguments if it takes
+/// any, its number, its name, its place in a COMPOUND, and its result if it has one. Hands all rows
+/// to the macro `$by`, after the tokens that are there for it.
 macro_rules! rows {
     ($by:ident $(, $with:expr)*) => {
         $by! {
@@ -192,8 +193,8 @@ impl OpKind {
     }
 }
 
-/// The name of the operation of a number, in capitals and without the standard's `OP_` (RFC 8881, section 18): ASCII, at most 20
-/// bytes. `None`: this server has no such operation.
+/// The name of the operation of a number, in capitals and without the standard's `OP_` (RFC 8881,
+/// section 18): ASCII, at most 20 bytes. `None`: this server has no such operation.
 pub fn operation_name(op: u32) -> Option<&'static [u8]>
     ensures name { option_copied result ≡ names.operation_name op }
     ensures short { IfSome result (λ name. length name.now ≤ 20) }

@@ -9,7 +9,8 @@ use xdr_wire::{Full, Opaque, Reader, Spell, Wire, Writer, XdrFault};
 /// The number of OPEN.
 pub const OP_OPEN: u32 = 18;
 
-/// Whether the file of an OPEN may be created (RFC 8881, section 18.16, `openflag4`). Exclusive creation isn't supported.
+/// Whether the file of an OPEN may be created (RFC 8881, section 18.16, `openflag4`). Exclusive
+/// creation isn't supported.
 #[derive(Clone, Copy)]
 pub enum OpenHow<'a> {
     /// OPEN4_NOCREATE (0): the file has to be there.

@@ -60,7 +60,7 @@ pub const MAX_READ: u32 = 32_768;
 /// Bytes of the file. The result of READ (RFC 8881, section 18.22).
 #[derive(Clone, Copy)]
 pub struct ReadResult<'a> {
-    /// Whether the file ends behind the bytes.
+    /// Whether the file ends after the bytes.
     pub eof: bool,
     /// The bytes, at most 32,768.
     pub data: Opaque<'a, MAX_READ>,
@@ -97,8 +97,9 @@ fn put_head<A: Allocator>(eof: bool, writer: &mut Writer<A>)
     (OP_READ, (0u32, eof)).write(writer).unwrap();
 }
 
-/// Writes the result of a READ that is OK: whether the file ends behind the bytes, and the bytes, at most so many, which are copied
-/// from the source straight to where the reply is taken from.
+/// Writes the result of a READ that is OK: whether the file ends after the bytes, and the bytes,
+/// which are at most `most`. They are copied from the source straight to where the reply is taken
+/// from.
 pub fn write_read<S: Source, A: Allocator>(
     eof: bool,
     most: usize,

@@ -122,7 +122,7 @@ impl<'a> Spell for GivenEntry<'a> {
 pub struct ReadDirResult<'a> {
     /// The entries, in the order of their cookies.
     pub entries: Chain<'a, Entry<'a>>,
-    /// Whether the directory ends behind the entries.
+    /// Whether the directory ends after the entries.
     pub eof: bool,
 }
 

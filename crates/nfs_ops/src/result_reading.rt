@@ -157,7 +157,7 @@ fn read_behind_refusal<'a>(
     }
 }
 
-/// Reads the bytes behind another status than OK.
+/// Reads the bytes after another status than OK.
 #[tactic(auto, unfolding(crate::specs::ResultReading::refused_at))]
 fn read_refused<'a>(
     number: u32,
@@ -172,7 +172,7 @@ fn read_refused<'a>(
     }
 }
 
-/// Reads the bytes behind a status.
+/// Reads the bytes after a status.
 #[tactic(auto, unfolding(crate::specs::ResultReading::behind_status))]
 fn read_behind_status<'a>(
     number: u32,
@@ -187,8 +187,9 @@ fn read_behind_status<'a>(
     }
 }
 
-/// Reads a result, as a client does. `BadChoice` where no operation has the number of a result that is OK, or no status has
-/// the number of a status that isn't. A fault leaves the reader where the result begins.
+/// Reads a result, as a client does. `BadChoice` where no operation has the number of a result that
+/// is OK, or no status has the number of a status that isn't. A fault leaves the reader where the
+/// result begins.
 #[tactic(auto, unfolding(crate::specs::ResultReading::result_at))]
 pub fn read_result<'a>(reader: &mut Reader<'a>) -> Result<OpResult<'a>, XdrFault>
     ensures { Gives read_view reader.old reader.new result (result_at reader.old) }

@@ -31,7 +31,7 @@ fn is_whole<const N: usize>(bytes: &[u8; N])
     let _bytes = *bytes;
 }
 
-/// Writes a refusal of this number. SETATTR has an empty bitmap behind its status.
+/// Writes a refusal of this number. SETATTR has an empty bitmap after its status.
 fn write_refused<A: Allocator>(
     number: u32,
     refusal: u32,
@@ -50,8 +50,9 @@ fn write_refused<A: Allocator>(
     }
 }
 
-/// Writes that the operation of this number has this status, and not OK: where it is OK, SERVERFAULT stands there. `Full` exactly
-/// where the room is less than that takes, at most 12 bytes; then nothing is written.
+/// Writes that the operation of this number has this status, and not OK: where it is OK,
+/// SERVERFAULT stands there. `Full` exactly where the room is less than that takes, at most 12
+/// bytes; then nothing is written.
 pub fn write_refusal<A: Allocator>(
     number: u32,
     status: Status,
@@ -65,7 +66,7 @@ pub fn write_refusal<A: Allocator>(
     write_refused(number, refusal(status), writer)
 }
 
-/// Writes number, status OK and the result, once the prover is told how long these bytes of it are.
+/// Writes number, status OK and the result, once the prover knows how long these bytes of it are.
 macro_rules! whole {
     ($bytes:expr, $number:ident $given:ident, $writer:expr) => {{
         is_whole(&$bytes);
@@ -93,9 +94,10 @@ macro_rules! done_of {
     };
 }
 
-/// Writes a result: its number, its status and, where that is OK, the result of the operation. `Full` exactly where the
-/// room is less than that takes; then nothing is written. It takes at most what `most` says: at most 256 bytes of an
-/// operation that can change the tree, and at most 12 of a refusal.
+/// Writes a result: its number, its status and, where that is OK, the result of the operation.
+/// `Full` exactly where the room is less than that takes; then nothing is written. It takes at most
+/// the bytes that `most` gives. Those are at most 256 of an operation that can change the tree, and
+/// at most 12 of a refusal.
 pub fn write_result<A: Allocator>(outcome: OpResult, writer: &mut Writer<A>) -> Result<(), Full>
     ensures has_spelling { OnOk result (ItemHasSpelling (outcome_item (result_view outcome.entry))) }
     ensures in_normal_form { OnOk result (ItemIsNormal (outcome_item (result_view outcome.entry))) }

@@ -1,5 +1,5 @@
-//! SAVEFH: saves the current object (RFC 8881, section 18.28). Nothing stands behind its number, and nothing behind its
-//! status.
+//! SAVEFH: saves the current object (RFC 8881, section 18.28). Nothing stands after its number, and
+//! nothing after its status.
 
 /// The number of SAVEFH.
 pub const OP_SAVEFH: u32 = 32;

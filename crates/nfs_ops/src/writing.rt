@@ -22,8 +22,9 @@ macro_rules! written {
     };
 }
 
-/// Writes an operation: its number and its arguments. Of an operation that isn't supported, that is illegal or that is bad
-/// only the number, as only it was read. `Full` exactly where the room is less than that takes; then nothing is written.
+/// Writes an operation: its number and its arguments. Of an operation that isn't supported, that is
+/// illegal or that is bad only the number, as only it was read. `Full` exactly where the room is
+/// less than that takes; then nothing is written.
 pub fn write_op<A: Allocator>(op: Op, writer: &mut Writer<A>) -> Result<(), Full>
     ensures has_spelling { OnOk result (ItemHasSpelling (op_item (op_view op.entry))) }
     ensures in_normal_form { OnOk result (ItemIsNormal (op_item (op_view op.entry))) }

@@ -21,7 +21,7 @@ owner_here owner id i = rw (eq-eqb id id refl) refl
 owner_there : (owner : ℕ → ℕ) (id i k : ℕ) → k ≢ id → owner_with owner id i k ≡ owner k
 owner_there owner id i k ne = rw (ne_eqb k id ne) refl
 
--- what is known of a place stays
+-- the facts that are known of a place stay
 abbrev pub Same : List Act → List Act → ℕ → Type 0
 Same acts acts' j = (ahead acts' j ≡ ahead acts j) × (turns_at acts' j ≡ turns_at acts j) × (fault_at acts' j ≡ fault_at acts j)
 
@@ -123,7 +123,7 @@ one_place {acts = acts} st i j p q at at' same =
     let seated' : IsSeated st.owner acts j (Some q) = subst (λ (o : Option (Peer _)). IsSeated st.owner acts j o) at' (st.seated j) in
     sym seated'.1 ∙ ap st.owner same ∙ seated.1
 
--- a connection goes on at its place, behind acts that admit and close no stream
+-- a connection goes on at its place, after acts that admit and close no stream
 pub stays_at : {A : Type 0} {start : ℕ} {hub : Hub A} {acts : List Act} {s : State} (ps : List (Option (Peer A))) (i : ℕ) (p p' : Peer A) (st : Stands start hub (set ps i (Some p)) acts s) → i < length ps → p'.conn ≡ p.conn
     → (hub' : Hub A) (acts' : List Act) (s' : State) → IsHub hub' s' → ((k : ℕ) → k ≢ p.conn → s'.connection k ≡ s.connection k) → s'.next ≡ s.next → Seat start p.conn (Some p') (s'.connection p.conn)
     → ((j : ℕ) → conn_at acts' j ≡ conn_at acts j) → open_in acts' ≡ open_in acts → Knows acts' i p' → ((j : ℕ) → j ≢ i → Same acts acts' j) → Stands start hub' (set ps i (Some p')) acts' s'
@@ -145,7 +145,7 @@ stays_at {acts = acts} {s = s} ps i p p' st lt conn hub' acts' s' is others next
       count = count ∙ omega (arith, st.count, taken_swap ps i (Some p) (Some p') lt);
     })
 
--- behind acts that admit and close no stream everything stays
+-- after acts that admit and close no stream everything stays
 pub stands_as : {A : Type 0} {start : ℕ} {hub : Hub A} {places : List (Option (Peer A))} {acts : List Act} {s : State} (acts' : List Act) → ((j : ℕ) → conn_at acts' j ≡ conn_at acts j) → ((j : ℕ) → Same acts acts' j) → open_in acts' ≡ open_in acts → Stands start hub places acts s → Stands start hub places acts' s
 stands_as {places = places} {acts = acts} acts' conns same count st = record {
   is = st.is;

@@ -1,4 +1,4 @@
--- What is kept while serving goes on: the trail, and what outlives a restart.
+-- The trail, and what outlives a restart, are kept while serving goes on.
 use Rattle.std.proofs.Common.{◌≡◌, inl, inr, ⊎_elim, ℕ, true, List, [], ◌∷◌, ◌++◌, Option, Some, None, refl, sym, ◌∙◌, ap, subst, arith}
 use Rattle.std.proofs.lemmas.List.{append-nil}
 use Rattle.journal.specs.Disk.{Act as DiskAct, on_disk}
@@ -119,7 +119,7 @@ covers_leaves key history limits acts start s run store kept stands was covers =
 abbrev pub IsAside : Act → List Act → Type 0
 IsAside act acts = (disk_of (act ∷ acts) ≡ disk_of acts) × ((state : ServerState) → IsStored (act ∷ acts) state → IsStored acts state)
 
--- what was noted leads on
+-- the notes lead on
 abbrev pub NotesLead : State → State → Type 0
 NotesLead old new = (base : World) → Noted base (world_of old) → Noted base (world_of new)
 

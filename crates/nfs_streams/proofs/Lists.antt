@@ -58,7 +58,7 @@ closed_here acts i end = rw (eq-eqb i i refl) refl
 pub closed_there : (acts : List Act) (i j : ℕ) (end : StreamEnd) → j ≢ i → conn_at (Closed i end ∷ acts) j ≡ conn_at acts j
 closed_there acts i j end ne = rw (ne_eqb j i ne) refl
 
--- what is known of the place of a read
+-- the facts of the place of a read
 pub ahead_heard : (acts : List Act) (i : ℕ) (bytes : List ℕ) → ahead (Heard i bytes ∷ acts) i ≡ ahead acts i ++ bytes
 ahead_heard acts i bytes = rw (eq-eqb i i refl) refl
 
@@ -71,7 +71,7 @@ ahead_heard_there acts i j bytes ne = rw (ne_eqb j i ne) refl
 pub turns_heard_there : (acts : List Act) (i j : ℕ) (bytes : List ℕ) → j ≢ i → turns_at (Heard i bytes ∷ acts) j ≡ turns_at acts j
 turns_heard_there acts i j bytes ne = rw (ne_eqb j i ne) refl
 
--- what is known of the place of bytes that are given
+-- the facts of the place of bytes that are given
 pub ahead_given : (acts : List Act) (i : ℕ) (bytes : List ℕ) (fault : Option HubFault) → ahead (Given i bytes fault ∷ acts) i ≡ drop (length bytes) (ahead acts i)
 ahead_given acts i bytes fault = rw (eq-eqb i i refl) refl
 
@@ -90,7 +90,7 @@ fault_given_there acts i j bytes fault ne = rw (ne_eqb j i ne) refl
 pub left_begun : (acts : List Act) (i : ℕ) → left_of_piece (Begun i ∷ acts) i ≡ MAX_PIECE
 left_begun acts i = rw (eq-eqb i i refl) refl
 
--- what is known of the place of a stream that is admitted
+-- the facts of the place of a stream that is admitted
 pub ahead_admitted : (acts : List Act) (i id : ℕ) → ahead (Admitted i id ∷ acts) i ≡ []
 ahead_admitted acts i id = rw (eq-eqb i i refl) refl
 
@@ -149,7 +149,7 @@ some_left n e =
     not_both : false ≡ true → ⊥
     not_both e = cc
 
--- the rest of a range behind its first n items
+-- the rest of a range after its first n items
 pub slice_skip : (xs : List ℕ) (from n to : ℕ) → n ≤ to - from → slice_range xs (from + n) to ≡ drop n (slice_range xs from to)
 slice_skip xs from n to le =
     let m = to - (from + n) in

@@ -246,7 +246,7 @@ module _ {A : Type 0} {n : ℕ} {o : Origin} {hub : Hub A} {left : Left} {before
 
 -- ---- a connection is closed
 
--- behind the same acts and others that admit and close no stream, a connection is closed
+-- after the same acts and others that admit and close no stream, a connection is closed
 pub record Shut {A : Type 0} (start : ℕ) (hub' : Hub A) (places' : List (Option (Peer A))) (place : ℕ) (why : StreamEnd) (acts : List Act) (s : State) : Type 0 where
   pub machine : State
   pub step : StepAt acts place Close s machine

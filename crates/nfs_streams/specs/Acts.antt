@@ -1,5 +1,5 @@
--- What serving asks of the streams and of the disk of the store, and what it gives to the hub, each act at its place in
--- one list.
+-- The acts of serving, each at its place in one list. They ask something of the streams and of the
+-- disk of the store, or give something to the hub.
 use Rattle.std.specs.Prelude.{◌≡◌, ◌≤◌, ◌⊎◌, ◌+◌, ◌-◌, ◌==◌, ℕ, Bool, true, false, List, [], ◌∷◌, ◌++◌, length, Option, Some, None, take, drop, if◌then◌else◌}
 use Rattle.who_book.specs.Content.{Content}
 use Rattle.journal.specs.Disk.{Act as DiskAct}
@@ -82,7 +82,7 @@ abbrev pub looked : Option Content → List Act
 looked (Some book) = Loaded book ∷ []
 looked None = Looked ∷ []
 
--- the act of a read into a buffer that moved so many bytes
+-- the act of a read into a buffer that moved this many bytes
 abbrev pub came : ℕ → Moved → List ℕ → List Act
 came place (moved.Bytes n) bytes = Heard place (take n bytes) ∷ []
 came place moved.NotYet bytes = []
@@ -96,7 +96,7 @@ went place moved.NotYet bytes = []
 went place moved.Over bytes = Unwritten place ∷ []
 went place moved.Failed bytes = Unwritten place ∷ []
 
--- no more than so many bytes
+-- no more than this many bytes
 abbrev pub IsWithin : Moved → ℕ → Type 0
 IsWithin (moved.Bytes n) most = n ≤ most
 IsWithin moved.NotYet most = Unit {0}
@@ -182,8 +182,8 @@ IsLooked (Loaded book ∷ acts) = Unit {0}
 IsLooked (Heard at bytes ∷ acts) = ⊥
 IsLooked (act ∷ acts) = IsLooked acts
 
--- All that outlives a restart of a server in this state was stored, if there is a store: what was stored last is all that
--- outlives one.
+-- All that outlives a restart of a server in this state was stored, if there is a store. What was
+-- stored last is all that outlives one.
 abbrev pub IsStored : List Act → ServerState → Type 0
 IsStored [] s = ⊥
 IsStored (Stored state ∷ acts) s = kept_of state ≡ kept_of s

@@ -17,8 +17,9 @@ use Rattle.nfs_streams.specs.Keeping.{SurvivesIn}
 abbrev pub AreClosed : ℕ → State → Type 0
 AreClosed start s = (id : ℕ) → start ≤ id → s.connection id ≡ None
 
--- Why serving ends: the limit of connections has been admitted, and all of them are closed; all turns are used up; the last wait failed;
--- the trail couldn't be kept; what outlives a restart couldn't be stored; or there was no memory for the places, and nothing was done.
+-- The reason why serving ends. The limit of connections has been admitted, and all of them are
+-- closed; all turns are used up; the last wait failed; the trail couldn't be kept; what outlives a
+-- restart couldn't be stored; or there was no memory for the places, and nothing was done.
 abbrev pub EndsSo : AllEnd → Limits → State → List Act → State → Type 0
 EndsSo Served limits start acts s = (admitted acts ≡ limits.connections) × AreClosed start.next s
 EndsSo Turns limits start acts s = waits acts ≡ limits.turns
@@ -27,10 +28,12 @@ EndsSo Keep limits start acts s = Just Lost acts
 EndsSo Store limits start acts s = Just Unstored acts
 EndsSo Memory limits start acts s = acts ≡ []
 
--- Behind events that lead to the hub, acts lead the machine on, each of them allowed at its turn, with at most so many
--- waits and connections; then the streams still at places are let go, and none of the connections that came is open. Those of these acts
--- that are asked of the streams and of the disk, and no others, are the acts of the streams; and they lead to the state of
--- the hub. Where there is a store, a crash after each of the acts leaves all of which a reply was written.
+-- After events that lead to the hub, acts lead the machine on, each of them allowed at its turn,
+-- with at most as many waits and connections as the limits say. Then the streams still at places
+-- are let go, and none of the connections that came is open. Those of these acts that are asked of
+-- the streams and of the disk, and no others, are the acts of the streams. They lead to the state
+-- of the hub. Where there is a store, a crash after each of the acts leaves all of which a reply
+-- was written.
 pub record ServesAll {A : Type 0} (first : ServedState) (events : List Event) (store : Option TreeStore) (history : List DiskAct) (end : AllEnd) (limits : Limits) (new : Hub A) (before after : Option (List Act)) : Type 0 where
   pub start : State
   pub leads : Leads first events start

@@ -1,4 +1,5 @@
--- What a crash leaves of the two files of the store, at any moment of serving.
+-- A crash at any moment of serving leaves all of which a reply was written, unless a digest fits by
+-- chance.
 use Rattle.std.specs.Prelude.{◌≡◌, ◌⊎◌, ℕ, Bool, true, List, [], ◌∷◌, ◌++◌, Option, Some, None, Result, is_ok}
 use Rattle.journal.specs.Disk.{Act as DiskAct}
 use Rattle.journal.specs.Files.{Content}
@@ -31,16 +32,17 @@ IsQuiet (Told place bytes) = ⊥
 IsQuiet (Unwritten place) = ⊥
 IsQuiet act = Unit {0}
 
--- What is kept is what outlives a restart of the server, but for slots, on each of which fewer than 2^20 calls came, as the
--- server is at the end of a run, or as it was before the last acts of the run, by which no bytes were written to a stream.
--- So what is kept has all that was done for each reply that was written.
+-- What is kept is what outlives a restart of the server, but for slots, on each of which fewer than
+-- 2^20 calls came. The server is taken as it is at the end of a run. Or it is taken as it was
+-- before the last acts of the run, by which no bytes were written to a stream. So what is kept has
+-- all that was done for each reply that was written.
 abbrev pub IsShown : (limits : Limits) (acts : List Act) (start s : State) → Runs limits acts start s → Kept → Type 0
 IsShown limits [] start s run kept = Covers (kept_of s.served.state) kept
 IsShown limits (act ∷ acts) start s run kept =
     Covers (kept_of s.served.state) kept ⊎ (IsQuiet act × IsShown limits acts start run.0 run.1 kept)
 
--- What is kept is all that outlives a restart of the server, as it was at one moment of a run: so what came on a slot since
--- then has changed nothing else that is kept.
+-- What is kept is all that outlives a restart of the server, as it was at one moment of a run. So
+-- the calls that came on a slot since then have changed nothing else that is kept.
 abbrev pub WasSo : (limits : Limits) (acts : List Act) (start s : State) → Runs limits acts start s → Kept → Type 0
 WasSo limits [] start s run kept = IsAs (kept_of s.served.state) kept
 WasSo limits (act ∷ acts) start s run kept = IsAs (kept_of s.served.state) kept ⊎ WasSo limits acts start run.0 run.1 kept
@@ -65,8 +67,8 @@ abbrev pub SurvivesIn : Option TreeStore → List DiskAct → (limits : Limits) 
 SurvivesIn None history limits acts start s run = Unit {0}
 SurvivesIn (Some store) history limits acts start s run = AlwaysSurvives store.journal.key history limits acts start s run
 
--- A store that serving begins with: after this history it stands for what is kept, from where the notes of the world lead;
--- and that is what outlives a restart of the server.
+-- A store that serving begins with. After this history it stands for what is kept, from where the
+-- notes of the world lead. That is what outlives a restart of the server.
 pub record StandsOpen (history : List DiskAct) (store : TreeStore) (kept : Kept) (state : ServerState) : Type 0 where
   pub stands : StandsFor store.journal.key history store kept
   pub follows : Follows kept state.realm.world

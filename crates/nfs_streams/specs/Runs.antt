@@ -41,25 +41,28 @@ StepAt acts place event old new = (id : ℕ) × (conn_at acts place ≡ Some id)
 abbrev pub AnswersOne : List ℕ → List ℕ → State → State → Type 0
 AnswersOne rest bytes old new = (new.served ≡ old.served) ⊎ ((content : List ℕ) × IsRecord content (rest ++ bytes))
 
--- The fault of the hub at bytes of the connection at a place: none, and the connection is whole; the stream or a record of it breaks in them;
--- or memory is refused, and the connection is broken.
+-- The fault of the hub at bytes of the connection at a place. There is none, and the connection is
+-- whole; or the stream or a record of it breaks in them; or memory is refused, and the connection
+-- is broken.
 abbrev pub FaultIs : Option HubFault → List Act → ℕ → List ℕ → Moment → State → State → Type 0
 FaultIs None earlier place bytes now old new = On earlier place new (λ c. c.broken ≡ false)
 FaultIs (Some fault.Broken) earlier place bytes now old new =
     On earlier place new (λ d. (d.broken ≡ true) × On earlier place old (λ c. CameToBreak now old.served c.pending (c.rest ++ bytes) new.served d.pending))
 FaultIs (Some other) earlier place bytes now old new = On earlier place new (λ c. c.broken ≡ true)
 
--- Bytes are given: they are a piece of the connection at the place, at some moment, in which at most one record is answered, with their last
--- byte.
+-- Bytes are given. They are a piece of the connection at the place, at some moment, in which at
+-- most one record is answered, with their last byte.
 abbrev pub Gives : List Act → ℕ → List ℕ → Option HubFault → State → State → Type 0
 Gives earlier place bytes fault old new =
     (now : Moment) × StepAt earlier place (λ id. Piece id bytes now) old new × On earlier place old (λ c. AnswersOne c.rest bytes old new) × FaultIs fault earlier place bytes now old new
 
--- The step of the machine by an act behind earlier acts: a stream that is admitted is the connection of the next number, which is open
--- then; the bytes that are given are a piece of the connection at their place; the bytes that are written are taken from the
--- front of its pending bytes; the connection of a stream that is let go is closed; and a book that has come is loaded, which changes
--- nothing where no epoch is left for the book; what was noted of the changes is forgotten where it is stored;
--- and a client whose lease is over is let go. All other acts change nothing.
+-- The step of the machine by an act after earlier acts. A stream that is admitted is the connection
+-- of the next number, which is open then. The bytes that are given are a piece of the connection at
+-- their place. The bytes that are written are taken from the front of its pending bytes. The
+-- connection of a stream that is let go is closed. A book that has come is loaded, which changes
+-- nothing where no epoch is left for the book. The notes of changes are forgotten where what
+-- outlives a restart is stored. A client whose lease is over is let go. All other acts change
+-- nothing.
 abbrev pub Does : List Act → Act → State → State → Type 0
 Does earlier (Admitted place id) old new = (id ≡ old.next) × Step Connect old new × (new.connection id ≡ Some fresh)
 Does earlier (Closed place end) old new = StepAt earlier place Close old new
@@ -87,17 +90,18 @@ IsSpent c = (c.broken ≡ true) × (c.pending ≡ [])
 abbrev pub IsWaiting : Connected → Type 0
 IsWaiting c = c.pending ≢ []
 
--- a connection is behind a whole record, or inside one
+-- a connection is after a whole record, or inside one
 abbrev pub IsBetween : Connected → Type 0
 IsBetween c = c.rest ≡ []
 
 abbrev pub IsInside : Connected → Type 0
 IsInside c = c.rest ≢ []
 
--- The connection at a place may be closed with this end: its stream has just ended, after a whole record or inside one; the bytes given last
--- broke it, or memory was refused for them, and no bytes are pending on it; reading or writing has just failed; its turns are used up, and
--- all that was read of it is given and answered; or the limit of open connections is reached, another stream has just come, and room is to be
--- made for it.
+-- The connection at a place may be closed with this end. Its stream has just ended, after a whole
+-- record or inside one; the bytes given last broke it, or memory was refused for them, and no bytes
+-- are pending on it; reading or writing has just failed; its turns are used up, and all that was
+-- read of it is given and answered; or the limit of open connections is reached, another stream has
+-- just come, and room is to be made for it.
 abbrev pub MayClose : Limits → List Act → ℕ → StreamEnd → State → Type 0
 MayClose limits earlier place end.Ended s = Just (Ended place) earlier × On earlier place s IsBetween
 MayClose limits earlier place end.Inside s = Just (Ended place) earlier × On earlier place s IsInside
@@ -124,15 +128,18 @@ pub record HasKept (lines : List Line) (total : ℕ) (earlier : List Act) : Type
 abbrev pub IsKept : List Act → State → Type 0
 IsKept earlier s = HasKept s.served.state.trail s.served.state.total earlier
 
--- The acts that may come behind earlier acts. Behind an end or a failure of a stream only
--- its closing comes, and nothing behind a wait that failed, a trail that couldn't be kept, or a store that failed. A stream is admitted only just after a stream
--- has knocked, at a free place below 16, while fewer connections are open than may be. At most 65,536 bytes are read at once, where all that
--- was read before of that stream is given, no bytes are pending on its connection, and its turns aren't used up. A piece begins only where
--- no bytes are pending on its connection. Bytes are given only to a connection that is whole, of what was read of it, in that order, and no
--- more than the piece has left; where it was asked for another book since the last read; and where the trail of the server, as it is then,
--- has been kept. At most 131,072 bytes are written at once; writing is tried only where
--- bytes are pending on the connection, the trail of the server in its present state has been kept, behind a book too, and all that outlives a
--- restart of the server in its present state is stored.
+-- The acts that may come after earlier acts. After an end or a failure of a stream only its closing
+-- comes, and nothing after a wait that failed, a trail that couldn't be kept, or a store that
+-- failed. A stream is admitted only just after a stream has knocked, at a free place below 16,
+-- while fewer connections are open than may be. At most 65,536 bytes are read at once. Then all
+-- that was read before of that stream is given, no bytes are pending on its connection, and its
+-- turns aren't used up. A piece begins only where no bytes are pending on its connection. Bytes are
+-- given only to a connection that is whole, of what was read of it, in that order, and no more than
+-- the piece has left. They are given only where it was asked for another book since the last read,
+-- and where the trail of the server, as it is then, has been kept. At most 131,072 bytes are
+-- written at once. Writing is tried only where bytes are pending on the connection, the trail of
+-- the server in its present state has been kept, after a book too, and all that outlives a restart
+-- of the server in its present state is stored.
 abbrev pub Allowed : Limits → List Act → Act → State → Type 0
 Allowed limits earlier (Admitted place id) s = Just Knocked earlier × (conn_at earlier place ≡ None) × (open_in earlier < most_open limits) × (place < MOST_PLACES)
 Allowed limits earlier (Closed place end) s = MayClose limits earlier place end s
@@ -155,7 +162,7 @@ abbrev pub Runs : Limits → List Act → State → State → Type 0
 Runs limits [] old new = new ≡ old
 Runs limits (act ∷ earlier) old new = (mid : State) × Runs limits earlier old mid × Allowed limits earlier act mid × Does earlier act mid new
 
--- behind earlier acts streams are let go since serving has ended, and no other acts come
+-- after earlier acts streams are let go since serving has ended, and no other acts come
 abbrev pub Ends : List Act → List Act → State → State → Type 0
 Ends earlier [] old new = new ≡ old
 Ends earlier (act ∷ acts) old new =

@@ -46,7 +46,7 @@ pub record Left : Type 0 where
 abbrev pub left_of : {A : Type 0} → Door A → Left
 left_of door = record { more = door.left; store = door.store }
 
--- The stages of serving behind so many waits.
+-- The stages of serving after this many waits.
 pub data Stage : Type 0 where
   -- streams are read and admitted
   Listening : ℕ → Stage
@@ -66,7 +66,7 @@ pub data Stage : Type 0 where
   Answering : ℕ → Stage
   -- serving has stopped for a reason
   Stopped : AllEnd → ℕ → Stage
-  -- it had stopped behind these acts in this state, and streams are let go
+  -- it had stopped after these acts in this state, and streams are let go
   Ending : List Act → State → Stage
 
 -- the last act, by the reason why serving stopped
@@ -91,8 +91,9 @@ Way (Answering n) o acts s = Runs o.limits acts o.start s × (waits acts ≡ n) 
 Way (Stopped end n) o acts s = Runs o.limits acts o.start s × (waits acts ≡ n) × StopsSo end acts
 Way (Ending served at) o acts s = (endings : List Act) × (acts ≡ endings ++ served) × Ends served endings at s
 
--- After a run the store stands for what is kept: that has all of which a reply was written, it covers the state that was
--- stored last, and the notes of the world lead on from it. And a crash at any moment so far left such a thing.
+-- After a run the store stands for what is kept. That has all of which a reply was written, it
+-- covers the state that was stored last, and the notes of the world lead on from it. A crash at any
+-- moment so far left such a thing.
 pub record Storing (key : ℕ) (store : TreeStore) (o : Origin) (acts : List Act) (machine : State) (run : Runs o.limits acts o.start machine) : Type 0 where
   pub kept : Kept
   pub stands : StandsFor key (disk_of acts ++ o.history) store kept
@@ -109,7 +110,7 @@ StoringIn None (Some store) o acts machine run = ⊥
 StoringIn (Some first) None o acts machine run = ⊥
 StoringIn (Some first) (Some store) o acts machine run = Storing first.journal.key store o acts machine run
 
--- what is known of the store at a stage
+-- this is known of the store at a stage
 abbrev pub Keeping : (stage : Stage) (o : Origin) (acts : List Act) (machine : State) → Way stage o acts machine → Option TreeStore → Type 0
 Keeping (Listening n) o acts machine way store = StoringIn o.store store o acts machine way.0
 Keeping (Knocking n) o acts machine way store = StoringIn o.store store o acts machine way.0
@@ -122,7 +123,8 @@ Keeping (Answering n) o acts machine way store = StoringIn o.store store o acts 
 Keeping (Stopped end n) o acts machine way store = SurvivesIn o.store o.history o.limits acts o.start machine way.0
 Keeping (Ending served at) o acts machine way store = Unit {0}
 
--- Acts have led to this stage, and to the present hub, places and store; so many connections may still come.
+-- Acts have led to this stage, and to the present hub, places and store; this many connections may
+-- still come.
 pub record Standing {A : Type 0} (stage : Stage) (o : Origin) (hub : Hub A) (places : List (Option (Peer A))) (left : Left) (now : Option (List Act)) : Type 0 where
   pub acts : List Act
   pub machine : State
@@ -141,7 +143,8 @@ Moves stage stage' limits old places left new places' left' before after =
 abbrev pub Loads : {A : Type 0} → Hub A → Hub A → Option (List Act) → Option (List Act) → Type 0
 Loads {A} old new before after = (n : ℕ) (left : Left) (limits : Limits) (places : List (Option (Peer A))) → Moves (Listening n) (Looking n) limits old places left new places left before after
 
--- the stage behind the keeping of the trail: what was read may be given, or serving stops
+-- The stage after the keeping of the trail. The bytes that were read may be given, or serving
+-- stops.
 abbrev pub kept_stage : Bool → ℕ → Stage
 kept_stage true n = Giving n
 kept_stage false n = Stopped Keep n
@@ -173,13 +176,14 @@ abbrev pub broken_end : HubFault → StreamEnd
 broken_end fault.Broken = end.Broken
 broken_end other = end.Memory
 
--- the connection of a place behind its part of a turn
+-- the connection of a place after its part of a turn
 abbrev pub stays : {A : Type 0} → Turned → Peer A → Option (Peer A)
 stays Idle peer = Some peer
 stays Busy peer = Some peer
 stays Gone peer = None
 
--- the stages at which a connection that may still go on may be closed, with which end, and the stage behind that
+-- the stages at which a connection that may still go on may be closed, with which end, and the
+-- stage after that
 abbrev pub IsClosing : Stage → StreamEnd → Type 0
 IsClosing (Full n) why = why ≡ end.Quiet
 IsClosing (Ending served at) why = why ≡ end.Stopped
@@ -208,12 +212,14 @@ abbrev pub turned_stage : Result Pause Halt → ℕ → Stage
 turned_stage (Ok pause) n = Listening n
 turned_stage (Err why) n = Stopped (halted why) n
 
--- the stage behind bytes of a place that were given, by what is left of the piece, or by a trail that couldn't be kept
+-- the stage after bytes of a place that were given, by what is left of the piece, or by a trail
+-- that couldn't be kept
 abbrev pub given_stage : Option ℕ → ℕ → ℕ → Stage
 given_stage (Some left) n place = Piecing n place left
 given_stage None n place = Stopped Keep n
 
--- The end of serving behind so many waits: no connection is open or to come; or all turns are used up.
+-- The end of serving after this many waits. No connection is open or to come; or all turns are used
+-- up.
 abbrev pub LeavesSo : {A : Type 0} → AllEnd → ℕ → ℕ → Left → List (Option (Peer A)) → Type 0
 LeavesSo Served turns n left places = (left.more ≡ 0) × (taken places ≡ 0)
 LeavesSo Turns turns n left places = n ≡ turns
@@ -222,7 +228,7 @@ LeavesSo Keep turns n left places = Unit {0}
 LeavesSo Store turns n left places = Unit {0}
 LeavesSo Memory turns n left places = ⊥
 
--- from the beginning behind so many turns at most
+-- from the beginning, after this many turns at most
 abbrev pub RunGives : {A : Type 0} → AllEnd → Limits → Hub A → List (Option (Peer A)) → Left → Hub A → List (Option (Peer A)) → Left → Option (List Act) → Option (List Act) → Type 0
 RunGives end limits old places left new places' left' before after =
     (n : ℕ) × (n ≤ limits.turns) × LeavesSo end limits.turns n left' places' × Moves (Listening 0) (Stopped end n) limits old places left new places' left' before after

@@ -1,4 +1,4 @@
-//! What was read of a stream and isn't given to the hub yet.
+//! Bytes that were read of a stream and aren't given to the hub yet.
 ghost use Rattle.std.specs.Prelude.{◌≡◌, ◌≤◌, length, take, drop, [], IfOk, IsTrue, ◌↔◌};
 
 use crate::streams::{Moved, Streams};
@@ -8,7 +8,8 @@ use std::marker::Model;
 /// The most bytes of one read.
 const MAX_READ: usize = 65_536;
 
-/// The bytes that were read of a stream and aren't given yet, in their order. Its memory, for one read, is taken as it is made.
+/// The bytes that were read of a stream and aren't given yet, in their order. Its memory, for one
+/// read, is taken as it is made.
 #[derive(Drop)]
 pub(crate) struct Ahead<A: Allocator + Copy> {
     bytes: Vec<u8, A>,
@@ -61,7 +62,7 @@ impl<A: Allocator + Copy> Ahead<A> {
         moved
     }
 
-    /// The first bytes, at most so many.
+    /// The first bytes, at most `most`.
     pub(crate) fn front(&self, most: usize) -> &[u8]
         ensures { result.now ≡ take most self.now }
     {

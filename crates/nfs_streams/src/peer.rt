@@ -29,7 +29,7 @@ pub(crate) struct Peer<A: Allocator + Copy> {
     pub(crate) turns: u64,
     /// Why the hub takes no more bytes of the connection.
     pub(crate) fault: Option<HubFault>,
-    /// What was read of its stream and isn't given yet.
+    /// The bytes that were read of its stream and aren't given yet.
     pub(crate) ahead: Ahead<A>,
 }
 
@@ -96,8 +96,9 @@ pub(crate) fn shut<A: Allocator + Copy, S: Streams<A>>(
     let _ = hub.close(conn);
 }
 
-/// Where no bytes wait to be written and all that was read is given, reads of the stream of a place. The connection is closed where the
-/// stream has ended or failed, where the connection is broken, or where it has had so many turns.
+/// Where no bytes wait to be written and all that was read is given, reads of the stream of a
+/// place. The connection is closed where the stream has ended or failed, where the connection is
+/// broken, or where it has had `most` turns.
 pub(crate) fn listen<A: Allocator + Copy, S: Streams<A>, C: Clock>(
     hub: &mut Hub<A>,
     streams: &mut S,
@@ -152,7 +153,8 @@ fn room<A: Allocator + Copy>(hub: &Hub<A>, conn: ConnId, left: usize) -> usize
     PIECE
 }
 
-/// Gives at most so many bytes of what was read to the hub, as far as the end of the first record in them. How many.
+/// Gives at most `most` bytes that were read to the hub, as far as the end of the first record in
+/// them. Answers how many.
 fn feed_front<A: Allocator + Copy, C: Clock>(
     hub: &mut Hub<A>,
     clock: &C,
@@ -179,8 +181,8 @@ fn feed_front<A: Allocator + Copy, C: Clock>(
     }
 }
 
-/// Gives at most so many bytes, as far as the end of the first record in them, and keeps the trail. How many are left of so many; `None`: the
-/// trail couldn't be kept.
+/// Gives at most `most` bytes, as far as the end of the first record in them, and keeps the trail.
+/// Answers how many are left of `most`. `None`: the trail couldn't be kept.
 fn give_front<A: Allocator + Copy, S: Streams<A>, C: Clock>(
     hub: &mut Hub<A>,
     streams: &mut S,
@@ -201,8 +203,9 @@ fn give_front<A: Allocator + Copy, S: Streams<A>, C: Clock>(
     Some(most - n)
 }
 
-/// Gives what was read of the stream of a place to the hub, one record after the other: while no reply waits, and then up to 4,096 bytes from
-/// the first whose record has a reply on. The trail is kept after each record. `false`: it couldn't be kept.
+/// Gives what was read of the stream of a place to the hub, one record after the other. It does so
+/// while no reply waits, and then up to 4,096 bytes from the first whose record has a reply on. The
+/// trail is kept after each record. `false`: it couldn't be kept.
 pub(crate) fn give<A: Allocator + Copy, S: Streams<A>, C: Clock>(
     hub: &mut Hub<A>,
     streams: &mut S,
@@ -229,7 +232,8 @@ pub(crate) fn give<A: Allocator + Copy, S: Streams<A>, C: Clock>(
     true
 }
 
-/// Writes the waiting bytes, at most 131,072 of them, as far as the stream takes them at once. The connection is closed where writing fails.
+/// Writes the waiting bytes, at most 131,072 of them, as far as the stream takes them at once. The
+/// connection is closed where writing fails.
 pub(crate) fn answer<A: Allocator + Copy, S: Streams<A>, C: Clock>(
     hub: &mut Hub<A>,
     streams: &mut S,

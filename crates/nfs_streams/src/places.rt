@@ -18,13 +18,13 @@ use nfs_hub::{Clock, Hub, MAX_CONNECTIONS};
 use std::alloc::Allocator;
 use tree_store::Store;
 
-/// A connection on which no bytes were read or written for so many seconds of the clock is quiet.
+/// A connection on which no bytes were read or written for this many seconds of the clock is quiet.
 const QUIET: u64 = 2;
 
 /// The way in: which connections may still be opened. And the store.
 #[derive(Drop)]
 pub(crate) struct Door<A: Allocator + Copy> {
-    /// What the connections' memory is taken from.
+    /// The connections' memory is taken from this.
     pub(crate) alloc: A,
     pub(crate) limits: Limits,
     /// The number of connections that may still be opened.
@@ -42,7 +42,7 @@ fn most_places(limits: Limits) -> usize
     limits.places.min(MAX_CONNECTIONS)
 }
 
-/// Whether so many places are taken, or more.
+/// Whether `most` places are taken, or more.
 fn are_taken<A: Allocator + Copy>(places: &[Option<Peer<A>>], most: usize) -> bool
     ensures many { OnTrue result (most ≤ taken places.now) }
     ensures few { OnFalse result (taken places.now < most) }
@@ -94,7 +94,8 @@ fn admit<A: Allocator + Copy, S: Streams<A>, C: Clock>(
     true
 }
 
-/// Opens a connection at a free place for a stream that has come, if there is one and the limits allow it. Whether it was opened.
+/// Opens a connection at a free place for a stream that has come, if there is one and the limits
+/// allow it. Whether it was opened.
 fn let_in<A: Allocator + Copy, S: Streams<A>, C: Clock>(
     hub: &mut Hub<A>,
     streams: &mut S,
@@ -306,8 +307,8 @@ fn quietest<A: Allocator + Copy>(places: &[Option<Peer<A>>], now: i64) -> Option
     found
 }
 
-/// Closes the connection that has been quiet for longest, if that was long, for the stream that has just knocked at a full house. How long the
-/// next wait may take.
+/// Closes the connection that has been quiet for longest, if that was long, for the stream that has
+/// just knocked at a full house. How long the next wait may take.
 fn let_go<A: Allocator + Copy, S: Streams<A>, C: Clock>(
     hub: &mut Hub<A>,
     streams: &mut S,
@@ -323,8 +324,9 @@ fn let_go<A: Allocator + Copy, S: Streams<A>, C: Clock>(
     Wait::No
 }
 
-/// Where the limit of open connections is reached and room is to be made for another stream that has come, closes the connection that has
-/// been quiet for longest, if that was long. How long the next wait may take, where nothing else is to do.
+/// Closes the connection that has been quiet for longest, if that was long. It does so where the
+/// limit of open connections is reached and room is to be made for another stream that has come.
+/// Answers how long the next wait may take, where nothing else is to do.
 pub(crate) fn make_room<A: Allocator + Copy, S: Streams<A>, C: Clock>(
     hub: &mut Hub<A>,
     streams: &mut S,

@@ -120,11 +120,12 @@ fn store<A: Allocator + Copy, S: Streams<A>>(
     true
 }
 
-/// One turn: all places are read; a book that has come is loaded, and the trail is kept; what was read is given to the
-/// hub, and the trail is kept after each record; the most silent client is let go, where one is to go; what outlives a
-/// restart is stored, if there is a store; and then the waiting bytes of all places are written. How long the next wait
-/// may take; `Err`: the trail couldn't be kept, or what outlives a restart couldn't be stored, and no bytes were given or
-/// written after that.
+/// One turn. All places are read; a book that has come is loaded, and the trail is kept; what was
+/// read is given to the hub, and the trail is kept after each record. The most silent client is let
+/// go, where one is to go. What outlives a restart is stored, if there is a store; and then the
+/// waiting bytes of all places are written. Answers how long the next wait may take. `Err`: the
+/// trail couldn't be kept, or what outlives a restart couldn't be stored, and no bytes were given
+/// or written after that.
 fn turn<A: Allocator + Copy, S: Streams<A>, C: Clock>(
     hub: &mut Hub<A>,
     streams: &mut S,
@@ -153,7 +154,7 @@ fn turn<A: Allocator + Copy, S: Streams<A>, C: Clock>(
     Ok(pause(heard | told, room))
 }
 
-/// So many turns, unless all connections are served earlier or something fails.
+/// As many turns as the limits say, unless all connections are served earlier or something fails.
 fn run<A: Allocator + Copy, S: Streams<A>, C: Clock>(
     hub: &mut Hub<A>,
     streams: &mut S,
@@ -210,27 +211,34 @@ fn free_places<A: Allocator + Copy>(alloc: A) -> Result<Vec<Option<Peer<A>>, A>,
     Ok(places)
 }
 
-/// Serves streams, as many at once as there are places, until so many connections were opened and are closed, or for so many waits; then
-/// lets go all streams still open. One place serves them one after the other.
+/// Serves streams, as many at once as there are places, until `limits.connections` connections were
+/// opened and are closed, or for `limits.turns` waits. Then it lets go all streams still open. One
+/// place serves them one after the other.
 ///
-/// A turn waits once. Then at each place at most 65,536 bytes are read, if all that was read before is given and no reply of that connection
-/// waits to be written; or a stream that has come is admitted, if the place is free. It is asked for another book of names, and one that has
-/// come is loaded: so each call whose last byte is read after a book had come is judged by that book. What was read is given to the hub, in
-/// order, one record after the other, and **the lines of the trail are kept after each, before the next one runs**: so none is lost. It is
-/// given while no reply waits, and then as far as 4,096 bytes from where none did; the rest waits until the replies are written. So a peer that
-/// sends and doesn't read costs the replies to 4,096 bytes. Then all that outlives a restart of the server is kept in the
-/// store, if there is one, **before any byte of a reply to what ran is written**: a crash at any moment leaves all of
-/// which a reply was written. What was noted of the tree's changes is forgotten then. Last the waiting bytes are written,
+/// A turn waits once. Then at each place at most 65,536 bytes are read, if all that was read before
+/// is given and no reply of that connection waits to be written. Or a stream that has come is
+/// admitted, if the place is free. It is asked for another book of names, and one that has come is
+/// loaded. So each call whose last byte is read after a book had come is judged by that book. What
+/// was read is given to the hub, in order, one record after the other, and **the lines of the trail
+/// are kept after each, before the next one runs**. So none is lost. It is given while no reply
+/// waits, and then as far as 4,096 bytes from where none did; the rest waits until the replies are
+/// written. So a peer that sends and doesn't read costs the replies to 4,096 bytes. Then all that
+/// outlives a restart of the server is kept in the store, if there is one, **before any byte of a
+/// reply to what ran is written**. So a crash at any moment leaves all of which a reply was
+/// written. The notes of the tree's changes are forgotten then. Last the waiting bytes are written,
 /// at most 128 KiB of each connection, as far as the streams take them.
 ///
-/// The store is one over the files of `streams` that was begun with the tree and the numbers that the server has, and the
-/// server has noted the changes of its tree since then.
+/// The store is one over the files of `streams` that was begun with the tree and the numbers that
+/// the server has. The server has noted the changes of its tree since then.
 ///
-/// A stream that ends or fails is let go at once and its connection closed, a stream whose connection is broken or has had its turns behind
-/// its replies, and the others go on; `close` says how each ended. Where the limit of open connections is reached, another stream has come, and
-/// room is to be made, the stream of which no bytes were read or written for longest is let go, if for two seconds of the clock none were;
-/// until then the other stream waits outside. So does a stream that can't be taken, or for which there is no memory: a connection takes 65,536
-/// bytes of `alloc` besides what the hub takes. It is tried again in the next turn, which comes within a second.
+/// A stream that ends or fails is let go at once and its connection closed. A stream whose
+/// connection is broken or has had its turns is let go after its replies. The others go on; `close`
+/// says how each ended. It may be that the limit of open connections is reached, another stream has
+/// come, and room is to be made. Then the stream of which no bytes were read or written for longest
+/// is let go, if for two seconds of the clock none were. Until then the other stream waits outside.
+/// So does a stream that can't be taken, or for which there is no memory: a connection takes 65,536
+/// bytes of `alloc` besides what the hub takes. It is tried again in the next turn, which comes
+/// within a second.
 pub fn serve_all<A: Allocator + Copy, S: Streams<A>, C: Clock>(
     alloc: A,
     hub: &mut Hub<A>,

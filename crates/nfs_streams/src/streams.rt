@@ -12,7 +12,7 @@ use who_book::Book;
 /// The outcome of a read or a write of a stream.
 #[derive(Clone, Copy, Debug, PartialEq, Eq)]
 pub enum Moved {
-    /// So many bytes were moved.
+    /// This many bytes were moved.
     Bytes(usize),
     /// No bytes can be moved yet.
     NotYet,
@@ -67,21 +67,24 @@ pub enum StreamEnd {
     Stopped = 10,
 }
 
-/// The streams of a server over the allocator `A`, each at a place, whose number is below 16; the file or the like in
-/// which its trail is kept; the two files of its store, if it has one (`Disk`); and the source of other books of names. A
-/// place has one stream at a time, from `admit` to `close`, and a place without a stream is asked nothing else. No call
-/// but `wait` waits for a peer.
+/// The streams of a server over the allocator `A`, each at a place, whose number is below 16.
+/// Beside them are the file or the like in which its trail is kept, the two files of its store, if
+/// it has one (`Disk`), and the source of other books of names. A place has one stream at a time,
+/// from `admit` to `close`, and a place without a stream is asked nothing else. No call but `wait`
+/// waits for a peer.
 pub trait Streams<A: Allocator + Copy>: Disk {
     // The requests so far and their answers, the newest first, where they are known. Those of the disk are among them.
     ghost acts: { Self → Option (List Act) } = { λ _. None };
 
-    /// Sees which streams may go on, and whether another stream knocks. `false`: the wait failed, and only `close` is called from then on.
+    /// Sees which streams may go on, and whether another stream knocks. `false`: the wait failed,
+    /// and only `close` is called from then on.
     fn wait(&mut self, how: Wait) -> bool
         ensures { Adds (acts self.old) (acts self.new) (Waited result ∷ []) };
 
-    /// Another book of names, if one has come since the last call. `book` is called after streams were read and before any bytes of theirs
-    /// are given to the hub, and the book is loaded at once; where no epoch is left for the book, it is let go, and the book before stays.
-    /// So a call whose last byte was read after a book had come is judged by that book.
+    /// Another book of names, if one has come since the last call. `book` is called after streams
+    /// were read and before any bytes of theirs are given to the hub, and the book is loaded at
+    /// once. Where no epoch is left for the book, it is let go, and the book before stays. So a
+    /// call whose last byte was read after a book had come is judged by that book.
     fn book(&mut self) -> Option<Book>
         ensures { Adds (acts self.old) (acts self.new) (looked result) };
 
@@ -89,7 +92,8 @@ pub trait Streams<A: Allocator + Copy>: Disk {
     fn knocks(&mut self) -> Knock
         ensures { Adds (acts self.old) (acts self.new) (knocked result) };
 
-    /// Gives a place to the stream that has come, just after `knocks` has answered `Here`. The place is this connection's from then on.
+    /// Gives a place to the stream that has come, just after `knocks` has answered `Here`. The
+    /// place is this connection's from then on.
     fn admit(&mut self, place: usize, conn: ConnId)
         ensures { Adds (acts self.old) (acts self.new) (Admitted place conn ∷ []) };
 
@@ -97,20 +101,21 @@ pub trait Streams<A: Allocator + Copy>: Disk {
     fn close(&mut self, place: usize, end: StreamEnd)
         ensures { Adds (acts self.old) (acts self.new) (Closed place end ∷ []) };
 
-    /// Reads of the stream of a place as many bytes as fit, at least one. `Over` where no more bytes will come, `Failed` where the stream
-    /// failed; `close` follows.
+    /// Reads of the stream of a place as many bytes as fit, at least one. `Over` where no more
+    /// bytes will come, `Failed` where the stream failed; `close` follows.
     fn read(&mut self, place: usize, buf: &mut [u8]) -> Moved
         ensures bound { IsWithin result (length buf.new) }
         ensures said { Adds (acts self.old) (acts self.new) (came place result buf.new) };
 
-    /// Writes a front of the bytes, at least one, to the stream of a place. `Over` where the stream took nothing, `Failed` where it failed;
-    /// `close` follows.
+    /// Writes a front of the bytes, at least one, to the stream of a place. `Over` where the stream
+    /// took nothing, `Failed` where it failed; `close` follows.
     fn write(&mut self, place: usize, bytes: &[u8]) -> Moved
         ensures bound { IsWithin result (length bytes.now) }
         ensures said { Adds (acts self.old) (acts self.new) (went place result bytes.now) };
 
-    /// Keeps the lines of the server's trail that aren't kept yet. It is called after each record that is run, before the next one runs, and
-    /// bytes are written only after that. `false`: the lines couldn't be kept, and only `close` is called from then on.
+    /// Keeps the lines of the server's trail that aren't kept yet. It is called after each record
+    /// that is run, before the next one runs, and bytes are written only after that. `false`: the
+    /// lines couldn't be kept, and only `close` is called from then on.
     fn keep(&mut self, server: &Server<A>) -> bool
         ensures { Adds (acts self.old) (acts self.new) (kept result server.now) };
 

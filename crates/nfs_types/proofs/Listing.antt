@@ -16,7 +16,7 @@ use Rattle.nfs_types.specs.Given.{ace_of}
 abbrev pub entry_bytes : Content → Entry → List ℕ
 entry_bytes book e = spelling ace (ace_of book e)
 
--- the item takes at most so many bytes
+-- the item takes at most this many bytes
 abbrev pub IsShort : {X : Type 0} → (X → List ℕ) → ℕ → X → Type 0
 IsShort bytes_of most x = length (bytes_of x) ≤ most
 

@@ -24,11 +24,12 @@ pub record Seen : Type 0 where
   pub dacl : Option (Value acl41)
   pub sacl : Option (Value acl41)
 
--- the set of these attributes: 1 type, 4 size, 11 rdattr_error, 12 acl, 33 mode, 36 owner, 37 owner_group, 58 dacl, 59 sacl
+-- the set of these attributes: 1 type, 4 size, 11 rdattr_error, 12 acl, 33 mode, 36 owner, 37
+-- owner_group, 58 dacl, 59 sacl
 abbrev pub seen_words : List ℕ
 seen_words = 0x0000_1812 ∷ 0x0c00_0032 ∷ []
 
--- one value behind the other, by rising number
+-- one value after the other, by rising number
 abbrev pub seen_at : List ℕ → List ℕ → Read Seen
 seen_at set bytes =
     chosen_at (has_number set 1) uint bytes >>= λ a.
@@ -42,7 +43,7 @@ seen_at set bytes =
     chosen_at (has_number set 59) acl41 h.1 >>= λ i.
     Ok (record { kind = a.0; size = b.0; error = c.0; entries = d.0; mode = e.0; owner = f.0; group = g.0; dacl = h.0; sacl = i.0 }, i.1)
 
--- nothing stands behind the values
+-- nothing stands after the values
 abbrev pub ended : Read Seen → Result Seen XdrFault
 ended (Ok (seen, [])) = Ok seen
 ended (Ok (seen, b ∷ bytes)) = Err TooLong
@@ -75,7 +76,7 @@ shown_part s Dacl = shown acl41 s.dacl
 shown_part s Sacl = shown acl41 s.sacl
 shown_part s _ = []
 
--- the values, one behind the other
+-- the values, one after the other
 unfoldable pub shown_values : Seen → List ℕ
 shown_values s = flat_map (shown_part s) seen_all
 

@@ -34,7 +34,8 @@ pub record Sent : Type 0 where
   pub dacl : Option (Value acl41)
   pub sacl : Option (Value acl41)
 
--- One value behind the other, by rising number: 4 size, 12 acl, 33 mode, 36 owner, 37 owner_group, 58 dacl, 59 sacl.
+-- One value after the other, by rising number: 4 size, 12 acl, 33 mode, 36 owner, 37 owner_group,
+-- 58 dacl, 59 sacl.
 abbrev pub sent_at : List ℕ → List ℕ → Read Sent
 sent_at set bytes =
     chosen_at (has_number set 4) hyper bytes >>= λ a.
@@ -113,7 +114,7 @@ abbrev pub taken_name : Content → NameKind → Option (List ℕ) → Result (O
 taken_name book kind None = Ok None
 taken_name book kind (Some name) = known (principal_in kind book name)
 
--- the values behind the list: the mode, the owner and the group
+-- the values after the list: the mode, the owner and the group
 abbrev pub Plain : Type 0
 Plain = Option ℕ × (Option ℕ × Option ℕ)
 
@@ -130,8 +131,8 @@ abbrev pub taken_plain : Content → Option ℕ → Option (List ℕ) → Option
 taken_plain book mode owner group =
     taken_mode mode >> λ m. taken_name book kinds.User owner >> λ o. taken_name book kinds.Group group >> λ g. Ok (m, (o, g))
 
--- A part of a list: there is no automatic inheritance, so no flag of the ACL is known (section 6.4.3.2); then the fault of its
--- entries.
+-- A part of a list. There is no automatic inheritance, so no flag of the ACL is known (section
+-- 6.4.3.2). After the flags comes the fault of its entries.
 abbrev pub taken_part : Part → Content → Kind → Option (Value acl41) → Result (Option (List Entry)) Status
 taken_part part book kind None = Ok None
 taken_part part book kind (Some sent) =
@@ -164,8 +165,9 @@ abbrev pub spelled : Content → Kind → Option Sent → Result Wanted Status
 spelled book kind None = Err status.BadXdr
 spelled book kind (Some sent) = taken book kind sent
 
--- The values that sent attributes set on an object of this kind, or the first fault over the whole set: an attribute
--- that isn't supported; one that can't be set; bytes that aren't exactly the values; a list beside a part of one; then a value.
+-- The values that sent attributes set on an object of this kind, or the first fault over the whole
+-- set. In order the faults are: an attribute that isn't supported; one that can't be set; bytes
+-- that aren't exactly the values; a list beside a part of one; then a value.
 abbrev pub wanted_of : Content → Kind → List ℕ → List ℕ → Result Wanted Status
 wanted_of book kind set bytes =
     if not (is_within set supported_words) then Err status.AttrNotSupp

@@ -14,7 +14,8 @@ attrs_fault faults.Inval = Refused (status_of faults.Inval)
 attrs_fault faults.BadOwner = Refused (status_of faults.BadOwner)
 attrs_fault faults.Memory = Memory
 
--- The answer is the values to set, or the status of the refusal. `Memory` is given only for values with a list, which aren't refused.
+-- The answer is the values to set, or the status of the refusal. `Memory` is given only for values
+-- with a list, which aren't refused.
 abbrev pub Answers : {X V : Type 0} → (X → V) → (V → Bool) → Result V Status → Result X AttrsFault → Type 0
 Answers view has_list wanted (Ok x) = wanted ≡ Ok (view x)
 Answers view has_list wanted (Err (Refused status)) = wanted ≡ Err status

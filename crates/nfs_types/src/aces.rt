@@ -5,7 +5,8 @@ use crate::ace::Ace;
 use std::alloc::Allocator;
 use xdr_wire::{Full, Spell, Writer};
 
-/// The entries of a list as a client sends them, `nfsace4<>` (RFC 8881, section 6.2.1), lent: as many as an array can have.
+/// The entries of a list as a client sends them, `nfsace4<>` (RFC 8881, section 6.2.1), lent: as
+/// many as an array can have.
 #[derive(Clone, Copy, Debug)]
 pub struct Aces<'a> {
     pub entries: &'a [Ace<'a>],

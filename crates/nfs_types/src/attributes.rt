@@ -9,7 +9,7 @@ use xdr_wire::{Full, Opaque, Reader, Spell, Wire, Writer, XdrFault};
 pub struct Attributes<'a> {
     /// The set of the attributes.
     pub set: Bitmap,
-    /// The values, one behind the other.
+    /// The values, one after the other.
     pub values: Opaque<'a, 0xffff_ffff>,
 }
 

@@ -173,7 +173,7 @@ fn number_of(
 /// The mode and the numbers that were sent, in their order.
 type Plain = (Option<u32>, (Option<u32>, Option<u32>));
 
-/// The values that are set by those behind the list.
+/// The values that are set by those after the list.
 fn plain_of(
     book: &Book,
     mode: Option<u32>,
@@ -246,15 +246,17 @@ fn attrs_of<'a, A: Allocator + Copy>(
     each_of(alloc, book, kind, sent)
 }
 
-/// The values that sent attributes set on an object of this kind, with the list over `alloc` (RFC 8881, sections 5.8, 5.9
-/// and 6.2): any of 4 size, 12 acl, 33 mode, 36 owner, 37 owner_group, 58 dacl and 59 sacl.
+/// The values that sent attributes set on an object of this kind, with the list over `alloc`
+/// (RFC 8881, sections 5.8, 5.9 and 6.2). They are any of 4 size, 12 acl, 33 mode, 36 owner, 37
+/// owner_group, 58 dacl and 59 sacl.
 ///
-/// They are refused for the first of these over the whole set: an attribute that isn't supported, `AttrNotSupp`; one that
-/// can't be set, `Inval`; bytes that don't spell exactly the values, `BadXdr`; a list beside a part of one, `Inval`; then by
-/// rising number: a list as [`acl_shape::admit`] refuses it; a mode above 0o7777, `Inval`; an owner or a group that the book
-/// doesn't know, `BadOwner`; of a part of a list flags other than 0, `AttrNotSupp`, and then its entries as
-/// [`acl_shape::admit_part`] refuses them. `Memory` is given only for values that aren't refused, and only where a list or a
-/// part of one was sent: nothing else takes memory.
+/// They are refused for the first of these over the whole set: an attribute that isn't supported,
+/// `AttrNotSupp`; one that can't be set, `Inval`; bytes that don't spell exactly the values,
+/// `BadXdr`; a list beside a part of one, `Inval`; then by rising number: a list as
+/// [`acl_shape::admit`] refuses it; a mode above 0o7777, `Inval`; an owner or a group that the book
+/// doesn't know, `BadOwner`; of a part of a list flags other than 0, `AttrNotSupp`, and then its
+/// entries as [`acl_shape::admit_part`] refuses them. `Memory` is given only for values that aren't
+/// refused, and only where a list or a part of one was sent. Nothing else takes memory.
 pub fn read_attrs<A: Allocator + Copy>(
     alloc: A,
     book: &Book,

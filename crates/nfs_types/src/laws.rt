@@ -8,8 +8,8 @@ ghost use Rattle.nfs_types.specs.Seen.{Seen, seen_of, shown_set, shown_values};
 ghost use Rattle.nfs_types.specs.Sendable.{IsSendable};
 ghost use Rattle.nfs_types.specs.Sets.{has_number};
 
-/// The words of the supported attributes are the numbers of the table, and those of the settable ones the numbers of its rows
-/// that can be set. The table stands by rising number.
+/// The words of the supported attributes are the numbers of the table. Those of the settable ones
+/// are the numbers of its rows that can be set. The table stands by rising number.
 pub fn sets_are_the_table()
     ensures supported { (n : ℕ) → has_number supported_words n ≡ list_any (λ a. number_of a == n) all }
     ensures rising { rises (map number_of all) ≡ true }

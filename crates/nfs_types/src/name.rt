@@ -34,9 +34,9 @@ fn is_dots(name: &[u8]) -> bool
     }
 }
 
-/// The fault of a name of a directory's entry, `component4` (RFC 8881, sections 1.8.1 and 14): empty,
-/// `Inval`; over 255 bytes, `NameTooLong`; not UTF-8, `Inval`; with `/` or NUL in it, `BadChar`; `.` or `..`,
-/// `BadName`. The first of these, in this order, or none.
+/// The fault of a name of a directory's entry, `component4` (RFC 8881, sections 1.8.1 and 14), or
+/// none. It is the first of these, in this order: empty, `Inval`; over 255 bytes, `NameTooLong`;
+/// not UTF-8, `Inval`; with `/` or NUL in it, `BadChar`; `.` or `..`, `BadName`.
 pub fn check_name(name: &[u8]) -> Option<Status>
     ensures { result ≡ name_fault name.now }
 {

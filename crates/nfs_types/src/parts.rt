@@ -20,7 +20,8 @@ use std::alloc::Allocator;
 use who_book::Book;
 use xdr_wire::Array;
 
-/// The part of a list that the entries ask for, on an object of this kind. Their number was checked before any was looked at.
+/// The part of a list that the entries ask for, on an object of this kind. Their number was checked
+/// before any was looked at.
 fn admit_part_of<'a, A: Allocator>(
     alloc: A,
     book: &Book,

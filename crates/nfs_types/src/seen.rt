@@ -36,7 +36,7 @@ pub struct SeenAttributes<'a> {
     pub sacl: Option<Acl41<Array<'a, Ace<'a>, 0xffff_ffff>>>,
 }
 
-/// The values of this set, one behind the other.
+/// The values of this set, one after the other.
 fn values<'a>(set: &Bitmap, reader: &mut Reader<'a>) -> Result<SeenAttributes<'a>, XdrFault>
     ensures { Gives seen_value reader.old reader.new result (seen_at (bitmap_value set.now) reader.old) }
 {
@@ -64,9 +64,10 @@ fn values<'a>(set: &Bitmap, reader: &mut Reader<'a>) -> Result<SeenAttributes<'a
     })
 }
 
-/// Reads the attributes that a server returns of an object (RFC 8881, sections 3.3.9, 18.7 and 18.23), lent: any of 1, 4, 11,
-/// 12, 33, 36, 37, 58 and 59. `BadChoice`: another attribute is there. Else the first fault of a value; `TooLong`: there are more
-/// bytes than the values take.
+/// Reads the attributes that a server returns of an object (RFC 8881, sections 3.3.9, 18.7 and
+/// 18.23), lent. They are any of 1, 4, 11, 12, 33, 36, 37, 58 and 59. `BadChoice`: another
+/// attribute is there. Else the first fault of a value; `TooLong`: there are more bytes than the
+/// values take.
 pub fn read_given<'a>(given: &Attributes<'a>) -> Result<SeenAttributes<'a>, XdrFault>
     ensures { MatchResult result (λ seen. seen_of (bitmap_value given.now.set) given.now.values.bytes.now ≡ Ok (seen_value seen)) (λ fault. seen_of (bitmap_value given.now.set) given.now.values.bytes.now ≡ Err fault) }
 {

@@ -41,7 +41,7 @@ pub(crate) fn chosen<'a, T: Wire<'a>>(
     }
 }
 
-/// The values of this set, one behind the other.
+/// The values of this set, one after the other.
 fn values<'a>(set: &Bitmap, reader: &mut Reader<'a>) -> Result<Sent<'a>, XdrFault>
     ensures { Gives sent_value reader.old reader.new result (sent_at (bitmap_value set.now) reader.old) }
 {

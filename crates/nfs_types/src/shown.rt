@@ -109,9 +109,9 @@ impl<'a> ShownAttributes<'a> {
     }
 }
 
-/// Writes the values of the attributes that a client sends (RFC 8881, section 3.3.9), one behind the other by rising number,
-/// or nothing: `Full` exactly where the room is less than they take. With [`ShownAttributes::set`] they make an
-/// [`crate::Attributes`].
+/// Writes the values of the attributes that a client sends (RFC 8881, section 3.3.9), one after the
+/// other by rising number, or nothing. It gives `Full` exactly where the room is less than they
+/// take. With [`ShownAttributes::set`] they make an [`crate::Attributes`].
 pub fn write_given<A: Allocator>(
     values: &ShownAttributes<'_>,
     writer: &mut Writer<A>,

@@ -1,5 +1,6 @@
 -- The commands of the client's programs as `clap` sees simple commands:
--- `nfsc --port N --uid N --gid N [--timeout SECONDS] [--groups N,N] [--as NAME] [--book FILE] COMMAND ..`, and `nfslab [--book FILE]`.
+-- `nfsc --port N --uid N --gid N [--timeout SECONDS] [--groups N,N] [--as NAME] [--book FILE]
+-- COMMAND ..`, and `nfslab [--book FILE]`.
 use Rattle.std.specs.Prelude.{codes, Some, pos, true}
 use Rattle.clap.specs.Lexer.{usize_max}
 use Rattle.clap.specs.Words.{App, Rule, Text, new_app, new_rule, with_rule}

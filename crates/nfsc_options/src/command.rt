@@ -76,7 +76,7 @@ fn gid<'a>(alloc: Global) -> Arg<'a>
         .help("The group's number, from 0 to 4294967295")
 }
 
-/// The words of the command. Behind its first word a hyphen has no meaning.
+/// The words of the command. After its first word a hyphen has no meaning.
 fn words<'a>(alloc: Global) -> Arg<'a>
     ensures { (rule_of result ≡ command_rule) × (result.global ≡ false) }
 {

@@ -1,7 +1,7 @@
 //! The commands of the client, as help lists them.
 
-/// The commands, each with its words, its effect and an example, as the help of `nfsc` and of `nfslab` lists them. The line of a command,
-/// and no other, begins with four spaces.
+/// The commands, each with its words, its effect and an example, as the help of `nfsc` and of
+/// `nfslab` lists them. The line of a command, and no other, begins with four spaces.
 pub const COMMANDS: &str = "\
 Commands, where P, OLD and NEW are paths: '/', or names each with '/' in front:
 

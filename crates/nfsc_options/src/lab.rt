@@ -19,7 +19,8 @@ pub struct LabOptions<'a> {
 impl<'a> LabOptions<'a> {
     /// Reads the words, of which the first is the program's name, as in `env::args`.
     ///
-    /// An error is `clap`'s own: a mistake in the words, a call for help, or want of memory. Its `Display` is the text for the user.
+    /// An error is `clap`'s own: a mistake in the words, a call for help, or want of memory. Its
+    /// `Display` is the text for the user.
     pub fn read<S: AsStr>(alloc: Global, words: &'a [S]) -> Result<LabOptions<'a>, Error>
         ensures said { IfOk result (LabOptionsOf (map S.text words.entry.now)) }
         ensures refused { FailsBy (fault_of nfslab (map S.text words.entry.now)) result }

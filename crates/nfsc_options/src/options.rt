@@ -34,10 +34,12 @@ pub struct Options<'a> {
 }
 
 impl<'a> Options<'a> {
-    /// Reads the words, of which the first is the program's name, as in `env::args`. Whether the words make a command isn't looked at, nor whether
-    /// the groups are numbers and the book has the user.
+    /// Reads the words, of which the first is the program's name, as in `env::args`. Whether the
+    /// words make a command isn't looked at, nor whether the groups are numbers and the book has
+    /// the user.
     ///
-    /// An error is `clap`'s own: a mistake in the words, a call for help, or want of memory. Its `Display` is the text for the user.
+    /// An error is `clap`'s own: a mistake in the words, a call for help, or want of memory. Its
+    /// `Display` is the text for the user.
     pub fn read<S: AsStr>(alloc: Global, words: &'a [S]) -> Result<Options<'a>, Error>
         ensures said { IfOk result (OptionsOf (map S.text words.entry.now)) }
         ensures refused { FailsBy (fault_of nfsc (map S.text words.entry.now)) result }

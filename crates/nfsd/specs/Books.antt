@@ -16,7 +16,8 @@ is_one_file a b = (a.device == b.device) && (a.node == b.node)
 abbrev pub is_unchanged : Stamp → Stamp → Bool
 is_unchanged a b = is_one_file a.id b.id && (int_eq a.seconds b.seconds && int_eq a.nanoseconds b.nanoseconds) && (a.len == b.len)
 
--- The last write isn't two seconds ago yet, by whole seconds of the clock. A time further ahead of the clock is another clock's.
+-- The last write isn't two seconds ago yet, by whole seconds of the clock. A time further ahead of
+-- the clock is another clock's.
 abbrev pub is_fresh : ℤ → Stamp → Bool
 is_fresh now stamp = nat_le (unsigned_abs (now -ℤ stamp.seconds)) 2
 

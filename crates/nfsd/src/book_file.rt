@@ -92,8 +92,9 @@ impl<'a, R: Files + Alloc + Eprint + Clock> BookFile<'a, R> {
         Ok(book)
     }
 
-    /// The book of the file, where the file has changed since its last read and its book may follow the one before. Where the file can't be
-    /// read, isn't a book or may not follow, that is said on standard error, once for each change.
+    /// The book of the file, where the file has changed since its last read and its book may follow
+    /// the one before. Where the file can't be read, isn't a book or may not follow, that is said
+    /// on standard error, once for each change.
     pub(crate) fn changed(&mut self) -> Option<Book> {
         let path = self.path?;
         let Some(seen) = stamp_of(self.rt, path) else {
@@ -107,8 +108,8 @@ impl<'a, R: Files + Alloc + Eprint + Clock> BookFile<'a, R> {
         }
     }
 
-    /// The book of a file that is to be read. Where the file is written meanwhile, it is no book yet, and it is as written in place from then
-    /// on.
+    /// The book of a file that is to be read. Where the file is written meanwhile, it is no book
+    /// yet, and it is as written in place from then on.
     fn load(&mut self, path: &str, seen: Stamp, change: Change) -> Option<Book> {
         self.last = Some(seen);
         let book = self.read_at(path);

@@ -12,8 +12,9 @@ pub(crate) struct FileId {
     pub(crate) node: u64,
 }
 
-/// The stamp of a file: which file it is, the time of its last write, and its length. A file whose content has changed has another stamp,
-/// unless it was written twice in one tick of the system's clock.
+/// The stamp of a file: which file it is, the time of its last write, and its length. A file whose
+/// content has changed has another stamp, unless it was written twice in one tick of the system's
+/// clock.
 #[derive(Clone, Copy, Debug)]
 pub(crate) struct Stamp {
     pub(crate) id: FileId,
@@ -22,7 +23,7 @@ pub(crate) struct Stamp {
     pub(crate) len: u64,
 }
 
-/// What has become of the file of the book since it was read last.
+/// The file of the book has become this since it was read last.
 #[derive(Clone, Copy, Debug)]
 pub(crate) enum Change {
     /// Another file is at its place.
@@ -31,7 +32,7 @@ pub(crate) enum Change {
     Written,
 }
 
-/// What is to be done about the file of the book.
+/// This is to be done about the file of the book.
 #[derive(Clone, Copy, Debug)]
 pub(crate) enum Plan {
     /// Nothing: it is as it was when it was read last.
@@ -68,8 +69,9 @@ impl Stamp {
     }
 }
 
-/// What is to be done, by the stamp of the file that was read last, the stamp of the file now, and the second of the clock. Another file is
-/// read at once. A file that was written in place is read once its last write is two seconds ago, since a front of a book can be a book.
+/// Plans by the stamp of the file that was read last, the stamp of the file now, and the second of
+/// the clock. Another file is read at once. A file that was written in place is read once its last
+/// write is two seconds ago, since a front of a book can be a book.
 pub(crate) fn plan_for(last: &Option<Stamp>, seen: &Stamp, now: i64) -> Plan
     ensures { result ≡ plan last.now seen.now now }
 {
@@ -87,7 +89,8 @@ pub(crate) fn plan_for(last: &Option<Stamp>, seen: &Stamp, now: i64) -> Plan
     }
 }
 
-/// Whether a book may follow the one before: where the same file was written, a book without `members` doesn't follow one that has them.
+/// Whether a book may follow the one before: where the same file was written, a book without
+/// `members` doesn't follow one that has them.
 pub(crate) fn may_follow(change: Change, had_members: bool, has_members: bool) -> bool
     ensures { result ≡ may_follow change had_members has_members }
 {
@@ -97,7 +100,8 @@ pub(crate) fn may_follow(change: Change, had_members: bool, has_members: bool) -
     }
 }
 
-/// Whether a book has `members`: whether two callers of one user that send different groups have the same ones by the book.
+/// Whether a book has `members`: whether two callers of one user that send different groups have
+/// the same ones by the book.
 pub(crate) fn has_members(book: &Book) -> bool
     ensures { result ≡ is_some book.now.members }
 {

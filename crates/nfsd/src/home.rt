@@ -33,7 +33,7 @@ impl Home {
         })
     }
 
-    /// What the home means, beside what was given.
+    /// Gives what the home means, beside what was given.
     pub(crate) fn options<'a>(&'a self, given: Options<'a>) -> Options<'a> {
         let book = if self.has_book {
             Some(self.book.as_str())

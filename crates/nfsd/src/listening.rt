@@ -35,7 +35,8 @@ fn trail<'a, R: Files + Alloc + SystemTimes>(
     }
 }
 
-/// What is served by the options: sockets that listen, the files of the store, the file of the trail, and the file of the book.
+/// Puts together what is served by the options: sockets that listen, the files of the store, the
+/// file of the trail, and the file of the book.
 fn served<'a, R: Net + Files + Alloc + Eprint + SystemTimes>(
     rt: &'a R,
     alloc: Global,
@@ -50,8 +51,8 @@ fn served<'a, R: Net + Files + Alloc + Eprint + SystemTimes>(
     }
 }
 
-/// How far connections are served: several at a time, or one after the other in one place. The first has room made for others where it is
-/// quiet; the second keeps its place.
+/// How far connections are served: several at a time, or one after the other in one place. The
+/// first has room made for others where it is quiet; the second keeps its place.
 fn limits(options: &Options<'_>) -> Limits {
     Limits {
         places: if options.concurrent {
@@ -67,7 +68,8 @@ fn limits(options: &Options<'_>) -> Limits {
     }
 }
 
-/// Why no more connections are served. The value is whether each ended after a whole record; `Err`: no more of them can be served.
+/// Why no more connections are served. The value is whether each ended after a whole record; `Err`:
+/// no more of them can be served.
 fn outcome<R: Files + Alloc + Eprint + SystemTimes>(
     rt: &R,
     served: &mut Served<'_, R>,
@@ -104,8 +106,8 @@ fn serve_listening<R: Files + Alloc + Print + Eprint + SystemTimes, C: Clock>(
     }
 }
 
-/// Serves by the options, from a port of 127.0.0.1. The value is whether all went well; `Err`: no more connections can be served; of the
-/// outer result: standard output can't be written.
+/// Serves by the options, from a port of 127.0.0.1. The value is whether all went well; `Err`: no
+/// more connections can be served; of the outer result: standard output can't be written.
 pub(crate) fn serve_options<R: Net + Files + Alloc + Print + Eprint + SystemTimes, C: Clock>(
     rt: &R,
     alloc: Global,

@@ -1,8 +1,9 @@
 //! `nfsd`: a file server over NFS version 4.1 (RFC 8881) that means what its access lists say.
 //!
-//! `nfsd` listens on 127.0.0.1 and serves its connections, one after the other or several at a time; with `--bare` it serves one
-//! connection of the sample tree, without sessions, from standard input to standard output. The status is 0; 2 where the words aren't
-//! understood, with `clap`'s text on standard error; and else 1, with the fault on standard error.
+//! `nfsd` listens on 127.0.0.1 and serves its connections, one after the other or several at a
+//! time. With `--bare` it serves one connection of the sample tree, without sessions, from standard
+//! input to standard output. The status is 0; 2 where the words aren't understood, with `clap`'s
+//! text on standard error; and else 1, with the fault on standard error.
 #![tactic(auto)]
 
 mod book_file;
@@ -41,8 +42,8 @@ use who_book::BookFault;
 /// The most turns of a connection: each reads some bytes of it.
 const TURNS: u64 = 1_000_000;
 
-/// The faults that keep `nfsd` from serving, in the order in which they are found. While it serves, the first two keep a book from
-/// loading.
+/// The faults that keep `nfsd` from serving, in the order in which they are found. While it serves,
+/// the first two keep a book from loading.
 #[derive(Drop)]
 enum Fault {
     /// The book's file can't be read, is no regular file, or isn't UTF-8.
@@ -80,8 +81,8 @@ fn hub_fault() -> Fault {
     Fault::Hub(HubFault::Memory as u8)
 }
 
-/// The hub by the options: of the sample tree without sessions; of what the store has, which is then written; or of a root alone, with the
-/// owner and the group of the book.
+/// The hub by the options. It is of the sample tree without sessions; of what the store has, which
+/// is then written; or of a root alone, with the owner and the group of the book.
 fn hub<R: Files<File = File> + RandomSource + Alloc + Eprint + Clock>(
     rt: &R,
     alloc: Global,
@@ -105,8 +106,8 @@ fn hub<R: Files<File = File> + RandomSource + Alloc + Eprint + Clock>(
     }
 }
 
-/// Says on standard error how a connection ended that didn't end after a whole record. Whether it ended after one. What can't be
-/// said isn't said.
+/// Says on standard error how a connection ended that didn't end after a whole record. Whether it
+/// ended after one. What can't be said isn't said.
 fn ended<R: Eprint>(rt: &R, end: ServeEnd) -> bool {
     if end == ServeEnd::Ended {
         return true;
@@ -122,8 +123,8 @@ fn serve_bare(rt: &HostRuntime, hub: &mut Hub) -> bool {
     ended(rt, end)
 }
 
-/// Serves by the options, over a hub of its own. The value is whether all went well. `Err` of the outer result: there is no
-/// randomness, or standard output can't be written.
+/// Serves by the options, over a hub of its own. The value is whether all went well. `Err` of the
+/// outer result: there is no randomness, or standard output can't be written.
 fn serve_hub(
     rt: &HostRuntime,
     alloc: Global,
@@ -202,8 +203,8 @@ const NOWHERE: &str = "/dev/null";
 /// The descriptors of standard input, output and error are below this one.
 const FIRST_DESCRIPTOR: i32 = 3;
 
-/// What stands in for standard input, output or error, where one of them is closed: else the next file or socket would have its descriptor,
-/// and get what is said there.
+/// Opens a file that stands in for standard input, output or error, where one of them is closed.
+/// Else the next file or socket would have its descriptor, and get what is said there.
 fn stand_in(rt: &HostRuntime) -> Option<File> {
     let file = OpenOptions::new().write(true).open(rt, NOWHERE).ok()?;
     if file.as_raw_fd() < FIRST_DESCRIPTOR {

@@ -3,7 +3,8 @@
 /// The bits of a mode for reading, writing and executing.
 const PERMISSIONS: u32 = 0o777;
 
-/// The number whose octal digits are the decimal digits of a mode, where the mode has bits above 0o777 and all its digits are octal.
+/// The number whose octal digits are the decimal digits of a mode, where the mode has bits above
+/// 0o777 and all its digits are octal.
 fn as_octal(mode: u32) -> Option<u32> {
     if mode <= PERMISSIONS {
         return None;
@@ -37,8 +38,8 @@ fn is_decimal(line: &str) -> bool {
     )
 }
 
-/// Says on standard error that a book's mode of the root is most likely a slip, where it is given in decimal digits that mean another mode in
-/// octal: 755 is 0o1363.
+/// Says on standard error that a book's mode of the root is most likely a slip. It does so where
+/// the mode is given in decimal digits that mean another mode in octal: 755 is 0o1363.
 pub(crate) fn say<R: Eprint>(rt: &R, path: &str, text: &str, mode: u32) {
     let Some(octal) = as_octal(mode) else {
         return;

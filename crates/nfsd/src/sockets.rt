@@ -178,7 +178,8 @@ impl Sockets {
         !self.privileged_ports || from.port() < FIRST_FREE_PORT
     }
 
-    /// Accepts the next stream that is served, if one waits. Others are closed as they come, before a byte of them is read.
+    /// Accepts the next stream that is served, if one waits. Others are closed as they come, before
+    /// a byte of them is read.
     fn accept(&mut self) {
         for _stream in 0..MOST_TURNED_AWAY {
             match self.listener.accept() {

@@ -1,4 +1,5 @@
-//! What outlives a restart: the store of a folder, and the hub over what was found there.
+//! What outlives a restart is in the store of a folder, and the hub goes on over what was found
+//! there.
 use crate::clock::second;
 use crate::{Fault, hub_fault};
 use compound_run::Lent;

@@ -14,7 +14,8 @@ use std::rt::{Clock, Files};
 use store_files::{StoreFolder, StoreStop};
 use who_book::Book;
 
-/// Sockets, the folder of the store, if there is one, the file in which the trail is kept, if it is kept, and the file of the book.
+/// Sockets and the file of the book. Beside these stand the folder of the store, if there is one,
+/// and the file in which the trail is kept, if it is kept.
 #[derive(Drop)]
 pub(crate) struct Served<'a, R: Files> {
     rt: &'a R,
@@ -61,8 +62,9 @@ impl<'a, R: Files + Eprint> Served<'a, R> {
         }
     }
 
-    /// Says on standard error how a connection ended that didn't end after a whole record. What can't be said isn't said. Of those that were
-    /// open when serving ended the end of serving is said.
+    /// Says on standard error how a connection ended that didn't end after a whole record. What
+    /// can't be said isn't said. Of those that were open when serving ended the end of serving is
+    /// said.
     fn note(&mut self, end: StreamEnd) {
         if matches!(end, StreamEnd::Ended | StreamEnd::Stopped) {
             return;

@@ -104,8 +104,8 @@ fn open_trail<R: Files + Alloc>(rt: &R, path: &str, book: Option<&str>) -> Optio
 }
 
 impl<'a, R: Files + Alloc + Clock> TrailFile<'a, R> {
-    /// Opens the file, ends its last line, and writes the line of a start, where lines have their moments. `None`: it is the file of the book,
-    /// or can't be opened or written.
+    /// Opens the file, ends its last line, and writes the line of a start, where lines have their
+    /// moments. `None`: it is the file of the book, or can't be opened or written.
     pub(crate) fn start(
         rt: &'a R,
         path: &'a str,
@@ -135,8 +135,8 @@ impl<'a, R: Files + Alloc + Clock> TrailFile<'a, R> {
         self.keeper.start(&moment_text(second(self.rt)))
     }
 
-    /// Keeps the lines that aren't kept yet. Where the name leads to another file than the one that was written, that one is gone on with.
-    /// `false`: they can't be kept.
+    /// Keeps the lines that aren't kept yet. Where the name leads to another file than the one that
+    /// was written, that one is gone on with. `false`: they can't be kept.
     pub(crate) fn keep(&mut self, guard: &Guard) -> bool {
         if !self.keeper.has_new(guard) {
             return self.keeper.keep(guard);

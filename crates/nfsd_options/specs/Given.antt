@@ -57,8 +57,9 @@ pub record Together : Type 0 where
 abbrev pub is_meant : Together → Bool
 is_meant t = t.book || (t.concurrent || (t.trail || (t.stamped || (t.store || t.leases))))
 
--- Options that can't be given together: a home isn't that of the sample tree, and goes with none of the options that it means; the sample tree
--- has no file of the trail, no ports and no store; and the lines of a trail that goes to no file have no moments.
+-- Options that can't be given together. A home isn't that of the sample tree, and goes with none of
+-- the options that it means. The sample tree has no file of the trail, no ports and no store. The
+-- lines of a trail that goes to no file have no moments.
 abbrev pub mistake : Together → Option ErrorKind
 mistake t =
     if t.home && (t.bare || is_meant t) then Some ArgumentConflict

@@ -1,5 +1,6 @@
 -- The command of `nfsd` as `clap` sees a simple command:
--- `nfsd [--book FILE] [--bare] [--port N] [--connections N] [--concurrent] [--trail FILE] [--stamped] [--privileged-ports] [--store FOLDER] [--leases] [--home FOLDER]`.
+-- `nfsd [--book FILE] [--bare] [--port N] [--connections N] [--concurrent] [--trail FILE]
+-- [--stamped] [--privileged-ports] [--store FOLDER] [--leases] [--home FOLDER]`.
 use Rattle.std.specs.Prelude.{codes, Some, pos}
 use Rattle.clap.specs.Words.{App, Rule, Text, new_app, new_rule, with_rule}
 use Rattle.clap.specs.declared.builder.action.ArgAction.TheVariants.{SetTrue}

@@ -1,4 +1,5 @@
-//! The words of `nfsd`: `nfsd [--book FILE] [--bare] [--port N] [--connections N] [--concurrent] [--trail FILE] [--stamped] [--privileged-ports] [--store FOLDER]`.
+//! The words of `nfsd`: `nfsd [--book FILE] [--bare] [--port N] [--connections N] [--concurrent]
+//! [--trail FILE] [--stamped] [--privileged-ports] [--store FOLDER]`.
 #![tactic(auto)]
 
 mod command;

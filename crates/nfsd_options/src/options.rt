@@ -98,9 +98,10 @@ impl<'a> Options<'a> {
 
     /// Reads the words, of which the first is the program's name, as in `env::args`.
     ///
-    /// An error is `clap`'s own: a mistake in the words, a call for help, options that can't be given together (`--home` with an option that it
-    /// means or with `--bare`, `--bare` with `--trail`, `--privileged-ports` or `--store`, `--stamped` without `--trail`), or want of memory. Its
-    /// `Display` is the text for the user.
+    /// An error is `clap`'s own. It is a mistake in the words, a call for help, options that can't
+    /// be given together (`--home` with an option that it means or with `--bare`, `--bare` with
+    /// `--trail`, `--privileged-ports` or `--store`, `--stamped` without `--trail`), or want of
+    /// memory. Its `Display` is the text for the user.
     pub fn read<S: AsStr>(alloc: Global, words: &'a [S]) -> Result<Options<'a>, Error>
         ensures said { IfOk result (OptionsOf (map S.text words.entry.now)) }
         ensures refused { FailsBy (kinds_of (map S.text words.entry.now)) result }

@@ -1,4 +1,5 @@
-//! What keeps `nfslab` from running a script to its end, in two lines on standard error.
+//! A fault keeps `nfslab` from running a script to its end, and is said in two lines on standard
+//! error.
 use nfs_hub::HubFault;
 use nfs_tool::ToolFault;
 use nfsc_options::LabOptions;
@@ -6,8 +7,8 @@ use std::fmt;
 use std::fmt::{Display, Formatter};
 use who_book::BookFault;
 
-/// A fault that keeps `nfslab` from running a script to its end. Faults are found in this order. A reason is missing where there
-/// was no memory for it.
+/// A fault that keeps `nfslab` from running a script to its end. Faults are found in this order. A
+/// reason is missing where there was no memory for it.
 #[derive(Drop)]
 pub(crate) enum Fault {
     /// The book's file can't be read, or isn't UTF-8, for this reason.

@@ -1,7 +1,9 @@
-//! `nfslab`: runs a script of commands on an NFS version 4.1 server (RFC 8881) in memory, from standard input to standard output.
+//! `nfslab`: runs a script of commands on an NFS version 4.1 server (RFC 8881) in memory, from
+//! standard input to standard output.
 //!
-//! The status is 0; 2 where the words aren't understood, with `clap`'s text on standard error; and else 1: after a line that was answered
-//! `bad line`, `failed N` or `book N`, and after a fault of the whole, in two lines on standard error.
+//! The status is 0; 2 where the words aren't understood, with `clap`'s text on standard error; and
+//! else 1. It is 1 after a line that was answered `bad line`, `failed N` or `book N`, and after a
+//! fault of the whole, in two lines on standard error.
 #![tactic(auto)]
 
 mod fault;

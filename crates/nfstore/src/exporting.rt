@@ -47,7 +47,8 @@ fn bytes_of(
     Ok(bytes)
 }
 
-/// Gives a path the owner, the group and the mode of an object. Bits above 0o777 are set only where the owner could be given.
+/// Gives a path the owner, the group and the mode of an object. Bits above 0o777 are set only where
+/// the owner could be given.
 fn dress<R: Files>(rt: &R, path: &str, node: &Node<Global>) -> Result<(), Fault> {
     let owned = lchown(rt, path, Some(node.owner()), Some(node.group()));
     if node.kind() == Kind::Link {

@@ -6,7 +6,7 @@ use std::rt::Files;
 use store_files::{Standing, StoreFolder, StoreStop, what_stands};
 use tree_store::{Found, StoreFault, open};
 
-/// What a store has.
+/// A store has this.
 #[derive(Drop)]
 pub(crate) struct Looked {
     /// The file that counts, and what stands in it; `None`, where nothing is kept yet.

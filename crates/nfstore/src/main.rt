@@ -1,7 +1,7 @@
 //! `nfstore`: says what the store of a server has, writes it out, or makes a new one.
 //!
-//! The status is 0; 2 where the words aren't understood, with `clap`'s text on standard error; and else 1, with what is wrong and where on
-//! standard error.
+//! The status is 0; 2 where the words aren't understood, with `clap`'s text on standard error; and
+//! else 1, with what is wrong and where on standard error.
 #![tactic(auto)]
 
 mod escaped;

@@ -3,7 +3,7 @@ use clap::error::ErrorKind;
 use clap::{Arg, ArgAction, Command, Error, value_parser};
 use std::alloc::{AllocError, Global};
 
-/// What it does.
+/// The command does this.
 const ABOUT: &str = "\
 Says what the store in a folder has, which 'nfsd --store FOLDER' keeps, and changes nothing; or, with '--import', makes a new one.
 

@@ -1,4 +1,4 @@
-//! What a store has, a name and a value on each line.
+//! Says what a store has, a name and a value on each line.
 use crate::looking::Looked;
 use anyhow::Result;
 use journal::Slot;

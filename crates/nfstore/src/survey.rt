@@ -1,4 +1,4 @@
-//! What a directory of this system has, and what of it no tree takes.
+//! Surveys what a directory of this system has, and what of it no tree takes.
 use crate::fault::{Fault, Stopped};
 use acl_list::Kind;
 use node_tree::{MAX_BYTES, MAX_LINKS, MAX_NAME, MAX_NAMES, MAX_OBJECTS, MAX_TEXT};
@@ -25,7 +25,7 @@ pub(crate) struct Named {
     pub(crate) child: usize,
 }
 
-/// What a directory of this system has.
+/// A directory of this system has this.
 #[derive(Drop)]
 pub(crate) struct Survey<'a> {
     rt: &'a HostRuntime,

@@ -2,7 +2,8 @@
 use node_tree::Tree;
 use std::alloc::{AllocError, Global};
 
-/// A directory whose names are being walked: its number, the cookie of the name that came last, and the length of its path.
+/// A directory whose names are being walked: its number, the cookie of the name that came last, and
+/// the length of its path.
 #[derive(Clone, Copy)]
 struct Level {
     directory: u64,
@@ -10,7 +11,8 @@ struct Level {
     path: usize,
 }
 
-/// A walk over the paths below the root: each directory before what is in it, names in the order in which they were made.
+/// A walk over the paths below the root: each directory before what is in it, names in the order in
+/// which they were made.
 #[derive(Drop)]
 pub(crate) struct Walk {
     levels: Vec<Level>,

@@ -1,4 +1,5 @@
--- What a call of the tree asks for, and doesn't refuse, is allowed; so what it makes is noted.
+-- A change that a call of the tree asks for, and doesn't refuse, is allowed. So the change that it
+-- makes is noted.
 use Rattle.std.proofs.Common.{◌≡◌, ◌≢◌, ℕ, ◌+◌, ◌-◌, ◌<◌, ◌≤◌, ◌^◌, ◌&&◌, not, Bool, true, false, cond, List, [], ◌∷◌, ◌++◌, length, take, refl, ap, sym, ◌∙◌, subst, arith, Some, None}
 use Rattle.std.specs.Prelude.{nat_le, nat_lt, ◌==◌, is_some, IsSome, Option}
 use Rattle.std.specs.Option.{option_map, option_map_or}

@@ -47,7 +47,7 @@ pub dropped_named : (low high : ℕ) (names : List Name) (d : ℕ) (t : List ℕ
 dropped_named low high names d t None rises one is = sym (absent_stays names d t (sym is))
 dropped_named low high names d t (Some k) rises one is = but_named low high names d t k rises one (sym is)
 
--- one name less, and one more behind
+-- one name less, and one more at the end
 dropped_push : (low : ℕ) (names : List Name) (n : Name) (d : ℕ) (t : List ℕ) (k : Option ℕ) → Rises (λ n. n.cookie) low names n.cookie → count_by (is_named d t) names ≤ 1 → k ≡ cookie names d t
     → dropped k (names ++ n ∷ []) ≡ other_names d t names ++ n ∷ []
 dropped_push low names n d t None rises one is = ap (λ l. l ++ n ∷ []) (sym (absent_stays names d t (sym is)))

@@ -18,7 +18,7 @@ use Rattle.node_tree.specs.Sound.{Rises}
 use Rattle.node_tree.specs.Groups.{cookies_at, cookies_of, keyed, IsListed}
 use Rattle.node_tree.proofs.Rising.{Rises-filter}
 
--- ---- the cookies behind a cookie
+-- ---- the cookies after a cookie
 
 behind : (c k : ℕ) → is_lt (nat_cmp c k) ≡ nat_lt c k
 behind c k = elim (nat_lt c k) as (λ b. is_lt (cond b Less (cond (c == k) Equal Greater)) ≡ b) [
@@ -26,7 +26,7 @@ behind c k = elim (nat_lt c k) as (λ b. is_lt (cond b Less (cond (c == k) Equal
   | false ↦ elim (c == k) as (λ b. is_lt (cond b Equal Greater) ≡ false) [ true ↦ refl | false ↦ refl ]
 ]
 
--- the first cookie of a range is the first behind its beginning
+-- the first cookie of a range is the first after its beginning
 pub first_behind : (c : ℕ) (keys : List ℕ) → slice_get (filter (range_contains nat_cmp (Excluded c) Unbounded) keys) 0 ≡ find (nat_lt c) keys
 first_behind c [] = refl
 first_behind c (k ∷ keys) =
@@ -125,7 +125,7 @@ lower low high least (m ∷ names) le rises = (let r : low ≤ m.cookie = rises.
 is_above : (k c : ℕ) → c < k → Greater ≡ nat_cmp k c
 is_above k c less = nat_cmp_is k c Greater less
 
--- the highest cookie goes behind all
+-- the highest cookie goes after all
 insert_last : (k : ℕ) (p : Name → Bool) (low : ℕ) (names : List Name) → Rises (λ n. n.cookie) low names k → insert_key nat_cmp (cookies_of p names) k ≡ cookies_of p names ++ k ∷ []
 insert_last k p low [] rises = refl
 insert_last k p low (m ∷ names) rises =

@@ -1,4 +1,4 @@
--- What is within its ranges has a spelling, and what was written is within its ranges.
+-- A value within its ranges has a spelling, and a written value is within its ranges.
 use Rattle.std.proofs.Common.{◌≡◌, ◌≢◌, ℕ, ◌+◌, ◌-◌, ◌<◌, ◌≤◌, ◌^◌, ◌&&◌, ℤ, pos, negsuc, Bool, true, false, cond, List, [], ◌∷◌, ◌++◌, length, map, refl, ap, sym, ◌∙◌, subst, arith, inl, inr}
 use Rattle.std.specs.Prelude.{FitsSigned, nat_le, nat_lt, ◌==◌}
 use Rattle.std.specs.Int.{w32, w64, to_be_bytes, int_wrap}
@@ -286,7 +286,7 @@ all_mapped f (x ∷ xs) h = (h.0, all_mapped f xs h.1)
 
 -- ---- notes
 
--- what was noted was within its ranges
+-- the change that was noted was within its ranges
 pub noted_as : (old new : Notes) (may : Bool) (item : List ℕ) → new ≡ note old true item → (new.is_lost ≡ false → may ≡ true) → new ≡ note old may item
 noted_as old new may item is may_be =
     elim old.is_lost as (λ b. new ≡ cond b old (cond (nat_lt old.room (length item)) (lost old) (record { bytes = old.bytes ++ item; room = old.room - length item; is_lost = false }))

@@ -56,7 +56,7 @@ number-below low high (e ∷ es) k o rises is =
       | false ↦ λ at h. number-below (e.0 + 1) high es k o rises.1 h
     ] refl is
 
--- a new number goes behind all others
+-- a new number goes after all others
 pub inserted_last : (low next : ℕ) (es : List (ℕ × Object)) (o : Object) → Rises (λ e. e.0) low es next → insert_entry nat_cmp es next o ≡ es ++ (next, o) ∷ []
 inserted_last low next [] o rises = refl
 inserted_last low next (e ∷ es) o rises =

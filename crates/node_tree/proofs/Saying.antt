@@ -1,4 +1,5 @@
--- What was said so far stays what a sound tree may have, and it is a sound tree where each object has a place.
+-- The parts said so far stay those that a sound tree may have. They are a sound tree where each
+-- object has a place.
 use Rattle.std.proofs.Common.{◌≡◌, ◌≢◌, ℕ, zero, suc, ◌+◌, ◌-◌, ◌<◌, ◌≤◌, ◌^◌, Bool, true, false, not, cond, ◌&&◌, ◌||◌, List, [], ◌∷◌, ◌++◌, length, map, refl, ap, sym, ◌∙◌, subst, arith, Some, None, length-append}
 use Rattle.std.specs.Prelude.{Option, IsSome, is_some, ◌==◌, find, nat_le, nat_lt}
 use Rattle.std.specs.Ordering.{nat_cmp, match_ordering, is_eq}

@@ -20,7 +20,8 @@ cookies_of passes names = map (λ n. n.cookie) (filter passes names)
 abbrev pub keyed : List Name → List (ℕ × Name)
 keyed names = map (λ n. (n.cookie, n)) names
 
--- Names are kept by their cookies, which rise from 3 on. A directory has the cookies of the names in it, and a child those of its names.
+-- Names are kept by their cookies, which rise from 3 on. A directory has the cookies of the names
+-- in it, and a child those of its names.
 pub record IsListed (entries : List (ℕ × Name)) (by_directory by_child : BTreeMap ℕ (BTreeSet ℕ)) (names : List Name) : Type 0 where
   pub next : ℕ
   pub keyed_so : entries ≡ keyed names

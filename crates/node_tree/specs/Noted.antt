@@ -1,4 +1,4 @@
--- What a world notes of a change.
+-- A world notes the spelling of a change, or that a change was lost.
 use Rattle.std.specs.Prelude.{ℕ, ◌≡◌, ◌+◌, Bool, ◌&&◌, length, take}
 use Rattle.node_tree.specs.World.{World}
 use Rattle.node_tree.specs.Notes.{Notes, note}
@@ -14,7 +14,7 @@ noted w s = note w.notes (allows w s && in_range s) (spelled s)
 abbrev pub quietly : World → World → World
 quietly old new = record new { notes = old.notes }
 
--- what was noted after so many bytes is taken back
+-- the notes after this many bytes are taken back
 pub record CutsTo (old new : World) (len : ℕ) (was_lost : Bool) : Type 0 where
   pub same : new ≡ record old { notes = new.notes }
   pub bytes : new.notes.bytes ≡ take len old.notes.bytes

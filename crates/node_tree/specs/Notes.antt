@@ -1,7 +1,8 @@
 -- The changes that were noted, as bytes, in a buffer.
 use Rattle.std.specs.Prelude.{ℕ, ◌≡◌, ◌+◌, ◌-◌, Bool, true, false, nat_lt, if◌then◌else◌, List, [], ◌++◌, length, take}
 
--- The spellings of the changes, one after the other, and how many more bytes have room. Once a change is lost nothing more is noted.
+-- The spellings of the changes, one after the other, and how many more bytes have room. Once a
+-- change is lost nothing more is noted.
 pub record Notes : Type 0 where
   pub bytes : List ℕ
   pub room : ℕ
@@ -26,6 +27,6 @@ note n may item =
     else if may then record { bytes = n.bytes ++ item; room = n.room - length item; is_lost = false }
     else lost n
 
--- what was noted is forgotten, and its room is there again
+-- all notes are forgotten, and their room is there again
 abbrev pub cleared : Notes → Notes
 cleared n = record { bytes = []; room = n.room + length n.bytes; is_lost = false }

@@ -1,5 +1,6 @@
--- Why a change is refused, or that it isn't: the first reason in the order of the standard's operations (RFC 8881, section 18). Each
--- test is of the parts that it looks at, so that it means the same of a world and of a view of one.
+-- Why a change is refused, or that it isn't: the first reason in the order of the standard's
+-- operations (RFC 8881, section 18). Each test is of the parts that it looks at, so that it means
+-- the same of a world and of a view of one.
 use Rattle.std.specs.Prelude.{ℕ, ◌+◌, ◌^◌, ◌==◌, Bool, true, ◌&&◌, ◌||◌, not, nat_lt, if◌then◌else◌, List, length, Option, Some, None, is_some}
 use Rattle.std.specs.Option.{option_map_or}
 use Rattle.acl_list.specs.declared.entry.Kind.{Kind}
@@ -15,23 +16,24 @@ use Rattle.node_tree.specs.Ways.{is_met}
 abbrev pub has_left : ℕ → Bool
 has_left next = nat_lt next (2 ^ 63)
 
--- whether a directory with so many names has room for one more
+-- whether a directory with this many names has room for one more
 abbrev pub has_room : ℕ → Bool
 has_room names = nat_lt names MAX_NAMES
 
--- whether there is room for one more object beside so many
+-- whether there is room for one more object beside this many
 abbrev pub has_object_room : ℕ → Bool
 has_object_room objects = nat_lt objects MAX_OBJECTS
 
--- whether an object with so many names may have one more
+-- whether an object with this many names may have one more
 abbrev pub may_link : ℕ → Bool
 may_link links = nat_lt links MAX_LINKS
 
--- whether a directory with so many names may have one more
+-- whether a directory with this many names may have one more
 abbrev pub may_name : (names next_cookie : ℕ) → Bool
 may_name names next_cookie = has_room names && has_left next_cookie
 
--- whether a directory with so many names may have a new object under one more name, beside so many objects
+-- whether a directory with this many names may have a new object under one more name, beside this
+-- many objects
 abbrev pub may_add : (names objects next_number next_stamp next_cookie : ℕ) → Bool
 may_add names objects next_number next_stamp next_cookie =
     has_room names && has_object_room objects && has_left next_number && has_left next_stamp && has_left next_cookie
@@ -42,15 +44,15 @@ may_add names objects next_number next_stamp next_cookie =
 abbrev pub is_below : (ℕ → Option Kind) → (ℕ → Option ℕ) → (next_number child directory : ℕ) → Bool
 is_below kinds parents next_number child directory = is_directory_in kinds child && is_met parents next_number child directory
 
--- Whether a child may replace a target, which may be absent. Only an empty directory can be replaced by a directory, and a
--- directory can't be replaced by any other object.
+-- Whether a child may replace a target, which may be absent. Only an empty directory can be
+-- replaced by a directory, and a directory can't be replaced by any other object.
 abbrev pub may_replace : (ℕ → Option Kind) → (ℕ → Bool) → ℕ → Option ℕ → Bool
 may_replace kinds has_entries child None = true
 may_replace kinds has_entries child (Some target) =
     if is_directory_in kinds child then is_directory_in kinds target && not (has_entries target) else not (is_directory_in kinds target)
 
--- Whether there is space for a child's new name, of a target that may be absent, in a directory with so many names. A directory that
--- loses a name for it is never too full.
+-- Whether there is space for a child's new name, of a target that may be absent, in a directory
+-- with this many names. A directory that loses a name for it is never too full.
 abbrev pub may_move : (names next_cookie from to : ℕ) → Option ℕ → Bool
 may_move names next_cookie from to None = ((from == to) || has_room names) && has_left next_cookie
 may_move names next_cookie from to (Some target) = has_left next_cookie

@@ -1,5 +1,5 @@
--- A tree that is put together again from what a checkpoint says: its counters, its objects by rising number and its names by rising
--- cookie, each object before its names.
+-- A tree that is put together again from what a checkpoint says. It says the tree's counters, its
+-- objects by rising number and its names by rising cookie, each object before its names.
 use Rattle.std.specs.Prelude.{ℕ, zero, suc, ◌+◌, ◌^◌, ◌≤◌, ◌≡◌, ◌≢◌, ◌==◌, Bool, true, false, ◌&&◌, ◌||◌, not, nat_le, nat_lt, if◌then◌else◌, List, [], ◌∷◌, ◌++◌, length, map, Option, Some, is_some, IsSome}
 use Rattle.std.specs.List.{list_any, list_all}
 use Rattle.std.specs.Option.{option_map_or}
@@ -16,7 +16,8 @@ use Rattle.node_tree.specs.World.{World, Object, Name, object, kind_of, child_na
 use Rattle.node_tree.specs.Refusals.{has_room, may_link}
 use Rattle.node_tree.specs.Sound.{IsIn, IsStamped, IsFit, IsLimited, IsCounted, Rises, stamp_of, most_bytes}
 
--- what there is so far, with the least number and the least cookie that may come next
+-- the world as far as it is put together, with the least number and the least cookie that may come
+-- next
 pub record Begun : Type 0 where
   pub world : World
   pub number : ℕ
@@ -92,7 +93,7 @@ name_fits b n =
     && (not (n.child == ROOT) && child_fits b.world n.child)
     && (is_directory_at b.world n.directory && has_room (name_count b.world.names n.directory) && not (is_some (child_named b.world n.directory n.name)))
 
--- whether the way up leads to the root in less than so many steps
+-- whether the way up leads to the root in less than this many steps
 unfoldable pub leads_up : (ℕ → Option ℕ) → ℕ → ℕ → Bool
 leads_up parents zero from = false
 leads_up parents (suc steps) from = (from == ROOT) || option_map_or (λ parent. leads_up parents steps parent) (parents from) false
@@ -114,7 +115,7 @@ pub record IsHung (kinds : ℕ → Option Kind) (names : List Name) : Type 0 whe
   pub one_child : (m n : Name) → IsIn m names → IsIn n names → m.directory ≡ n.directory → m.name ≡ n.name → m ≡ n
   pub one_parent : (m n : Name) → IsIn m names → IsIn n names → m.child ≡ n.child → kinds n.child ≡ Some Directory → m ≡ n
 
--- what there is so far, with its numbers and its stamps
+-- the world as far as it is put together, with its numbers and its stamps
 pub record IsBegun (w : World) (number cookie : ℕ) (numbers stamps : List ℕ) : Type 0 where
   pub hung : IsHung (kind_of w) w.names
   pub stamped : IsStamped (stamp_of w) w.next_stamp

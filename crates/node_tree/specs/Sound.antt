@@ -12,7 +12,7 @@ abbrev pub IsIn : Name → List Name → Type 0
 IsIn n [] = ⊥
 IsIn n (m ∷ names) = (n ≡ m) ⊎ IsIn n names
 
--- so many names lead up from the object to the root
+-- this many names lead up from the object to the root
 abbrev pub Climbs : List Name → ℕ → ℕ → Type 0
 Climbs names zero number = number ≡ ROOT
 Climbs names (suc steps) number = (n : Name) × IsIn n names × (n.child ≡ number) × Climbs names steps n.directory

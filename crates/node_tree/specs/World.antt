@@ -1,5 +1,6 @@
--- The world of a file server: objects by number, names by cookie, and the counters (RFC 8881, sections 4.2, 5.8 and 18.23).
--- An object has no path. A directory holds no names itself: they are kept beside the objects.
+-- The world of a file server: objects by number, names by cookie, and the counters (RFC 8881,
+-- sections 4.2, 5.8 and 18.23). An object has no path. A directory holds no names itself: they are
+-- kept beside the objects.
 use Rattle.std.specs.Prelude.{ℕ, Bool, false, ◌==◌, ◌&&◌, nat_lt, nat_eq, if◌then◌else◌, List, [], length, count_by, filter, find, take, drop, Option, Some, None}
 use Rattle.std.specs.List.{list_any}
 use Rattle.std.specs.Option.{option_map, option_map_or}

@@ -51,7 +51,8 @@ impl<A: Allocator> Block<A> {
         clear(&mut self.bytes, at, BLOCK);
     }
 
-    /// Copies the part of the block that falls into a stretch. The block begins at `first`, and the stretch at `offset`.
+    /// Copies the part of the block that falls into a stretch. The block begins at `first`, and the
+    /// stretch at `offset`.
     pub fn read(&self, first: usize, offset: usize, buffer: &mut [u8])
         requires fits { offset + length buffer.old < 2 ^ 64 }
         requires behind { first < offset + length buffer.old }

@@ -80,7 +80,8 @@ fn clear_behind<A: Allocator>(blocks: &mut BTreeMap<usize, Block<A>, A>, at: usi
     }
 }
 
-/// Takes away the bytes from a size on, up to another size: whole blocks go, and the rest of the last one becomes zeros.
+/// Takes away the bytes from a size on, up to another size: whole blocks go, and the rest of the
+/// last one becomes zeros.
 fn cut<A: Allocator>(blocks: &mut BTreeMap<usize, Block<A>, A>, held: usize, size: usize)
     requires { (i : ℕ) → held ≤ i → byte_at blocks.old.entries i ≡ 0 }
     ensures { (i : ℕ) → byte_at blocks.new.entries i ≡ (if nat_lt i size then byte_at blocks.old.entries i else 0) }

@@ -94,7 +94,8 @@ impl<A: Allocator + Copy> Contents<A> {
         }
     }
 
-    /// Writes data into a file at an offset, and zeros between the end and it. `Err`: there is no memory, and nothing has changed.
+    /// Writes data into a file at an offset, and zeros between the end and it. `Err`: there is no
+    /// memory, and nothing has changed.
     pub fn write(&mut self, alloc: A, offset: usize, more: &[u8]) -> Result<(), AllocError>
         requires few { offset + length more.now < 2 ^ 32 }
         requires file { kind_held self.old ≡ kinds.File }

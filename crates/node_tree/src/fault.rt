@@ -23,7 +23,8 @@ pub enum TreeFault {
     /// NFS4ERR_MLINK: the object has [`crate::MAX_LINKS`] names.
     #[error("the object has too many names")]
     MLink,
-    /// NFS4ERR_NOSPC: the directory has [`crate::MAX_NAMES`] names, there are [`crate::MAX_OBJECTS`] objects, or a counter is at its end.
+    /// NFS4ERR_NOSPC: the directory has [`crate::MAX_NAMES`] names, there are
+    /// [`crate::MAX_OBJECTS`] objects, or a counter is at its end.
     #[error("no room left")]
     NoSpc,
     /// There is no memory for the change.

@@ -36,7 +36,8 @@ fn take_name<A: Allocator>(names: &mut BTreeMap<Vec<u8, A>, u64, A>, name: &[u8]
     names.remove(name)
 }
 
-/// Gives a name of a directory a cookie, and answers its old cookie. `Err`: there is no memory for it, and nothing has changed.
+/// Gives a name of a directory a cookie, and answers its old cookie. `Err`: there is no memory for
+/// it, and nothing has changed.
 pub fn put<A: Allocator + Copy>(
     index: &mut BTreeMap<u64, BTreeMap<Vec<u8, A>, u64, A>, A>,
     alloc: A,
@@ -57,7 +58,8 @@ pub fn put<A: Allocator + Copy>(
     Ok(None)
 }
 
-/// Takes a name of a directory away. The map of the directory goes with its last name. Answers the cookie that the name had.
+/// Takes a name of a directory away. The map of the directory goes with its last name. Answers the
+/// cookie that the name had.
 pub fn take<A: Allocator>(
     index: &mut BTreeMap<u64, BTreeMap<Vec<u8, A>, u64, A>, A>,
     directory: u64,

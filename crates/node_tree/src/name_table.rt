@@ -117,7 +117,8 @@ impl<A: Allocator + Copy> NameTable<A> {
         }
     }
 
-    /// One more name, which isn't there, with a cookie above all others. `Err`: there is no memory for it, and nothing has changed.
+    /// One more name, which isn't there, with a cookie above all others. `Err`: there is no memory
+    /// for it, and nothing has changed.
     pub fn push(
         &mut self,
         alloc: A,
@@ -149,8 +150,8 @@ impl<A: Allocator + Copy> NameTable<A> {
         remove_found(&mut self.list, cookie);
     }
 
-    /// Another name for a child in place of two, of which any may be absent, with a cookie above all others. `Err`: there is no
-    /// memory for it, and nothing has changed.
+    /// Another name for a child in place of two, of which any may be absent, with a cookie above
+    /// all others. `Err`: there is no memory for it, and nothing has changed.
     pub fn replace(
         &mut self,
         alloc: A,

@@ -247,7 +247,8 @@ impl<A: Allocator + Copy> Node<A> {
         })
     }
 
-    /// Writes data into a file at an offset, and zeros between the end and it. `Err`: there is no memory, and nothing has changed.
+    /// Writes data into a file at an offset, and zeros between the end and it. `Err`: there is no
+    /// memory, and nothing has changed.
     pub(crate) fn write(
         &mut self,
         alloc: A,

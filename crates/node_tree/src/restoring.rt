@@ -22,7 +22,7 @@ use thiserror::Error;
 /// Why no tree is put together.
 #[derive(Clone, Copy, Debug, PartialEq, Eq, Error)]
 pub enum RestoreFault {
-    /// What is said is no sound tree.
+    /// The parts as they are said make no sound tree.
     #[error("no sound tree")]
     Unsound,
     /// There is no memory for it.
@@ -38,7 +38,8 @@ impl From<AllocError> for RestoreFault {
     }
 }
 
-/// The objects and names that were said so far: objects by rising number, names by rising cookie, each object before its names.
+/// The objects and names that were said so far: objects by rising number, names by rising cookie,
+/// each object before its names.
 #[derive(Debug, Drop)]
 pub struct Restoring<A: Allocator = Global> {
     store: Store<A>,

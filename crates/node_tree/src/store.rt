@@ -488,7 +488,7 @@ impl<A: Allocator + Copy> Store<A> {
     }
 }
 
-// What a checkpoint says.
+// A store is put together from what a checkpoint says.
 impl<A: Allocator + Copy> Store<A> {
     /// No objects and no names.
     pub fn empty(
@@ -609,7 +609,7 @@ impl<A: Allocator + Copy> Store<A> {
     }
 }
 
-// What is noted.
+// Changes are noted.
 impl<A: Allocator + Copy> Store<A> {
     /// Begins notes, with room for this many bytes. `Err`: there is no memory for it, and nothing has changed.
     pub fn begin_notes(&mut self, room: usize) -> Result<(), AllocError>

@@ -106,8 +106,9 @@ impl<A: Allocator + Copy> Tree<A> {
         self.store.find(directory, name)
     }
 
-    /// The next name of a directory after a cookie, by rising cookie (READDIR: RFC 8881, section 18.23). No name has the
-    /// cookies 0 to 2, and the name of the cookie that is sent may have gone.
+    /// The next name of a directory after a cookie, by rising cookie (READDIR: RFC 8881, section
+    /// 18.23). No name has the cookies 0 to 2, and the name of the cookie that is sent may have
+    /// gone.
     pub fn list_after(&self, directory: u64, cookie: u64) -> Option<&DirEntry<A>>
         ensures value { option_copied result ≡ name_after self.now directory cookie }
         ensures next { IfSome (option_copied result) (IsNextName self.now directory cookie) }
@@ -122,24 +123,26 @@ impl<A: Allocator + Copy> Tree<A> {
         self.store.is_below(child, directory)
     }
 
-    /// Whether a child may take the place of a target, which may be absent (RENAME: RFC 8881, section 18.26): a directory that of an
-    /// empty directory, another object that of no directory.
+    /// Whether a child may take the place of a target, which may be absent (RENAME: RFC 8881,
+    /// section 18.26). A directory may take that of an empty directory, another object that of no
+    /// directory.
     pub fn may_replace(&self, child: u64, target: Option<u64>) -> bool
         ensures { result ≡ may_replace (kind_of self.now) (has_entries self.now.names) child target }
     {
         self.store.may_replace(child, target)
     }
 
-    /// Whether there is space for a child's new name, of a target that may be absent: another directory that has
-    /// [`crate::MAX_NAMES`] names has none for one more, and no cookie is 2^63.
+    /// Whether there is space for a child's new name, of a target that may be absent. Another
+    /// directory that has [`crate::MAX_NAMES`] names has none for one more, and no cookie is 2^63.
     pub fn may_move(&self, from: u64, to: u64, target: Option<u64>) -> bool
         ensures { result ≡ may_move (name_count self.now.names to) self.now.next_cookie from to target }
     {
         self.store.may_move(from, to, target)
     }
 
-    /// Copies the bytes of a file, or the text of a link, at an offset into a buffer, as far as both go, and answers how many
-    /// (READ, READLINK: RFC 8881, sections 18.22 and 18.24). The rest of the buffer stays.
+    /// Copies the bytes of a file, or the text of a link, at an offset into a buffer, as far as
+    /// both go (READ, READLINK: RFC 8881, sections 18.22 and 18.24). It answers how many it copied.
+    /// The rest of the buffer stays.
     pub fn read(&self, number: u64, offset: u64, buffer: &mut [u8]) -> usize
         ensures count { result ≡ length (bytes_at self.now number offset (length buffer.old)) }
         ensures copied { buffer.new ≡ bytes_at self.now number offset (length buffer.old) ++ drop result buffer.old }
@@ -164,8 +167,8 @@ impl<A: Allocator + Copy> Tree<A> {
         self.store.next_cookie()
     }
 
-    /// The least number above another one that has an object. No object has the number 0, so the objects of a tree are those of the
-    /// number after 0, the number after that, and so on.
+    /// The least number above another one that has an object. No object has the number 0. So the
+    /// objects of a tree are those of the number after 0, the number after that, and so on.
     pub fn number_after(&self, number: u64) -> Option<u64>
         ensures { result ≡ number_after self.now number }
     {
@@ -180,10 +183,10 @@ impl<A: Allocator + Copy> Tree<A> {
     }
 }
 
-// What is noted of the changes, for a store. Nothing else depends on it.
+// The changes are noted for a store. Nothing else depends on it.
 impl<A: Allocator + Copy> Tree<A> {
-    /// Begins notes: from now on each change is noted, in this many bytes, where there is room for it. `Err`: there is no memory for
-    /// them, and nothing has changed.
+    /// Begins notes: from now on each change is noted, in this many bytes, where there is room for
+    /// it. `Err`: there is no memory for them, and nothing has changed.
     pub fn begin_notes(&mut self, room: usize) -> Result<(), AllocError>
         ensures ok { OnOk result (self.new ≡ record self.old { notes = begun_notes room }) }
         ensures err { OnErr result (self.new ≡ self.old) }
@@ -218,8 +221,8 @@ impl<A: Allocator> Tree<A> {
 
 // Changes. Each grows first, and a refusal leaves all as it was.
 impl<A: Allocator + Copy> Tree<A> {
-    /// A root alone, with a list within the bounds of [`acl_shape::is_bounded`]. Its times are the epoch. `Err`: there is no
-    /// memory for it.
+    /// A root alone, with a list within the bounds of [`acl_shape::is_bounded`]. Its times are the
+    /// epoch. `Err`: there is no memory for it.
     pub fn new(
         alloc: A,
         owner: u32,
@@ -243,8 +246,8 @@ impl<A: Allocator + Copy> Tree<A> {
         })
     }
 
-    /// The sample tree: in the root a file `notes` and a directory `pub`, each with the list of its mode. Its times are the epoch.
-    /// `Err`: there is no memory for it.
+    /// The sample tree: in the root a file `notes` and a directory `pub`, each with the list of its
+    /// mode. Its times are the epoch. `Err`: there is no memory for it.
     pub fn sample(alloc: A) -> Result<Self, AllocError>
         ensures { IfOk result (λ tree. tree ≡ sample) }
     {
@@ -254,12 +257,13 @@ impl<A: Allocator + Copy> Tree<A> {
         })
     }
 
-    /// Makes a new object under a new name of at most 255 bytes, and answers its number (CREATE, OPEN: RFC 8881, sections 18.4
-    /// and 18.16). It takes a number, a stamp and a cookie. The directory's times are set.
+    /// Makes a new object under a new name of at most 255 bytes, and answers its number (CREATE,
+    /// OPEN: RFC 8881, sections 18.4 and 18.16). It takes a number, a stamp and a cookie. The
+    /// directory's times are set.
     ///
-    /// Refused, the first of these: the name is taken, [`TreeFault::Exist`]; the directory has [`crate::MAX_NAMES`] names, there
-    /// are [`crate::MAX_OBJECTS`] objects, or a number, stamp or cookie would be 2^63, [`TreeFault::NoSpc`];
-    /// [`TreeFault::Memory`].
+    /// Refused, the first of these. The name is taken, [`TreeFault::Exist`]. The directory has
+    /// [`crate::MAX_NAMES`] names, there are [`crate::MAX_OBJECTS`] objects, or a number, stamp or
+    /// cookie would be 2^63, [`TreeFault::NoSpc`]. There is no memory, [`TreeFault::Memory`].
     pub fn add(
         &mut self,
         directory: u64,
@@ -291,11 +295,13 @@ impl<A: Allocator + Copy> Tree<A> {
         }
     }
 
-    /// Gives an object that is no directory a new name of at most 255 bytes (LINK: RFC 8881, section 18.9). It takes a cookie.
-    /// The directory's times are set, and the object's `time_metadata`.
+    /// Gives an object that is no directory a new name of at most 255 bytes (LINK: RFC 8881,
+    /// section 18.9). It takes a cookie. The directory's times are set, and the object's
+    /// `time_metadata`.
     ///
-    /// Refused, the first of these: the name is taken, [`TreeFault::Exist`]; the object has [`crate::MAX_LINKS`] names,
-    /// [`TreeFault::MLink`]; the directory has [`crate::MAX_NAMES`] names, or the cookie would be 2^63, [`TreeFault::NoSpc`];
+    /// Refused, the first of these. The name is taken, [`TreeFault::Exist`]. The object has
+    /// [`crate::MAX_LINKS`] names, [`TreeFault::MLink`]. The directory has [`crate::MAX_NAMES`]
+    /// names, or the cookie would be 2^63, [`TreeFault::NoSpc`]. There is no memory,
     /// [`TreeFault::Memory`].
     pub fn link(
         &mut self,
@@ -322,10 +328,12 @@ impl<A: Allocator + Copy> Tree<A> {
         Ok(())
     }
 
-    /// Takes a name away. Its child goes with its last name (REMOVE: RFC 8881, section 18.25). The directory's times are set, and
-    /// the `time_metadata` of a child that has other names. It takes no memory.
+    /// Takes a name away. Its child goes with its last name (REMOVE: RFC 8881, section 18.25). The
+    /// directory's times are set, and the `time_metadata` of a child that has other names. It takes
+    /// no memory.
     ///
-    /// Refused: there is no such name, [`TreeFault::NoEnt`]; it is that of a directory that has names, [`TreeFault::NotEmpty`].
+    /// Refused: there is no such name, [`TreeFault::NoEnt`]; it is that of a directory that has
+    /// names, [`TreeFault::NotEmpty`].
     pub fn unlink(&mut self, directory: u64, name: &[u8], at: At) -> Result<(), TreeFault>
         requires tick { IsTick self.old at.tick }
         ensures refused { MatchOption (unlink_refusal self.old directory name.now) (IsOk result) (λ fault. result ≡ Err fault) }
@@ -344,9 +352,10 @@ impl<A: Allocator + Copy> Tree<A> {
         Ok(())
     }
 
-    /// Gives a child another name, in the same directory or in another (RENAME: RFC 8881, section 18.26). It takes a cookie. The
-    /// times of both directories are set, and the `time_metadata` of the child and of a target that has other names. `Err`: there
-    /// is no memory for it, and nothing changes.
+    /// Gives a child another name, in the same directory or in another (RENAME: RFC 8881, section
+    /// 18.26). It takes a cookie. The times of both directories are set, and the `time_metadata` of
+    /// the child and of a target that has other names. `Err`: there is no memory for it, and
+    /// nothing changes.
     ///
     /// | The child | The target | |
     /// |---|---|---|
@@ -380,8 +389,8 @@ impl<A: Allocator + Copy> Tree<A> {
         Ok(())
     }
 
-    /// Writes data into a file, and zeros between its end and the offset (WRITE: RFC 8881, section 18.32). The file's times are
-    /// set. No data change nothing, at any offset, and take no memory.
+    /// Writes data into a file, and zeros between its end and the offset (WRITE: RFC 8881, section
+    /// 18.32). The file's times are set. No data change nothing, at any offset, and take no memory.
     ///
     /// Refused: the data would end above [`crate::MAX_BYTES`], [`TreeFault::FBig`]; [`TreeFault::Memory`].
     pub fn write(&mut self, file: u64, offset: u64, more: &[u8], at: At) -> Result<(), TreeFault>
@@ -426,8 +435,9 @@ impl<A: Allocator + Copy> Tree<A> {
         Ok(())
     }
 
-    /// Sets the list of an object, within the bounds of [`acl_shape::is_bounded`], with the high bits of its mode (SETATTR: RFC
-    /// 8881, section 18.30). It takes a stamp and no memory. The object's `time_metadata` is set.
+    /// Sets the list of an object, within the bounds of [`acl_shape::is_bounded`], with the high
+    /// bits of its mode (SETATTR: RFC 8881, section 18.30). It takes a stamp and no memory. The
+    /// object's `time_metadata` is set.
     pub fn set_list(&mut self, number: u64, list: AclList<A>, high: u32, at: At)
         requires tick { IsTick self.old at.tick }
         requires stamps { self.old.next_stamp < 2 ^ 63 }
@@ -439,8 +449,8 @@ impl<A: Allocator + Copy> Tree<A> {
         self.store.set_list(number, list, high, at);
     }
 
-    /// Sets the owner and the group of an object (SETATTR: RFC 8881, section 18.30). It takes a stamp and no memory. The object's
-    /// `time_metadata` is set.
+    /// Sets the owner and the group of an object (SETATTR: RFC 8881, section 18.30). It takes a
+    /// stamp and no memory. The object's `time_metadata` is set.
     pub fn set_owner(&mut self, number: u64, owner: u32, group: u32, at: At)
         requires tick { IsTick self.old at.tick }
         requires stamps { self.old.next_stamp < 2 ^ 63 }

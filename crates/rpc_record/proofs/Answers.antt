@@ -30,7 +30,7 @@ parts xid bytes behind_xid behind_kind rest told kind body first second third sa
 both_are : (a b c d : ℕ) → a ≡ b → c ≡ d → Path (ℕ × ℕ) (a, c) (b, d)
 both_are a b c d e f = λ i. (e i, f i)
 
--- two fields, one behind the other
+-- two fields, one after the other
 pair_read : (s t : Xdr) (bytes middle rest : List ℕ) (v : Value s) (w : Value t) → read_at s bytes ≡ Ok (v, middle) → read_at t middle ≡ Ok (w, rest) → read_at (pair s t) bytes ≡ Ok ((v, w), rest)
 pair_read s t bytes middle rest v w first second = rw (first, second) refl
 
@@ -71,7 +71,7 @@ replied xid GarbageArgs found h = says xid GarbageArgs found _ refl refl h
 replied xid RpcMismatch found h = says xid RpcMismatch found _ refl refl h
 replied xid (AuthError why) found h = says xid (AuthError why) found _ refl refl h
 
--- ---- results stand behind a reply that was accepted and ended by SUCCESS
+-- ---- results stand after a reply that was accepted and ended by SUCCESS
 
 same_ok : (rest found : List ℕ) → Path ReplyResult (Ok rest) (Ok found) → rest ≡ found
 same_ok rest found e = cc

@@ -196,7 +196,7 @@ mark_of n h = elim (cases_lt n 2147483648) [
   | inr le ↦ rw (le-leb 2147483648 n le) (omega arith)
 ]
 
--- the bytes of a header are read behind the fragments so far
+-- the bytes of a header are read after the fragments so far
 pub opened_header : (f : Frame) (content bytes more : List ℕ) (n : ℕ) → Stands f content bytes → f.left ≡ 0 → IsNumber w32 n (f.header ++ more) → n < 2 ^ 32 → f.joined + n % 2147483648 ≤ limit
     → Opened (record f { header = []; last = leb 2147483648 n; left = n % 2147483648; begun = true }) content (bytes ++ more)
 opened_header f content bytes more n s e h fits within =
@@ -234,7 +234,7 @@ breaks_at_header f content bytes more behind n s e h fits above =
       above = omega (arith, above, s.count, ap length i.content-is);
     }
 
--- a step from `from` on, behind the bytes of a header that were read from `at` on
+-- a step from `from` on, after the bytes of a header that were read from `at` on
 pub step_from : (s : Step) (f g : Frame) (content bytes piece : List ℕ) (at from : ℕ) → at ≤ from → BodyGives s f g piece from → StepGives s g content (bytes ++ slice_range piece at from) piece from → StepGives s g content bytes piece at
 step_from (Part from' to) f g content bytes piece at from le w h =
     subst (λ (t : List ℕ). Stands g (content ++ slice_range piece from' to) t) (append_assoc bytes (slice_range piece at from) (slice_range piece from to) ∙ ap (λ (t : List ℕ). bytes ++ t) (slice_parts piece at from to le (omega (arith, w.1)))) h

@@ -18,12 +18,12 @@ reply_body = union (arm 0 accepted_reply (arm 1 rejected_reply no_more))
 abbrev pub ReplyResult : Type 0
 ReplyResult = Result (List ℕ) ReplyFault
 
--- nothing stands behind a reply that has no results
+-- nothing stands after a reply that has no results
 abbrev pub without_results : ReplyFault → List ℕ → ReplyResult
 without_results fault [] = Err fault
 without_results fault (b ∷ rest) = Err Header
 
--- how an accepted call ended: behind SUCCESS stand the results
+-- how an accepted call ended: after SUCCESS stand the results
 abbrev pub accepted_as : Value accept_data → List ℕ → ReplyResult
 accepted_as (inl done) rest = Ok rest
 accepted_as (inr (inl done)) rest = without_results ProgUnavail rest

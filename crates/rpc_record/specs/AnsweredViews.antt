@@ -11,7 +11,8 @@ abbrev pub results : {X : Type 0} → (X → List ℕ) → Result X ReplyFault �
 results bytes (Ok lent) = Ok (bytes lent)
 results bytes (Err fault) = Err fault
 
--- A reply that this server writes, with these bytes behind it: the results, or the cause where there are none.
+-- A reply that this server writes, with these bytes after it: the results, or the cause where there
+-- are none.
 abbrev pub read_as : Reply → List ℕ → ReplyResult
 read_as Success found = Ok found
 read_as Unavailable found = without_results ProgUnavail found

@@ -50,7 +50,7 @@ credential t = t.1.1.1.0.1
 abbrev pub identity_of : Value authsys → Identity
 identity_of v = identity v.1.1.0 v.1.1.1.0 v.1.1.1.1
 
--- the transaction, the bytes behind the header, and the caller, where the procedure asks for it
+-- the transaction, the bytes after the header, and the caller, where the procedure asks for it
 pub record Asked : Type 0 where
   pub xid : ℕ
   pub arguments : List ℕ

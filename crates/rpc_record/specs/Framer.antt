@@ -7,7 +7,8 @@ use Rattle.rpc_record.specs.declared.framer.Step.{Step}
 use Rattle.rpc_record.specs.declared.framer.Step.TheVariants.{Part, Record, NeedMore, Broken}
 use Rattle.rpc_record.specs.Records.{limit, mark, AreOpen, joined, IsRecord, Breaks}
 
--- Behind whole fragments with these bodies the tail is the header of a fragment and the front of its body.
+-- After whole fragments with these bodies the tail is the header of a fragment and the front of its
+-- body.
 pub record IsInBody (f : Frame) (content : List ℕ) (bodies : List (List ℕ)) (tail : List ℕ) : Type 0 where
   pub head : List ℕ
   pub part : List ℕ
@@ -16,7 +17,7 @@ pub record IsInBody (f : Frame) (content : List ℕ) (bodies : List (List ℕ)) 
   pub content-is : content ≡ joined bodies ++ part
   pub no_header : f.header ≡ []
 
--- Behind whole fragments with these bodies the tail is less than a header.
+-- After whole fragments with these bodies the tail is less than a header.
 pub record IsInHeader (f : Frame) (content : List ℕ) (bodies : List (List ℕ)) (tail : List ℕ) : Type 0 where
   pub tail-is : tail ≡ f.header
   pub few : length f.header < 4
@@ -24,7 +25,7 @@ pub record IsInHeader (f : Frame) (content : List ℕ) (bodies : List (List ℕ)
 
 -- The framer has read these bytes of a record that isn't whole; `content` is the record so far.
 pub record Stands (f : Frame) (content bytes : List ℕ) : Type 0 where
-  -- whole fragments, none of which is the last of its record, and the bytes behind them
+  -- whole fragments, none of which is the last of its record, and the bytes after them
   pub bodies : List (List ℕ)
   pub front : List ℕ
   pub tail : List ℕ
@@ -44,7 +45,8 @@ StepGives (Record from to) new content bytes piece at = IsRecord (content ++ sli
 StepGives NeedMore new content bytes piece at = Stands new content (bytes ++ drop at piece)
 StepGives Broken new content bytes piece at = Breaks (bytes ++ drop at piece)
 
--- A part or the end of a record lies behind `at` in the piece, so that the next step goes on further.
+-- A part or the end of a record lies after `at` in the piece, so that the next step goes on
+-- further.
 abbrev pub IsWithin : Step → List ℕ → ℕ → Type 0
 IsWithin (Part from to) piece at = (at ≤ from) × (from ≤ to) × (at < to) × (to ≤ length piece)
 IsWithin (Record from to) piece at = (at ≤ from) × (from ≤ to) × (at < to) × (to ≤ length piece)

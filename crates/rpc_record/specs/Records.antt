@@ -23,7 +23,7 @@ pub record IsFragment (last : Bool) (body bytes : List ℕ) : Type 0 where
 abbrev pub AreOpen : List (List ℕ) → List ℕ → Type 0
 AreOpen bodies bytes = AreItems (λ body. IsFragment false body) bodies bytes
 
--- the bodies, one behind the other
+-- the bodies, one after the other
 abbrev pub joined : List (List ℕ) → List ℕ
 joined bodies = flat_map (λ body. body) bodies
 
@@ -35,7 +35,8 @@ pub record IsRecord (content bytes : List ℕ) : Type 0 where
   pub content-is : content ≡ joined bodies ++ body
   pub small : length content ≤ limit
 
--- Behind fragments of a record that isn't whole comes a header that takes the record above the limit.
+-- After fragments of a record that isn't whole comes a header that takes the record above the
+-- limit.
 pub record Breaks (bytes : List ℕ) : Type 0 where
   pub bodies : List (List ℕ)
   pub last : Bool
@@ -46,7 +47,7 @@ pub record Breaks (bytes : List ℕ) : Type 0 where
   pub small : length (joined bodies) ≤ limit
   pub above : limit < length (joined bodies) + len
 
--- a header that may stand behind this many bytes of a record, and less than its body
+-- a header that may stand after this many bytes of a record, and less than its body
 pub record IsPartOfFragment (before : ℕ) (tail : List ℕ) : Type 0 where
   pub last : Bool
   pub len : ℕ
@@ -55,7 +56,8 @@ pub record IsPartOfFragment (before : ℕ) (tail : List ℕ) : Type 0 where
   pub unfinished : length body < len
   pub within : before + len ≤ limit
 
--- Behind this many bytes of a record, no whole fragment: less than a header, or a header that may stand and less than its body.
+-- After this many bytes of a record there is no whole fragment, but less than a header, or a header
+-- that may stand and less than its body.
 abbrev pub IsPartial : ℕ → List ℕ → Type 0
 IsPartial before tail = (length tail < 4) ⊎ IsPartOfFragment before tail
 
@@ -65,10 +67,10 @@ pub record IsUnfinished (bytes : List ℕ) : Type 0 where
   pub fragments : Follows (AreOpen bodies) (IsPartial (length (joined bodies))) bytes
   pub small : length (joined bodies) ≤ limit
 
--- the stream is these records, and a rest behind them
+-- the stream is these records, and a rest after them
 abbrev pub Cuts : List ℕ → List (List ℕ) → List ℕ → Type 0
 Cuts stream records rest = Follows (AreItems IsRecord records) (λ bytes. bytes ≡ rest) stream
 
--- the bytes behind the last whole record of a stream
+-- the bytes after the last whole record of a stream
 abbrev pub IsEnd : List ℕ → Type 0
 IsEnd rest = IsUnfinished rest ⊎ Breaks rest

@@ -20,7 +20,8 @@ const REPLY: u32 = 1;
 /// Why a record has no results for a call.
 #[derive(Clone, Copy, Debug, PartialEq, Eq, Error)]
 pub enum ReplyFault {
-    /// The record is no reply: its header can't be read, or more stands behind a reply that has no results.
+    /// The record is no reply: its header can't be read, or more stands after a reply that has no
+    /// results.
     #[error("no reply")]
     Header,
     /// The reply to another call, of this transaction.
@@ -123,8 +124,9 @@ fn read_body<'a>(reader: &mut Reader<'a>) -> Result<&'a [u8], ReplyFault>
     }
 }
 
-/// The results that stand behind the header of the reply to the call of this transaction, or why there are none. The
-/// message type and the transaction are checked before the rest is read. The verifier may be any.
+/// The results that stand after the header of the reply to the call of this transaction, or why
+/// there are none. The message type and the transaction are checked before the rest is read. The
+/// verifier may be any.
 pub fn read_reply(bytes: &[u8], xid: u32) -> Result<&[u8], ReplyFault>
     ensures { results (λ x. x.now) result ≡ answered xid bytes.now }
 {
@@ -140,14 +142,14 @@ pub fn read_reply(bytes: &[u8], xid: u32) -> Result<&[u8], ReplyFault>
     read_body(&mut reader)
 }
 
-/// Results are given exactly where they stand behind a reply to this transaction that was accepted and ended by SUCCESS,
-/// whatever its verifier.
+/// Results are given exactly where they stand after a reply to this transaction that was accepted
+/// and ended by SUCCESS, whatever its verifier.
 pub fn results_stand_behind_a_reply()
     ensures gives { (xid : ℕ) (bytes found : List ℕ) → answered xid bytes ≡ Ok found → (verifier : Value auth) × Begins reply_message (xid, (1, inl (verifier, inl tt))) bytes found }
     ensures given { (xid : ℕ) (verifier : Value auth) (bytes found : List ℕ) → Begins reply_message (xid, (1, inl (verifier, inl tt))) bytes found → answered xid bytes ≡ Ok found }
 {}
 
-/// A client reads a server's reply as it was written: behind SUCCESS the results, else the cause.
+/// A client reads a server's reply as it was written: after SUCCESS the results, else the cause.
 pub fn what_is_replied_is_read()
     ensures { (xid : ℕ) (reply : Reply) (found : List ℕ) → xid < 2 ^ 32 → answered xid (reply_bytes xid reply ++ found) ≡ read_as reply found }
 {}

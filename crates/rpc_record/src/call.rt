@@ -18,7 +18,7 @@ pub enum CallFault {
     /// A COMPOUND under a credential of another flavor than AUTH_SYS.
     #[error("call {0}: a credential of another flavor than AUTH_SYS")]
     Flavor(u32),
-    /// A COMPOUND whose AUTH_SYS credential can't be read, or has more behind it.
+    /// A COMPOUND whose AUTH_SYS credential can't be read, or has more after it.
     #[error("call {0}: a credential that can't be read")]
     BadCred(u32),
     /// A call of another program than NFS.
@@ -80,7 +80,7 @@ pub enum Procedure {
 pub struct Call<'a> {
     /// The transaction, which the reply names.
     pub xid: u32,
-    /// The bytes behind the header.
+    /// The bytes after the header.
     pub arguments: &'a [u8],
     /// The caller of COMPOUND. NULL has no caller.
     pub caller: Option<Caller>,

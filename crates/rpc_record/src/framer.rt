@@ -55,7 +55,7 @@ impl Model for Framer {
     ghost invariant = { λ f. (f.have < 4) × (f.joined + f.left ≤ 131072) };
 }
 
-/// Puts bytes behind the first `have` bytes of a header.
+/// Puts bytes after the first `have` bytes of a header.
 fn put_header(header: &mut [u8; 4], have: usize, bytes: &[u8])
     requires { have + length bytes.now ≤ 4 }
     ensures { take (have + length bytes.now) header.new ≡ take have header.old ++ bytes.now }
@@ -84,8 +84,8 @@ impl Framer {
         }
     }
 
-    /// Whether a record has begun that isn't whole: a header of it has been read, be it of an empty fragment, or a part
-    /// of one.
+    /// Whether a record has begun that isn't whole. Then a header of it has been read, be it of an
+    /// empty fragment, or a part of one.
     pub fn is_inside(&self) -> bool
         ensures value { result ≡ is_inside self.now }
         ensures inside { (content bytes : List ℕ) → Stands self.now content bytes → IsTrue result ↔ (bytes ≢ []) }
@@ -132,9 +132,9 @@ impl Framer {
         Step::Record(from, to)
     }
 
-    /// Finds the next step in the piece from `at` on: a part of the record that has begun, its end, less than
-    /// either, or a header that takes the record above the limit. The limit holds for the whole record, at the header
-    /// that passes it. A broken framer stays so.
+    /// Finds the next step in the piece from `at` on. It is a part of the record that has begun,
+    /// its end, less than either, or a header that takes the record above the limit. The limit
+    /// holds for the whole record, at the header that passes it. A broken framer stays so.
     pub fn feed(&mut self, piece: &[u8], at: usize) -> Step
         requires { at ≤ length piece.now }
         ensures within { IsWithin result piece.now at }
@@ -180,8 +180,8 @@ pub fn a_stream_has_one_cut()
         → IsEnd rest → IsEnd behind → (records ≡ others) × (rest ≡ behind) }
 {}
 
-/// The records of a stream as it comes: at its start there are none, new bytes go behind the rest, a rest that is a
-/// record is one more, and a stream that breaks stays broken.
+/// The records of a stream as it comes. At its start there are none, and new bytes go after the
+/// rest. A rest that is a record is one more, and a stream that breaks stays broken.
 pub fn records_of_a_growing_stream()
     ensures start { Cuts [] [] [] }
     ensures more { (stream rest more : List ℕ) (records : List (List ℕ)) → Cuts stream records rest → Cuts (stream ++ more) records (rest ++ more) }
@@ -189,7 +189,7 @@ pub fn records_of_a_growing_stream()
     ensures next { (stream rest content : List ℕ) (records : List (List ℕ)) → Cuts stream records rest → IsRecord content rest → Cuts stream (records ++ content ∷ []) [] }
 {}
 
-/// A framer stands for the unfinished rest behind the last whole record.
+/// A framer stands for the unfinished rest after the last whole record.
 pub fn a_framer_stands_for_a_rest()
     ensures { (frame : Frame) (content bytes : List ℕ) → Stands frame content bytes → IsUnfinished bytes }
 {}

@@ -12,15 +12,15 @@ use std::fmt;
 use std::hash::{Hash, Hasher};
 use std::marker::Model;
 
-/// The most groups of a set: those of a caller, of which a credential names one first and up to 16 further ones
-/// (RFC 5531, appendix A).
+/// The most groups of a set. They are those of a caller, of which a credential names one first and
+/// up to 16 further ones (RFC 5531, appendix A).
 pub const MOST_GROUPS: usize = 17;
 
 /// A set of at most 17 groups. It takes no memory, and two sets are equal where they have the same groups, in whatever
 /// order these were put in.
 #[derive(Clone, Copy)]
 pub struct GroupSet {
-    // the groups by rising number, and zeros behind them
+    // the groups by rising number, and zeros after them
     places: [u32; MOST_GROUPS],
     len: usize,
 }
@@ -49,7 +49,7 @@ impl Model for GroupSet {
     } };
 }
 
-/// Puts a value behind the first `len` places and from there to its place among them.
+/// Puts a value after the first `len` places and from there to its place among them.
 fn insert_at(places: &mut [u32; MOST_GROUPS], len: usize, at: usize, value: u32)
     requires among { at ≤ len }
     requires room { len < MOST_GROUPS }

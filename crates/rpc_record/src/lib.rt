@@ -1,5 +1,6 @@
-//! Remote procedure calls over a stream (RFC 5531): the records of a stream, the calls of NFS version 4 with their
-//! callers, and the replies; a server reads calls and writes replies, a client writes calls and reads replies.
+//! Remote procedure calls over a stream (RFC 5531): the records of a stream, the calls of NFS
+//! version 4 with their callers, and the replies. A server reads calls and writes replies, and a
+//! client writes calls and reads replies.
 #![tactic(auto)]
 
 mod answered;

@@ -40,9 +40,10 @@ fn header<T>(read: Result<T, XdrFault>) -> Result<T, CallFault>
     }
 }
 
-/// The call in a record, or the first thing that is wrong with it: the message type and the version of the protocol are
-/// read first and checked before the rest is read; then program, version and procedure; then, for COMPOUND, the flavor
-/// and the data of its credential. The verifier is not looked at. The bytes behind the header are the arguments.
+/// The call in a record, or the first thing that is wrong with it. The message type and the version
+/// of the protocol are read first and checked before the rest is read. Then come program, version
+/// and procedure, and then, for COMPOUND, the flavor and the data of its credential. The verifier
+/// is not looked at. The bytes after the header are the arguments.
 pub fn read_call(bytes: &[u8]) -> Result<Call<'_>, CallFault>
     ensures { outcome result ≡ asked bytes.now }
 {
@@ -59,7 +60,7 @@ pub fn read_call(bytes: &[u8]) -> Result<Call<'_>, CallFault>
     read_target(xid, reader.rest())
 }
 
-/// Reads the rest of a header, behind the version of the protocol, and judges it.
+/// Reads the rest of a header, after the version of the protocol, and judges it.
 #[tactic(auto, unfolding(crate::specs::Call::targeted))]
 fn read_target(xid: u32, bytes: &[u8]) -> Result<Call<'_>, CallFault>
     ensures { outcome result ≡ targeted xid (read_at target bytes.now) }

@@ -7,7 +7,8 @@ ghost use Rattle.rpc_record.specs.Reply.{reply_message, view_of_reply, reply_byt
 use std::alloc::Allocator;
 use xdr_wire::{Full, Writer};
 
-/// The most bytes of a reply's header: those of PROG_MISMATCH. Behind a header of SUCCESS stand the results.
+/// The most bytes of a reply's header: those of PROG_MISMATCH. After a header of SUCCESS stand the
+/// results.
 pub const REPLY_HEADER_LIMIT: usize = 32;
 
 /// Why a credential isn't taken.
@@ -36,7 +37,7 @@ impl AuthStat {
 /// How a call is answered: accepted, or denied in the last two cases.
 #[derive(Clone, Copy, Debug, PartialEq, Eq)]
 pub enum Reply {
-    /// SUCCESS. The results stand behind the header.
+    /// SUCCESS. The results stand after the header.
     Success,
     /// PROG_UNAVAIL: the program isn't here.
     ProgUnavail,
@@ -83,8 +84,8 @@ impl Reply {
     }
 }
 
-/// Writes the header of the reply to the call of this transaction, all of it or nothing: `Full` exactly where the room is
-/// less than it takes.
+/// Writes the header of the reply to the call of this transaction, all of it or nothing. It gives
+/// `Full` exactly where the room is less than the header takes.
 pub fn write_reply<A: Allocator>(xid: u32, reply: Reply, writer: &mut Writer<A>) -> Result<(), Full>
     ensures spelled { Spells reply_message (view_of_reply xid reply) (reply_bytes xid reply) }
     ensures len { length (reply_bytes xid reply) ≡ reply_len reply }

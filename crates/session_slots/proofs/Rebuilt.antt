@@ -289,7 +289,7 @@ unused s = record { kept = None; most_arguments = s.granted.request_size; most_r
 abbrev in_part : Session → List Place → ℕ → Session
 in_part s before left = record s { slots = map lagging before ++ replicate left (unused s) }
 
--- what is known of a session that was read out
+-- these are the facts of a session that was read out
 record Reads (s : Session) : Type 0 where
   arguments : (p : Place) → IsIn p s.slots → p.most_arguments ≡ s.granted.request_size
   results : (p : Place) → IsIn p s.slots → p.most_results ≡ kept_size s.granted

@@ -1,4 +1,4 @@
--- What was written is of one record, of one session, and of one call.
+-- A written value is of one record, of one session, or of one call.
 use Rattle.std.proofs.Common.{◌≡◌, inl, inr, ℕ, Bool, true, false, nat_lt, if◌then◌else◌, length, Option, Some, None, Result, Ok, Err, refl, sym, ap, ◌∙◌}
 use Rattle.std.specs.Option.{option_map}
 use Rattle.nfs_types.specs.declared.status.Status.{Status}

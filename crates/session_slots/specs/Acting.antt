@@ -1,4 +1,5 @@
--- Calls on many slots that change one world, and restarts between them: what changes the world acts once (RFC 8881, section 2.10.6.5).
+-- Calls on many slots that change one world, and restarts between them: what changes the world acts
+-- once (RFC 8881, section 2.10.6.5).
 use Rattle.std.specs.Prelude.{◌≡◌, ◌≢◌, ◌⊎◌, ℕ, ◌==◌, Bool, true, false, if◌then◌else◌, List, [], ◌∷◌, ◌++◌, length, Option, Some, None}
 use Rattle.session_slots.specs.declared.slot.Turn.{Turn}
 use Rattle.session_slots.specs.declared.slot.Turn.TheVariants as turns
@@ -42,13 +43,14 @@ pub record GivesUp (slot : ℕ) (calls before : List Entry) : Type 0 where
   pub is_of_slot : lost.slot ≡ slot
   pub rest : before ≡ newer ++ older
 
--- A client sends the next number of a slot, or that of the slot's last call again, which then is lost: these calls stand before it.
+-- A client sends the next number of a slot, or that of the slot's last call again, which then is
+-- lost. These calls stand before it.
 pub record Sends (slot : ℕ) (calls : List Entry) (number : ℕ) (before : List Entry) : Type 0 where
   pub is_due : number ≡ due (length (of_slot slot before))
   pub stand : (before ≡ calls) ⊎ GivesUp slot calls before
 
--- A new call on a slot is run, and kept with its results. The slot is written after it where the call changes the world, and after each
--- call whose number is a multiple of 2^20.
+-- A new call on a slot is run, and kept with its results. The slot is written after it where the
+-- call changes the world, and after each call whose number is a multiple of 2^20.
 pub record RunsOn {World : Type 0} (run : Call → World → List ℕ → World → Type 0) (slot : ℕ) (call : Call) (old new : State World) : Type 0 where
   pub results : List ℕ
   pub changes : Bool
@@ -91,13 +93,15 @@ abbrev pub AreNumbered : List Kept → Type 0
 AreNumbered [] = Unit {0}
 AreNumbered (call ∷ before) = (call.call.number ≡ due (length before)) × AreNumbered before
 
--- calls, the newest first, that led from one world to another, each with its results; one that wasn't written left the world as it was
+-- calls, the newest first, that led from one world to another, each with its results; one that
+-- wasn't written left the world as it was
 abbrev pub Ran : {World : Type 0} → (Call → World → List ℕ → World → Type 0) → World → List Entry → World → Type 0
 Ran run first [] last = last ≡ first
 Ran {World} run first (e ∷ before) last = (mid : World) × Ran run first before mid × run e.kept.call mid e.kept.results last × (e.written ≡ false → last ≡ mid)
 
--- The world is what the calls that stand, of all slots, made of the first one, each run once, in turn; of each slot no number comes twice.
--- The next number of a slot is new, however long ago the slot was written.
+-- The world is made of the first one by the calls that stand, of all slots, each run once, in turn.
+-- Of each slot no number comes twice. The next number of a slot is new, however long ago the slot
+-- was written.
 pub record ActsOnce {World : Type 0} (run : Call → World → List ℕ → World → Type 0) (first : World) (last : State World) : Type 0 where
   pub ran : Ran run first last.calls last.world
   pub numbered : (slot : ℕ) → AreNumbered (of_slot slot last.calls)

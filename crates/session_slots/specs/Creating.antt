@@ -144,7 +144,8 @@ abbrev pub Agrees : CreationFate → Result Created Status → Type 0
 Agrees Runs result = Unit {0}
 Agrees (Gets given) result = result ≡ given
 
--- For every history that the record stood for, the call got the history's result, and the record stands for the history with the call.
+-- For every history that the record stood for, the call got the history's result, and the record
+-- stands for the history with the call.
 pub record CreatesByHistory (old new : Option Creation) (number : ℕ) (result : Result Created Status) : Type 0 where
   pub fate : (history : List Creation) → RecordStandsFor old history → Agrees (fate history number) result
   pub stands : (history : List Creation) → RecordStandsFor old history → RecordStandsFor new (record { number = number; result = result } ∷ history)

@@ -38,7 +38,8 @@ abbrev pub goes : Option ℕ → ℕ → Bool
 goes None number = false
 goes (Some client) number = number == client
 
--- a record stays as this owner gets a new one, unless it is the owner's unconfirmed record or that of the client that goes
+-- a record stays as this owner gets a new one, unless it is the owner's unconfirmed record or that
+-- of the client that goes
 abbrev pub stays : Option ℕ → List ℕ → ℕ × Client → Bool
 stays gone owner e = not (is_unconfirmed_of owner e.1) && not (goes gone e.0)
 

@@ -1,4 +1,4 @@
--- What was read of the bytes of a checkpoint or a record, as the definitions see it.
+-- The values that were read of the bytes of a checkpoint or a record, as the definitions see them.
 use Rattle.std.specs.Prelude.{ℕ, Bool, not, nat_le, List, None}
 use Rattle.std.specs.List.{list_any}
 use Rattle.xdr_wire.specs.Xdr.{Value, uint}

@@ -1,4 +1,5 @@
--- A client that is let go, as courteous servers do: its lease ended long ago, and its place is needed (RFC 8881, section 8.3).
+-- A client that is let go, as courteous servers do: its lease ended long ago, and its place is
+-- needed (RFC 8881, section 8.3).
 use Rattle.std.specs.Prelude.{ℕ, Some}
 use Rattle.session_slots.specs.Registry.{Registry, without_record, without_sessions}
 

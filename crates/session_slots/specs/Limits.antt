@@ -37,7 +37,8 @@ MOST_OPERATIONS = 16
 abbrev pub MOST_AHEAD : ℕ
 MOST_AHEAD = 1048576
 
--- A slot is written after each call whose number is a multiple of this, whatever the call changed: 2 ^ 20, which divides 2 ^ 32.
+-- A slot is written after each call whose number is a multiple of this, whatever the call changed.
+-- It is 2 ^ 20, which divides 2 ^ 32.
 abbrev pub WRITTEN_EVERY : ℕ
 WRITTEN_EVERY = 1048576
 

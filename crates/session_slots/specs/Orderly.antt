@@ -28,7 +28,8 @@ abbrev pub has_creation_form : Option Creation → Bool
 has_creation_form None = true
 has_creation_form (Some c) = is_kept_result c.result
 
--- A record has a form, in which it is kept over a restart: its owner isn't too long, and a refusal that it keeps is one of those that are kept.
+-- A record has a form, in which it is kept over a restart. Its owner isn't too long, and a refusal
+-- that it keeps is one of those that are kept.
 abbrev pub has_form : Client → Bool
 has_form c = if nat_lt MOST_OWNER (length c.owner) then false else has_creation_form c.created
 

@@ -91,7 +91,7 @@ changed_place slot f slots = option_map_or (λ p. set slots slot (f p)) (slice_g
 abbrev pub with_place : ℕ → (Place → Place) → Session → Session
 with_place slot f s = record s { slots = changed_place slot f s.slots }
 
--- so many slots that have accepted no call, or that keep none and lag
+-- this many slots that have accepted no call, or that keep none and lag
 abbrev pub unused_places : Bool → ℕ → ℕ → ℕ → List Place
 unused_places lags count most_arguments most_results = replicate count (record { kept = None; most_arguments = most_arguments; most_results = most_results; lags = lags })
 

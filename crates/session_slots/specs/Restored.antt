@@ -1,4 +1,5 @@
--- All that is read out of a registry, restored in order: its records, and its sessions, each with the calls that its slots keep.
+-- All that is read out of a registry, restored in order: its records, and its sessions, each with
+-- the calls that its slots keep.
 use Rattle.std.specs.Prelude.{◌≡◌, ℕ, ◌+◌, true, List, [], ◌∷◌, ◌++◌, map, slice_get, Option, Some, None}
 use Rattle.std.specs.Option.{option_map, IfSome}
 use Rattle.session_slots.specs.Slots.{Kept, Place}
@@ -7,7 +8,8 @@ use Rattle.session_slots.specs.Orderly.{IsOrderly}
 use Rattle.session_slots.specs.Sequencing.{HasSlots}
 use Rattle.session_slots.specs.Restoring.{IsRising, number_from, nothing_yet, record_fits, with_record, session_fits, with_restored, slot_fits, with_kept, kept_at, held_of}
 
--- What is said of every registry: by `counts`, by `held` for each session, and by `kept` for each slot.
+-- These facts are said of every registry: by `counts`, by `held` for each session, and by `kept`
+-- for each slot.
 pub record IsReadable (r : Registry) : Type 0 where
   pub orderly : IsOrderly r
   pub clients : IsRising r.clients
@@ -17,7 +19,8 @@ pub record IsReadable (r : Registry) : Type 0 where
 
 -- ---- reading
 
--- Whoever asks for the least number from 0 on, and then from the number after each one that was found, is given all numbers in order.
+-- Whoever asks for the least number from 0 on, and then from the number after each one that was
+-- found, gets all numbers in order.
 pub record IsReadInOrder {X : Type 0} (es : List (ℕ × X)) : Type 0 where
   pub first : number_from 0 es ≡ option_map (λ e. e.0) (slice_get es 0)
   pub next : (before after : List (ℕ × X)) (number : ℕ) (x : X) → es ≡ before ++ (number, x) ∷ after → number_from (number + 1) es ≡ option_map (λ e. e.0) (slice_get after 0)

@@ -1,4 +1,5 @@
--- What is kept over a restart, and how clients, sessions and slots are made of it again (RFC 8881, section 2.10.6.5).
+-- How clients, sessions and slots are kept over a restart, and made again of what is kept
+-- (RFC 8881, section 2.10.6.5).
 use Rattle.std.specs.Prelude.{◌≡◌, ℕ, ◌&&◌, Bool, false, not, nat_lt, nat_le, List, [], map, length, Option, Some, None, is_some, is_none, find}
 use Rattle.std.specs.List.Sorted.{IsStrictlySortedBy}
 use Rattle.std.specs.Map.{keys_of}

@@ -86,13 +86,14 @@ turn_told (begins.New new) = turns.New
 turn_told begins.Repeat = turns.Repeat
 turn_told (begins.Refused status) = turns.Refused status
 
--- A call that isn't refused before its number is checked: for every history of its slot it gets the history's result, and the slot
--- stands for the history with the call.
+-- A call that isn't refused before its number is checked. For every history of its slot it gets the
+-- history's result, and the slot stands for the history with the call.
 pub record SequencesByHistory (old new : Registry) (session : ℕ) (a : Asked) (answer : Begin) : Type 0 where
   pub by_history : (s : Session) (p : Place) → session_at old session ≡ Some s → grant_fault s.granted a ≡ None → slice_get s.slots a.slot ≡ Some p →
       (q : Place) × (place_at new session a.slot ≡ Some q) × BeginsBy p.lags p.kept q a.call (turn_told answer)
 
--- A new call has a session that is there, with its slot and its client, until one of them is destroyed; its results may be cached.
+-- A new call has a session that is there, with its slot and its client, until one of them is
+-- destroyed. Its results may be cached.
 abbrev pub StandsIn : Registry → ℕ → ℕ → Begin → Type 0
 StandsIn r session slot (begins.New new) =
     (s : Session) × (session_at r session ≡ Some s) × (s.client ≡ new.client) × (s.granted.reply_size ≡ new.reply_size)

@@ -20,8 +20,9 @@ pub record Kept : Type 0 where
   pub call : Call
   pub results : List ℕ
 
--- A slot: the call that it keeps, how many bytes it has reserved, and whether it lags: it is of before a restart, and has accepted no call
--- since, so that calls which changed nothing may have come after the one that it keeps.
+-- A slot: the call that it keeps, how many bytes it has reserved, and whether it lags. It lags
+-- where it is of before a restart, and has accepted no call since. Then calls which changed nothing
+-- may have come after the one that it keeps.
 pub record Place : Type 0 where
   pub kept : Option Kept
   pub most_arguments : ℕ
@@ -111,15 +112,16 @@ told turns.New kept = Runs
 told turns.Repeat kept = Repeats (results_of kept)
 told (turns.Refused status) kept = Fails status
 
--- For every history that the slot stood for, the call got the history's result, and the slot stands for the history with the call.
+-- For every history that the slot stood for, the call got the history's result, and the slot stands
+-- for the history with the call.
 pub record BeginsByHistory (old new : Option Kept) (call : Call) (turn : Turn) : Type 0 where
   pub fate : (history : List Kept) → SlotStandsFor old history → told turn old ≡ fate history call
   pub stands : (history : List Kept) → SlotStandsFor old history → SlotStandsFor new (opened call ∷ history)
 
 -- ---- a slot that lags
 
--- It stands for each history of which it stood for an earlier part: the calls after that part changed nothing that is kept over a
--- restart, and there are few.
+-- It stands for each history of which it stood for an earlier part. The calls after that part
+-- changed nothing that is kept over a restart, and there are few.
 pub record LagStandsFor (kept : Option Kept) (history : List Kept) : Type 0 where
   pub later : List Kept
   pub earlier : List Kept
@@ -132,9 +134,10 @@ abbrev pub PlaceStandsFor : Bool → Option Kept → List Kept → Type 0
 PlaceStandsFor false kept history = SlotStandsFor kept history
 PlaceStandsFor true kept history = LagStandsFor kept history
 
--- A call on a slot that lags. What it is told is its fate by one of the histories that the slot stood for. Where it is next in such a
--- history, it is new, and the slot stands for that history with it, and lags no more. Where it repeats the last call of a history without
--- later calls, it gets that call's results. A call that isn't new is in no history accepted, and the slot lags on.
+-- A call on a slot that lags. It gets its fate by one of the histories that the slot stood for.
+-- Where it is next in such a history, it is new, and the slot stands for that history with it, and
+-- lags no more. Where it repeats the last call of a history without later calls, it gets that
+-- call's results. A call that isn't new is in no history accepted, and the slot lags on.
 pub record BeginsLagging (old new : Option Kept) (lags : Bool) (call : Call) (turn : Turn) : Type 0 where
   pub next : (history : List Kept) → LagStandsFor old history → fate history call ≡ Runs → (turn ≡ turns.New) × SlotStandsFor new (opened call ∷ history) × (lags ≡ false)
   pub again : (history : List Kept) (results : List ℕ) → SlotStandsFor old history → fate history call ≡ Repeats results → told turn old ≡ Repeats results

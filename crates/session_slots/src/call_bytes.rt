@@ -8,7 +8,7 @@ ghost use Rattle.session_slots.specs.Views.{bytes_of};
 pub struct CallBytes<'a> {
     /// The first part.
     pub front: &'a [u8],
-    /// What comes after it.
+    /// The bytes after it.
     pub back: &'a [u8],
 }
 

@@ -67,9 +67,10 @@ impl<A: Allocator + Copy> Clients<A> {
         self.registry.exchange(asked)
     }
 
-    /// CREATE_SESSION (RFC 8881, section 18.36). A call with the sequence ID of the last one gets the result that is kept. A call
-    /// that is refused after its sequence ID was checked is kept as the last one, but for DELAY: there is no memory for a new
-    /// session, and nothing changes.
+    /// CREATE_SESSION (RFC 8881, section 18.36). A call with the sequence ID of the last one gets
+    /// the result that is kept. A call that is refused after its sequence ID was checked is kept as
+    /// the last one, but for DELAY. At DELAY there is no memory for a new session, and nothing
+    /// changes.
     #[tactic(auto, using(crate::proofs::Creations::creates_by_history))]
     pub fn create_session(&mut self, asked: Create) -> Made
         ensures creates { Creates self.old asked result self.new }
@@ -87,8 +88,8 @@ impl<A: Allocator + Copy> Clients<A> {
         self.registry.destroy_session(session)
     }
 
-    /// DESTROY_CLIENTID (RFC 8881, section 18.50). STALE_CLIENTID: the client isn't there. CLIENTID_BUSY: it has opens or
-    /// sessions. It takes no memory.
+    /// DESTROY_CLIENTID (RFC 8881, section 18.50). STALE_CLIENTID: the client isn't there.
+    /// CLIENTID_BUSY: it has opens or sessions. It takes no memory.
     pub fn destroy_client(&mut self, client: u64, has_opens: bool) -> Result<(), Status>
         ensures refused { MatchOption (destroy_client_refusal self.old client has_opens) (IsOk result) (λ status. result ≡ Err status) }
         ensures ok { OnOk result (self.new ≡ without_client self.old client) }
@@ -97,8 +98,8 @@ impl<A: Allocator + Copy> Clients<A> {
         self.registry.destroy_client(client, has_opens)
     }
 
-    /// RECLAIM_COMPLETE for all file systems (RFC 8881, section 18.51). COMPLETE_ALREADY: the client has sent it before.
-    /// STALE_CLIENTID: the client isn't there. It takes no memory.
+    /// RECLAIM_COMPLETE for all file systems (RFC 8881, section 18.51). COMPLETE_ALREADY: the
+    /// client has sent it before. STALE_CLIENTID: the client isn't there. It takes no memory.
     pub fn reclaim_complete(&mut self, client: u64) -> Result<(), Status>
         ensures refused { MatchOption (reclaim_refusal self.old client) (IsOk result) (λ status. result ≡ Err status) }
         ensures ok { OnOk result (self.new ≡ with_reclaimed self.old client) }
@@ -107,8 +108,8 @@ impl<A: Allocator + Copy> Clients<A> {
         self.registry.reclaim_complete(client)
     }
 
-    /// SEQUENCE (RFC 8881, section 18.46): begins a call on a slot. A repeat gets [`Clients::results`]. A call that isn't new changes
-    /// nothing. It takes no memory.
+    /// SEQUENCE (RFC 8881, section 18.46): begins a call on a slot. A repeat gets
+    /// [`Clients::results`]. A call that isn't new changes nothing. It takes no memory.
     #[tactic(auto, using(crate::proofs::Beginning::sequences_by_history, crate::proofs::Staying::stays))]
     pub fn begin(&mut self, session: u64, asked: Sequence<'_>) -> Begin
         requires { length (bytes_of asked.arguments) ≤ asked.record_len }
@@ -130,8 +131,8 @@ impl<A: Allocator + Copy> Clients<A> {
         self.registry.results(session, slot)
     }
 
-    /// Keeps the results of the call that was begun last on a slot: those of a reply of the granted size, after its header of 24 bytes. It
-    /// takes no memory.
+    /// Keeps the results of the call that was begun last on a slot. They are those of a reply of
+    /// the granted size, after its header of 24 bytes. It takes no memory.
     #[tactic(auto, using(crate::proofs::Keeping::keeps_at_by_history))]
     pub fn keep(&mut self, session: u64, slot: u32, results: &[u8])
         requires slot { IfSome (session_at self.old session) (λ s. slot < s.granted.slots) }
@@ -144,8 +145,9 @@ impl<A: Allocator + Copy> Clients<A> {
 
     // ---- over a restart
 
-    /// The next client and the next session get these numbers, which were kept over a restart. `false`: one of them is below that which
-    /// would have been given, or above 2^63, and nothing changes.
+    /// The next client and the next session get these numbers, which were kept over a restart.
+    /// `false`: one of them is below that which would have been given, or above 2^63, and nothing
+    /// changes.
     pub fn restore_numbers(&mut self, next_client: u64, next_session: u64) -> bool
         ensures fits { result ≡ numbers_fit self.old next_client next_session }
         ensures given { self.new ≡ (if result then with_numbers next_client next_session self.old else self.old) }
@@ -157,8 +159,9 @@ impl<A: Allocator + Copy> Clients<A> {
         true
     }
 
-    /// Restores the record of a client, which counts as heard in this second. Misfit: its number wasn't given yet, or is there; its owner
-    /// has another confirmed record, or more than 1,024 bytes; it keeps a refusal that is never kept; or there are 64 records.
+    /// Restores the record of a client, which counts as heard in this second. It is `Misfit` where
+    /// its number wasn't given yet, or is there; its owner has another confirmed record, or more
+    /// than 1,024 bytes; it keeps a refusal that is never kept; or there are 64 records.
     pub fn restore_record(&mut self, kept: Record<'_>, now: u64) -> Result<(), RestoreFault>
         ensures fits { OnOk result (record_fits self.old (client_of kept.entry) ≡ true) }
         ensures misfit { result ≡ Err RestoreFault.Misfit → record_fits self.old (client_of kept.entry) ≡ false }
@@ -175,8 +178,9 @@ impl<A: Allocator + Copy> Clients<A> {
         Ok(())
     }
 
-    /// Restores a session, whose slots lag and keep no call yet. Misfit: its number wasn't given yet, or is there; its client has no
-    /// confirmed record; more is granted than may be; or there are 64 sessions.
+    /// Restores a session, whose slots lag and keep no call yet. It is `Misfit` where its number
+    /// wasn't given yet, or is there; its client has no confirmed record; more is granted than may
+    /// be; or there are 64 sessions.
     #[tactic(auto, using(crate::proofs::Restored::session_has_slots))]
     pub fn restore_session(&mut self, number: u64, held: Held) -> Result<(), RestoreFault>
         ensures fits { OnOk result (session_fits self.old number held ≡ true) }
@@ -194,8 +198,8 @@ impl<A: Allocator + Copy> Clients<A> {
         Ok(())
     }
 
-    /// Restores the last call of a slot, which lags. `false`: the slot isn't there, or hasn't the room, and nothing changes. It takes no
-    /// memory.
+    /// Restores the last call of a slot, which lags. `false`: the slot isn't there, or hasn't the
+    /// room, and nothing changes. It takes no memory.
     #[tactic(auto, using(crate::proofs::Restored::fits_slot, crate::proofs::Restored::fits_arguments, crate::proofs::Restored::fits_results))]
     pub fn restore_slot(&mut self, session: u64, slot: u32, kept: KeptCall<'_>) -> bool
         ensures fits { result ≡ slot_fits (session_at self.old session) slot (kept_of kept.entry) }
@@ -208,14 +212,16 @@ impl<A: Allocator + Copy> Clients<A> {
         true
     }
 
-    /// The least number of a client's record that is at least this one, so that all are found in order from 0 on. It takes no memory.
+    /// The least number of a client's record that is at least this one, so that all are found in
+    /// order from 0 on. It takes no memory.
     pub fn client_from(&self, number: u64) -> Option<u64>
         ensures { result ≡ number_from number self.now.clients }
     {
         self.registry.client_from(number)
     }
 
-    /// The least number of a session that is at least this one, so that all are found in order from 0 on. It takes no memory.
+    /// The least number of a session that is at least this one, so that all are found in order from
+    /// 0 on. It takes no memory.
     pub fn session_from(&self, number: u64) -> Option<u64>
         ensures { result ≡ number_from number self.now.sessions }
     {
@@ -279,8 +285,8 @@ impl<A: Allocator + Copy> Clients<A> {
         self.registry.silent(now, lease)
     }
 
-    /// Lets a client go: its record goes with its sessions, and nothing else. `false`: it has no record, and nothing changes. It takes no
-    /// memory.
+    /// Lets a client go: its record goes with its sessions, and nothing else. `false`: it has no
+    /// record, and nothing changes. It takes no memory.
     pub fn let_go(&mut self, client: u64) -> bool
         ensures live { result ≡ is_some (client_at self.old client) }
         ensures gone { self.new ≡ (if result then let_go client self.old else self.old) }

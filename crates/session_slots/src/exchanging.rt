@@ -112,7 +112,8 @@ impl<A: Allocator + Copy> Registry<A> {
         Standing::Knows(known(client))
     }
 
-    /// Creates a record that isn't confirmed. The owner's other unconfirmed record goes, and this client with its sessions.
+    /// Creates a record that isn't confirmed. The owner's other unconfirmed record goes, and this
+    /// client with its sessions.
     fn make_client(&mut self, asked: Exchange<'_>, gone: Option<u64>) -> Result<Exchanged, Status>
         requires { self.old.next_client < 2 ^ 63 }
         ensures { MakesClient self.old (exchanging_of asked.entry) gone result self.new }

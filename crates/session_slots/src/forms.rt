@@ -396,7 +396,8 @@ impl<'a> Wire<'a> for CallForm<'a> {
     }
 }
 
-/// Writes the call that a slot keeps, with its results: `Full` exactly where there is no room for it, and then nothing is written.
+/// Writes the call that a slot keeps, with its results: `Full` exactly where there is no room for
+/// it, and then nothing is written.
 pub fn write_call<A: Allocator>(
     session: u64,
     slot: u32,

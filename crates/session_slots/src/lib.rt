@@ -1,7 +1,7 @@
 //! Clients, sessions and slots (RFC 8881, sections 2.4 and 2.10).
 //!
-//! A server keeps a client's record, the channels that were granted to a session, and the last call of a slot with its results. This
-//! state stands for every history of calls that leads to it.
+//! A server keeps a client's record, the channels that were granted to a session, and the last call
+//! of a slot with its results. This state stands for every history of calls that leads to it.
 #![tactic(auto)]
 
 mod call_bytes;

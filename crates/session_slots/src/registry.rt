@@ -1,7 +1,7 @@
 //! Clients and their sessions, by number (RFC 8881, sections 2.4 and 2.10).
 //!
-//! Each call makes one change of the registry. [`crate::Clients`] gives its meaning for the histories of calls, and keeps records
-//! and sessions orderly.
+//! Each call makes one change of the registry. [`crate::Clients`] gives its meaning for the
+//! histories of calls, and keeps records and sessions orderly.
 ghost use Rattle.std.specs.Prelude.{◌≡◌, ◌≤◌, ◌<◌, length, IfSome};
 ghost use Rattle.std.specs.Option.{option_map};
 ghost use Rattle.session_slots.specs.Slots.{finished};

@@ -155,7 +155,7 @@ fn restore_at<A: Allocator + Copy>(slots: &mut Vec<Slot<A>, A>, index: usize, ke
     slot.restore(kept);
 }
 
-/// So many slots that keep no call, and lag or have accepted none, each with this room.
+/// This many slots that keep no call, and lag or have accepted none, each with this room.
 fn new_slots<A: Allocator + Copy>(
     alloc: A,
     lags: bool,
@@ -173,8 +173,8 @@ fn new_slots<A: Allocator + Copy>(
 }
 
 impl<A: Allocator + Copy> Session<A> {
-    /// A session of a client, with the channels that were granted. Its slots have accepted no call, and have the room for their calls
-    /// and replies. `Err`: there is no memory for it.
+    /// A session of a client, with the channels that were granted. Its slots have accepted no call,
+    /// and have the room for their calls and replies. `Err`: there is no memory for it.
     #[tactic(auto, using(crate::proofs::Places::unused_has_slots))]
     pub fn new(alloc: A, client: u64, granted: Channel) -> Result<Self, AllocError>
         requires { 1 ≤ granted.slots }

@@ -41,8 +41,8 @@ fn is_next(lags: bool, last: u32, number: u32) -> bool
     ahead >= 1 && ahead <= MOST_AHEAD
 }
 
-/// Whether a slot is written after a new call of this number: where the call changed anything that is kept over a restart, and where the
-/// number is a multiple of 2^20.
+/// Whether a slot is written after a new call of this number. It is where the call changed anything
+/// that is kept over a restart, and where the number is a multiple of 2^20.
 pub fn is_written(number: u32, changes: bool) -> bool
     ensures { result ≡ specs.is_written number changes }
 {
@@ -93,7 +93,8 @@ impl<A: Allocator> Model for Slot<A> {
 }
 
 impl<A: Allocator + Copy> Slot<A> {
-    /// A slot that keeps no call, and lags or has accepted none. `Err`: there is no memory for its calls and their results.
+    /// A slot that keeps no call, and lags or has accepted none. `Err`: there is no memory for its
+    /// calls and their results.
     pub fn new(
         alloc: A,
         lags: bool,
@@ -172,8 +173,9 @@ impl<A: Allocator + Copy> Slot<A> {
 
     /// Begins a call: a new call is kept, with no results yet. It takes no memory.
     ///
-    /// For every history of calls that the slot stood for, the call gets that history's result, and the slot stands for the history
-    /// with the call. Where the slot lags, it stands for those of these histories in which the call is next.
+    /// For every history of calls that the slot stood for, the call gets that history's result, and
+    /// the slot stands for the history with the call. Where the slot lags, it stands for those of
+    /// these histories in which the call is next.
     #[tactic(auto, using(crate::proofs::Lagging::begins_by))]
     pub fn begin(&mut self, number: u32, arguments: CallBytes<'_>, caller: &Caller) -> Turn
         requires { length (bytes_of arguments) ≤ self.old.most_arguments }

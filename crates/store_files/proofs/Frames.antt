@@ -116,7 +116,7 @@ goes key generation file number next rest after f is at p = record {
       (p.stands (f ∷ left) end (after, at, subst (λ (n : ℕ). Stand key generation n left after end) is st));
 }
 
--- what stands in a file of which all frames were passed
+-- this stands in a file of which all frames were passed
 pub record Ended (key : ℕ) (file : Bytes) (number : ℕ) (rest : Bytes) : Type 0 where
   pub frames : List Frame
   pub has : Has key file (record { generation = generation_at key file; frames = frames; rest = rest })

@@ -1,4 +1,4 @@
--- What a stop says of the files that were loaded.
+-- A stop says this of the files that were loaded.
 use Rattle.std.proofs.Common.{ℕ, List, Option, Some, None, inl}
 use Rattle.std.specs.Prelude.{IfSome}
 use Rattle.journal.specs.Keeping.{BothFound}

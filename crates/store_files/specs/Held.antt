@@ -26,7 +26,8 @@ of_length n x = record x { len = n }
 abbrev pub room : StoreFile → ℕ
 room x = x.limit - x.len
 
--- what a load finds: of a file that is there any bytes, whose number is its length from then on; of another none
+-- a load finds this: of a file that is there any bytes, whose number is its length from then on; of
+-- another none
 abbrev pub IsFound : Option File → List ℕ → StoreFile → StoreFile → Type 0
 IsFound None bytes old new = (bytes ≡ []) × (new ≡ old)
 IsFound (Some file) bytes old new = new ≡ of_length (length bytes) old
@@ -55,7 +56,8 @@ pub record HasFailed (slot : Slot) (old new : StoreFolder) : Type 0 where
   pub part_is : failure.part ≡ part_in slot
   pub kept : new ≡ record old { failure = Some failure }
 
--- What a call of the disk leaves of the folder. Memory may be refused to a load: that is no failure of the system.
+-- A call of the disk leaves this of the folder. Memory may be refused to a load, which is no
+-- failure of the system.
 abbrev pub Keeps : StoreFolder → Act → StoreFolder → Type 0
 Keeps old (Found slot bytes) new =
     IsFound (file_in slot old).file bytes (file_in slot old) (file_in slot new)
@@ -69,12 +71,13 @@ Keeps old (Unsynced slot) new = HasFailed slot old new
 Keeps old (Emptied slot) new = new ≡ with_file slot (of_length 0 (file_in slot old)) old
 Keeps old (Unemptied slot) new = HasFailed slot old new
 
--- what the system gave for a call on a file, and what is kept of it
+-- the system gave this for a call on a file, and this is kept of it
 abbrev pub WentSo : Slot → Result (Unit {0}) Error → Bool → StoreFolder → StoreFolder → Type 0
 WentSo slot (Ok done) went old new = (went ≡ true) × (new ≡ old)
 WentSo slot (Err error) went old new = (went ≡ false) × (new ≡ record old { failure = Some (record { part = part_in slot; error = error }) })
 
--- What the system gave for a load, and what is kept of it. Want of memory is told apart, and is no failure.
+-- The system gave this for a load, and this is kept of it. Want of memory is a case of its own, and
+-- is no failure.
 abbrev pub UnloadedSo : Slot → Error → LoadFault → StoreFolder → StoreFolder → Type 0
 UnloadedSo slot error NoMemory old new = (error_kind error ≡ OutOfMemory) × (new ≡ old)
 UnloadedSo slot error NotLoaded old new =
@@ -91,7 +94,7 @@ without_failure f = record f { failure = None }
 
 -- ---- opening
 
--- what the system says of a part: want of memory is told apart
+-- the system says this of a part; want of memory is a case of its own
 abbrev pub IsFaultOf : Part → Error → FolderFault → Type 0
 IsFaultOf part error InUse = ⊥
 IsFaultOf part error (Failed failure) = (error_kind error ≢ OutOfMemory) × (failure ≡ record { part = part; error = error })
@@ -109,14 +112,14 @@ IsFault Memory = Unit {0}
 abbrev pub IsThere : StoreFile → Type 0
 IsThere x = x.file ≢ None
 
--- what is opened to be written: both files, and nothing has failed
+-- a folder is opened to be written: both files are open, and nothing has failed
 pub record IsOpen (f : StoreFolder) : Type 0 where
   pub first : IsThere f.a
   pub second : IsThere f.b
   pub quiet : f.failure ≡ None
 
--- what is opened to be read: the second file is there only beside the first one, and the first one has bytes only
--- beside the second one
+-- A folder is opened to be read. The second file is there only beside the first one, and the first
+-- one has bytes only beside the second one.
 pub record AreReadable (a b : StoreFile) : Type 0 where
   pub first : a.file ≡ None → b.file ≡ None
   pub second : b.file ≡ None → a.len ≡ 0

@@ -25,8 +25,8 @@ fitting_key (Err e) = None
 unfoldable pub key_in : List ℕ → Option ℕ
 key_in bytes = fitting_key (read_at key_form bytes)
 
--- What is known of the key, by the one that was found, and whether each file of the journal is there: with neither a new
--- one may be drawn.
+-- The key that is known, by the one that was found, and whether each file of the journal is there.
+-- With neither file a new key may be drawn.
 abbrev pub KeyFor : Option ℕ → Bool → Bool → Result (Option ℕ) FolderFault → Type 0
 KeyFor (Some key) a b result = result ≡ Ok (Some key)
 KeyFor None true b result = result ≡ Err (Damaged Key)

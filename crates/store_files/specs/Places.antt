@@ -49,8 +49,9 @@ abbrev pub IsRefusedAt : ℕ → Bytes → Bytes → Option Place → Type 0
 IsRefusedAt key a b None = AreTaken key a [] × AreTaken key b []
 IsRefusedAt key a b (Some p) = IsPlaceIn key a b p p.part
 
--- What is wrong with two files: this one counts, and its content isn't taken; or they are refused, by this place or,
--- where neither is refused by itself, since neither has a whole checkpoint.
+-- Two files are wrong in one of two ways. This one counts, and its content isn't taken. Or they are
+-- refused, by this place or, where neither is refused by itself, since neither has a whole
+-- checkpoint.
 pub record Counts (key : ℕ) (a b : Bytes) (part : Part) : Type 0 where
   pub slot : Slot
   pub generation : ℕ

@@ -1,4 +1,4 @@
--- What stands at the front of a file of a journal.
+-- A head and frames stand at the front of a file of a journal.
 use Rattle.std.specs.Prelude.{◌≡◌, ◌≤◌, ℕ, length, Option, Some, None, Ok, Err}
 use Rattle.xdr_wire.specs.Xdr.{Value}
 use Rattle.xdr_wire.specs.Reading.{Read, read_at}

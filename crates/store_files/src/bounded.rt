@@ -1,4 +1,5 @@
-//! A file that isn't written beyond the size that the system allows, since the system would end the program by a signal (SIGXFSZ).
+//! A file that isn't written beyond the size that the system allows, since the system would end the
+//! program by a signal (SIGXFSZ).
 ghost use Rattle.std.specs.Prelude.{◌≡◌, ◌<◌, ◌-◌, length, IsErrAnd, MatchResult};
 ghost use Rattle.std.specs.Io.{WritesAtMost};
 ghost use Rattle.std.specs.Io.KnownBytes.{WriteAppends};
@@ -32,7 +33,8 @@ fn first_number(text: &str) -> u64 {
     }
 }
 
-/// The greatest size of a file that this process may write; the greatest number, where there is no limit or the system doesn't say it.
+/// The greatest size of a file that this process may write; the greatest number, where there is no
+/// limit or the system doesn't say it.
 pub fn file_limit<R: Files + Alloc>(rt: &R) -> u64 {
     match fs::read_to_string(rt, LIMITS) {
         Ok(text) => limit_in(text.as_str()),

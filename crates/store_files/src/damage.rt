@@ -11,7 +11,7 @@ use std::fmt;
 use std::fmt::{Display, Formatter};
 use xdr_wire::{Reader, Wire};
 
-/// What stands at the front of a file of a journal.
+/// This stands at the front of a file of a journal.
 #[derive(Clone, Copy, Debug, PartialEq, Eq)]
 pub struct Standing {
     /// The version that the first head says, and the generation; 0 where there is no head.
@@ -32,7 +32,7 @@ pub struct Place {
     pub byte: usize,
 }
 
-/// What is wrong with a store.
+/// A store is wrong in one of these ways.
 #[derive(Clone, Copy, Debug, PartialEq, Eq)]
 pub enum Damage {
     /// This file isn't there, though others are.
@@ -70,7 +70,7 @@ fn said(head: Option<Head>) -> (u64, u64)
     }
 }
 
-/// What stands at the front of a file.
+/// Says what stands at the front of a file.
 pub fn what_stands(key: u64, file: &[u8]) -> Standing
     ensures { IsStanding key file.now result }
 {
@@ -115,8 +115,8 @@ fn is_refused<A: Allocator + Copy>(alloc: A, key: u64, file: &[u8]) -> Result<bo
     }
 }
 
-/// The place in the file that has the journal refused, if it is one of them; of two the one of the greater generation. An error comes only for
-/// want of memory.
+/// The place in the file that has the journal refused, if it is one of them; of two the one of the
+/// greater generation. An error comes only for want of memory.
 pub(crate) fn refused_place<A: Allocator + Copy>(
     alloc: A,
     key: u64,

@@ -17,7 +17,7 @@ pub enum Part {
     B,
 }
 
-/// What follows a folder's path in the path of the part.
+/// This follows a folder's path in the path of the part.
 impl Display for Part {
     fn fmt<W: fmt::Write>(&self, f: &mut Formatter<W>) -> fmt::Result {
         f.write_str(match self {
@@ -29,7 +29,7 @@ impl Display for Part {
     }
 }
 
-/// What the system says of a part.
+/// The system says this of a part.
 #[derive(Debug, Drop)]
 pub struct Failure {
     pub part: Part,

@@ -110,7 +110,8 @@ fn key_of<R: RandomSource>(rt: &R, file: &mut File, there: There) -> Result<u64,
     }
 }
 
-/// The files are made one after the other, each once the name of the one before is kept: so no crash leaves a later one alone.
+/// The files are made one after the other, each once the name of the one before is kept. So no
+/// crash leaves a later one alone.
 fn make_files<R: Files<File = File> + Alloc>(
     rt: &R,
     path: &str,
@@ -126,7 +127,8 @@ fn make_files<R: Files<File = File> + Alloc>(
     Ok((a, b))
 }
 
-/// The files of a store that is there. The second one is made where the first one is empty, as a first start that was broken off leaves it.
+/// The files of a store that is there. The second one is made where the first one is empty, as a
+/// first start that was broken off leaves it.
 fn find_files<R: Files<File = File> + Alloc>(
     rt: &R,
     path: &str,
@@ -191,10 +193,12 @@ fn read_files<R: Files<File = File> + Alloc>(
 }
 
 impl StoreFolder {
-    /// Opens the folder of a path, and locks it. It is made where it isn't there (mode 0700), and so are its files (0600).
+    /// Opens the folder of a path, and locks it. It is made where it isn't there (mode 0700), and
+    /// so are its files (0600).
     ///
-    /// What is refused has changed nothing that was there: [`FolderFault::InUse`], another program has it; [`FolderFault::Failed`];
-    /// [`FolderFault::Damaged`], a file has gone though others are there, or the key has rotted; [`FolderFault::Memory`].
+    /// A call that is refused has changed nothing that was there: [`FolderFault::InUse`], another
+    /// program has it; [`FolderFault::Failed`]; [`FolderFault::Damaged`], a file has gone though
+    /// others are there, or the key has rotted; [`FolderFault::Memory`].
     pub fn open<R: Files<File = File> + RandomSource + Alloc>(
         rt: &R,
         path: &str,
@@ -211,8 +215,9 @@ impl StoreFolder {
         Ok(StoreFolder::with(locked, key, a, b))
     }
 
-    /// Opens the folder of a path to be read alone, and locks it against those that write. Nothing is made. A folder that isn't there, or has no
-    /// key, is refused by [`FolderFault::Failed`], and else as [`StoreFolder::open`] does.
+    /// Opens the folder of a path to be read alone, and locks it against those that write. Nothing
+    /// is made. A folder that isn't there, or has no key, is refused by [`FolderFault::Failed`],
+    /// and else as [`StoreFolder::open`] does.
     pub fn open_to_read<R: Files<File = File> + Alloc>(
         rt: &R,
         path: &str,
@@ -250,7 +255,7 @@ impl StoreFolder {
         self.key
     }
 
-    /// What the system said where a call of the disk failed, if one did. It is said once.
+    /// Takes what the system said where a call of the disk failed, if one did. It is said once.
     pub fn take_failure(&mut self) -> Option<Failure>
         ensures result { result ≡ self.old.failure }
         ensures after { self.new ≡ without_failure self.old }

@@ -1,4 +1,5 @@
-//! The key of the digests: 64 bits that are drawn at random where a store is made, so that no client can make bytes that fit.
+//! The key of the digests. It has 64 bits that are drawn at random where a store is made, so that
+//! no client can make bytes that fit.
 ghost use Rattle.std.specs.Prelude.{◌≡◌};
 ghost use Rattle.store_files.specs.Keys.{key_bytes, key_in};
 

@@ -1,4 +1,5 @@
-//! The folder of a store on a file system: the two files of a journal, and the key of their digests. One program has it at a time.
+//! The folder of a store on a file system: the two files of a journal, and the key of their
+//! digests. One program has it at a time.
 #![tactic(auto)]
 
 mod bounded;

@@ -27,7 +27,7 @@ const FOLDER_MODE: u32 = 0o700;
 /// The mode of a file that is made.
 const FILE_MODE: u32 = 0o600;
 
-/// What the system says of a part.
+/// The fault of a part, by the system's error.
 pub(crate) fn failed(part: Part, error: io::Error) -> FolderFault
     ensures of { IsFaultOf part error result }
     ensures fault { IsFault result }
@@ -102,8 +102,8 @@ fn parent_of(path: &str) -> &str {
     }
 }
 
-/// Finds the folder, or makes it. What it stands in is synced, so that it isn't lost with its name; where the folder was there, that is done as
-/// far as it is allowed.
+/// Finds the folder, or makes it. The folder that it stands in is synced, so that it isn't lost
+/// with its name. Where the folder was there, that is done as far as it is allowed.
 pub(crate) fn make_folder<R: Files<File = File>>(rt: &R, path: &str) -> Result<(), FolderFault>
     ensures { IfErr result IsFault }
 {

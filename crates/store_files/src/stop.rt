@@ -49,7 +49,8 @@ impl StoreStop {
         StoreStop::Failed(folder.take_failure())
     }
 
-    /// The files of the journal have a version that isn't known. Where they can't be loaded again, the place isn't known either.
+    /// The files of the journal have a version that isn't known. Where they can't be loaded again,
+    /// the place isn't known either.
     pub fn version<A: Allocator + Copy>(alloc: A, folder: &mut StoreFolder) -> Self
         ensures { IsVersionStop folder.old result folder.new }
     {
@@ -60,8 +61,8 @@ impl StoreStop {
         }
     }
 
-    /// The files of the journal are damaged, or what they have is no tree. Where they can't be loaded again, it is said why; so it is where there
-    /// is no memory to look for what is wrong.
+    /// The files of the journal are damaged, or what they have is no tree. Where they can't be
+    /// loaded again, it is said why; so it is where there is no memory to look for what is wrong.
     pub fn damaged<A: Allocator + Copy>(alloc: A, folder: &mut StoreFolder) -> Self
         ensures { IsDamageStop folder.old result folder.new }
     {
@@ -88,7 +89,8 @@ fn known_place<A: Allocator + Copy>(alloc: A, key: u64, a: &[u8], b: &[u8]) -> O
     }
 }
 
-/// What is wrong with the files of a journal whose content isn't taken. An error comes only for want of memory.
+/// Says what is wrong with the files of a journal whose content isn't taken. An error comes only
+/// for want of memory.
 fn damage_of<A: Allocator + Copy>(
     alloc: A,
     key: u64,

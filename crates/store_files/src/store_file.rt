@@ -70,7 +70,8 @@ impl StoreFile {
         self.len == 0
     }
 
-    /// Whether this many bytes more would make it greater than the system allows. It would end the program by a signal (SIGXFSZ).
+    /// Whether this many bytes more would make it greater than the system allows. It would end the
+    /// program by a signal (SIGXFSZ).
     fn is_full(&self, more: usize) -> bool
         ensures { IsTrue result ↔ (room self.now < more) }
     {

@@ -1,4 +1,4 @@
--- Writing in pieces, one behind the other.
+-- Writing in pieces, one after the other.
 use Rattle.std.proofs.Common.{◌≡◌, ◌+◌, drop, take, Bor, ℕ, List, [], ◌∷◌, ◌++◌, Option, Some, None, Result, Ok, Err, sym, ap, ◌∙◌, append_assoc}
 use Rattle.std.proofs.lemmas.List.{append-nil, drop-drop, take-append-drop}
 use Rattle.std.proofs.Math.Seq.{take-add}
@@ -24,7 +24,7 @@ appends_none (Some x) = sym (append-nil x)
 pub written_more : (a b c : Option (List ℕ)) (done n : ℕ) (bytes : List ℕ) → Appends a b (take done bytes) → Appends b c (take n (drop done bytes)) → Appends a c (take (done + n) bytes)
 written_more a b c done n bytes p q = rw (take-add done n bytes) (appends_trans a b c (take done bytes) (take n (drop done bytes)) p q)
 
--- the writer failed behind these bytes
+-- the writer failed after these bytes
 pub front_written : (a b c : Option (List ℕ)) (done : ℕ) (bytes : List ℕ) → Appends a b (take done bytes) → Keeps b c → WritesFront a c bytes
 front_written a b c done bytes p q = (take done bytes, drop done bytes, sym (take-append-drop done bytes), keeps a b c (take done bytes) p q)
   where
@@ -40,9 +40,9 @@ took_none None b p = tt
 took_none (Some x) None p = absurd p
 took_none (Some x) (Some y) p = p ∙ append-nil x
 
--- ---- pieces behind one another
+-- ---- pieces after one another
 
--- a front of the bytes behind a piece
+-- a front of the bytes after a piece
 pub front_behind : (a b c : Option (List ℕ)) (bs cs : List ℕ) → Appends a b bs → WritesFront b c cs → WritesFront a c (bs ++ cs)
 front_behind a b c bs cs p (front, rest, is, q) =
     (bs ++ front, rest, ap (λ (l : List ℕ). bs ++ l) is ∙ sym (append_assoc bs front rest), appends_trans a b c bs front p q)
@@ -71,7 +71,7 @@ next_is : (s t : List Line) (r : Option (Bor Line)) → TakesFirst (deref {X = L
 next_is s t None q = q.1 ∙ sym (ap (drop 1) q.0)
 next_is s t (Some x) q = sym (ap (drop 1) q)
 
--- a call of `next` behind the first n lines
+-- a call of `next` after the first n lines
 pub next_behind : (lines s t : List Line) (r : Option (Bor Line)) (n : ℕ) → s ≡ drop n lines → TakesFirst (deref {X = Line}) s r t → t ≡ drop (n + 1) lines
 next_behind lines s t r n e q = next_is s t r q ∙ ap (drop 1) e ∙ drop-drop 1 n lines
 

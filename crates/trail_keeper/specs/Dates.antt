@@ -45,7 +45,8 @@ moment_text date second =
     two (date.year / 100) ++ two (date.year % 100) ++ 45 ∷ two date.month ++ 45 ∷ two date.day ++ 84 ∷ two (second / 3600) ++ 58 ∷ two (second / 60 % 60)
     ++ 58 ∷ two (second % 60) ++ 90 ∷ 32 ∷ []
 
--- the seconds since 1970 that are written: none for a moment before, and at most those before day 2,930,950, in the year 9994
+-- the seconds since 1970 that are written: none for a moment before, and at most those before day
+-- 2,930,950, in the year 9994
 abbrev pub written_second : ℤ → ℕ
 written_second (pos n) = min n 253234079999
 written_second (negsuc n) = 0

@@ -20,7 +20,8 @@ pub record Stops {W : Type 0} (contents : W → Option (List ℕ)) (bytes : List
   pub unseen : new.seen ≡ old.seen
   pub failed : new.has_failed ≡ true
 
--- By whether the keeper had failed before, and its answer now. A keeper that has failed answers so again, and stays unchanged.
+-- By whether the keeper had failed before, and its answer now. A keeper that has failed answers so
+-- again, and stays unchanged.
 abbrev pub KeepsSo : {W : Type 0} → (W → Option (List ℕ)) → List ℕ → Log → Bool → Bool → TrailKeeper W → TrailKeeper W → Type 0
 KeepsSo contents front log true true old new = ⊥
 KeepsSo contents front log true false old new = new ≡ old
@@ -40,7 +41,8 @@ AddsSo contents bytes true false old new = new ≡ old
 AddsSo contents bytes false true old new = Added contents bytes old new
 AddsSo contents bytes false false old new = Stops contents bytes old new
 
--- Where all earlier lines were seen, and no others, the later lines are told, and all lines are seen.
+-- Where all earlier lines were seen, and no others, the later lines are appended, and all lines are
+-- seen.
 abbrev pub KeptOnce : {W : Type 0} → (W → Option (List ℕ)) → Type 0
 KeptOnce {W = W} contents =
     (front : List ℕ) (earlier later : List Line) (log : Log) (old new : TrailKeeper W)

@@ -10,8 +10,8 @@ pub record IsLogOf (lines : List Line) (log : Log) : Type 0 where
   pub kept : log.trail ≡ keep_last 4096 lines
   pub counted : log.total ≡ length lines
 
--- Each line after the earlier ones is appended: by its text, in order, or, of more than 4,096, as one of those that are
--- missing, whose number comes first.
+-- Each line after the earlier ones is appended by its text, in order, or is one of those that are
+-- missing. Those are all but the last 4,096, and their number comes first.
 abbrev pub TellsEach : Type 0
 TellsEach =
     (front : List ℕ) (earlier later : List Line) (log : Log) → IsLogOf (earlier ++ later) log

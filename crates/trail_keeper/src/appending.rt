@@ -98,12 +98,13 @@ fn behind<A: Allocator + Copy>(guard: &Guard<A>, count: u64) -> Iter<'_, Line>
     lines
 }
 
-/// Appends the lines of the trail after the first `seen` that there ever were, in their order, each with a newline (its text is
-/// that of [`write_line`]). Where the trail, which keeps its last 4,096 lines, no longer keeps some of them, `LOST lines=N` comes
-/// first, with their number in decimal digits.
+/// Appends the lines of the trail after the first `seen` that there ever were, in their order, each
+/// with a newline. The text of a line is that of [`write_line`]. Where the trail, which keeps its
+/// last 4,096 lines, no longer keeps some of them, `LOST lines=N` comes first, with their number in
+/// decimal digits.
 ///
-/// It answers how many lines there were in all: `seen` for the next call. `Err`: the writer failed, or took nothing, and then a
-/// front of these bytes was written. It takes no memory.
+/// It answers how many lines there were in all: `seen` for the next call. `Err`: the writer failed,
+/// or took nothing, and then a front of these bytes was written. It takes no memory.
 pub fn append_new<A: Allocator + Copy, W: Write>(
     guard: &Guard<A>,
     seen: u64,

@@ -9,7 +9,8 @@ use access_guard::Guard;
 use std::alloc::Allocator;
 use std::io::Write;
 
-/// Appends the lines of a trail to a writer, each once and with a newline. Once the writer has failed, nothing more is appended.
+/// Appends the lines of a trail to a writer, each once and with a newline. Once the writer has
+/// failed, nothing more is appended.
 #[derive(Drop)]
 pub struct TrailKeeper<W> {
     out: W,
@@ -19,7 +20,8 @@ pub struct TrailKeeper<W> {
 }
 
 impl<W: Write> TrailKeeper<W> {
-    /// A keeper that has appended no line. The writer isn't flushed: it has to be a writer that keeps no bytes back, such as a file.
+    /// A keeper that has appended no line. The writer isn't flushed: it has to be a writer that
+    /// keeps no bytes back, such as a file.
     pub fn new(out: W) -> Self
         ensures { result ≡ record { out = out; seen = 0; has_failed = false } }
     {
@@ -37,7 +39,8 @@ impl<W: Write> TrailKeeper<W> {
         self.out
     }
 
-    /// Goes on with another writer, such as that of the file that the trail's name leads to now. What was appended stays so.
+    /// Goes on with another writer, such as that of the file that the trail's name leads to now.
+    /// What was appended stays so.
     pub fn replace(&mut self, out: W)
     where
         W: Drop,
@@ -53,8 +56,8 @@ impl<W: Write> TrailKeeper<W> {
         self.seen < guard.total()
     }
 
-    /// Ends the line that bytes with this last one leave open, if they do, so that the next line begins at the front of one. `false`: the
-    /// writer failed, or took no bytes, now or before.
+    /// Ends the line that bytes with this last one leave open, if they do, so that the next line
+    /// begins at the front of one. `false`: the writer failed, or took no bytes, now or before.
     pub fn end_line(&mut self, last: Option<u8>) -> bool
         ensures { AddsSo W.contents (line_end last) self.old.has_failed result self.old self.new }
     {
@@ -65,8 +68,8 @@ impl<W: Write> TrailKeeper<W> {
         !self.has_failed
     }
 
-    /// Appends the line of a start, `START`, with some bytes in front, at most 32. `false`: the writer failed, or took no bytes, now or
-    /// before.
+    /// Appends the line of a start, `START`, with some bytes in front, at most 32. `false`: the
+    /// writer failed, or took no bytes, now or before.
     pub fn start(&mut self, front: &[u8]) -> bool
         requires { length front.now ≤ MOST_FRONT }
         ensures { AddsSo W.contents (start_text front.now) self.old.has_failed result self.old self.new }
@@ -78,12 +81,13 @@ impl<W: Write> TrailKeeper<W> {
         !self.has_failed
     }
 
-    /// Appends the lines of the trail that aren't appended yet, in their order, as [`append_new`](crate::append_new) writes them: where
-    /// the trail, which keeps its last 4,096 lines, doesn't keep some of them any more, `LOST lines=N` stands in front. `keep` takes no
+    /// Appends the lines of the trail that aren't appended yet, in their order, as
+    /// [`append_new`](crate::append_new) writes them. Where the trail, which keeps its last 4,096
+    /// lines, doesn't keep some of them any more, `LOST lines=N` stands in front. `keep` takes no
     /// memory.
     ///
-    /// `false`: the writer failed, or took no bytes, now or before. At most a front of these lines was appended then, and no later call
-    /// writes any bytes.
+    /// `false`: the writer failed, or took no bytes, now or before. At most a front of these lines
+    /// was appended then, and no later call writes any bytes.
     pub fn keep<A: Allocator + Copy>(&mut self, guard: &Guard<A>) -> bool
         ensures { KeepsSo W.contents [] guard.now.log self.old.has_failed result self.old self.new }
     {

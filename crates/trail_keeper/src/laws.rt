@@ -4,8 +4,8 @@ ghost use Rattle.trail_keeper.specs.Told.{SettlingAdds, TellsEach};
 
 use std::io::Write;
 
-/// Where the first lines of a trail were seen, each later one is appended: by its text, in order; of more than 4,096
-/// those that come first by their number alone.
+/// Where the first lines of a trail were seen, each later one is appended by its text, in order. Of
+/// more than 4,096 those that come first are given by their number alone.
 pub fn each_line_is_told()
     ensures { TellsEach }
 {}
@@ -15,9 +15,10 @@ pub fn settling_adds_lines()
     ensures { SettlingAdds }
 {}
 
-/// A keeper that has appended the first lines of a trail, and is called when the trail has more, appends each later line once, in order,
-/// and has appended all lines then; of more than 4,096 new lines those that come first are told by their number alone. So the calls of one keeper
-/// account for each line of a trail, as long as they succeed.
+/// A keeper that has appended the first lines of a trail, and is called when the trail has more,
+/// appends each later line once, in order. Then it has appended all lines. Of more than 4,096 new
+/// lines those that come first are given by their number alone. So the calls of one keeper account
+/// for each line of a trail, as long as they succeed.
 pub fn each_line_is_kept_once<W: Write>()
     ensures { KeptOnce W.contents }
 {}

@@ -1,4 +1,5 @@
-//! The audit trail's new lines, appended to a writer: by a call that is told which were seen, and by a keeper that counts them.
+//! The audit trail's new lines, appended to a writer: by a call that is given how many were seen,
+//! and by a keeper that counts them.
 #![tactic(auto)]
 
 mod appending;

@@ -32,8 +32,9 @@ fn written_second(seconds: i64) -> u64
     u64::try_from(seconds).unwrap_or(0).min(LAST)
 }
 
-/// The text of a moment in UTC, with a space after it, as `2026-11-26T20:28:01Z `, from the seconds since 1970-01-01. A moment before that is
-/// written as that one, and one after the 2,930,950 days from then on, in the year 9994, as the last second of these.
+/// The text of a moment in UTC, with a space after it, as `2026-11-26T20:28:01Z `, from the seconds
+/// since 1970-01-01. A moment before that is written as that one, and one after the 2,930,950 days
+/// from then on, in the year 9994, as the last second of these.
 pub fn moment_text(seconds: i64) -> [u8; 21]
     ensures { IsMoment (written_second seconds) result }
 {

@@ -165,7 +165,7 @@ module _ (kinds : ℕ → Option Kind) (names : List Name) (rooted : IsRooted ki
 -- ---- a sound world
 
 module _ (w : World) (sound : IsSound w) where
-  -- what there is after some of the objects and names
+  -- the world after some of the objects and names
   abbrev so_far : List (ℕ × Object) → List Name → ℕ → ℕ → Begun
   so_far objects names number cookie = record {
     world = record { objects = objects; names = names; next_number = w.next_number; next_tick = w.next_tick; next_stamp = w.next_stamp; next_cookie = w.next_cookie; notes = no_notes };

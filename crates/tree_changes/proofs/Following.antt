@@ -44,7 +44,7 @@ shorter v bytes rest e =
     let whole : length bytes ≡ length begins.front + length rest = ap length begins.parts ∙ length-append begins.front rest in
     omega (arith, four, parts, whole)
 
--- What is left of the bytes leads from the world so far to where all of them lead.
+-- The bytes that are left lead from the world so far to where all of them lead.
 pub record IsReplaying (old : World) (bytes : List ℕ) (now : World) (left : List ℕ) : Type 0 where
   pub whole : (new : World) → Replays now left new → Replays old bytes new
   pub rest : (new : World) → Replays old bytes new → Replays now left new
@@ -100,7 +100,7 @@ replay_unmade old now bytes left rest s so_far read refused new r = let next = s
         let same = one_reading (read_at change left) (step_value s) (step_value t) rest reads.0 read reads.1 in
         refused (ap (allows now) (step_one s t same.0) ∙ leads.0)
 
--- what was written is read again
+-- the steps that were written are read again
 pub reads_back : (steps : List Step) → AllByRecursion (λ s. in_range s ≡ true) steps → ReadsAs (flat_map spelled steps) steps
 reads_back [] ranged = refl
 reads_back (s ∷ steps) ranged =

@@ -1,4 +1,4 @@
--- What is noted leads from the base to the world, change by change.
+-- The notes lead from the base to the world, change by change.
 use Rattle.std.proofs.Common.{◌≡◌, ℕ, ◌-◌, ◌&&◌, true, false, cond, List, [], ◌∷◌, ◌++◌, length, refl, ap, sym, ◌∙◌, subst, inl, inr, Some, None}
 use Rattle.std.specs.Prelude.{◌⊎◌, nat_lt}
 use Rattle.std.specs.List.{flat_map, AllByRecursion}

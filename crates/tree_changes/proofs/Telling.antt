@@ -1,4 +1,4 @@
--- A change is told by its value.
+-- A change is known by its value.
 use Rattle.std.proofs.Common.{◌≡◌, ℕ, ◌<◌, ℤ, List, [], ◌∷◌, ◌++◌, map, refl, ap, sym, ◌∙◌, subst, inl, inr}
 use Rattle.std.proofs.Math.Bridge.{le_prop}
 use Rattle.acl_list.specs.declared.entry.Entry.{Entry}

@@ -1,4 +1,4 @@
--- What a world has noted, and where it leads.
+-- The changes that a world has noted lead from a base to it.
 use Rattle.std.specs.Prelude.{◌≡◌, true, false, List}
 use Rattle.std.specs.List.{flat_map, AllByRecursion}
 use Rattle.node_tree.specs.Notes.{no_notes}
@@ -12,13 +12,13 @@ use Rattle.tree_changes.specs.Stepped.{Leads}
 abbrev pub bare : World → World
 bare w = record w { notes = no_notes }
 
--- what was noted are changes that lead from a base to the world
+-- the notes are changes that lead from a base to the world
 pub record LeadsFrom (base w : World) : Type 0 where
   pub steps : List Step
   pub bytes : w.notes.bytes ≡ flat_map spelled steps
   pub ranged : AllByRecursion (λ s. in_range s ≡ true) steps
   pub leads : Leads (bare base) steps (bare w)
 
--- what was noted leads from a base to the world, unless a change was lost
+-- the notes lead from a base to the world, unless a change was lost
 abbrev pub Noted : World → World → Type 0
 Noted base w = w.notes.is_lost ≡ false → LeadsFrom base w

@@ -41,7 +41,7 @@ name_value n = inr (inr (inl (n.cookie, (n.directory, (n.name, n.child)))))
 abbrev pub parts : World → List (Value part)
 parts w = counters_value w ∷ map (λ e. object_value e.0 e.1) w.objects ++ map name_value w.names
 
--- what a part that was read says
+-- the value of a part that was read
 abbrev pub said_part : SaidPart → Value part
 said_part (said.Counters numbers) = inl numbers
 said_part (said.Object number new last) =

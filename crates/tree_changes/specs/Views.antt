@@ -1,4 +1,4 @@
--- What a change of the program means.
+-- Each change of the program means a step of the definitions.
 use Rattle.node_tree.specs.declared.fault.TreeFault.{TreeFault}
 use Rattle.node_tree.specs.declared.fault.TreeFault.TheVariants as faults
 use Rattle.node_tree.specs.Steps.{Step}

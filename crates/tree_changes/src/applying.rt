@@ -390,7 +390,8 @@ fn set_owner<A: Allocator + Copy>(
     Ok(())
 }
 
-/// Applies a change. `Refused` exactly where the tree doesn't take it now; the tree is then as it was, and so it is without memory.
+/// Applies a change. `Refused` exactly where the tree doesn't take it now; the tree is then as it
+/// was, and so it is without memory.
 pub fn apply<A: Allocator + Copy>(
     tree: &mut Tree<A>,
     change: Change<'_, A>,

@@ -23,7 +23,8 @@ pub fn notes_begin_anywhere()
     ensures cleared { (w : World) → Noted w (record w { notes = cleared w.notes }) }
 {}
 
-/// What was noted before a change and what is noted of it lead to the world after it, whichever change it is.
+/// The notes before a change, with what it notes, lead to the world after it, whichever change it
+/// is.
 pub fn each_change_is_noted()
     ensures { (base w : World) (s : Step) → Noted base w → Noted base (stepped w s) }
 {}

@@ -67,8 +67,8 @@ impl<'a> Wire<'a> for SaidPart<'a> {
     }
 }
 
-/// Writes the counters of a tree, so that they are read again: `Full` exactly where there is no room for them, and then
-/// nothing is written.
+/// Writes the counters of a tree, so that they are read again. It gives `Full` exactly where there
+/// is no room for them, and then nothing is written.
 pub fn write_counters<A: Allocator + Copy, B: Allocator>(
     tree: &Tree<A>,
     writer: &mut Writer<B>,

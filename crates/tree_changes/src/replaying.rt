@@ -57,8 +57,8 @@ fn next<'a, A: Allocator + Copy>(
 
 /// Applies the changes of a record, or of several, one after the other.
 ///
-/// `Unfit`: the bytes aren't changes that may be made of this tree, each where it comes. After a fault some of the changes may have been
-/// made, so such a tree isn't one to go on with.
+/// `Unfit`: the bytes aren't changes that may be made of this tree, each where it comes. After a
+/// fault some of the changes may have been made, so such a tree isn't one to go on with.
 pub fn replay<A: Allocator + Copy>(
     tree: &mut Tree<A>,
     alloc: A,

@@ -45,8 +45,9 @@ fn take_object<A: Allocator + Copy>(
     restoring.object(number, new, kept)
 }
 
-/// Takes the next part of a checkpoint: its counters first, then its objects by rising number and its names by rising
-/// cookie, each object before its names. `Unsound`: it can't be taken after the parts before it.
+/// Takes the next part of a checkpoint. Its counters come first, then its objects by rising number
+/// and its names by rising cookie, each object before its names. `Unsound`: it can't be taken after
+/// the parts before it.
 pub fn take<A: Allocator + Copy>(
     alloc: A,
     so_far: Option<Restoring<A>>,

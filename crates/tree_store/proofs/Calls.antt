@@ -1,4 +1,4 @@
--- What the calls of a store make of what its steps do.
+-- The calls of a store follow from what its steps do.
 use Rattle.std.proofs.Common.{◌≡◌, inl, inr, ℕ, ◌≤◌, ◌<◌, ◌+◌, ◌^◌, true, false, List, [], ◌∷◌, refl, sym, ◌∙◌, ap, subst, arith, Ok, Err, Some, None}
 use Rattle.std.specs.Prelude.{Option, Result, OnErr}
 use Rattle.xdr_wire.specs.Reading.{read_at}
@@ -113,7 +113,7 @@ module _ (w : World) (known now : Known) (same : AreSame known now) where
       does_also adds store.journal.key history (IsHeldOr kept aim) (IsHeldOr kept aim) (λ acts. IfDone (λ done. Stands store.journal.key acts store' aim) acts result) (λ acts. KeptSo store.journal.key acts result store' kept aim (kept_with w now)) old new
       (λ c is. is) (λ acts so. kept_so store.journal.key acts result store' kept failed so) (does history s)
 
--- what was noted leads from what is kept
+-- the notes of the world lead from what is kept
 pub follows : (kept : Kept) (w : World) (notes : Bytes) → Follows kept w → w.notes.is_lost ≡ false → notes ≡ w.notes.bytes → Replays kept.0 notes (bare w)
 follows kept w notes (base, is, noted) here same =
     subst (λ (v : World). Replays v notes (bare w)) is (subst (λ (b : Bytes). Replays (bare base) b (bare w)) (sym same) (notes_replay base w noted here))

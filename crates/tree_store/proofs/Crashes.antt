@@ -1,4 +1,5 @@
--- What a crash leaves of two files: as they were found, while records are appended, and while a checkpoint is written.
+-- A crash may come to two files as they were found, while records are appended, or while a
+-- checkpoint is written.
 use Rattle.std.proofs.Common.{◌≡◌, ◌⊎◌, inl, inr, ⊎_elim, ℕ, ◌+◌, Bool, List, [], ◌∷◌, ◌++◌, length, Option, Some, None, refl, sym, ◌∙◌, ap, subst, arith}
 use Rattle.std.proofs.lemmas.List.{append-nil}
 use Rattle.journal.specs.declared.disk.Slot.{Slot}

@@ -22,7 +22,7 @@ use Rattle.tree_store.proofs.Quiet.{IsQuiet, bare_is, replays_quiet, restores_qu
 
 -- ---- parts
 
--- what is left of the parts restores what all of them do
+-- the parts that are left restore what all of them do
 pub record IsTaking (parts : List Bytes) (so_far : Option Begun) (left : List Bytes) : Type 0 where
   pub whole : (w : World) → Restores so_far left w → Restores None parts w
   pub rest : (w : World) → Restores None parts w → Restores so_far left w
@@ -103,7 +103,7 @@ taking_not parts so_far all bytes left t is not w r =
 
 -- ---- records
 
--- what is left of the records leads to where all of them lead
+-- the records that are left lead to where all of them lead
 pub record IsLed (base : Kept) (records : List Bytes) (found : Kept) (left : List Bytes) : Type 0 where
   pub whole : (k : Kept) → LeadsThrough found left k → LeadsThrough base records k
   pub rest : (k : Kept) → LeadsThrough base records k → LeadsThrough found left k

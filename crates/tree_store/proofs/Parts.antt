@@ -1,4 +1,4 @@
--- What the frames of a checkpoint that is written make of two files.
+-- The frames of a checkpoint are written into one of two files.
 use Rattle.std.proofs.Common.{◌≡◌, ℕ, ◌+◌, true, false, List, [], ◌∷◌, ◌++◌, length, map, Option, Some, None, refl, sym, ◌∙◌, ap, subst, arith}
 use Rattle.std.proofs.lemmas.List.{append-nil}
 use Rattle.journal.specs.declared.disk.Slot.{Slot}

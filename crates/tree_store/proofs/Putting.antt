@@ -68,7 +68,7 @@ appends_fault adds c c' c'' first all fault old new one key generation s content
     (λ o is. is) (λ acts it. still_fault (λ done. IsBegun key generation s content c' (so_far ++ first) acts) (λ done. IsBegun key generation s content c'' (so_far ++ all) acts) acts fault it)
     (one key generation s content so_far history b)
 
--- what was written into an empty buffer
+-- an item was written into an empty buffer
 pub written_alone : (old new : Buffer) (item : Bytes) → old.bytes ≡ [] → buffers.Appends old new item → new.bytes ≡ item
 written_alone old new item empty appended = appended.behind ∙ ap (λ (l : Bytes). l ++ item) empty
 

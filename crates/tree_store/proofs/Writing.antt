@@ -1,4 +1,4 @@
--- What the parts of a checkpoint make of two files, of which one counts.
+-- The parts of a checkpoint are written into one of two files, while the other counts.
 use Rattle.std.proofs.Common.{◌≡◌, inl, inr, ℕ, ◌+◌, Bool, true, false, List, [], ◌∷◌, ◌++◌, length, refl, sym, ◌∙◌, ap, subst, arith, length-append, Ok, Err, Some, None}
 use Rattle.std.specs.Prelude.{Option, Result}
 use Rattle.journal.specs.declared.disk.Slot.{Slot}

@@ -1,4 +1,4 @@
--- What a journal holds: a checkpoint, from which its records lead on.
+-- A journal holds a checkpoint, from which its records lead on.
 use Rattle.std.specs.Prelude.{◌≡◌, ◌⊎◌, true, List, [], ◌∷◌, Option, Some, None, Ok}
 use Rattle.xdr_wire.specs.Xdr.{Value}
 use Rattle.xdr_wire.specs.Reading.{read_at}

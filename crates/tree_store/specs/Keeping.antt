@@ -1,4 +1,4 @@
--- What the calls of a store do.
+-- The calls of a store find what is kept, start the store, and keep what is now.
 use Rattle.std.specs.Prelude.{ℕ, ◌≡◌, ◌⊎◌, true, false, List, [], ◌∷◌, Option, Some, None, Result, Ok, Err}
 use Rattle.journal.specs.declared.disk.Slot.{Slot}
 use Rattle.journal.specs.declared.disk.Slot.TheVariants.{A, B}
@@ -26,7 +26,7 @@ use Rattle.tree_store.specs.Standing.{Stands}
 abbrev pub HoldsNothing : Content → Type 0
 HoldsNothing content = (kept : Kept) → Holds content kept → ⊥
 
--- what a content was read as, or why it wasn't
+-- a content was read as this, or it wasn't read, for a reason
 abbrev pub ReadsSo : {A : Type 0} → Content → Result (Found A) StoreFault → Type 0
 ReadsSo content (Ok found) = Holds content (kept_with found.tree found.known)
 ReadsSo content (Err Failed) = ⊥
@@ -40,7 +40,8 @@ AreDamaged key a b =
     Refuses key a b false ⊎ ((slot : Slot) × (generation : ℕ) × (content : Content)
     × Chooses key a b slot generation (Some content) × HoldsNothing content)
 
--- What two files have: a new journal has nothing; and what one holds is found, or there is no memory for it.
+-- Two files have this. A new journal has nothing. What one holds is found, or there is no memory
+-- for it.
 abbrev pub OpensSo : {A : Type 0} → ℕ → Bytes → Bytes → Result (Base × Option (Found A)) StoreFault → Type 0
 OpensSo key a b (Ok (base, None)) = (base.key ≡ key) × Chooses key a b base.slot base.generation None
 OpensSo key a b (Ok (base, Some found)) =
@@ -76,8 +77,8 @@ BegunSo key history (Err Version) aim = ⊥
 BegunSo key history (Err Damaged) aim = ⊥
 BegunSo key history (Err Memory) aim = Unit {0}
 
--- Over two files of which one was chosen: a crash at any moment leaves what was chosen, or what was to be kept; and at
--- the end the store stands for that.
+-- Over two files of which one was chosen. A crash at any moment leaves what was chosen, or what was
+-- to be kept. At the end the store stands for what was to be kept.
 abbrev pub StartsSo : {D : Type 0} → Adding D → Base → Kept → Result Store StoreFault → D → D → Type 0
 StartsSo adds base aim result old new =
     (a b : Bytes) (content : Option Content) → Chooses base.key a b base.slot base.generation content
@@ -98,8 +99,8 @@ KeptSo key history (Err Version) store old aim now = ⊥
 KeptSo key history (Err Damaged) store old aim now = ⊥
 KeptSo key history (Err Memory) store old aim now = store.journal.has_failed ≡ true
 
--- Of a store that stands for what is kept, from where the notes of the world lead: a crash at any moment leaves that,
--- or what was to be kept; and at the end the store stands for one of them.
+-- Of a store that stands for what is kept, from where the notes of the world lead. A crash at any
+-- moment leaves that, or what was to be kept. At the end the store stands for one of them.
 abbrev pub KeepsSo : {D : Type 0} → Adding D → Store → World → Known → Known → Result (Unit {0}) StoreFault → Store → D → D → Type 0
 KeepsSo adds store w known now result store' old new =
     (history : List Act) (kept : Kept) → Stands store.journal.key history store kept → Follows kept w

@@ -1,4 +1,5 @@
--- What is found in two files after a crash at any moment.
+-- After a crash at any moment a content of two files is chosen and nothing is refused, unless a
+-- digest fits by chance.
 use Rattle.std.specs.Prelude.{ℕ, ◌≡◌, ◌⊎◌, ◌<◌, ◌≤◌, ◌+◌, Bool, List, [], ◌∷◌, ◌++◌, length, Option}
 use Rattle.journal.specs.declared.disk.Slot.{Slot}
 use Rattle.journal.specs.declared.disk.Slot.TheVariants.{A, B}
@@ -35,9 +36,9 @@ written_since s (Unsynced t ∷ acts) = written_since s acts
 written_since s (Emptied t ∷ acts) = if_same_bytes s t (λ b. []) (written_since s acts)
 written_since s (Unemptied t ∷ acts) = if_same_bytes s t (λ b. []) (written_since s acts)
 
--- A digest fits by chance. A file has kept frames and the later ones that were written since its last sync, and a crash
--- leaves bytes of it that weren't synced. In these stands a frame that isn't the next of the later ones, or a head of
--- no frame of the file, and its digests fit.
+-- A digest fits by chance. A file has kept frames and the later ones that were written since its
+-- last sync, and a crash leaves bytes of it that weren't synced. In these stands a frame that isn't
+-- the next of the later ones, or a head of no frame of the file. Its digests fit.
 pub record Fluked (key : ℕ) (history : List Act) (a b : Bytes) : Type 0 where
   pub slot : Slot
   pub generation : ℕ

@@ -1,4 +1,4 @@
--- What the steps of reading a checkpoint and records answer.
+-- The steps of reading find what a checkpoint and records hold, or that they hold nothing.
 use Rattle.std.specs.Prelude.{◌≡◌, List, [], Option, Some, None, Result, Ok, Err}
 use Rattle.xdr_wire.specs.Xdr.{Value}
 use Rattle.xdr_wire.specs.Reading.{read_at}
@@ -21,7 +21,7 @@ content_of parts records = record { parts = parts; records = records }
 abbrev pub found_kept : {A : Type 0} → Found A → Kept
 found_kept found = (found.tree, found.known)
 
--- what a step answers: it is so, or it never is; or there is no memory
+-- a step answers this: it is so, or it never is; or there is no memory
 abbrev pub AnswersSo : {X : Type 0} → (X → Type 0) → Type 0 → Result X StoreFault → Type 0
 AnswersSo so never (Ok x) = so x
 AnswersSo so never (Err Failed) = ⊥

@@ -4,5 +4,5 @@ use Rattle.compound_run.specs.Known.{Known}
 
 pub record Store : Type 0 where
   pub journal : Journal
-  -- what is kept of clients
+  -- this is what is kept of clients
   pub known : Known

@@ -1,4 +1,5 @@
--- What the steps of writing a record and a checkpoint do.
+-- The steps of writing append a record or a checkpoint, and a crash meanwhile leaves what was kept
+-- or was to be kept.
 use Rattle.std.specs.Prelude.{ℕ, ◌≡◌, ◌⊎◌, ◌+◌, ◌^◌, ◌<◌, ◌≤◌, true, false, List, [], ◌∷◌, ◌++◌, length, map, Option, Result, Ok, Err}
 use Rattle.std.specs.List.{AllByRecursion}
 use Rattle.xdr_wire.specs.Xdr.{HasSpelling, spelling}
@@ -59,7 +60,8 @@ pub record IsBegun (key generation : ℕ) (s : Slot) (content : Option Content) 
   pub written : written_since (other s) history ≡ all_framed key (generation + 1) 0 (part_frames parts)
   pub checkpoint_is : c ≡ record { key = key; slot = other s; generation = generation + 1; number = length parts; has_failed = false }
 
--- what stands after the acts of a step, where it has succeeded; where the disk has failed, the newest act has
+-- this stands after the acts of a step, where it has succeeded; where the disk has failed, the
+-- newest act has
 abbrev pub IfDone : {X : Type 0} → (X → Type 0) → List Act → Result X StoreFault → Type 0
 IfDone so acts (Ok x) = so x
 IfDone so acts (Err Failed) = HasFailed acts
@@ -123,8 +125,8 @@ pub record Counts (key generation : ℕ) (s : Slot) (content : Option Content) (
 abbrev pub written_store : {A : Type 0} → Written A → Store
 written_store w = record { journal = w.journal; known = w.known }
 
--- Over a file that counts: a crash at any moment leaves what it has, or what was to be kept; and at the end a store of what
--- was written stands for that.
+-- Over a file that counts. A crash at any moment leaves what it has, or what was to be kept. At the
+-- end a store of what was written stands for what was to be kept.
 abbrev pub Checkpoints : {A D : Type 0} → Adding D → ℕ → Slot → ℕ → Kept → Result (Written A) StoreFault → D → D → Type 0
 Checkpoints adds key s generation aim result old new =
     (content : Option Content) (history : List Act) → Counts key generation s content history
@@ -133,8 +135,8 @@ Checkpoints adds key s generation aim result old new =
 
 -- ---- a store that goes on
 
--- Of a store that stands for what is kept: a crash at any moment leaves that, or what was to be kept; and at the end
--- the store stands for the latter, or it has failed.
+-- Of a store that stands for what is kept. A crash at any moment leaves that, or what was to be
+-- kept. At the end the store stands for the latter, or it has failed.
 abbrev pub GoesOn : {D : Type 0} → Adding D → Store → Kept → Kept → Result (Unit {0}) StoreFault → Store → D → D → Type 0
 GoesOn adds store kept aim result store' old new =
     (history : List Act) → Stands store.journal.key history store kept

@@ -208,7 +208,7 @@ impl<A: Allocator + Copy> Fronts<A> {
         })
     }
 
-    /// What they say of clients, which is what is known now.
+    /// Reads what they say of clients, which is what is known now.
     fn known(&self, alloc: A, now: Lent<'_, A>) -> Result<Known<A>, AllocError>
         ensures leads { IfOk result (λ known. FrontsLead (fronts_of self.now) known) }
         ensures same { IfOk result (λ known. AreSame known (lent_view now.entry)) }
@@ -232,14 +232,14 @@ impl<A: Allocator + Copy> Fronts<A> {
 #[derive(Drop)]
 pub(crate) struct Written<A: Allocator> {
     pub(crate) journal: Journal,
-    /// What it says of clients.
+    /// It says this of clients.
     pub(crate) known: Known<A>,
     /// The bytes of its parts.
     pub(crate) size: u64,
 }
 
-/// Writes the parts of a checkpoint into the other file than the one that counts, and syncs it: all of it after its fronts
-/// were written, which say what is kept of clients.
+/// Writes the parts of a checkpoint into the other file than the one that counts, and syncs it. All
+/// of this comes after its fronts were written, which say what is kept of clients.
 fn write_parts<D: Disk, A: Allocator + Copy>(
     disk: &mut D,
     alloc: A,

@@ -1,4 +1,4 @@
-//! What two files have, when a server starts.
+//! A server starts from what two files have.
 ghost use Rattle.tree_store.specs.Keeping.{Opens, OpensSo};
 
 use crate::fault::StoreFault;
@@ -16,16 +16,16 @@ pub struct Base {
     pub(crate) generation: u64,
 }
 
-/// What was kept.
+/// This was kept.
 #[derive(Drop)]
 pub struct Found<A: Allocator> {
     /// The tree, which keeps no notes.
     pub tree: Tree<A>,
-    /// What is known of clients. Each slot lags.
+    /// This is what is known of clients. Each slot lags.
     pub known: Known<A>,
 }
 
-/// What two files have.
+/// Reads what two files have.
 fn opened<A: Allocator + Copy>(
     alloc: A,
     key: u64,

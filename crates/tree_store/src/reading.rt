@@ -54,8 +54,8 @@ fn restored<A: Allocator + Copy>(alloc: A, parts: &[&[u8]]) -> Result<Tree<A>, S
     Ok(tree)
 }
 
-/// Leads on by changes of what is known of clients, which these bytes are, whole. After a fault what is known isn't to go
-/// on with.
+/// Leads on by changes of what is known of clients, which these bytes are, whole. After a fault
+/// what is known isn't to go on with.
 fn lead_whole<A: Allocator + Copy>(
     alloc: A,
     known: &mut Known<A>,
@@ -75,7 +75,7 @@ fn lead_whole<A: Allocator + Copy>(
     Ok(())
 }
 
-/// What the first three parts of a checkpoint say of clients.
+/// Reads what the first three parts of a checkpoint say of clients.
 pub(crate) fn known_of<A: Allocator + Copy>(
     alloc: A,
     first: &[u8],
@@ -99,7 +99,7 @@ pub(crate) fn known_of<A: Allocator + Copy>(
     }
 }
 
-/// What a checkpoint of these parts has.
+/// Reads what a checkpoint of these parts has.
 fn begun<A: Allocator + Copy>(alloc: A, parts: &[&[u8]]) -> Result<Found<A>, StoreFault>
     ensures { BeginsSo (map (λ b. b.now) parts.now) result }
 {
@@ -138,7 +138,7 @@ fn lead_on<A: Allocator + Copy>(
     Ok(())
 }
 
-/// What a checkpoint and records hold. `Damaged`: they hold nothing. `Memory`.
+/// Reads what a checkpoint and records hold. `Damaged`: they hold nothing. `Memory`.
 pub(crate) fn read_content<A: Allocator + Copy>(
     alloc: A,
     parts: &[&[u8]],

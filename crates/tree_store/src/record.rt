@@ -19,8 +19,8 @@ fn are_same(a: &[u8], b: &[u8]) -> bool
     a == b
 }
 
-/// Leads on by the bytes of a record, and sees that it comes to what is known of clients now, and that these notes are
-/// left. What is kept of clients isn't to go on with where it doesn't.
+/// Leads on by the bytes of a record. It sees that this comes to what is known of clients now, and
+/// that these notes are left. What is kept of clients isn't to go on with where it doesn't.
 pub(crate) fn leads_to<A: Allocator + Copy>(
     alloc: A,
     known: &mut Known<A>,
@@ -44,8 +44,8 @@ pub(crate) fn leads_to<A: Allocator + Copy>(
     Ok(())
 }
 
-/// The bytes of a record: changes of what is known of clients, and after them the changes of the tree as they were noted.
-/// No contract says so: [`leads_to`] sees to it.
+/// The bytes of a record: changes of what is known of clients, and after them the changes of the
+/// tree as they were noted. No contract says so: [`leads_to`] sees to it.
 pub(crate) fn record_of<A: Allocator + Copy>(
     alloc: A,
     old: Lent<'_, A>,

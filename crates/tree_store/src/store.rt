@@ -31,7 +31,7 @@ const RECORDS: u64 = 64 * 1024 * 1024;
 #[derive(Drop)]
 pub struct Store<A: Allocator = Global> {
     pub(crate) journal: Journal,
-    /// What is kept of clients.
+    /// This is what is kept of clients.
     pub(crate) known: Known<A>,
     /// The bytes of the checkpoint.
     pub(crate) checkpoint: u64,
@@ -48,8 +48,9 @@ impl<A: Allocator> Model for Store<A> {
 }
 
 impl<A: Allocator + Copy> Store<A> {
-    /// Begins a store over two files of which one was chosen: writes a checkpoint of the tree and of what is known of
-    /// clients into the other one, and syncs it. A crash meanwhile leaves what was found, or what was to be kept.
+    /// Begins a store over two files of which one was chosen. It writes a checkpoint of the tree
+    /// and of what is known of clients into the other one, and syncs it. A crash meanwhile leaves
+    /// what was found, or what was to be kept.
     ///
     /// `Failed`: the disk has failed. `Memory`. The file that was chosen is as it was.
     pub fn start<D: Disk>(
@@ -145,11 +146,12 @@ impl<A: Allocator + Copy> Store<A> {
         Ok(())
     }
 
-    /// Keeps the tree and what is known of clients, by what the tree has noted since it was kept: a record of that is
-    /// appended and synced. Where changes were lost, or where the records have more bytes than 64 MiB and than the
-    /// checkpoint, a checkpoint is written into the other file instead. Nothing is written where nothing was noted, and
-    /// what is known of clients is kept, but for slots, on each of which fewer than 2^20 calls came. The notes are cleared
-    /// by the caller.
+    /// Keeps the tree and what is known of clients, by what the tree has noted since it was kept. A
+    /// record of that is appended and synced. Where changes were lost, or where the records have
+    /// more bytes than 64 MiB and than the checkpoint, a checkpoint is written into the other file
+    /// instead. Nothing is written where nothing was noted, and what is known of clients is kept,
+    /// but for slots, on each of which fewer than 2^20 calls came. The notes are cleared by the
+    /// caller.
     ///
     /// A crash meanwhile leaves what was kept before, or all of this. `Failed`: the disk has failed. `Memory`. After a
     /// fault each call is `Failed`, and does nothing.

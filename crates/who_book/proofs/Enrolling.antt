@@ -77,7 +77,7 @@ users_unknown users names name more none =
 users_twice : (users : Rows) (names : List (List ℕ)) (name : List ℕ) (more : List (List ℕ)) → is_among names name ≡ true → are_users users (names ++ name ∷ more) ≡ false
 users_twice users names name more found = and_right (list_all (is_named users) (names ++ name ∷ more)) _ (not_from_true _ (repeats_found names name more found))
 
--- the names up to a name, and those behind it
+-- the names up to a name, and those after it
 pub texts_parts : (names : List (Bor (List ℕ))) (i : ℕ) (d : Bor (List ℕ)) → i < length names
     → texts_of names ≡ texts_of (take i names) ++ (get_or names i d).now ∷ texts_of (drop (i + 1) names)
 texts_parts names i d within =
@@ -245,7 +245,7 @@ fresh_group groups done group gid None table found below = refl
 fresh_group groups done group gid (Some user) table found below =
     (set_of (numbers_with groups done user)).members gid ∙ not_before groups done group gid user table found below
 
--- the rolls up to a roll, and those behind it
+-- the rolls up to a roll, and those after it
 pub rolls_parts : (rolls : List Roll) (i : ℕ) (roll : Roll) → i < length rolls → roll ≡ get_or rolls i roll
     → rolls_of rolls ≡ rolls_of (take i rolls) ++ (roll.group.now, texts_of roll.users.items) ∷ rolls_of (drop (i + 1) rolls)
 rolls_parts rolls i roll within is =

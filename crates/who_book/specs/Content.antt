@@ -1,5 +1,5 @@
--- The content of a book: a domain, the root's owner, group and mode, two tables of names, and the users that are in each
--- group.
+-- The content of a book: a domain, the root's owner, group and mode, two tables of names, and the
+-- users that are in each group.
 use Rattle.std.specs.Prelude.{◌≡◌, ℕ, ◌≤◌, Bool, true, List, [], Option, None, codes}
 use Rattle.who_book.specs.Names.{Rows, IsTable, is_word}
 use Rattle.who_book.specs.declared.kind.NameKind.{NameKind}

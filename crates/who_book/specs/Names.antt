@@ -22,7 +22,7 @@ name_at number rows = option_map (λ row. row.0) (find (λ row. row.1 == number)
 abbrev pub has_at : List ℕ → Bool
 has_at bytes = list_any (λ byte. byte == 64) bytes
 
--- the bytes are some, at most so many, and none is an @
+-- the bytes are some, at most this many, and none is an @
 abbrev pub is_word : ℕ → List ℕ → Bool
 is_word most bytes = (nat_lt 0 (length bytes) && nat_le (length bytes) most) && not (has_at bytes)
 

@@ -22,8 +22,8 @@ use toml::Table;
 /// The domain without a book.
 const LOCAL: &str = "localdomain";
 
-/// A book of names: users and groups by name and by number, the domain of the names, the root's owner, group and
-/// mode, and the users of each group, if it has `members`.
+/// A book of names: users and groups by name and by number, the domain of the names, and the root's
+/// owner, group and mode. If it has `members`, it holds the users of each group too.
 #[derive(Drop)]
 pub struct Book {
     /// None is `localdomain`, so that a server without a book needs no memory for it.
@@ -54,8 +54,9 @@ impl Model for Book {
 }
 
 impl Book {
-    /// The book without a file: the domain is `localdomain`, no number has a name, and the root's owner is 0, its group 0
-    /// and its mode 0o755. It takes no memory; the allocator is that of the empty tables.
+    /// The book without a file. The domain is `localdomain`, no number has a name, and the root's
+    /// owner is 0, its group 0 and its mode 0o755. It takes no memory; the allocator is that of the
+    /// empty tables.
     pub fn default(alloc: Global) -> Self
         ensures content { result ≡ nameless }
         ensures book { IsBook result }
@@ -71,14 +72,16 @@ impl Book {
         }
     }
 
-    /// Reads a book from TOML: the keys `domain` (a text), `root_owner`, `root_group` and `root_mode`
-    /// (integers), `users` and `groups` (tables of names to integers), all six, perhaps `members` (a table of
-    /// names of groups to arrays of names of users), and no others.
+    /// Reads a book from TOML. It has all six of the keys `domain` (a text), `root_owner`,
+    /// `root_group` and `root_mode` (integers), `users` and `groups` (tables of names to integers).
+    /// It may have `members` (a table of names of groups to arrays of names of users), and no
+    /// others.
     ///
-    /// Numbers go from 0 to 4294967295 and modes to 0o7777. The domain has 1 to 128 bytes of UTF-8, a name 1 to
-    /// 64, neither with an `@`, and a name isn't of ASCII digits alone. A table has at most 1,024 names, and no
-    /// two of one number. `members` names only groups and users of the two tables, no user twice in one array, and none
-    /// in more than 17 groups. The fault is the first in the order of `BookFault`, over the whole text.
+    /// Numbers go from 0 to 4294967295 and modes to 0o7777. The domain has 1 to 128 bytes of UTF-8,
+    /// a name 1 to 64, neither with an `@`. A name isn't of ASCII digits alone. A table has at most
+    /// 1,024 names, and no two of one number. `members` names only groups and users of the two
+    /// tables, no user twice in one array, and none in more than 17 groups. The fault is the first
+    /// in the order of `BookFault`, over the whole text.
     pub fn read(alloc: Global, text: &str) -> Result<Book, BookFault>
         ensures answer { Answers text.now result }
         ensures book { IfOk result IsBook }
@@ -172,10 +175,11 @@ impl Book {
         }
     }
 
-    /// The caller by the book. Where the book has `members`, the caller's groups are those whose array has the name of its
-    /// user, and none where the user has no name, in place of the groups that it sent; its gid is the gid that it sent if
-    /// that is among them, else the least of them, else 65534, which then gives no membership. Without `members` it is
-    /// the caller as sent. It takes no memory.
+    /// The caller by the book. Where the book has `members`, the caller's groups are those whose
+    /// array has the name of its user, in place of the groups that it sent. They are none where the
+    /// user has no name. Its gid is the gid that it sent if that is among them, else the least of
+    /// them, else 65534, which then gives no membership. Without `members` it is the caller as
+    /// sent. It takes no memory.
     pub fn member(&self, caller: &Caller) -> Caller
         ensures { result ≡ member self.now caller.now }
     {

@@ -5,8 +5,9 @@ ghost use Rattle.who_book.specs.declared.fault.BookFault.TheVariants.{Memory};
 use std::alloc::{AllocError, AllocFailed};
 use thiserror::Error;
 
-/// The fault of a text that is no book: the first of these over the whole text, so that a wrong type at its end comes
-/// before a number out of range at its beginning. `Memory` may be given in place of any of them, and of a book.
+/// The fault of a text that is no book: the first of these over the whole text. So a wrong type at
+/// its end comes before a number out of range at its beginning. `Memory` may be given in place of
+/// any of them, and of a book.
 #[derive(Clone, Copy, Debug, PartialEq, Eq, Error)]
 pub enum BookFault {
     /// The text is no TOML.

@@ -85,7 +85,8 @@ impl Members {
         Ok(members)
     }
 
-    /// Puts users into a group that none is in. `Member` where a name has no number, is there twice, or is in 17 groups.
+    /// Puts users into a group that none is in. `Member` where a name has no number, is there
+    /// twice, or is in 17 groups.
     fn enroll(&mut self, users: &Names, gid: u32, names: &[&str]) -> Result<(), BookFault>
         requires fresh { (n : ℕ) → has_group (groups_in self.old n) gid ≡ false }
         requires few { (n : ℕ) → length (groups_in self.old n) ≤ MOST_GROUPS }

@@ -56,7 +56,8 @@ pub struct Outline<'a> {
 
 impl<'a> Outline<'a> {
     #[tactic(auto, unfolding(crate::specs::Document::outline))]
-    /// The values of the keys. `Shape` where a key but `members` is missing, a key is unknown, or a value has another type.
+    /// The values of the keys. `Shape` where a key but `members` is missing, a key is unknown, or a
+    /// value has another type.
     pub fn of(alloc: Global, table: &'a Table) -> Result<Self, BookFault>
         ensures found { Finds outline_of result (outline (table_view table.now)) }
         ensures users_ascend { IfOk result (λ said. IsAscending (rows_of said.users.items)) }
@@ -174,7 +175,7 @@ fn is_up_to(integer: i64, limit: u32) -> bool
     (0..=i64::from(limit)).contains(&integer)
 }
 
-/// Whether a text is not empty, has at most so many bytes and no `@`.
+/// Whether a text is not empty, and has at most `most` bytes and no `@`.
 fn is_word(text: &str, most: usize) -> bool
     ensures { result ≡ is_word most text.now }
 {

@@ -33,9 +33,10 @@ impl NameKind {
 }
 
 impl Book {
-    /// The user or the group of a text: `name@domain` with a name of the kind's table and the book's
-    /// domain, by their exact bytes, or the number in decimal digits without leading zeros, whether it has a
-    /// name or not. None where the text is neither, which an NFS server answers with NFS4ERR_BADOWNER.
+    /// The user or the group of a text: `name@domain` with a name of the kind's table and the
+    /// book's domain, by their exact bytes. It may also be the number in decimal digits without
+    /// leading zeros, whether it has a name or not. None where the text is neither, which an NFS
+    /// server answers with NFS4ERR_BADOWNER.
     #[tactic(auto, unfolding(crate::specs::Spelling::principal_in))]
     pub fn principal(&self, kind: NameKind, text: &[u8]) -> Option<u32>
         ensures value { result ≡ principal_in kind self.now text.now }
@@ -65,8 +66,9 @@ impl Book {
         }
     }
 
-    /// The who of a text in an entry with these flags: `OWNER@`, `GROUP@` and `EVERYONE@` whatever the
-    /// flags, else a group under IDENTIFIER_GROUP and a user without it, as `principal` reads them.
+    /// The who of a text in an entry with these flags. It is `OWNER@`, `GROUP@` and `EVERYONE@`
+    /// whatever the flags, else a group under IDENTIFIER_GROUP and a user without it, as
+    /// `principal` reads them.
     #[tactic(auto, unfolding(crate::specs::Spelling::who_in))]
     pub fn who(&self, flags: u32, text: &[u8]) -> Option<Who>
         ensures { result ≡ who_in flags self.now text.now }

@@ -23,7 +23,7 @@ boolean_shortens bytes x e = let t = boolean_takes bytes x e in omega (arith, ap
 abbrev pub onto : {V : Type 0} → V → List V × List ℕ → Read (List V)
 onto v xs = Ok (v ∷ xs.0, xs.1)
 
--- one link, and what comes behind it by f
+-- one link, and what comes after it by f
 abbrev pub links_by : {V : Type 0} → (List ℕ → Read V) → (List ℕ → Read (List V)) → List ℕ → Read (List V)
 links_by read f bytes = boolean_at bytes >>= linked (λ rest. read rest >>= λ x. f x.1 >>= onto x.0)
 
@@ -54,7 +54,7 @@ pub chain_step : (t : Xdr) (bytes : List ℕ) → read_at (chain t) bytes ≡ li
 chain_step t [] = refl
 chain_step t (b ∷ bytes) = agree (read_at t) (read_shortens t) (links_at (read_at t) (length bytes)) (read_at (chain t)) (b ∷ bytes) (λ c lt. more_steps (read_at t) (read_shortens t) (length bytes) (length c) c (omega (arith, lt)) (omega arith))
 
--- an option that was read, and what comes behind it by f
+-- an option that was read, and what comes after it by f
 abbrev pub chained : {V : Type 0} → (List ℕ → Read (List V)) → Option V × List ℕ → Read (List V)
 chained f (None, rest) = Ok ([], rest)
 chained f (Some v, rest) = f rest >>= onto v
@@ -68,7 +68,7 @@ option_link read f (Ok (false, rest)) = refl
 option_link read f (Ok (true, rest)) = option_item f (read rest)
 option_link read f (Err e) = refl
 
--- a chain is optional data, and a chain behind it where there is some
+-- a chain is optional data, and a chain after it where there is some
 pub chain_by_options : (t : Xdr) (bytes : List ℕ) → read_at (chain t) bytes ≡ (read_at (optional t) bytes >>= chained (read_at (chain t)))
 chain_by_options t bytes = chain_step t bytes ∙ option_link (read_at t) (read_at (chain t)) (boolean_at bytes)
 

@@ -7,7 +7,7 @@ use Rattle.xdr_wire.specs.Wire.{Normal, normalized, each}
 use Rattle.xdr_wire.proofs.Normal.{each_is}
 use Rattle.xdr_wire.specs.Buffer.{Buffer, Appends, Puts}
 
--- Some of the items are written behind the beginning, and these are left.
+-- Some of the items are written after the beginning, and these are left.
 pub record Going {V : Type 0} (spelling_of : V → List ℕ) (fits : V → Type 0) (old : Buffer) (begin : List ℕ) (all : List V) (now : Buffer) (left : List V) : Type 0 where
   pub behind : List ℕ
   pub so_far : now.bytes ≡ old.bytes ++ behind
@@ -43,7 +43,7 @@ same_buffer a b p q =
     let bytes_then : a ≡ record { bytes = b.bytes; room = a.room } = ap (λ (x : List ℕ). let y : Buffer = record { bytes = x; room = a.room } in y) p in
     bytes_then ∙ ap (λ (n : ℕ). let y : Buffer = record { bytes = b.bytes; room = n } in y) q
 
--- what was written is cut off again
+-- the bytes that were written are cut off again
 pub restored : {V : Type 0} (spelling_of : V → List ℕ) (fits : V → Type 0) (old now cut : Buffer) (begin : List ℕ) (all left : List V)
     → Going spelling_of fits old begin all now left → cut.bytes ≡ take (length old.bytes) now.bytes → cut.room + length old.bytes ≡ now.room + length now.bytes → cut ≡ old
 restored spelling_of fits old now cut begin all left h bytes room =

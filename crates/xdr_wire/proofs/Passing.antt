@@ -8,7 +8,7 @@ use Rattle.xdr_wire.proofs.Normal.{normal_ok, normal_err, within_is, each_is}
 use Rattle.xdr_wire.proofs.Items.{with_front, goes_on, ends, is_done}
 use Rattle.xdr_wire.proofs.Chains.{onto, chain_by_options, none_is_not_some}
 
--- the whole is some items, and behind them what is left
+-- the whole is some items, and after them what is left
 pub record ComesAfter {V : Type 0} (total left : Read (List V)) : Type 0 where
   pub front : List V
   pub joined : with_front front left ≡ total

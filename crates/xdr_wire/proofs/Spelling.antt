@@ -1,4 +1,5 @@
--- A value that is read is spelled by the bytes it was read from, and a spelling is read as its value: for every type at once.
+-- A value that is read is spelled by the bytes it was read from. A spelling is read as its value.
+-- Both hold for every type at once.
 use Rattle.std.proofs.Common.{◌≡◌, ◌≢◌, ◌≤◌, ℕ, ℤ, zero, suc, Bool, true, false, cond, eqb, List, [], ◌∷◌, ◌++◌, length, Option, Some, None, Ok, refl, sym, ap, subst, ◌∙◌, append_assoc, arith, ◌<◌, ◌^◌, lit<, ◌⊎◌, inl, inr}
 use Rattle.std.proofs.lemmas.Bool.{eqb-true, eqb-false, eq-eqb, ne_eqb}
 use Rattle.std.specs.Int.{Width, w32, w64, byte_len, from_be_bytes, to_be_bytes, cast_unsigned}
@@ -58,7 +59,7 @@ optional_takes t one true bytes middle x first e =
     subst (λ (y : Option (Value t) × List ℕ). Takes (Spells (optional t) y.0) bytes y.1) (ok_is made x a.2)
     (Takes-then (IsNumber w32 1) (Spells t a.0.0) bytes middle a.0.1 first (one middle a.0 a.1))
 
--- behind the flag
+-- after the flag
 linked_takes : {V : Type 0} (read : List ℕ → Read V) (spells : V → List ℕ → Type 0) (n : ℕ) → TakesAll read spells → TakesAll (links_at read n) (AreLinks spells) → (b : Bool) (bytes middle : List ℕ) (x : List V × List ℕ)
     → Takes (IsNumber w32 (number_of_bool b)) bytes middle → linked (λ rest. read rest >>= λ y. links_at read n y.1 >>= λ ys. Ok (y.0 ∷ ys.0, ys.1)) (b, middle) ≡ Ok x → Takes (AreLinks spells x.0) bytes x.1
 linked_takes {V} read spells n one more false bytes middle x first e =

@@ -28,7 +28,7 @@ done x = Ok x
 pub ok_is : {A : Type 0} (x y : A) → done x ≡ done y → x ≡ y
 ok_is x y e = cc
 
--- what a reader took from the front, where the parts that it may take meet P
+-- a reader took this from the front, where the parts that it may take meet P
 pub record Takes (P : List ℕ → Type 0) (bytes rest : List ℕ) : Type 0 where
   pub front : List ℕ
   pub taken : P front

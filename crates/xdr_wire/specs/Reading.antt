@@ -12,7 +12,7 @@ abbrev pub ◌>>=◌ : {A B : Type 0} → Result A XdrFault → (A → Result B 
 (Ok x) >>= f = f x
 (Err e) >>= f = Err e
 
--- a value, and the bytes behind it; or the first fault
+-- a value, and the bytes after it; or the first fault
 abbrev pub Read : Type 0 → Type 0
 Read V = Result (V × List ℕ) XdrFault
 
@@ -43,7 +43,7 @@ boolean_at bytes = number_at w32 bytes >>= boolean_from
 abbrev pub count_at : ℕ → List ℕ → Read ℕ
 count_at max bytes = number_at w32 bytes >>= λ n. if nat_lt max n.0 then Err TooLong else Ok n
 
--- what stands behind a count or a length, by it
+-- a value that stands after a count or a length, read by it
 abbrev pub counted : {V : Type 0} → ℕ → (ℕ → List ℕ → Read V) → List ℕ → Read V
 counted max body bytes = count_at max bytes >>= λ n. body n.0 n.1
 
@@ -55,12 +55,13 @@ abbrev pub optional_from : {V : Type 0} → (List ℕ → Read V) → Bool × Li
 optional_from item (false, rest) = Ok (None, rest)
 optional_from item (true, rest) = item rest >>= λ x. Ok (Some x.0, x.1)
 
--- behind a true the list goes on, and a false ends it
+-- after a true the list goes on, and a false ends it
 abbrev pub linked : {V : Type 0} → (List ℕ → Read (List V)) → Bool × List ℕ → Read (List V)
 linked onward (false, rest) = Ok ([], rest)
 linked onward (true, rest) = onward rest
 
--- Items behind one another's links. Each link is four bytes, so that there are fewer links than bytes.
+-- Items after one another's links. Each link is four bytes, so that there are fewer links than
+-- bytes.
 abbrev pub links_at : {V : Type 0} → (List ℕ → Read V) → ℕ → List ℕ → Read (List V)
 links_at item zero bytes = Err Short
 links_at item (suc n) bytes = boolean_at bytes >>= linked (λ rest. item rest >>= λ x. links_at item n x.1 >>= λ xs. Ok (x.0 ∷ xs.0, xs.1))
@@ -81,7 +82,7 @@ abbrev mutual
   read_at (chain t) bytes = links_at (read_at t) (length bytes) bytes
   read_at (union a) bytes = number_at w32 bytes >>= λ d. read_arm a d.0 d.1
 
-  -- behind the discriminant d
+  -- after the discriminant d
   pub read_arm : (a : Arms) → ℕ → List ℕ → Read (ArmValue a)
   read_arm no_more d bytes = Err BadChoice
   read_arm (arm n t others) d bytes =

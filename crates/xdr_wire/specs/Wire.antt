@@ -3,7 +3,8 @@ use Rattle.std.specs.Prelude.{◌≡◌, ◌∷◌, [], List, ℕ, Ok, Err, Opti
 use Rattle.xdr_wire.specs.Xdr.{Xdr, Value, chain}
 use Rattle.xdr_wire.specs.Reading.{◌>>=◌, Read, read_at, items_at}
 
--- Values that mean one thing have one normal form, as where a field is ignored. Mostly each value is its own: then there is none to take.
+-- Values that mean one thing have one normal form, as where a field is ignored. Mostly each value
+-- is its own: then there is none to take.
 abbrev pub Normal : Type 0 → Type 0
 Normal V = Option (V → V)
 
@@ -11,7 +12,7 @@ abbrev pub normalized : {V : Type 0} → Normal V → V → V
 normalized None v = v
 normalized (Some f) v = f v
 
--- what reading gives, with each value in its normal form
+-- the result of reading, with each value in its normal form
 abbrev pub in_normal_form : {V : Type 0} → Normal V → Read V → Read V
 in_normal_form None read = read
 in_normal_form (Some f) read = read >>= λ x. Ok (f x.0, x.1)

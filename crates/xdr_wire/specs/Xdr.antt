@@ -18,19 +18,19 @@ mutual
     -- opaque[n] (4.9), and opaque<max> (4.10) or string<max> (4.11)
     fixed : ℕ → Xdr
     opaque : ℕ → Xdr
-    -- two fields of a struct, one behind the other (4.14)
+    -- two fields of a struct, one after the other (4.14)
     pair : Xdr → Xdr → Xdr
     -- t[n] (4.12), and t<max> (4.13)
     fixed_array : ℕ → Xdr → Xdr
     array : ℕ → Xdr → Xdr
     -- *t (4.19)
     optional : Xdr → Xdr
-    -- a list by optional data that links on (4.19): each item behind a true, a false at the end
+    -- a list by optional data that links on (4.19): each item after a true, a false at the end
     chain : Xdr → Xdr
     -- union switch (unsigned int) (4.15)
     union : Arms → Xdr
 
-  -- what stands behind each discriminant of a union
+  -- the fields that stand after each discriminant of a union
   pub data Arms : Type 0 where
     no_more : Arms
     -- case n: t
@@ -66,7 +66,7 @@ abbrev mutual
   ArmValue (arm n t others) = Value t ⊎ ArmValue others
   ArmValue (otherwise t) = ℕ × Value t
 
--- what two parts spell, one behind the other
+-- the bytes of a first part, and then those of a second
 pub record Follows (First Second : List ℕ → Type 0) (bytes : List ℕ) : Type 0 where
   pub front : List ℕ
   pub back : List ℕ
@@ -84,7 +84,7 @@ pub record IsInteger (w : Width) (z : ℤ) (bytes : List ℕ) : Type 0 where
   pub len : length bytes ≡ byte_len w
   pub value : cast_signed w (from_be_bytes w bytes) ≡ z
 
--- how many zero bytes stand behind n bytes (section 3)
+-- how many zero bytes stand after n bytes (section 3)
 abbrev pub padding : ℕ → ℕ
 padding n = (4 - n % 4) % 4
 
@@ -95,12 +95,12 @@ padded item = item ++ replicate (padding (length item)) 0
 abbrev pub IsPadded : List ℕ → List ℕ → Type 0
 IsPadded item bytes = bytes ≡ padded item
 
--- items, one behind the other
+-- items, one after the other
 abbrev pub AreItems : {V : Type 0} → (V → List ℕ → Type 0) → List V → List ℕ → Type 0
 AreItems spells [] bytes = bytes ≡ []
 AreItems spells (v ∷ vs) bytes = Follows (spells v) (AreItems spells vs) bytes
 
--- items, each behind a true, and a false behind the last
+-- items, each after a true, and a false after the last
 abbrev pub AreLinks : {V : Type 0} → (V → List ℕ → Type 0) → List V → List ℕ → Type 0
 AreLinks spells [] bytes = IsNumber w32 0 bytes
 AreLinks spells (v ∷ vs) bytes = Follows (IsNumber w32 1) (Follows (spells v) (AreLinks spells vs)) bytes
@@ -133,14 +133,14 @@ abbrev mutual
   Spells (chain t) vs bytes = AreLinks (Spells t) vs bytes
   Spells (union a) v bytes = (d : ℕ) × Follows (IsNumber w32 d) (SpellsArm a v d) bytes
 
-  -- behind the discriminant d the bytes spell the value, in the first arm of d
+  -- after the discriminant d the bytes spell the value, in the first arm of d
   pub SpellsArm : (a : Arms) → ArmValue a → ℕ → List ℕ → Type 0
   SpellsArm no_more v d bytes = ⊥
   SpellsArm (arm n t others) (inl v) d bytes = (d ≡ n) × Spells t v bytes
   SpellsArm (arm n t others) (inr v) d bytes = (d ≢ n) × SpellsArm others v d bytes
   SpellsArm (otherwise t) v d bytes = (d ≡ v.0) × Spells t v.1 bytes
 
--- a spelling of the value stands at the front of the bytes, and the rest is behind it
+-- a spelling of the value stands at the front of the bytes, and the rest is after it
 pub record Begins (t : Xdr) (v : Value t) (bytes rest : List ℕ) : Type 0 where
   pub front : List ℕ
   pub spelled : Spells t v front

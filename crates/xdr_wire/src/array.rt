@@ -50,7 +50,7 @@ impl<'a, T: Wire<'a>> Wire<'a> for AtMostOne<T> {
 pub struct Array<'a, T: Wire<'a>, const MAX: u32> {
     /// The number of items that are left.
     pub count: u32,
-    /// Their spellings, one behind the other, and maybe more bytes.
+    /// Their spellings, one after the other, and maybe more bytes.
     pub bytes: &'a [u8],
     of: PhantomData<T>,
     ghost within: { count ≤ MAX },
@@ -83,7 +83,7 @@ impl<'a, T: Wire<'a>, const MAX: u32> Array<'a, T, MAX> {
     }
 }
 
-/// Reads over items, one behind the other.
+/// Reads over items, one after the other.
 fn pass_items<'a, T: Wire<'a>>(reader: &mut Reader<'a>, count: u32) -> Result<(), XdrFault>
     ensures { Gives (λ _. values_of (items_at (read_at T.form) count reader.old)) reader.old reader.new result (items_at (read_at T.form) count reader.old) }
 {

@@ -5,8 +5,8 @@ use crate::wire::{Spell, Wire};
 use crate::writer::{Full, Writer};
 use std::alloc::Allocator;
 
-/// Two fields, one behind the other: a struct is a pair of its first field and the struct of the others
-/// (RFC 4506, section 4.14).
+/// Two fields, one after the other. A struct is a pair of its first field and the struct of the
+/// others (RFC 4506, section 4.14).
 impl<S: Spell, T: Spell> Spell for (S, T) {
     ghost use Rattle.xdr_wire.specs.Xdr.{pair};
     ghost use Rattle.xdr_wire.specs.Wire.{both};

@@ -4,7 +4,7 @@ use thiserror::Error;
 /// The fault of bytes that spell no value of a type: the first from the left (RFC 4506).
 #[derive(Clone, Copy, Debug, PartialEq, Eq, Error)]
 pub enum XdrFault {
-    /// The bytes end inside an item, or inside the padding behind it.
+    /// The bytes end inside an item, or inside the padding after it.
     #[error("the bytes end inside an item")]
     Short = 1,
     /// A boolean is neither 0 nor 1 (section 4.4).

@@ -28,7 +28,7 @@ pub fn a_value_has_one_spelling()
     ensures { (t : Xdr) (v : Value t) (bytes : List ℕ) → AreBytes bytes → Spells t v bytes → bytes ≡ spelling t v }
 {}
 
-/// The bytes written are read again as the value, whatever stands behind them.
+/// The bytes written are read again as the value, whatever stands after them.
 pub fn what_is_written_is_read()
     ensures { (t : Xdr) (v : Value t) (rest : List ℕ) → HasSpelling t v → read_at t (spelling t v ++ rest) ≡ Ok (v, rest) }
 {}

@@ -22,7 +22,7 @@ impl<'a> Model for Reader<'a> {
     ghost view = { λ r. r.rest.now };
 }
 
-/// The number of zero bytes behind an item of this many bytes (RFC 4506, section 3).
+/// The number of zero bytes after an item of this many bytes (RFC 4506, section 3).
 pub(crate) fn padding_of(len: usize) -> usize
     ensures { result ≡ padding len }
 {
@@ -35,7 +35,7 @@ fn are_zero(bytes: &[u8]) -> bool
     bytes.iter().all(|b| *b == 0)
 }
 
-/// An item of this length and its padding, and the bytes behind them.
+/// An item of this length and its padding, and the bytes after them.
 #[tactic(auto, unfolding(crate::specs::Reading::padded_at))]
 fn split_padded(bytes: &[u8], len: usize) -> Result<(&[u8], &[u8]), XdrFault>
     ensures gives { MatchResult result (λ x. padded_at len bytes.now ≡ Ok (x.0.now, x.1.now)) (λ e. padded_at len bytes.now ≡ Err e) }
@@ -167,9 +167,9 @@ impl<'a> Reader<'a> {
         Ok(item)
     }
 
-    /// Opaque data of at most `max` bytes, behind its length (section 4.10). In this order: `Short` where the length is
-    /// missing, `TooLong` where it is above `max`, `Short` where bytes or padding are missing, `BadPad` where the
-    /// padding isn't zero.
+    /// Opaque data of at most `max` bytes, after its length (section 4.10). The faults come in this
+    /// order: `Short` where the length is missing, `TooLong` where it is above `max`. Then `Short`
+    /// where bytes or padding are missing, `BadPad` where the padding isn't zero.
     pub fn opaque(&mut self, max: usize) -> Result<&'a [u8], XdrFault>
         ensures gives { Gives (λ x. x.now) self.old self.new result (read_at (opaque max) self.old) }
         ensures within { IfOk result (λ x. length x.now ≤ max) }

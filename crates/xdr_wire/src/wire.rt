@@ -19,8 +19,8 @@ pub trait Spell: Sized + Drop {
     // the value of the XDR type that is written
     ghost view: { Self → Value form };
 
-    // Values of the XDR type that mean one thing have one normal form, as where a field is ignored: `None` where each
-    // value is its own.
+    // Values of the XDR type that mean one thing have one normal form, as where a field is ignored.
+    // It is `None` where each value is its own.
     ghost normal: { Normal (Value form) };
 
     /// Writes the spelling of the value, or nothing: `Full` exactly where the room is less than the spelling takes.

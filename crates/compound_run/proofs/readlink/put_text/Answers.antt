@@ -1,4 +1,4 @@
--- The text stands behind number and status.
+-- The text stands after number and status.
 use Rattle.std.proofs.Common.{◌≡◌, length, ◌++◌, refl, ap, subst, arith}
 use Rattle.std.specs.Int.{w32, to_be_bytes}
 use Rattle.xdr_wire.specs.Buffer.{Appends}

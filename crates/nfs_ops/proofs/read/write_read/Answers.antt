@@ -1,4 +1,4 @@
--- The bytes stand behind number, status and eof.
+-- The bytes stand after number, status and eof.
 use Rattle.std.proofs.Common.{length, ◌++◌, ap, arith}
 use Rattle.std.proofs.lemmas.List.{length-append}
 use Rattle.std.specs.Int.{w32, to_be_bytes}

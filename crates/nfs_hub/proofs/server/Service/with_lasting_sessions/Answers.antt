@@ -7,7 +7,7 @@ use Rattle.compound_run.specs.Known.{Known, opens_fit}
 use Rattle.nfs_hub.specs.Answer as answers
 use Rattle.nfs_hub.proofs.server.Service.with_lasting_sessions.Goals as goal
 
--- what isn't a misfit is want of memory
+-- a fault other than a misfit is want of memory
 wants_memory : {T : Type 0} (r : Result T RestoreFault) → (r ≡ Err Misfit → ⊥) → IsOkUnless r Memory
 wants_memory (Ok x) fits = tt
 wants_memory (Err Memory) fits = refl
