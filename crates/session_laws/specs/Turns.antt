@@ -1,0 +1,145 @@
+-- Turns of a server that keeps sessions, and restarts between them (RFC 8881, section 2.10.6.5). A turn runs calls on
+-- many slots, which change one world. Then it is stored whole, or not at all; and then its replies are sent.
+use Rattle.std.specs.Prelude.{◌≡◌, ◌≢◌, ◌⊎◌, ℕ, ◌<◌, Bool, true, false, List, [], ◌∷◌, length, Option, Some}
+use Rattle.session_slots.specs.declared.slot.Turn.{Turn}
+use Rattle.session_slots.specs.declared.slot.Turn.TheVariants as turns
+use Rattle.session_slots.specs.Limits.{WRITTEN_EVERY}
+use Rattle.session_slots.specs.Counting.{ahead, last_number}
+use Rattle.session_slots.specs.Slots.{Call, Kept, number_of, turn_of}
+use Rattle.session_slots.specs.Acting.{Memory, Entry, State, unused, Sends, begun_again}
+
+-- A server between two turns, and the world as it was stored last. A slot has its stored call beside the one that it
+-- keeps.
+pub record Server (World : Type 0) : Type 0 where
+  pub now : State World
+  pub stored : World
+
+-- no call was sent, and the world is stored
+abbrev pub begun : {World : Type 0} → World → Server World
+begun w = record { now = unused w; stored = w }
+
+-- ---- what is stored, and when
+
+-- How a slot is once a turn is stored. What is known of a turn that isn't: from which world to which each call leads
+-- that is run in it; and how near the stored call of each slot then is to the one that the slot keeps.
+pub record Rule (World : Type 0) : Type 1 where
+  pub settled : Memory → Memory
+  pub leaves : World → World → Type 0
+  pub near : Option Kept → Option Kept → Type 0
+
+-- with the call that it keeps
+abbrev pub with_kept : Memory → Memory
+with_kept m = record m { stored = m.kept }
+
+-- fewer than 2^20 calls came after the stored one, modulo 2^32
+abbrev pub IsNear : Option Kept → Option Kept → Type 0
+IsNear stored kept =
+    (stored ≡ kept) ⊎ (ahead (last_number number_of stored) (last_number number_of kept) < WRITTEN_EVERY)
+
+-- Some changes are noted: of each call of a turn in which nothing was noted, this is known.
+abbrev pub some_noted : {World : Type 0} → (World → World → Type 0) → Rule World
+some_noted leaves = record { settled = with_kept; leaves = leaves; near = IsNear }
+
+-- Each change is noted: where nothing was noted, each call has left the world as it was.
+abbrev pub all_noted : (World : Type 0) → Rule World
+all_noted World = some_noted (λ old new. new ≡ old)
+
+-- A turn has fewer calls: it is given at most 65,536 bytes of each of 16 connections, which are 2^20 bytes in all. This
+-- is a part of the rule, since numbers are modulo 2^32: after 2^32 calls in one turn a slot would seem to be near.
+abbrev pub MOST_IN_TURN : ℕ
+MOST_IN_TURN = 1048576
+
+-- After these calls nothing has to be stored.
+pub record MayWait {World : Type 0} (rule : Rule World) (calls : List (ℕ × Call)) (stored : World)
+    (s : State World) : Type 0 where
+  pub world : s.world ≡ stored
+  pub near : (slot : ℕ) → rule.near (s.slots slot).stored (s.slots slot).kept
+  pub few : length calls < MOST_IN_TURN
+
+-- ---- a turn
+
+-- A new call on a slot is run, and kept with its results. It counts as written where the turn is stored.
+pub record RunsIn {World : Type 0} (rule : Rule World) (run : Call → World → List ℕ → World → Type 0) (stores : Bool)
+    (slot : ℕ) (call : Call) (old new : State World) : Type 0 where
+  pub results : List ℕ
+  pub before : List Entry
+  pub sent : Sends slot old.calls call.number before
+  pub ran : run call old.world results new.world
+  pub leaves : stores ≡ false → rule.leaves old.world new.world
+  pub stands : new.calls
+      ≡ record { slot = slot; kept = record { call = call; results = results }; written = stores } ∷ before
+  pub memory : new.slots slot ≡ record {
+    lags = false;
+    kept = Some (record { call = call; results = results });
+    stored = (old.slots slot).stored;
+  }
+  pub others : (other : ℕ) → other ≢ slot → new.slots other ≡ old.slots other
+
+-- a call by its turn on the slot: only a new one is run
+abbrev pub TakesIn : {World : Type 0} → Rule World → (Call → World → List ℕ → World → Type 0) → Bool → Turn →
+    ℕ → Call → State World → State World → Type 0
+TakesIn rule run stores turns.New slot call old new = RunsIn rule run stores slot call old new
+TakesIn rule run stores turns.Repeat slot call old new = new ≡ old
+TakesIn rule run stores (turns.Refused status) slot call old new = new ≡ old
+
+-- the calls of a turn, each on its slot, one after the other
+abbrev pub Runs : {World : Type 0} → Rule World → (Call → World → List ℕ → World → Type 0) → Bool →
+    List (ℕ × Call) → State World → State World → Type 0
+Runs rule run stores [] old new = new ≡ old
+Runs {World} rule run stores (c ∷ calls) old new =
+    (mid : State World)
+    × TakesIn rule run stores (turn_of (old.slots c.0).lags (old.slots c.0).kept c.1) c.0 c.1 old mid
+    × Runs rule run stores calls mid new
+
+-- the world is stored, and the slots with it
+abbrev pub all_stored : {World : Type 0} → Rule World → State World → Server World
+all_stored rule s = record { now = record s { slots = λ slot. rule.settled (s.slots slot) }; stored = s.world }
+
+-- how a turn ends, before its replies are sent
+abbrev pub Ends : {World : Type 0} → Rule World → Bool → List (ℕ × Call) → World → State World →
+    Server World → Type 0
+Ends rule true calls stored s new = new ≡ all_stored rule s
+Ends rule false calls stored s new = MayWait rule calls stored s × (new ≡ record { now = s; stored = stored })
+
+-- ---- turns and restarts
+
+-- what a restart finds: the world and the slots as they were stored; and each slot lags
+abbrev pub found : {World : Type 0} → Server World → Server World
+found server = record server {
+  now = record server.now { world = server.stored; slots = λ slot. begun_again (server.now.slots slot) };
+}
+
+-- A turn of these calls, and whether it is stored; or a restart. A turn that a crash cuts off before it is stored has
+-- not come: none of its replies was sent, and nothing of it is found. So that is a restart before the turn. A crash
+-- between the storing of a turn and its replies is a restart after the turn.
+pub data Event : Type 0 where
+  Serves : List (ℕ × Call) → Bool → Event
+  Restarts : Event
+
+abbrev pub Step : {World : Type 0} → Rule World → (Call → World → List ℕ → World → Type 0) → Event →
+    Server World → Server World → Type 0
+Step {World} rule run (Serves calls stores) old new =
+    (s : State World) × Runs rule run stores calls old.now s × Ends rule stores calls old.stored s new
+Step rule run Restarts old new = new ≡ found old
+
+abbrev pub Steps : {World : Type 0} → Rule World → (Call → World → List ℕ → World → Type 0) → List Event →
+    Server World → Server World → Type 0
+Steps rule run [] old new = new ≡ old
+Steps {World} rule run (event ∷ events) old new =
+    (mid : Server World) × Step rule run event old mid × Steps rule run events mid new
+
+-- ---- worlds that don't come back
+
+-- calls lead from one world to another, and this is known of each
+abbrev pub Leads : {World : Type 0} → (Call → World → List ℕ → World → Type 0) → (World → World → Type 0) → List Call →
+    World → World → Type 0
+Leads run leaves [] old new = new ≡ old
+Leads {World} run leaves (call ∷ calls) old new =
+    (results : List ℕ) × (mid : World) × run call old results mid × leaves old mid × Leads run leaves calls mid new
+
+-- After a call that changed the world, further calls of a turn in which nothing is noted never lead back to it.
+abbrev pub NeverReturns : {World : Type 0} → (Call → World → List ℕ → World → Type 0) → (World → World → Type 0) →
+    Type 0
+NeverReturns {World} run leaves =
+    (call : Call) (results : List ℕ) (calls : List Call) (old new : World) → length calls < MOST_IN_TURN →
+    run call old results new → leaves old new → Leads run leaves calls new old → new ≡ old
