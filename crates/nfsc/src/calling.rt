@@ -76,7 +76,8 @@ fn may_leave(op: u32) -> bool {
     op == OP_WRITE || op == OP_SETATTR || op == OP_CLOSE
 }
 
-/// Makes bytes those of a file. Where the server refused some of them, it is said how many the file has.
+/// Makes bytes those of a file. Where the server refused some of them, it is said how many the file has. Where it said nothing
+/// any more, it is said that they may be there in part.
 fn send<S: Read + Write, R: Eprint>(
     client: &mut Client<S>,
     voice: Voice<'_, R>,
@@ -90,7 +91,12 @@ fn send<S: Read + Write, R: Eprint>(
             }
             Err(Fault::Tool(fault))
         }
-        Err(fault) => Err(Fault::Tool(fault)),
+        Err(fault) => {
+            if is_of_stream(fault) {
+                voice.say_part(path);
+            }
+            Err(Fault::Tool(fault))
+        }
         Ok(()) => Ok(()),
     }
 }
@@ -139,7 +145,7 @@ fn done<S: Read + Write, R: Print + Eprint>(
         }
         Task::Wish(Wish::Copy(old, new)) => {
             let bytes = client.cat(old)?;
-            client.put(new, bytes.as_slice())?;
+            send(client, voice, new, bytes.as_slice())?;
             Ok(Answer::Done)
         }
         Task::Question(question) => Ok(Answer::Text(answered(client, alloc, question)?)),

@@ -52,6 +52,15 @@ impl<R: Eprint> Voice<'_, R> {
         let _ = eprintln!(rt; "nfsc: {place}{} has {size} bytes now", Shown(path));
     }
 
+    /// Says that a file may have only a part of what was sent.
+    pub(crate) fn say_part(&self, path: &[u8]) {
+        let (rt, place) = (self.rt, self.place);
+        let _ = eprintln!(rt;
+            "nfsc: {place}{} may have only a part of the bytes now",
+            Shown(path)
+        );
+    }
+
     /// Says how many objects of all are done, on a line that the next one takes the place of.
     fn say_done(&self, done: usize, all: usize) {
         let rt = self.rt;

@@ -10,6 +10,7 @@ mod batch;
 mod bytes;
 mod calling;
 mod deep;
+mod descriptors;
 mod facl;
 mod fault;
 mod given;
@@ -32,6 +33,7 @@ mod wish;
 
 use anyhow::Result;
 use around::Around;
+use descriptors::stand_in;
 use given::value_of;
 use grouped::groups_in;
 use helping::{Help, Usages};
@@ -214,6 +216,7 @@ fn run_all(rt: &HostRuntime) -> Result<ExitCode> {
 }
 
 fn main(rt: HostRuntime) -> ExitCode {
+    let _stand_ins = [stand_in(&rt), stand_in(&rt), stand_in(&rt)];
     match run_all(&rt) {
         Ok(status) => status,
         Err(error) => {
