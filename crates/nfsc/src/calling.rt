@@ -1,6 +1,6 @@
 //! A session of its own with the server, and what is done in it.
 use crate::around::Around;
-use crate::deep::Voice;
+use crate::deep::{Deep, Manner, Voice};
 use crate::facl::Change;
 use crate::fault::Fault;
 use crate::grouped::Grouped;
@@ -32,6 +32,8 @@ pub(crate) enum Task<'a> {
     Question(Question<'a>),
     /// A change of the list of an object, and whether it is forced.
     Facl(&'a [u8], (Change<'a>, bool), &'a Around),
+    /// A command over the object of a path and all below it.
+    Deep((Deep<'a>, Manner, &'a [u8]), &'a Around),
 }
 
 /// A question on the rights of a user, or of all users of the book, on the object of a path.
@@ -120,9 +122,7 @@ fn done<S: Read + Write, R: Print + Eprint>(
             deep::make_all(client, path)?;
             Ok(Answer::Done)
         }
-        Task::Wish(Wish::Deep { deep, is_dry, path }) => {
-            deep::run(client, voice, alloc, (deep, is_dry), path)
-        }
+        Task::Deep(asked, around) => deep::run(client, voice, alloc, around, asked),
         Task::Wish(Wish::List(path)) => deep::list_one(client, alloc, path),
         Task::Wish(Wish::PathOf(number)) => deep::paths_of(client, voice, alloc, number),
         Task::Wish(Wish::Stat(path)) => Ok(Answer::Text(object::stat(client, alloc, path)?)),
@@ -154,7 +154,11 @@ fn done<S: Read + Write, R: Print + Eprint>(
             Ok(Answer::Done)
         }
         Task::Wish(
-            Wish::Send { .. } | Wish::Why { .. } | Wish::Who { .. } | Wish::ChangeFacl { .. },
+            Wish::Send { .. }
+            | Wish::Why { .. }
+            | Wish::Who { .. }
+            | Wish::ChangeFacl { .. }
+            | Wish::Deep { .. },
         ) => Err(Fault::Unread),
     }
 }
@@ -187,6 +191,7 @@ fn task_of<'a, R: Files + Input>(
             change,
             is_forced,
         } => Ok(Task::Facl(path, (change, is_forced), around)),
+        Wish::Deep { deep, manner, path } => Ok(Task::Deep((deep, manner, path), around)),
         Wish::Who { rights, path } => Ok(Task::Question(Question {
             user: None,
             rights,
