@@ -266,4 +266,21 @@ def goes(tree, room):
     lab.stop()
 
 
+def wrong_words(tree, lab):
+    """Words that a program doesn't take: the fault begins with its name, and help doesn't."""
+    short = {"nfsc": ["--port", "1", "--uid", "0", "--gid", "0"], "nfstore": ["."], "acl_lines": [], "nfslab": [], "nfsd": []}
+    for name, words in short.items():
+        program = built(tree, name)
+        for more, start in ((["--nonsense"], f"{name}: unexpected argument '--nonsense' found\n"), (["--help"], "")):
+            said, told, status = ran_without([], [program, *more, *words])
+            see(f"{name} {more}", (said, told.startswith(start), "error:" in told, len(told.splitlines()) > 2, status), ("", True, False, True, 2))
+    for words, wanted in (
+        (["nonsense"], "nfsc: there is no command 'nonsense'"),
+        (["ls"], "nfsc: the command 'ls' wants these words: ls P"),
+        (["get"], "nfsc: the command 'get' wants these words: get P [FILE]"),
+    ):
+        said, told, status = ran_without([], [lab.programs["nfsc"], "--port", "1", "--uid", "0", "--gid", "0", *words])
+        see(f"nfsc {words}", (said, told.splitlines()[0], status), ("", wanted, 2))
+
+
 SCENES = (names, depths, many, long_lists, lengths)
