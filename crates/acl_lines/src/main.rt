@@ -12,6 +12,7 @@ use entries::Form;
 use options::Options;
 use std::alloc::Global;
 use std::env;
+use std::fmt::Display;
 use std::io::{BufRead, BufReader, BufWriter, Write};
 use std::process::ExitCode;
 use who_book::Book;
@@ -31,12 +32,22 @@ fn answer_all(rt: &(impl Input + Print), alloc: Global, form: &Form) -> Result<(
     Ok(())
 }
 
+/// Says on standard error what `clap` says of the words. A fault has the program's name in front, and help stays as it is.
+fn say_words<R: Eprint, E: Display>(rt: &R, alloc: Global, error: &E) -> Result<()> {
+    let text = format!(in alloc; "{error}")?;
+    match text.as_str().strip_prefix("error: ") {
+        Some(fault) => eprint!(rt; "acl_lines: {fault}")?,
+        None => eprint!(rt; "{text}")?,
+    }
+    Ok(())
+}
+
 /// Answers by the words of the command line.
 fn run_words(rt: &HostRuntime, alloc: Global, words: &[String]) -> Result<ExitCode> {
     let options = match Options::read(alloc, words) {
         Ok(options) => options,
         Err(error) => {
-            let _ = rt.eprint(&error);
+            let _ = say_words(rt, alloc, &error);
             return Ok(ExitCode::from(2));
         }
     };

@@ -1,6 +1,6 @@
 //! A session of its own with the server, and what is done in it.
 use crate::around::Around;
-use crate::deep::Voice;
+use crate::deep::{Deep, Manner, Voice};
 use crate::facl::Change;
 use crate::fault::Fault;
 use crate::grouped::Grouped;
@@ -32,6 +32,8 @@ pub(crate) enum Task<'a> {
     Question(Question<'a>),
     /// A change of the list of an object, and whether it is forced.
     Facl(&'a [u8], (Change<'a>, bool), &'a Around),
+    /// A command over the object of a path and all below it.
+    Deep((Deep<'a>, Manner, &'a [u8]), &'a Around),
 }
 
 /// A question on the rights of a user, or of all users of the book, on the object of a path.
@@ -76,7 +78,8 @@ fn may_leave(op: u32) -> bool {
     op == OP_WRITE || op == OP_SETATTR || op == OP_CLOSE
 }
 
-/// Makes bytes those of a file. Where the server refused some of them, it is said how many the file has.
+/// Makes bytes those of a file. Where the server refused some of them, it is said how many the file has. Where it said nothing
+/// any more, it is said that they may be there in part.
 fn send<S: Read + Write, R: Eprint>(
     client: &mut Client<S>,
     voice: Voice<'_, R>,
@@ -90,7 +93,12 @@ fn send<S: Read + Write, R: Eprint>(
             }
             Err(Fault::Tool(fault))
         }
-        Err(fault) => Err(Fault::Tool(fault)),
+        Err(fault) => {
+            if is_of_stream(fault) {
+                voice.say_part(path);
+            }
+            Err(Fault::Tool(fault))
+        }
         Ok(()) => Ok(()),
     }
 }
@@ -114,9 +122,7 @@ fn done<S: Read + Write, R: Print + Eprint>(
             deep::make_all(client, path)?;
             Ok(Answer::Done)
         }
-        Task::Wish(Wish::Deep { deep, is_dry, path }) => {
-            deep::run(client, voice, alloc, (deep, is_dry), path)
-        }
+        Task::Deep(asked, around) => deep::run(client, voice, alloc, around, asked),
         Task::Wish(Wish::List(path)) => deep::list_one(client, alloc, path),
         Task::Wish(Wish::PathOf(number)) => deep::paths_of(client, voice, alloc, number),
         Task::Wish(Wish::Stat(path)) => Ok(Answer::Text(object::stat(client, alloc, path)?)),
@@ -139,7 +145,7 @@ fn done<S: Read + Write, R: Print + Eprint>(
         }
         Task::Wish(Wish::Copy(old, new)) => {
             let bytes = client.cat(old)?;
-            client.put(new, bytes.as_slice())?;
+            send(client, voice, new, bytes.as_slice())?;
             Ok(Answer::Done)
         }
         Task::Question(question) => Ok(Answer::Text(answered(client, alloc, question)?)),
@@ -148,7 +154,11 @@ fn done<S: Read + Write, R: Print + Eprint>(
             Ok(Answer::Done)
         }
         Task::Wish(
-            Wish::Send { .. } | Wish::Why { .. } | Wish::Who { .. } | Wish::ChangeFacl { .. },
+            Wish::Send { .. }
+            | Wish::Why { .. }
+            | Wish::Who { .. }
+            | Wish::ChangeFacl { .. }
+            | Wish::Deep { .. },
         ) => Err(Fault::Unread),
     }
 }
@@ -181,6 +191,7 @@ fn task_of<'a, R: Files + Input>(
             change,
             is_forced,
         } => Ok(Task::Facl(path, (change, is_forced), around)),
+        Wish::Deep { deep, manner, path } => Ok(Task::Deep((deep, manner, path), around)),
         Wish::Who { rights, path } => Ok(Task::Question(Question {
             user: None,
             rights,

@@ -1,5 +1,7 @@
 //! Commands over an object and all below it, and directories that are made with those above them.
+use crate::around::Around;
 use crate::fault::Fault;
+use crate::judged::keeps_rights;
 use crate::shown::Shown;
 use crate::telling::Place;
 use crate::tree::{Kind, Object, Tree, Unlisted};
@@ -21,6 +23,15 @@ pub(crate) enum Deep<'a> {
     SetFacl(&'a [&'a [u8]]),
     /// `rm -R P`.
     Rm,
+}
+
+/// How a command over an object and all below it is run.
+#[derive(Clone, Copy)]
+pub(crate) struct Manner {
+    /// It is only said what would be done.
+    pub(crate) is_dry: bool,
+    /// Lists are set also where their user can't change them back.
+    pub(crate) is_forced: bool,
 }
 
 /// Where a command's faults are said: what prints them, and the line of a batch that they are of.
@@ -46,10 +57,31 @@ impl<R: Eprint> Voice<'_, R> {
         }
     }
 
+    /// Says which object is the first whose list its user couldn't change back.
+    fn say_locked(&self, path: &[u8]) -> Result<(), Fault> {
+        let (rt, place) = (self.rt, self.place);
+        match eprintln!(rt;
+            "nfsc: {place}{} would be locked; nothing was changed",
+            Shown(path)
+        ) {
+            Ok(()) => Ok(()),
+            Err(_) => Err(Fault::Unsaid),
+        }
+    }
+
     /// Says how many bytes a file has now.
     pub(crate) fn say_size(&self, path: &[u8], size: u64) {
         let (rt, place) = (self.rt, self.place);
         let _ = eprintln!(rt; "nfsc: {place}{} has {size} bytes now", Shown(path));
+    }
+
+    /// Says that a file may have only a part of what was sent.
+    pub(crate) fn say_part(&self, path: &[u8]) {
+        let (rt, place) = (self.rt, self.place);
+        let _ = eprintln!(rt;
+            "nfsc: {place}{} may have only a part of the bytes now",
+            Shown(path)
+        );
     }
 
     /// Says how many objects of all are done, on a line that the next one takes the place of.
@@ -108,6 +140,15 @@ impl<'a> Change<'a> {
         match self {
             Change::Rm => true,
             Change::ChMod(_) | Change::SetFacl(_, _) => object.kind != Kind::Link,
+        }
+    }
+
+    /// The entries of an object's list by the change, where it is one of lists.
+    fn entries(&self, object: &Object) -> Option<&[Vec<u8>]> {
+        match (self, object.kind) {
+            (Change::SetFacl(directory, _), Kind::Directory) => Some(directory.as_slice()),
+            (Change::SetFacl(_, other), Kind::Other) => Some(other.as_slice()),
+            _ => None,
         }
     }
 
@@ -298,6 +339,31 @@ fn change_all<S: Read + Write, R: Eprint>(
     }
 }
 
+/// `Locked`: by the change the caller could no longer read the list of an object and change it again. The first of them is
+/// said.
+fn keep_rights<S: Read + Write, R: Eprint>(
+    client: &mut Client<S>,
+    voice: &Voice<'_, R>,
+    alloc: Global,
+    around: &Around,
+    (wanted, objects): (&Change<'_>, &[Object]),
+) -> Result<(), Fault> {
+    for object in objects {
+        if let Some(entries) = wanted.entries(object) {
+            let path = object.path.as_slice();
+            match keeps_rights(client, alloc, around, path, entries) {
+                Ok(()) => {}
+                Err(Fault::Locked) => {
+                    voice.say_locked(path)?;
+                    return Err(Fault::Locked);
+                }
+                Err(fault) => return Err(fault),
+            }
+        }
+    }
+    Ok(())
+}
+
 /// The lines that say what would be done, in its order.
 fn plan(alloc: Global, wanted: &Change<'_>, objects: &[Object]) -> Result<Answer, Fault> {
     let mut text = Vec::new(alloc);
@@ -310,13 +376,14 @@ fn plan(alloc: Global, wanted: &Change<'_>, objects: &[Object]) -> Result<Answer
 }
 
 /// Does something to the object at a path and to all below it, or says what would be done. All of it is listed before
-/// anything is changed; where a directory can't be listed, nothing is.
+/// anything is changed. Where a directory can't be listed, nothing is; nor where a list would leave the caller without the
+/// right to change it again, unless it is forced.
 pub(crate) fn run<S: Read + Write, R: Print + Eprint>(
     client: &mut Client<S>,
     voice: Voice<'_, R>,
     alloc: Global,
-    (deep, is_dry): (Deep<'_>, bool),
-    path: &[u8],
+    around: &Around,
+    (deep, manner, path): (Deep<'_>, Manner, &[u8]),
 ) -> Result<Answer, Fault> {
     let Some(wanted) = Change::of(alloc, deep, path)? else {
         return list(client, voice, alloc, path);
@@ -327,7 +394,10 @@ pub(crate) fn run<S: Read + Write, R: Print + Eprint>(
         return Err(Fault::Unlisted);
     }
     let objects = tree.objects.as_slice();
-    if is_dry {
+    if !manner.is_forced {
+        keep_rights(client, &voice, alloc, around, (&wanted, objects))?;
+    }
+    if manner.is_dry {
         plan(alloc, &wanted, objects)
     } else {
         change_all(client, voice, alloc, &wanted, objects)

@@ -1,6 +1,7 @@
 //! The faults of a run, and a sentence for each: what was wrong, and what would do.
 use acl_words::Field;
 use nfs_client::ToolFault;
+use nfs_ops::OP_SETATTR;
 use nfs_types::Status;
 use std::alloc::{AllocError, AllocFailed};
 
@@ -143,6 +144,9 @@ fn refusal(status: Status) -> &'static str {
 fn sentence_of(fault: ToolFault) -> &'static str {
     match fault {
         ToolFault::Path => "a path is '/', or names each with '/' in front, as in /docs/notes",
+        ToolFault::Refused(op, Status::NoSpc) if op == OP_SETATTR => {
+            "a list that is set has at most 59 entries, or the server has no room left"
+        }
         ToolFault::Refused(_, status) => refusal(status),
         ToolFault::Reply => "what the server sent is no reply, or it is longer than is taken",
         ToolFault::Read => "the server closed the connection",

@@ -39,7 +39,8 @@ Commands with a flag, over an object and all below it, which '--dry-run' only li
     rm -R [--dry-run] P               removes them                                             rm -R --dry-run /docs
     batch                             runs the commands of standard input, a line a command    batch
 
-A list that its user can't read or change back is set by setfacl, addfacl and delfacl only with '--force' after the command's name.
+A list that its user can't read or change back is set by setfacl, addfacl and delfacl only with '--force' after the command's name, also
+with '-R'.
 'nfsc help lists' says what the words of an entry are, and 'nfsc COMMAND --help' what a command wants.
 ";
 

@@ -10,6 +10,7 @@ mod batch;
 mod bytes;
 mod calling;
 mod deep;
+mod descriptors;
 mod facl;
 mod fault;
 mod given;
@@ -32,6 +33,7 @@ mod wish;
 
 use anyhow::Result;
 use around::Around;
+use descriptors::stand_in;
 use given::value_of;
 use grouped::groups_in;
 use helping::{Help, Usages};
@@ -39,6 +41,7 @@ use names::Names;
 use nfsc_options::{Options, wrong_command};
 use person::{NoPerson, Person};
 use std::alloc::{AllocError, Global};
+use std::fmt::Display;
 use std::io::IsTerminal;
 use std::net::{Net, TcpStream};
 use std::process::ExitCode;
@@ -55,6 +58,16 @@ const GROUPS: &str =
 /// The sentence on a book that nothing is looked up in.
 const BOOK: &str = "--book wants --as NAME too, but for the commands 'why', 'who' and 'batch'";
 
+/// Says on standard error what `clap` says of the words. A fault has the program's name in front, and help stays as it is.
+fn say_words<R: Eprint, E: Display>(rt: &R, alloc: Global, error: &E) -> Result<()> {
+    let text = format!(in alloc; "{error}")?;
+    match text.as_str().strip_prefix("error: ") {
+        Some(fault) => eprint!(rt; "nfsc: {fault}")?,
+        None => eprint!(rt; "{text}")?,
+    }
+    Ok(())
+}
+
 /// Tells that words are no command, and the words of the command of this name.
 fn refuse<R: Eprint>(rt: &R, alloc: Global, name: &str) -> Result<ExitCode> {
     let usages = Usages::of(name);
@@ -64,7 +77,7 @@ fn refuse<R: Eprint>(rt: &R, alloc: Global, name: &str) -> Result<ExitCode> {
             eprintln!(rt; "nfsc: the command '{name}' wants these words: {deep}")?;
             return Ok(ExitCode::from(2));
         }
-        (None, _) => rt.eprint(&wrong_command(alloc, name)?)?,
+        (None, _) => say_words(rt, alloc, &wrong_command(alloc, name)?)?,
     }
     if let Some(deep) = usages.deep {
         eprintln!(rt; "nfsc: or these: {deep}")?;
@@ -139,7 +152,7 @@ fn start<R: Net<Stream = TcpStream> + Clock + RandomSource + Files + Input + Pri
     let options = match Options::read(alloc, words) {
         Ok(options) => options,
         Err(error) => {
-            rt.eprint(&error)?;
+            say_words(rt, alloc, &error)?;
             return Ok(ExitCode::from(2));
         }
     };
@@ -214,6 +227,7 @@ fn run_all(rt: &HostRuntime) -> Result<ExitCode> {
 }
 
 fn main(rt: HostRuntime) -> ExitCode {
+    let _stand_ins = [stand_in(&rt), stand_in(&rt), stand_in(&rt)];
     match run_all(&rt) {
         Ok(status) => status,
         Err(error) => {

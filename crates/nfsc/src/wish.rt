@@ -1,5 +1,5 @@
 //! The command that the words of a call ask for.
-use crate::deep::Deep;
+use crate::deep::{Deep, Manner};
 use crate::facl::Change;
 use nfs_client::Command;
 
@@ -55,10 +55,10 @@ pub(crate) enum Wish<'a> {
         rights: &'a str,
         path: &'a [u8],
     },
-    /// A command with `-R`, and whether it only says what would be done.
+    /// A command with `-R`, and how it is run.
     Deep {
         deep: Deep<'a>,
-        is_dry: bool,
+        manner: Manner,
         path: &'a [u8],
     },
 }
@@ -67,7 +67,7 @@ pub(crate) enum Wish<'a> {
 #[derive(Clone, Copy)]
 struct Flags {
     is_deep: bool,
-    is_dry: bool,
+    manner: Manner,
     /// How many words they are.
     count: usize,
 }
@@ -76,13 +76,17 @@ struct Flags {
 fn flags_in(words: &[&str]) -> Flags {
     let mut flags = Flags {
         is_deep: false,
-        is_dry: false,
+        manner: Manner {
+            is_dry: false,
+            is_forced: false,
+        },
         count: 0,
     };
     for word in words {
         match *word {
             "-R" => flags.is_deep = true,
-            "--dry-run" => flags.is_dry = true,
+            "--dry-run" => flags.manner.is_dry = true,
+            "--force" => flags.manner.is_forced = true,
             _ => return flags,
         }
         flags.count = flags.count.saturating_add(1);
@@ -92,18 +96,16 @@ fn flags_in(words: &[&str]) -> Flags {
 
 /// A command of this name with flags, from its words after them.
 fn deep_of<'a>(name: &str, flags: Flags, rest: &'a [&'a [u8]]) -> Option<Wish<'a>> {
+    let manner = flags.manner;
     let (deep, path) = match (name, rest) {
-        ("list", [path]) if !flags.is_dry => (Deep::List, *path),
-        ("chmod", [mode, path]) => (Deep::ChMod(mode), *path),
         ("setfacl", [path, entries @ ..]) if !entries.is_empty() => (Deep::SetFacl(entries), *path),
+        _ if manner.is_forced => return None,
+        ("list", [path]) if !manner.is_dry => (Deep::List, *path),
+        ("chmod", [mode, path]) => (Deep::ChMod(mode), *path),
         ("rm", [path]) => (Deep::Rm, *path),
         _ => return None,
     };
-    Some(Wish::Deep {
-        deep,
-        is_dry: flags.is_dry,
-        path,
-    })
+    Some(Wish::Deep { deep, manner, path })
 }
 
 /// A command with `-R`.

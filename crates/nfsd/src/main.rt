@@ -180,6 +180,16 @@ fn run_options(rt: &HostRuntime, alloc: Global, options: &Options<'_>) -> Result
     Ok(status(rt, alloc, options, served))
 }
 
+/// Says on standard error what `clap` says of the words. A fault has the program's name in front, and help stays as it is.
+fn say_words<R: Eprint, E: Display>(rt: &R, alloc: Global, error: &E) -> Result<()> {
+    let text = format!(in alloc; "{error}")?;
+    match text.as_str().strip_prefix("error: ") {
+        Some(fault) => eprint!(rt; "nfsd: {fault}")?,
+        None => eprint!(rt; "{text}")?,
+    }
+    Ok(())
+}
+
 /// Serves by the words of the command line.
 fn run_words(rt: &HostRuntime, alloc: Global, words: &[String]) -> Result<ExitCode> {
     match Options::read(alloc, words) {
@@ -191,7 +201,7 @@ fn run_words(rt: &HostRuntime, alloc: Global, words: &[String]) -> Result<ExitCo
             None => run_options(rt, alloc, &options),
         },
         Err(error) => {
-            let _ = rt.eprint(&error);
+            let _ = say_words(rt, alloc, &error);
             Ok(ExitCode::from(2))
         }
     }

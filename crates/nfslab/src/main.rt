@@ -15,6 +15,7 @@ use nfs_hub::Hub;
 use nfs_tool::{Texts, script};
 use nfsc_options::LabOptions;
 use std::alloc::Global;
+use std::fmt::Display;
 use std::hash::RandomState;
 use std::process::ExitCode;
 use std::rt::Files;
@@ -79,22 +80,48 @@ fn run<R: Files + AllocGlobal + Input + Print>(
     .map_err(Fault::Failed)
 }
 
-fn main(rt: HostRuntime) -> Result<ExitCode> {
-    let alloc = rt.alloc();
-    let words: Vec<String> = env::args(&rt)?.collect(alloc)?;
-    let options = match LabOptions::read(alloc, words.as_slice()) {
+/// Says on standard error what `clap` says of the words. A fault has the program's name in front, and help stays as it is.
+fn say_words<R: Eprint, E: Display>(rt: &R, alloc: Global, error: &E) -> Result<()> {
+    let text = format!(in alloc; "{error}")?;
+    match text.as_str().strip_prefix("error: ") {
+        Some(fault) => eprint!(rt; "nfslab: {fault}")?,
+        None => eprint!(rt; "{text}")?,
+    }
+    Ok(())
+}
+
+/// Runs a script by the words of the command line. The status of the program.
+fn run_words(rt: &HostRuntime, alloc: Global, words: &[String]) -> Result<ExitCode> {
+    let options = match LabOptions::read(alloc, words) {
         Ok(options) => options,
         Err(error) => {
-            rt.eprint(&error)?;
+            let _ = say_words(rt, alloc, &error);
             return Ok(ExitCode::from(2));
         }
     };
-    match run(&rt, alloc, &options, RandomState::new(&rt)?) {
+    match run(rt, alloc, &options, RandomState::new(rt)?) {
         Ok(true) => Ok(ExitCode::SUCCESS),
         Ok(false) => Ok(ExitCode::FAILURE),
         Err(fault) => {
-            say(&rt, &options, &fault);
+            say(rt, &options, &fault);
             Ok(ExitCode::FAILURE)
+        }
+    }
+}
+
+/// Runs a script by the words that the program was started with.
+fn run_all(rt: &HostRuntime) -> Result<ExitCode> {
+    let alloc = rt.alloc();
+    let words: Vec<String> = env::args(rt)?.collect(alloc)?;
+    run_words(rt, alloc, words.as_slice())
+}
+
+fn main(rt: HostRuntime) -> ExitCode {
+    match run_all(&rt) {
+        Ok(status) => status,
+        Err(error) => {
+            let _ = eprintln!(rt; "nfslab: {error}");
+            ExitCode::FAILURE
         }
     }
 }

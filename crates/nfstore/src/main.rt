@@ -23,6 +23,7 @@ use looking::{Looked, look};
 use options::Options;
 use std::alloc::Global;
 use std::env;
+use std::fmt::Display;
 use std::process::ExitCode;
 use survey::look_at;
 
@@ -95,12 +96,22 @@ fn make(rt: &HostRuntime, alloc: Global, folder: &str, directory: &str) -> ExitC
     ExitCode::FAILURE
 }
 
+/// Says on standard error what `clap` says of the words. A fault has the program's name in front, and help stays as it is.
+fn say_words<R: Eprint, E: Display>(rt: &R, alloc: Global, error: &E) -> Result<()> {
+    let text = format!(in alloc; "{error}")?;
+    match text.as_str().strip_prefix("error: ") {
+        Some(fault) => eprint!(rt; "nfstore: {fault}")?,
+        None => eprint!(rt; "{text}")?,
+    }
+    Ok(())
+}
+
 /// Does what the words of the command line ask for.
 fn run_words(rt: &HostRuntime, alloc: Global, words: &[String]) -> Result<ExitCode> {
     let options = match Options::read(alloc, words) {
         Ok(options) => options,
         Err(error) => {
-            let _ = rt.eprint(&error);
+            let _ = say_words(rt, alloc, &error);
             return Ok(ExitCode::from(2));
         }
     };
