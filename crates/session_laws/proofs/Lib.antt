@@ -1,3 +1,4 @@
 pub mod Turning
 pub mod Comparing
 pub mod Forgetting
+pub mod Recording

@@ -1,10 +1,13 @@
-//! Laws of sessions that are kept by turns, over restarts (RFC 8881, section 2.10.6.5).
+//! Laws of sessions that are kept by turns, over restarts (RFC 8881, section 2.10.6.5), and of clients' records.
 //!
-//! Each is the contract of a function that does nothing, so that a program or a reader can cite it by name.
+//! Each is the contract of a function that does nothing, or only reads, so that a program or a reader can cite it by
+//! name.
 #![tactic(auto)]
 
+mod records;
 mod turns;
 
+pub use records::{every_client_has_a_history, every_record_has_a_history};
 pub use turns::{
     Noted, a_rule_that_forgets_calls_refuses_them, a_rule_that_forgets_changes_loses_them,
     a_rule_that_forgets_slots_acts_twice, what_is_compared_acts_once, what_turns_change_acts_once,

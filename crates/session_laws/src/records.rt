@@ -1,0 +1,37 @@
+//! Records of clients, and the histories of CREATE_SESSION that they stand for (RFC 8881, section 18.36).
+ghost use Rattle.std.specs.Prelude.{◌≡◌, ℕ, ◌<◌, ◌^◌, true, List, Option, IfSome};
+ghost use Rattle.session_slots.specs.declared.client.Creation.{Creation};
+ghost use Rattle.session_slots.specs.Counting.{last_number};
+ghost use Rattle.session_slots.specs.Creating.{number_of, RecordStandsFor};
+ghost use Rattle.session_slots.specs.Orderly.{has_creation_form, IsIn, IsOrderly};
+ghost use Rattle.session_slots.specs.Registry.{Client, Registry, client_at};
+
+use session_slots::{Clients, Record};
+use std::alloc::Allocator;
+
+/// Whatever a record keeps, there is a history of calls that it stands for: where its last call has the form in which
+/// it is kept (`formed`), and so in each orderly registry (`orderly`). It rests on this: a sequence ID is below 2^32.
+#[tactic(auto, using(crate::proofs::Recording::some_history, crate::proofs::Recording::orderly_history))]
+pub fn every_record_has_a_history()
+    ensures formed { (last : Option Creation) → has_creation_form last ≡ true → last_number number_of last < 2 ^ 32 →
+        (history : List Creation) × RecordStandsFor last history }
+    ensures orderly { (r : Registry) (e : ℕ × Client) → IsOrderly r → IsIn e r.clients →
+        last_number number_of e.1.created < 2 ^ 32 → (history : List Creation) × RecordStandsFor e.1.created history }
+{}
+
+/// The sequence ID of a record that is read is below 2^32, by its type.
+fn number_fits(kept: Record<'_>)
+    ensures { last_number number_of kept.entry.created < 2 ^ 32 }
+{}
+
+/// Each record that a program has stands for some history, whatever calls came. Nothing is supposed: the record is read
+/// here.
+#[tactic(auto, using(crate::proofs::Recording::no_client))]
+pub fn every_client_has_a_history<A: Allocator + Copy>(clients: &Clients<A>, client: u64)
+    ensures { IfSome (client_at clients.now client)
+        (λ c. (history : List Creation) × RecordStandsFor c.created history) }
+{
+    if let Some(kept) = clients.record(client) {
+        number_fits(kept);
+    }
+}
