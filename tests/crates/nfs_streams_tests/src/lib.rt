@@ -1,5 +1,5 @@
-//! Tests of `nfs_streams`: streams in memory, ready in any order, some of which fail, break or are silent, books that come meanwhile, and
-//! a store in two files in memory, over which sessions outlive a crash.
+//! Tests of `nfs_streams`: streams in memory, ready in any order, some of which fail, break or are silent, books that come meanwhile,
+//! a store in two files in memory, over which sessions outlive a crash, and sockets of 127.0.0.1.
 #![tactic(auto)]
 
 #[cfg(test)]
@@ -15,6 +15,8 @@ mod house;
 #[cfg(test)]
 mod keeping;
 #[cfg(test)]
+mod listening;
+#[cfg(test)]
 mod memory;
 #[cfg(test)]
 mod orders;
@@ -24,6 +26,8 @@ mod peers;
 mod plain;
 #[cfg(test)]
 mod sessions;
+#[cfg(test)]
+mod sockets;
 #[cfg(test)]
 mod stopping;
 #[cfg(test)]

@@ -13,7 +13,7 @@ use who_book::Book;
 const KEY: u64 = 7;
 
 /// A hub of the sample tree, without sessions.
-fn bare(alloc: Global, hasher: RandomState) -> Result<Hub, AllocError> {
+pub fn bare(alloc: Global, hasher: RandomState) -> Result<Hub, AllocError> {
     Hub::bare(alloc, alloc, hasher)
 }
 

@@ -34,6 +34,22 @@ pub(crate) fn getacl<S: Read + Write, A: Allocator + Copy>(
     }
 }
 
+/// How many bytes the lines of the root have.
+pub(crate) fn ls<S: Read + Write>(client: &mut Client<S>) -> Result<usize, ToolFault> {
+    match client.ls(b"/") {
+        Ok(text) => Ok(text.len()),
+        Err(fault) => Err(fault),
+    }
+}
+
+/// How many bytes are read of the root.
+pub(crate) fn cat<S: Read + Write>(client: &mut Client<S>) -> Result<usize, ToolFault> {
+    match client.cat(b"/") {
+        Ok(bytes) => Ok(bytes.len()),
+        Err(fault) => Err(fault),
+    }
+}
+
 pub(crate) fn put<S: Read + Write>(client: &mut Client<S>) -> Result<(), ToolFault> {
     client.put(b"/f", b"hi")
 }

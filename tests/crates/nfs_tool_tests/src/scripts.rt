@@ -294,3 +294,66 @@ fn an_endless_script_ends(rt: HostRuntime) -> Result<(), Fail> {
     assert!(rt; play.end == Err(ToolFault::Read));
     Ok(())
 }
+
+/// Gives a newline at each of so many reads, and then the end.
+#[derive(Drop)]
+struct Newlines {
+    left: u32,
+}
+
+impl Read for Newlines {
+    fn read(&mut self, buf: &mut [u8]) -> io::Result<usize> {
+        match buf.first_mut() {
+            Some(byte) if self.left > 0 => {
+                self.left -= 1;
+                *byte = b'\n';
+                Ok(1)
+            }
+            _ => Ok(0),
+        }
+    }
+}
+
+/// The end of a script, and how many of its lines were left then.
+type Left = (Result<bool, ToolFault>, u32);
+
+fn newlines_over(alloc: Global, hub: &mut Hub, lines: u32) -> Left {
+    let mut reader = Newlines { left: lines };
+    let mut writer = Wanted {
+        bytes: b"trail 0\n",
+        writes: 3,
+    };
+    let told = run_script(alloc, hub, &mut Range { alloc }, &mut reader, &mut writer);
+    (end_of(told, writer.bytes.len()), reader.left)
+}
+
+/// A script of so many empty lines, each a read.
+#[derive(Clone, Copy)]
+struct NewlinesPlay {
+    alloc: Global,
+    lines: u32,
+    seen: Left,
+}
+
+impl Deed for NewlinesPlay {
+    fn run(&mut self, hub: &mut Hub) {
+        self.seen = newlines_over(self.alloc, hub, self.lines);
+    }
+}
+
+/// A script may take 1,000,000 reads, of which the last gives its end. So 999,999 that give a line are the most, and none follows 1,000,000.
+#[test]
+fn the_last_read_is_the_end(rt: HostRuntime) -> Result<(), Fail> {
+    let (alloc, hasher) = (rt.alloc(), RandomState::new(&rt)?);
+    for (lines, wanted) in [
+        (999_999, (Ok(true), 0)),
+        (1_000_000, (Err(ToolFault::Read), 0)),
+        (1_000_001, (Err(ToolFault::Read), 1)),
+    ] {
+        let seen = (Ok(false), lines);
+        let mut play = NewlinesPlay { alloc, lines, seen };
+        run_over(root_alone(alloc, hasher), &mut play)?;
+        assert!(rt; play.seen == wanted, "{lines} lines");
+    }
+    Ok(())
+}

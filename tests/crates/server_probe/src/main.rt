@@ -11,6 +11,7 @@ mod making;
 mod objects;
 mod pictures;
 mod plain;
+mod refusing;
 mod servers;
 mod serving;
 mod streams;

@@ -5,6 +5,7 @@ use crate::connections::Hall;
 use crate::courses::{answer_lines, skip_lines};
 use crate::houses::{House, Kind, book_in, results_writer};
 use crate::objects::{one_file, root_of};
+use crate::refusing::Refusing;
 use crate::servers::{sample_server, server_of};
 use crate::split_word;
 use crate::trees::grow;
@@ -276,6 +277,43 @@ fn answer_in_heaps<R: Print>(
     Ok(())
 }
 
+/// Answers lines over a hub of a root alone, by a book, in memory of which the growth of a number is refused once the hub is there. Then whether there was
+/// such a growth, and how many bytes are in use when the hub is gone.
+fn answer_refused<R: Print>(
+    rt: &R,
+    alloc: Global,
+    hasher: RandomState,
+    number: u64,
+    digits: &str,
+    lines: &str,
+) -> Result<(), Fail> {
+    let memory = Refusing::new(alloc);
+    let hub = Hub::new(&memory, book_in(alloc, digits)?, hasher)?;
+    memory.refuse(number);
+    over_hub(rt, alloc, &memory, hub, "made\n", lines)?;
+    let word = if memory.has_refused() { "yes" } else { "no" };
+    println!(rt; "{word} {}", memory.used())?;
+    Ok(())
+}
+
+/// `refused FIRST COUNT BOOK`: answers lines over such a hub for each of so many numbers.
+fn answer_each_refused<R: Print>(
+    rt: &R,
+    alloc: Global,
+    hasher: RandomState,
+    words: &str,
+    lines: &str,
+) -> Result<(), Fail> {
+    let (first, rest) = split_word(words);
+    let (count, digits) = split_word(rest);
+    let (first, count): (u64, u64) = (first.parse()?, count.parse()?);
+    for index in 0..count {
+        let number = first.saturating_add(index);
+        answer_refused(rt, alloc, hasher, number, digits, lines)?;
+    }
+    Ok(())
+}
+
 /// Makes what the first line of a block names, and answers the lines after it.
 pub fn answer_block<R: Print>(
     rt: &R,
@@ -286,6 +324,9 @@ pub fn answer_block<R: Print>(
     let (what, lines) = block.split_once('\n').unwrap_or((block, ""));
     if let Some(words) = what.strip_prefix("heaps ") {
         return answer_in_heaps(rt, alloc, hasher, words, lines);
+    }
+    if let Some(words) = what.strip_prefix("refused ") {
+        return answer_each_refused(rt, alloc, hasher, words, lines);
     }
     answer_over(rt, alloc, hasher, what, lines)
 }

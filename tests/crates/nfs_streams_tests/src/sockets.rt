@@ -1,0 +1,1 @@
+../../../../crates/nfsd/src/sockets.rt
