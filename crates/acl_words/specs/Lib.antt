@@ -5,3 +5,4 @@ pub mod WordViews
 pub mod Entries
 pub mod Lists
 pub mod Help
+pub mod Rights

@@ -7,6 +7,7 @@ mod fields;
 mod laws;
 mod letters;
 mod lists;
+mod rights;
 mod text;
 mod words;
 
@@ -14,5 +15,6 @@ pub use entries::{read_entry, write_entry};
 pub use field::Field;
 pub use laws::{entries_are_read_again, words_are_read_again};
 pub use lists::{ListFault, read_list};
+pub use rights::{RIGHTS, right_name};
 pub use text::{MOST_TEXT, Text};
 pub use words::Words;

@@ -1,60 +1,9 @@
 //! The rights that `why` and `who` are asked about (RFC 8881, section 6.2.1.3.1).
 use acl_list::{Kind, mask};
-use acl_words::Words;
+pub(crate) use acl_words::RIGHTS;
+use acl_words::{Words, right_name};
 use std::fmt;
 use std::fmt::{Display, Formatter};
-
-/// The rights, in the order of their bits.
-pub(crate) const RIGHTS: [u32; 16] = [
-    mask::READ_DATA,
-    mask::WRITE_DATA,
-    mask::APPEND_DATA,
-    mask::READ_NAMED_ATTRS,
-    mask::WRITE_NAMED_ATTRS,
-    mask::EXECUTE,
-    mask::DELETE_CHILD,
-    mask::READ_ATTRIBUTES,
-    mask::WRITE_ATTRIBUTES,
-    mask::WRITE_RETENTION,
-    mask::WRITE_RETENTION_HOLD,
-    mask::DELETE,
-    mask::READ_ACL,
-    mask::WRITE_ACL,
-    mask::WRITE_OWNER,
-    mask::SYNCHRONIZE,
-];
-
-/// The name of a right on an object that is no directory.
-fn name_of(bit: u32) -> &'static str {
-    match bit {
-        mask::READ_DATA => "read-data",
-        mask::WRITE_DATA => "write-data",
-        mask::APPEND_DATA => "append-data",
-        mask::READ_NAMED_ATTRS => "read-named-attrs",
-        mask::WRITE_NAMED_ATTRS => "write-named-attrs",
-        mask::EXECUTE => "execute",
-        mask::DELETE_CHILD => "delete-child",
-        mask::READ_ATTRIBUTES => "read-attributes",
-        mask::WRITE_ATTRIBUTES => "write-attributes",
-        mask::WRITE_RETENTION => "write-retention",
-        mask::WRITE_RETENTION_HOLD => "write-retention-hold",
-        mask::DELETE => "delete",
-        mask::READ_ACL => "read-acl",
-        mask::WRITE_ACL => "write-acl",
-        mask::WRITE_OWNER => "write-owner",
-        _ => "synchronize",
-    }
-}
-
-/// The name of a right on a directory.
-fn directory_name_of(bit: u32) -> &'static str {
-    match bit {
-        mask::LIST_DIRECTORY => "list-directory",
-        mask::ADD_FILE => "add-file",
-        mask::ADD_SUBDIRECTORY => "add-subdirectory",
-        _ => name_of(bit),
-    }
-}
 
 /// The rights of a mask, as they are named on an object of this kind, the lowest first.
 #[derive(Clone, Copy)]
@@ -67,17 +16,19 @@ impl Display for Named {
     fn fmt<W: fmt::Write>(&self, f: &mut Formatter<W>) -> fmt::Result {
         let mut is_first = true;
         for bit in RIGHTS {
-            if self.mask & bit != 0 {
+            if let Some(name) = right_name(self.object, self.mask & bit) {
                 f.write_str(if is_first { "" } else { ", " })?;
-                f.write_str(match self.object {
-                    Kind::Directory => directory_name_of(bit),
-                    Kind::File | Kind::Link => name_of(bit),
-                })?;
+                f.write_str(name)?;
                 is_first = false;
             }
         }
         Ok(())
     }
+}
+
+/// Whether a word is the name of a right, on a directory or on any other object.
+fn is_name_of(word: &str, right: u32) -> bool {
+    right_name(Kind::Directory, right) == Some(word) || right_name(Kind::File, right) == Some(word)
 }
 
 /// The right that a word names.
@@ -89,7 +40,7 @@ fn bit_of(word: &str) -> Option<u32> {
         "search" => Some(mask::EXECUTE),
         _ => {
             for bit in RIGHTS {
-                if word == directory_name_of(bit) || word == name_of(bit) {
+                if is_name_of(word, bit) {
                     return Some(bit);
                 }
             }

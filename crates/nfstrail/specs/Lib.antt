@@ -1,4 +1,3 @@
 pub mod Reading
 pub mod Choosing
-pub mod Rights
 pub mod Fates
