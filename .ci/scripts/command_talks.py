@@ -91,7 +91,7 @@ class Session:
     def add(self, word, rest):
         if word in TALKS:
             TALKS[word](self.talk, rest)
-        elif word in ("run", "do", "leave"):
+        elif word in ("run", "do", "zero", "leave"):
             self.add_to(self.asked, " ".join([word, *rest.split()]), len(self.wanted))
         elif word in ("=", "!"):
             self.add_to(self.wanted, outcome(word, rest), len(self.asked) - 1)

@@ -15,3 +15,4 @@ pub mod Walks
 pub mod Reading
 pub mod Putting
 pub mod Telling
+pub mod Columns

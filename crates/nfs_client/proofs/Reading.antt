@@ -4,12 +4,13 @@ use Rattle.std.specs.Prelude.{Option, Result}
 use Rattle.nfs_client.specs.Access.{NoPath}
 use Rattle.nfs_client.specs.Approach.{WalkGives, WalkFails}
 use Rattle.nfs_client.specs.Cat.{bytes_of, by_pieces, CatGives}
-use Rattle.nfs_client.specs.Ls.{AreListed, text_of, by_listings, LsGives}
+use Rattle.nfs_client.specs.Ls.{AreListed, text_of, by_listings, LinesGive}
 use Rattle.nfs_client.specs.Paging.{PagesGive, itself}
 use Rattle.nfs_client.specs.Paths.{names_in}
 use Rattle.nfs_client.specs.Routes.{Route, most_names}
 use Rattle.nfs_client.specs.Walking.{Walked}
 use Rattle.nfs_client.specs.declared.client.Client.{Client}
+use Rattle.nfs_client.specs.declared.listing.Ends.{Ends}
 use Rattle.nfs_client.specs.declared.fault.ToolFault.{ToolFault}
 use Rattle.nfs_client.proofs.Walks.{commanded, no_path, no_entry, no_failed, behind}
 
@@ -33,21 +34,22 @@ module _ {S A X : Type 0} (contents remaining : S → Option (List ℕ)) (value 
   pub cat_stops : (names : List (List ℕ)) (f : ToolFault) → names_in path ≡ Some names → WalkFails contents remaining most_names names old new f → CatGives contents remaining value path old new (Err f)
   cat_stops names f is fails = cat_tells (Err f) (names, is, inl fails)
 
-  -- lines are listed at the end of a route
+-- lines with these ends are listed at the end of a route
+module _ {S A X : Type 0} (contents remaining : S → Option (List ℕ)) (ends : Ends) (value : X → List ℕ) (path : List ℕ) (old new : Client S A) where
   abbrev LinesAt : List ℕ → Route → Client S A → Result X ToolFault → Type 0
-  LinesAt set route mid r = PagesGive (by_listings contents remaining route set) value text_of mid new r
+  LinesAt set route mid r = PagesGive (by_listings contents remaining ends route set) value text_of mid new r
 
   abbrev LsAsked : Result X ToolFault → Type 0
   LsAsked told = (names : List (List ℕ)) × (set : List ℕ) × (names_in path ≡ Some names) × AreListed set × Walked contents remaining most_names names (LinesAt set) old new told
 
-  ls_tells : (result : Result X ToolFault) → LsAsked result → LsGives contents remaining value path old new result
+  ls_tells : (result : Result X ToolFault) → LsAsked result → LinesGive contents remaining ends value path old new result
   ls_tells result h =
       commanded (NoPath path) LsAsked old new result (λ a. no_path contents remaining most_names a.0 (LinesAt a.1) old new (λ route mid i. i.5) a.4)
       (λ a. no_entry contents remaining most_names a.0 (LinesAt a.1) old new (λ route mid i. i.5) a.4) (λ a. no_failed contents remaining most_names a.0 (LinesAt a.1) old new (λ route mid i. i.5) a.4) h
 
   pub ls_lists : (names : List (List ℕ)) (set : List ℕ) (mid : Client S A) (route : Route) (result : Result X ToolFault) → names_in path ≡ Some names → AreListed set
-      → WalkGives contents remaining itself most_names names old mid (Ok route) → PagesGive (by_listings contents remaining route set) value text_of mid new result → LsGives contents remaining value path old new result
+      → WalkGives contents remaining itself most_names names old mid (Ok route) → PagesGive (by_listings contents remaining ends route set) value text_of mid new result → LinesGive contents remaining ends value path old new result
   ls_lists names set mid route result is listed walk pages = ls_tells result (names, set, is, listed, behind contents remaining most_names names (LinesAt set) old new mid route result walk pages)
 
-  pub ls_stops : (names : List (List ℕ)) (set : List ℕ) (f : ToolFault) → names_in path ≡ Some names → AreListed set → WalkFails contents remaining most_names names old new f → LsGives contents remaining value path old new (Err f)
+  pub ls_stops : (names : List (List ℕ)) (set : List ℕ) (f : ToolFault) → names_in path ≡ Some names → AreListed set → WalkFails contents remaining most_names names old new f → LinesGive contents remaining ends value path old new (Err f)
   ls_stops names set f is listed fails = ls_tells (Err f) (names, set, is, listed, inl fails)

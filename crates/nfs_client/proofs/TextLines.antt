@@ -13,20 +13,20 @@ lines_none None = refl
 lines_none (Some text) = refl
 
 -- one line more
-step : (done line : List ℕ) (left : Option (List ℕ)) → behind done (option_map (λ rest. line ++ 10 ∷ rest) left) ≡ behind (done ++ (line ++ 10 ∷ [])) left
-step done line None = refl
-step done line (Some rest) = ap Some (ap (λ (t : List ℕ). done ++ t) (sym (append_assoc line (10 ∷ []) rest)) ∙ sym (append_assoc done (line ++ 10 ∷ []) rest))
+step : (end : ℕ) (done line : List ℕ) (left : Option (List ℕ)) → behind done (option_map (λ rest. line ++ end ∷ rest) left) ≡ behind (done ++ (line ++ end ∷ [])) left
+step end done line None = refl
+step end done line (Some rest) = ap Some (ap (λ (t : List ℕ). done ++ t) (sym (append_assoc line (end ∷ []) rest)) ∙ sym (append_assoc done (line ++ end ∷ []) rest))
 
-module _ {X : Type 0} (text : X → Option (List ℕ)) (whole : Option (List ℕ)) (done : List ℕ) (x : X) (xs : List X) where
-  pub lines_more : (line : List ℕ) → text x ≡ Some line → whole ≡ behind done (lines_of text (x ∷ xs)) → whole ≡ behind (done ++ (line ++ 10 ∷ [])) (lines_of text xs)
+module _ {X : Type 0} (end : ℕ) (text : X → Option (List ℕ)) (whole : Option (List ℕ)) (done : List ℕ) (x : X) (xs : List X) where
+  pub lines_more : (line : List ℕ) → text x ≡ Some line → whole ≡ behind done (lines_of end text (x ∷ xs)) → whole ≡ behind (done ++ (line ++ end ∷ [])) (lines_of end text xs)
   lines_more line is so =
-      so ∙ ap (λ (o : Option (List ℕ)). behind done (option_and_then (λ t. option_map (λ rest. t ++ 10 ∷ rest) (lines_of text xs)) o)) is ∙ step done line (lines_of text xs)
+      so ∙ ap (λ (o : Option (List ℕ)). behind done (option_and_then (λ t. option_map (λ rest. t ++ end ∷ rest) (lines_of end text xs)) o)) is ∙ step end done line (lines_of end text xs)
 
-  pub lines_fail : text x ≡ None → whole ≡ behind done (lines_of text (x ∷ xs)) → whole ≡ None
-  lines_fail is so = so ∙ ap (λ (o : Option (List ℕ)). behind done (option_and_then (λ t. option_map (λ rest. t ++ 10 ∷ rest) (lines_of text xs)) o)) is
+  pub lines_fail : text x ≡ None → whole ≡ behind done (lines_of end text (x ∷ xs)) → whole ≡ None
+  lines_fail is so = so ∙ ap (λ (o : Option (List ℕ)). behind done (option_and_then (λ t. option_map (λ rest. t ++ end ∷ rest) (lines_of end text xs)) o)) is
 
-pub lines_all : {X : Type 0} (text : X → Option (List ℕ)) (whole : Option (List ℕ)) (done : List ℕ) → whole ≡ behind done (lines_of text []) → whole ≡ Some done
-lines_all text whole done so = so ∙ ap Some (append-nil done)
+pub lines_all : {X : Type 0} (end : ℕ) (text : X → Option (List ℕ)) (whole : Option (List ℕ)) (done : List ℕ) → whole ≡ behind done (lines_of end text []) → whole ≡ Some done
+lines_all end text whole done so = so ∙ ap Some (append-nil done)
 
 -- three parts that are put one behind the other
 pub put_behind : (a b c d done line : List ℕ) → d ≡ c ++ 10 ∷ [] → c ≡ b ++ line → b ≡ a ++ done → d ≡ a ++ (done ++ (line ++ 10 ∷ []))

@@ -45,7 +45,7 @@ text_of v = option_map entry_text (line_of v)
 
 -- entries as lines, each with a newline behind it
 abbrev pub list_text : List (Value ace) → Option (List ℕ)
-list_text values = lines_of text_of values
+list_text values = lines_of 10 text_of values
 
 -- ---- setting a list
 

@@ -1,4 +1,4 @@
--- ls: the entries of a directory as lines, page by page up to its end.
+-- ls, ls_zero: the entries of a directory as lines, page by page up to its end.
 use Rattle.std.specs.Prelude.{◌≡◌, ℕ, ◌==◌, ◌||◌, Bool, true, List, [], ◌∷◌, ◌++◌, map, replicate, Option, Some, None, option_map, option_and_then, Result, Ok, Err}
 use Rattle.xdr_wire.specs.Xdr.{Value}
 use Rattle.xdr_wire.specs.declared.fault.XdrFault.{XdrFault}
@@ -10,7 +10,7 @@ use Rattle.nfs_ops.specs.Results.{Outcome, Done}
 use Rattle.nfs_ops.specs.declared.op_kind.OpKind.TheVariants as kinds
 use Rattle.nfs_client.specs.Compound.{Said}
 use Rattle.nfs_client.specs.Paths.{names_in}
-use Rattle.nfs_client.specs.Lines.{Listed, line, lines_of}
+use Rattle.nfs_client.specs.Lines.{Listed, line_with, line_end, lines_of}
 use Rattle.nfs_client.specs.Taking.{last_of, SaidGives}
 use Rattle.nfs_client.specs.Access.{NoPath}
 use Rattle.nfs_client.specs.Commands.{AskGives, Commanded}
@@ -18,6 +18,8 @@ use Rattle.nfs_client.specs.Paging.{Paging, PagesGive, itself}
 use Rattle.nfs_client.specs.Routes.{Route, along, most_names}
 use Rattle.nfs_client.specs.Walking.{Walked}
 use Rattle.nfs_client.specs.declared.client.Client.{Client}
+use Rattle.nfs_client.specs.declared.listing.Ends.{Ends}
+use Rattle.nfs_client.specs.declared.listing.Ends.TheVariants.{Blanks, Zeros}
 use Rattle.nfs_client.specs.declared.ls.Listing.{Listing}
 use Rattle.nfs_client.specs.declared.fault.ToolFault.{ToolFault}
 use Rattle.nfs_client.specs.declared.fault.ToolFault.TheVariants.{Reply, Memory}
@@ -47,17 +49,17 @@ abbrev pub listed_by : List ℕ → Seen → Listed
 listed_by name s = record { kind = s.kind; mode = s.mode; owner = s.owner; group = s.group; size = s.size; name = name }
 
 -- the line of an entry of this name
-abbrev pub line_by : List ℕ → Result Seen XdrFault → Option (List ℕ)
-line_by name (Ok seen) = Some (line (listed_by name seen))
-line_by name (Err fault) = None
+abbrev pub line_by : Ends → List ℕ → Result Seen XdrFault → Option (List ℕ)
+line_by ends name (Ok seen) = line_with ends (listed_by name seen)
+line_by ends name (Err fault) = None
 
 -- the line of an entry whose attributes can be read
-abbrev pub line_in : Value entry → Option (List ℕ)
-line_in e = line_by (entry_name e) (seen_of (set_of (entry_attributes e)) (values_of (entry_attributes e)))
+abbrev pub line_in : Ends → Value entry → Option (List ℕ)
+line_in ends e = line_by ends (entry_name e) (seen_of (set_of (entry_attributes e)) (values_of (entry_attributes e)))
 
--- the lines of entries, each with a newline behind it
-abbrev pub lines_in : List (Value entry) → Option (List ℕ)
-lines_in entries = lines_of line_in entries
+-- the lines of entries, each with its end behind it
+abbrev pub lines_in : Ends → List (Value entry) → Option (List ℕ)
+lines_in ends entries = lines_of (line_end ends) (line_in ends) entries
 
 -- the lines of a page's entries, their cookies, and whether the directory ends behind them
 pub record Page : Type 0 where
@@ -68,15 +70,15 @@ pub record Page : Type 0 where
 abbrev pub page_with : List ℕ → List ℕ → Bool → Page
 page_with text cookies eof = record { text = text; cookies = cookies; eof = eof }
 
-abbrev pub page_by : Value readdir_result → Option Page
-page_by v = option_map (λ text. page_with text (map entry_cookie v.1.0) v.1.1) (lines_in v.1.0)
+abbrev pub page_by : Ends → Value readdir_result → Option Page
+page_by ends v = option_map (λ text. page_with text (map entry_cookie v.1.0) v.1.1) (lines_in ends v.1.0)
 
-abbrev pub page_of : Outcome → Option Page
-page_of (Done kinds.ReadDir v) = page_by v
-page_of _ = None
+abbrev pub page_of : Ends → Outcome → Option Page
+page_of ends (Done kinds.ReadDir v) = page_by ends v
+page_of ends _ = None
 
-abbrev pub page_in : List Outcome → Option Page
-page_in results = option_and_then page_of (last_of results)
+abbrev pub page_in : Ends → List Outcome → Option Page
+page_in ends results = option_and_then (page_of ends) (last_of results)
 
 -- ---- page by page, the last page first
 
@@ -96,12 +98,12 @@ cookie_of [] = 0
 cookie_of (p ∷ before) = last_or (cookie_of before) p.cookies
 
 -- Each READDIR begins behind the last entry of the pages so far.
-abbrev pub by_listings : {S A : Type 0} → (S → Option (List ℕ)) → (S → Option (List ℕ)) → Route → List ℕ → Paging S A Page
-by_listings contents remaining route set = record {
+abbrev pub by_listings : {S A : Type 0} → (S → Option (List ℕ)) → (S → Option (List ℕ)) → Ends → Route → List ℕ → Paging S A Page
+by_listings contents remaining ends route set = record {
   contents = contents;
   remaining = remaining;
   asks = λ client before. list_from route set client (cookie_of before);
-  taken = page_in;
+  taken = page_in ends;
   ends = λ p. p.eof;
 }
 
@@ -111,17 +113,18 @@ by_listings contents remaining route set = record {
 pub record GoesOn {A : Type 0} (old new : Listing A) (text cookies : List ℕ) : Type 0 where
   pub lines : new.text.items ≡ old.text.items ++ text
   pub behind : new.cookie ≡ last_or old.cookie cookies
+  pub ends : new.ends ≡ old.ends
 
 -- an entry's line, if it has one
 abbrev pub PutsEntry : {A : Type 0} → Listing A → Listing A → Value entry → Result (Unit {0}) ToolFault → Type 0
-PutsEntry old new e (Ok done) = (text : List ℕ) × (line_in e ≡ Some text) × GoesOn old new (text ++ 10 ∷ []) (entry_cookie e ∷ [])
-PutsEntry old new e (Err Reply) = line_in e ≡ None
+PutsEntry old new e (Ok done) = (text : List ℕ) × (line_in old.ends e ≡ Some text) × GoesOn old new (text ++ line_end old.ends ∷ []) (entry_cookie e ∷ [])
+PutsEntry old new e (Err Reply) = line_in old.ends e ≡ None
 PutsEntry old new e (Err Memory) = Unit {0}
 PutsEntry old new e (Err fault) = ⊥
 
 abbrev pub PutsEntries : {A : Type 0} → Listing A → Listing A → List (Value entry) → Result (Unit {0}) ToolFault → Type 0
-PutsEntries old new entries (Ok done) = (text : List ℕ) × (lines_in entries ≡ Some text) × GoesOn old new text (map entry_cookie entries)
-PutsEntries old new entries (Err Reply) = lines_in entries ≡ None
+PutsEntries old new entries (Ok done) = (text : List ℕ) × (lines_in old.ends entries ≡ Some text) × GoesOn old new text (map entry_cookie entries)
+PutsEntries old new entries (Err Reply) = lines_in old.ends entries ≡ None
 PutsEntries old new entries (Err Memory) = Unit {0}
 PutsEntries old new entries (Err fault) = ⊥
 
@@ -134,19 +137,27 @@ PutsPage old new page (Err fault) = ⊥
 
 -- the lines of the page in a reply
 abbrev pub PageTaken : {A : Type 0} → Said → Listing A → Listing A → Result Bool ToolFault → Type 0
-PageTaken said old new (Ok eof) = (text : List ℕ) × (cookies : List ℕ) × SaidGives (page_with text cookies) page_in said (Ok eof) × GoesOn old new text cookies
-PageTaken said old new (Err fault) = SaidGives (page_with [] []) page_in said (Err fault)
+PageTaken said old new (Ok eof) = (text : List ℕ) × (cookies : List ℕ) × SaidGives (page_with text cookies) (page_in old.ends) said (Ok eof) × GoesOn old new text cookies
+PageTaken said old new (Err fault) = SaidGives (page_with [] []) (page_in old.ends) said (Err fault)
 
 -- the exchange of a page, whose lines are put behind those of the pages before it
 abbrev pub ListGives : {S A : Type 0} → (S → Option (List ℕ)) → (S → Option (List ℕ)) → Route → List ℕ → Listing A → Listing A → Client S A → Client S A → Result Bool ToolFault → Type 0
 ListGives contents remaining route set listing listing' old new (Ok eof) =
-    (text : List ℕ) × (cookies : List ℕ) × AskGives contents remaining page_in itself true (list_from route set old listing.cookie) old new (Ok (page_with text cookies eof))
-    × GoesOn listing listing' text cookies
+    (text : List ℕ) × (cookies : List ℕ)
+    × AskGives contents remaining (page_in listing.ends) itself true (list_from route set old listing.cookie) old new (Ok (page_with text cookies eof)) × GoesOn listing listing' text cookies
 ListGives contents remaining route set listing listing' old new (Err fault) =
-    AskGives {X = Page} contents remaining page_in itself true (list_from route set old listing.cookie) old new (Err fault)
+    AskGives {X = Page} contents remaining (page_in listing.ends) itself true (list_from route set old listing.cookie) old new (Err fault)
 
 -- the lines of all entries of the directory at the path; or the path is wrong, and no operation is asked
-abbrev pub LsGives : {S A X : Type 0} → (S → Option (List ℕ)) → (S → Option (List ℕ)) → (X → List ℕ) → List ℕ → Client S A → Client S A → Result X ToolFault → Type 0
-LsGives contents remaining value path old new result =
+abbrev pub LinesGive : {S A X : Type 0} → (S → Option (List ℕ)) → (S → Option (List ℕ)) → Ends → (X → List ℕ) → List ℕ → Client S A → Client S A → Result X ToolFault → Type 0
+LinesGive contents remaining ends value path old new result =
     Commanded (NoPath path) (λ told. (names : List (List ℕ)) × (set : List ℕ) × (names_in path ≡ Some names) × AreListed set
-    × Walked contents remaining most_names names (λ route mid r. PagesGive (by_listings contents remaining route set) value text_of mid new r) old new told) old new result
+    × Walked contents remaining most_names names (λ route mid r. PagesGive (by_listings contents remaining ends route set) value text_of mid new r) old new told) old new result
+
+-- with a space between two columns, and a newline behind each line
+abbrev pub LsGives : {S A X : Type 0} → (S → Option (List ℕ)) → (S → Option (List ℕ)) → (X → List ℕ) → List ℕ → Client S A → Client S A → Result X ToolFault → Type 0
+LsGives contents remaining value path old new result = LinesGive contents remaining Blanks value path old new result
+
+-- with a zero byte behind each column, which no column has
+abbrev pub LsZeroGives : {S A X : Type 0} → (S → Option (List ℕ)) → (S → Option (List ℕ)) → (X → List ℕ) → List ℕ → Client S A → Client S A → Result X ToolFault → Type 0
+LsZeroGives contents remaining value path old new result = LinesGive contents remaining Zeros value path old new result

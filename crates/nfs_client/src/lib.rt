@@ -42,7 +42,7 @@ pub use entry_text::{EntryText, an_entry_as_text_is_read};
 pub use fault::ToolFault;
 pub use fault_text::FaultText;
 pub use list_part::ListPart;
-pub use listing::Listed;
+pub use listing::{Listed, columns_are_told_apart};
 pub use modes::{mode_text, read_mode};
 pub use path::Path;
 pub use running::Answer;

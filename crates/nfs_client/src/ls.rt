@@ -6,7 +6,7 @@ ghost use Rattle.nfs_ops.specs.Forms as forms;
 ghost use Rattle.nfs_ops.specs.ItemViews.{entry_value};
 ghost use Rattle.nfs_ops.specs.ResultViews.{read_view};
 ghost use Rattle.nfs_client.specs.Compound.{said};
-ghost use Rattle.nfs_client.specs.Ls.{AreListed, list_from, page_of, text_of, by_listings, PutsEntry, PutsEntries, PutsPage, PageTaken, ListGives, LsGives};
+ghost use Rattle.nfs_client.specs.Ls.{AreListed, list_from, page_of, text_of, by_listings, PutsEntry, PutsEntries, PutsPage, PageTaken, ListGives, LinesGive, LsGives, LsZeroGives};
 ghost use Rattle.nfs_client.specs.Paging.{PagesGive};
 ghost use Rattle.nfs_client.specs.Requests.{Asks, PutGives};
 ghost use Rattle.nfs_client.specs.RouteViews.{route_value};
@@ -15,7 +15,7 @@ ghost use Rattle.nfs_client.specs.declared.fault.ToolFault.TheVariants.{Failed};
 use crate::cat::MOST_CALLS;
 use crate::client::{Client, Reply};
 use crate::fault::ToolFault;
-use crate::listing::Listed;
+use crate::listing::{Ends, Listed};
 use crate::path::Path;
 use crate::request::Request;
 use crate::route::{MOST_NAMES, Route};
@@ -55,14 +55,16 @@ fn text_in(text: Option<Bytes<'_>>) -> Option<&[u8]>
 /// The lines of a directory, as far as it is listed.
 #[derive(Drop)]
 pub(crate) struct Listing<A: Allocator> {
-    /// A line for each given entry, with a newline behind it.
+    /// A line for each given entry, with its end behind it.
     text: Vec<u8, A>,
+    /// What ends the columns and the lines.
+    ends: Ends,
     /// The cookie of the last given entry, 0 before the first.
     cookie: u64,
 }
 
 impl<A: Allocator> Listing<A> {
-    /// Puts the line of an entry. `Reply`: its attributes can't be read.
+    /// Puts the line of an entry. `Reply`: its attributes can't be read, or a column has the byte that ends columns.
     fn put(&mut self, entry: Entry<'_>) -> Result<(), ToolFault>
         ensures { PutsEntry self.old self.new (entry_value entry.entry) result }
     {
@@ -77,13 +79,16 @@ impl<A: Allocator> Listing<A> {
             size: seen.size,
             name: entry.name.bytes,
         };
-        listed.put(&mut self.text)?;
-        self.text.push(b'\n')?;
+        if listed.is_torn(self.ends) {
+            return Err(ToolFault::Reply);
+        }
+        listed.put_with(&mut self.text, self.ends)?;
+        self.text.push(self.ends.line())?;
         self.cookie = entry.cookie;
         Ok(())
     }
 
-    /// Puts the line of each entry. `Reply`: the attributes of an entry can't be read.
+    /// Puts the line of each entry. `Reply`: an entry has none.
     fn put_all<'a>(&mut self, entries: Chain<'a, Entry<'a>>) -> Result<(), ToolFault>
         ensures { PutsEntries self.old self.new (chain_values forms.entry (Some forms.entry_normal) entries.entry.bytes.now) result }
     {
@@ -99,7 +104,7 @@ impl<A: Allocator> Listing<A> {
 
     /// Puts the lines of the page in a result. Whether the directory ends behind it.
     fn put_page(&mut self, found: Option<OpResult<'_>>) -> Result<bool, ToolFault>
-        ensures { PutsPage self.old self.new (option_and_then page_of (option_map read_view found.entry)) result }
+        ensures { PutsPage self.old self.new (option_and_then (page_of self.old.ends) (option_map read_view found.entry)) result }
     {
         let Some(OpResult::ReadDir(told)) = found else {
             return Err(ToolFault::Reply);
@@ -167,11 +172,17 @@ impl<S: Read + Write, A: Allocator + Copy> Client<S, A> {
     }
 
     /// Lists page after page.
-    fn list_all(&mut self, route: &Route<'_, A>, asked: Bitmap) -> Result<Vec<u8, A>, ToolFault>
-        ensures { PagesGive (by_listings S.contents S.remaining (route_value route.now) (bitmap_value asked)) (λ v. v.items) text_of self.old self.new result }
+    fn list_all(
+        &mut self,
+        route: &Route<'_, A>,
+        asked: Bitmap,
+        ends: Ends,
+    ) -> Result<Vec<u8, A>, ToolFault>
+        ensures { PagesGive (by_listings S.contents S.remaining ends (route_value route.now) (bitmap_value asked)) (λ v. v.items) text_of self.old self.new result }
     {
         let mut listing = Listing {
             text: Vec::new(self.alloc),
+            ends,
             cookie: 0,
         };
         for _call in 0..MOST_CALLS {
@@ -187,11 +198,10 @@ impl<S: Read + Write, A: Allocator + Copy> Client<S, A> {
         Err(ToolFault::Reply)
     }
 
-    /// The entries of a directory, in at most 10,000 calls: a line for each, with a newline behind it (`Listed::put`). `Reply`: the
-    /// directory has more entries.
-    pub fn ls(&mut self, path: &[u8]) -> Result<Vec<u8, A>, ToolFault>
+    /// The entries of a directory as lines with these ends.
+    fn list(&mut self, path: &[u8], ends: Ends) -> Result<Vec<u8, A>, ToolFault>
         ensures failed { self.old.usable ≡ false → result ≡ Err Failed }
-        ensures gives { LsGives S.contents S.remaining (λ v. v.items) path.now self.old self.new result }
+        ensures gives { LinesGive S.contents S.remaining ends (λ v. v.items) path.now self.old self.new result }
     {
         self.start()?;
         let path = match Path::read(self.alloc, path) {
@@ -200,8 +210,26 @@ impl<S: Read + Write, A: Allocator + Copy> Client<S, A> {
         };
         let asked = attributes_listed();
         match self.reach(path.names(), MOST_NAMES) {
-            Ok(route) => self.list_all(&route, asked),
+            Ok(route) => self.list_all(&route, asked, ends),
             Err(fault) => Err(fault),
         }
+    }
+
+    /// The entries of a directory, in at most 10,000 calls: a line for each, with a newline behind it (`Listed::put`). `Reply`: the
+    /// directory has more entries.
+    pub fn ls(&mut self, path: &[u8]) -> Result<Vec<u8, A>, ToolFault>
+        ensures failed { self.old.usable ≡ false → result ≡ Err Failed }
+        ensures gives { LsGives S.contents S.remaining (λ v. v.items) path.now self.old self.new result }
+    {
+        self.list(path, Ends::Blanks)
+    }
+
+    /// As `ls`, with a zero byte in place of each space between two columns and of each newline behind a line. So the columns can be
+    /// told apart, whatever bytes names and owners have. `Reply` also: an owner, an owning group or a name has a zero byte.
+    pub fn ls_zero(&mut self, path: &[u8]) -> Result<Vec<u8, A>, ToolFault>
+        ensures failed { self.old.usable ≡ false → result ≡ Err Failed }
+        ensures gives { LsZeroGives S.contents S.remaining (λ v. v.items) path.now self.old self.new result }
+    {
+        self.list(path, Ends::Zeros)
     }
 }

@@ -209,7 +209,7 @@ fn tree_at<S: Read + Write>(
         } else {
             Kind::Other
         },
-        columns: Vec::new(alloc),
+        columns: String::new(alloc),
     })?;
     let mut unlisted = Vec::new(alloc);
     if is_directory {

@@ -56,9 +56,6 @@ pub(crate) enum Fault {
     /// No entry would be left.
     #[error("list")]
     NoneLeft,
-    /// Names of a directory can't be told apart.
-    #[error("name")]
-    Name,
     /// There are more objects than a command takes.
     #[error("tree")]
     TooMany,
@@ -189,8 +186,6 @@ impl Fault {
                 "this list would leave you without the right to read it or to change it again (c, C); with --force after the command it is set"
             }
             Fault::NoneLeft => "a list has at least one entry",
-            Fault::Name =>
-                "a name below it has a line break, which this command doesn't take; nothing was changed",
             Fault::TooMany => "there are more than 1,000,000 objects below it; nothing was changed",
             Fault::Unlisted => "not all of it can be listed; nothing was changed",
             Fault::Root => "the root has no name to be removed; name what is to go",

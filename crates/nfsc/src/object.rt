@@ -190,7 +190,7 @@ pub(crate) fn put_found<S: Read + Write>(
     found: &Object,
     name: &[u8],
 ) -> Result<(), Fault> {
-    out.extend_from_slice(found.columns.as_slice())?;
+    out.extend_from_slice(found.columns.as_bytes())?;
     match attributes(client, found.path.as_slice()) {
         Ok(given) => put_end(alloc, out, &read(&given)?, name),
         Err(Fault::Tool(ToolFault::Refused(_, _))) => put_end(alloc, out, &nothing(), name),

@@ -1,5 +1,6 @@
 //! The objects below a directory, as listings of the server have them.
 use crate::fault::Fault;
+use crate::shown::Shown;
 use nfs_client::{Client, ToolFault};
 use std::alloc::{AllocError, Global};
 use std::io::{Read, Write};
@@ -7,7 +8,7 @@ use std::io::{Read, Write};
 /// The most objects of a tree.
 const MOST_OBJECTS: usize = 1_000_000;
 
-/// The columns of a line of a listing: kind, mode, owner, group, size, name.
+/// The columns of an entry of a listing: kind, mode, owner, group, size, name.
 const COLUMNS: usize = 6;
 
 /// An object in a directory.
@@ -15,8 +16,8 @@ const COLUMNS: usize = 6;
 pub(crate) struct Object {
     pub(crate) path: Vec<u8>,
     pub(crate) kind: Kind,
-    /// The line of the listing before the name.
-    pub(crate) columns: Vec<u8>,
+    /// The columns before the name, as they are printed, with a space behind each.
+    pub(crate) columns: String,
 }
 
 /// The kind of an object.
@@ -44,14 +45,6 @@ pub(crate) struct Tree {
     pub(crate) unlisted: Vec<Unlisted>,
 }
 
-/// A line of a listing.
-#[derive(Clone, Copy)]
-struct Line<'a> {
-    kind: Kind,
-    columns: &'a [u8],
-    name: &'a [u8],
-}
-
 fn kind_in(text: &[u8]) -> Option<Kind> {
     match text {
         [b'd'] => Some(Kind::Directory),
@@ -61,33 +54,9 @@ fn kind_in(text: &[u8]) -> Option<Kind> {
     }
 }
 
-/// Whether a column is `?`, or digits.
-fn is_number(text: &[u8]) -> bool {
-    !text.is_empty() && (text == b"?".as_slice() || text.iter().all(|byte| byte.is_ascii_digit()))
-}
-
 /// Whether this can be a name in a directory.
 fn is_name(text: &[u8]) -> bool {
     !text.is_empty() && text != b".".as_slice() && text != b"..".as_slice() && !text.contains(&b'/')
-}
-
-/// The line that these bytes are. `None`: they are none, as those of a name with a line break in it.
-fn line_in(bytes: &[u8]) -> Option<Line<'_>> {
-    let mut parts = bytes.splitn(COLUMNS, |byte| *byte == b' ');
-    let kind = kind_in(parts.next()?)?;
-    let (mode, owner, group) = (parts.next()?, parts.next()?, parts.next()?);
-    let (size, name) = (parts.next()?, parts.next()?);
-    let is_line = is_number(mode)
-        && !owner.is_empty()
-        && !group.is_empty()
-        && is_number(size)
-        && is_name(name);
-    let before = bytes.len().saturating_sub(name.len());
-    is_line.then_some(Line {
-        kind,
-        columns: bytes.get(..before)?,
-        name,
-    })
 }
 
 /// The path of a name in a directory.
@@ -101,49 +70,35 @@ fn path_in(alloc: Global, directory: &[u8], name: &[u8]) -> Result<Vec<u8>, Allo
     Ok(path)
 }
 
-/// The lines of a listing. `Name`: a name in it has a line break, so that it can't be read.
-fn lines_in(alloc: Global, listing: &[u8]) -> Result<Vec<Line<'_>>, Fault> {
-    let mut lines = Vec::new(alloc);
-    let Some(text) = listing.strip_suffix(b"\n") else {
-        return Ok(lines);
+/// The object of an entry of a directory. `Reply`: its name can't be one in a directory.
+fn object_in(alloc: Global, directory: &[u8], entry: &[&[u8]]) -> Result<Object, Fault> {
+    let [letter, mode, owner, group, size, name] = entry else {
+        return Err(Fault::Tool(ToolFault::Reply));
     };
-    for bytes in text.split(|byte| *byte == b'\n') {
-        match line_in(bytes) {
-            Some(line) => lines.push(line)?,
-            None => return Err(Fault::Name),
-        }
+    let Some(kind) = kind_in(letter) else {
+        return Err(Fault::Tool(ToolFault::Reply));
+    };
+    if !is_name(name) {
+        return Err(Fault::Tool(ToolFault::Reply));
     }
-    Ok(lines)
-}
-
-/// Whether two lines have one name, as no two names of a directory are the same: one of them is a part of a name with a
-/// line break in it.
-fn is_twice(alloc: Global, lines: &[Line<'_>]) -> Result<bool, AllocError> {
-    let mut names: Vec<&[u8]> = lines.iter().map(|line| line.name).collect(alloc)?;
-    names.sort()?;
-    Ok(
-        names.windows(2).any(|pair| match pair {
-            [one, next] => one == next,
-            _ => false,
-        }),
-    )
+    let (letter, mode, size) = (Shown(letter), Shown(mode), Shown(size));
+    let (owner, group) = (Shown(owner), Shown(group));
+    Ok(Object {
+        path: path_in(alloc, directory, name)?,
+        kind,
+        columns: format!(in alloc; "{letter} {mode} {owner} {group} {size} ")?,
+    })
 }
 
 impl Tree {
-    /// Puts the objects of a directory's listing.
+    /// Puts the objects of a directory's listing, in which a zero byte stands behind each column.
     fn put(&mut self, alloc: Global, directory: &[u8], listing: &[u8]) -> Result<(), Fault> {
-        let lines = lines_in(alloc, listing)?;
-        if is_twice(alloc, lines.as_slice())? {
-            return Err(Fault::Name);
-        }
-        for line in &lines {
-            let mut columns = Vec::new(alloc);
-            columns.extend_from_slice(line.columns)?;
-            self.objects.push(Object {
-                path: path_in(alloc, directory, line.name)?,
-                kind: line.kind,
-                columns,
-            })?;
+        let Some(text) = listing.strip_suffix(b"\0") else {
+            return Ok(());
+        };
+        let columns: Vec<&[u8]> = text.split(|byte| *byte == 0).collect(alloc)?;
+        for entry in columns.chunks(COLUMNS) {
+            self.objects.push(object_in(alloc, directory, entry)?)?;
         }
         Ok(())
     }
@@ -155,7 +110,7 @@ impl Tree {
         alloc: Global,
         path: Vec<u8>,
     ) -> Result<(), Fault> {
-        match client.ls(path.as_slice()) {
+        match client.ls_zero(path.as_slice()) {
             Ok(listing) => self.put(alloc, path.as_slice(), listing.as_slice()),
             Err(fault @ ToolFault::Refused(_, _)) => {
                 self.unlisted.push(Unlisted { path, fault })?;
@@ -183,7 +138,7 @@ impl Tree {
             objects: Vec::new(alloc),
             unlisted: Vec::new(alloc),
         };
-        let listing = client.ls(path)?;
+        let listing = client.ls_zero(path)?;
         tree.put(alloc, path, listing.as_slice())?;
         Ok(tree)
     }

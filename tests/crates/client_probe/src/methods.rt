@@ -50,6 +50,11 @@ fn ls(client: &mut Player<'_, '_>, path: &[u8]) -> Result<Vec<u8>, ToolFault> {
     client.ls(path)
 }
 
+/// The entries of a directory, with a zero byte behind each column.
+pub fn ls_zero(client: &mut Player<'_, '_>, path: &[u8]) -> Result<Vec<u8>, ToolFault> {
+    client.ls_zero(path)
+}
+
 fn cat(client: &mut Player<'_, '_>, path: &[u8]) -> Result<Vec<u8>, ToolFault> {
     client.cat(path)
 }

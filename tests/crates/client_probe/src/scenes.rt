@@ -1,7 +1,7 @@
 //! A scene: a client over a stream in memory, and its commands one after the other.
 
-use crate::methods::{answer, end, put_method};
-use crate::outcomes::{put_answer, put_done};
+use crate::methods::{answer, end, ls_zero, put_method};
+use crate::outcomes::{put_answer, put_done, put_given};
 use crate::played::{Lent, Played, Player};
 use nfs_client::{Client, Command, ToolFault};
 use std::alloc::{AllocError, Global};
@@ -34,17 +34,19 @@ fn words_of(alloc: Global, line: &str) -> Result<Vec<&[u8]>, AllocError> {
     Ok(words)
 }
 
-/// Puts what comes of a line: of the command of these words, or of the end of the session and the client.
+/// Puts what comes of a line: of the command of these words, of a listing with zero bytes, or of the end of the session and
+/// the client.
 fn put_came(
     out: &mut String,
     client: &mut Player<'_, '_>,
     word: &str,
     words: &[&[u8]],
 ) -> Result<(), Fail> {
-    match (word, Command::read(words)) {
-        ("run", Some(command)) => put_answer(out, answer(client, command)),
-        ("do", Some(command)) => put_method(out, client, command),
-        ("leave", None) => put_done(out, end(client)),
+    match (word, words, Command::read(words)) {
+        ("run", _, Some(command)) => put_answer(out, answer(client, command)),
+        ("do", _, Some(command)) => put_method(out, client, command),
+        ("zero", [path], None) => put_given(out, ls_zero(client, path)),
+        ("leave", _, None) => put_done(out, end(client)),
         _ => Err(Fail::new(format_args!("no such line: {word}"))),
     }
 }

@@ -10,7 +10,7 @@ use Rattle.nfs_client.proofs.client.Client.list_page.Goals as goal
 pub returns-in-Err : goal.returns-in-Err
 returns-in-Err g c =
     let ops = list_from (route_value c.args.route.now) (bitmap_value c.args.asked) c.args.self.now c.args.listing.now.cookie in
-    unasked g.S.Write.contents g.S.Read.remaining page_in itself true ops c.args.self.now c.exchange.new.self c.in-Err.fault (c.in-Err.ensures ops c.in_ok-request.ensures.asks)
+    unasked g.S.Write.contents g.S.Read.remaining (page_in c.args.listing.now.ends) itself true ops c.args.self.now c.exchange.new.self c.in-Err.fault (c.in-Err.ensures ops c.in_ok-request.ensures.asks)
 
 pub returns : goal.returns
 returns g c =
