@@ -1,5 +1,5 @@
 //! Samples of XDR forms of one's own, one of each shape: a struct, unions, a chain, an array with a
-//! normal form. There are samples of names for READDIR too.
+//! normal form. There are samples of names for READDIR too, and a law of statuses.
 #![tactic(auto)]
 
 mod bitmap;
@@ -7,9 +7,11 @@ mod channel;
 mod children;
 mod claim;
 mod listing;
+mod refusals;
 
 pub use bitmap::Bitmap;
 pub use channel::Channel;
 pub use children::{Child, Children};
 pub use claim::{Claim, Mark, Stable};
 pub use listing::{Entry, Listing};
+pub use refusals::every_refusal_is_read;
