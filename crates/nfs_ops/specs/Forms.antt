@@ -1,6 +1,7 @@
 -- The XDR types of each operation's arguments and of its result, in the order of the standard
 -- (RFC 8881, section 18; RFC 5662). They have the names of their parts and of the arms of their
--- unions. A result stands after the number and the status, where the status is OK.
+-- unions. A result stands after the number and the status, where the status is OK. The comment at
+-- an operation lists its arguments, and after a ';' its result, where it has one.
 use Rattle.std.specs.Prelude.{ℕ, Bool, ◌+◌, ◌*◌, List, [], ◌∷◌, length, map}
 use Rattle.std.proofs.Common.{inl, inr}
 use Rattle.std.specs.List.{sum_by}
@@ -194,8 +195,8 @@ open_how_normal (inr (inr v)) = elim v [ ]
 abbrev pub open_claim : Xdr
 open_claim = union (arm 0 bytes (arm 4 void no_more))
 
--- OPEN (18.16): a number that is ignored, access, deny, client, owner, how, claim. Its result is
--- stateid, the directory's change, no flags, the attributes that were set, no delegation.
+-- OPEN (18.16): a number that is ignored, access, deny, client, owner, how, claim; stateid, the
+-- directory's change, no flags, the attributes that were set, no delegation
 abbrev pub open_args : Xdr
 open_args = fields (uint ∷ uint ∷ uint ∷ hyper ∷ opaque 1024 ∷ open_how ∷ open_claim ∷ [])
 
@@ -297,7 +298,7 @@ abbrev pub read_gives : Bool → List ℕ → Value read_result
 read_gives eof item = (eof, item)
 
 -- READDIR (18.23): cookie, a verifier and a count that are ignored, the most bytes, the attributes
--- requested. Its result is a verifier, the entries, whether the end was reached.
+-- requested; a verifier, the entries, whether the end was reached
 abbrev pub readdir_args : Xdr
 readdir_args = fields (hyper ∷ fixed 8 ∷ uint ∷ uint ∷ bitmap ∷ [])
 
@@ -454,9 +455,8 @@ written_bytes v = v.1.1.1
 abbrev pub implementation : Xdr
 implementation = fields (bytes ∷ bytes ∷ time ∷ [])
 
--- EXCHANGE_ID (18.35): verifier, owner, flags, no protection, the client's implementation. Its
--- result is client ID, sequence ID, flags, no protection, the server's number and name, its scope,
--- no implementation.
+-- EXCHANGE_ID (18.35): verifier, owner, flags, no protection, the client's implementation; client
+-- ID, sequence ID, flags, no protection, the server's number and name, its scope, no implementation
 abbrev pub exchange_id_args : Xdr
 exchange_id_args = fields (fixed 8 ∷ opaque 1024 ∷ uint ∷ always 0 ∷ array 1 implementation ∷ [])
 
@@ -545,8 +545,8 @@ slots c = c.1.1.1.1.1.0
 abbrev pub destroy_session_args : Xdr
 destroy_session_args = fixed 16
 
--- SEQUENCE (18.46): session ID, sequence ID, slot, highest slot, whether the reply is to be cached.
--- Its result is session ID, sequence ID, slot, highest slot, target highest slot, no flags.
+-- SEQUENCE (18.46): session ID, sequence ID, slot, highest slot, whether the reply is to be cached;
+-- session ID, sequence ID, slot, highest slot, target highest slot, no flags
 abbrev pub sequence_args : Xdr
 sequence_args = fields (fixed 16 ∷ uint ∷ uint ∷ uint ∷ boolean ∷ [])
 
