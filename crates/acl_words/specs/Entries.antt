@@ -11,8 +11,9 @@ use Rattle.acl_words.specs.Words.{Said, said_in, said_text, ◌>>=◌}
 use Rattle.acl_words.specs.declared.field.Field.{Field}
 use Rattle.acl_words.specs.declared.field.Field.TheVariants.{Principal}
 
--- An entry can stand in a list of an object: its flags have a meaning (RFC 8881, section 6.2.1.4), and IDENTIFIER_GROUP
--- is with a group and not with a user. A client's list has no other (acl_shape).
+-- An entry can stand in a list of an object. Its flags have a meaning (RFC 8881, section 6.2.1.4),
+-- and IDENTIFIER_GROUP is with a group and not with a user. A client's list has no other
+-- (acl_shape).
 pub record CanStand (e : Entry) : Type 0 where
   pub flags : e.flags < 256
   pub mask : e.mask < 2 ^ 32

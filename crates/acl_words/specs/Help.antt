@@ -1,4 +1,4 @@
--- What would do in a field.
+-- The help of a field says what would do there.
 use Rattle.std.specs.Prelude.{ℕ, List, codes}
 use Rattle.acl_words.specs.declared.field.Field.{Field}
 use Rattle.acl_words.specs.declared.field.Field.TheVariants.{Form, EntryType, Flags, Permissions, Principal}

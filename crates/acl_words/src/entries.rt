@@ -33,9 +33,10 @@ fn principal_in(book: &Book, flags: u32, text: &[u8]) -> Option<Who>
 
 /// The entry of a text, for an object of this kind: on a directory a `W` has `D` too.
 ///
-/// The text is as [`Words::read`] takes it. Its principal is `OWNER@`, `GROUP@` or `EVERYONE@`, a name of the book, with
-/// `@` and the book's domain or without, or decimal digits without leading zeros: a group's with flag `g`, else a
-/// user's. `Err` has the first field that can't be read, the principal after the others.
+/// The text is as [`Words::read`] takes it. Its principal is `OWNER@`, `GROUP@`, `EVERYONE@`, a
+/// name of the book, with `@` and the book's domain or without, or decimal digits without leading
+/// zeros. A name or digits are a group's with flag `g`, else a user's. `Err` has the first field
+/// that can't be read, the principal after the others.
 pub fn read_entry(book: &Book, object: Kind, text: &[u8]) -> Result<Entry, Field>
     ensures { result ≡ entry_in object book.now text.now }
 {

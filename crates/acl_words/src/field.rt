@@ -18,7 +18,7 @@ pub enum Field {
 }
 
 impl Field {
-    /// What would do in the field.
+    /// Says what would do in the field.
     pub fn help(self) -> &'static str
         ensures { result.now ≡ specs.help_text self }
     {

@@ -2,7 +2,7 @@
 ghost use Rattle.std.specs.Prelude.{◌≡◌, option_map};
 ghost use Rattle.acl_words.specs.Fields as specs;
 
-/// What stands before and after the first such byte.
+/// Gives what stands before and after the first such byte.
 pub(crate) fn split_at(text: &[u8], byte: u8) -> Option<(&[u8], &[u8])>
     ensures { option_map (λ parts. (parts.0.now, parts.1.now)) result ≡ specs.split_at byte text.now }
 {
@@ -14,7 +14,7 @@ pub(crate) fn split_at(text: &[u8], byte: u8) -> Option<(&[u8], &[u8])>
     None
 }
 
-/// What stands before and after the last such byte.
+/// Gives what stands before and after the last such byte.
 pub(crate) fn split_at_last(text: &[u8], byte: u8) -> Option<(&[u8], &[u8])>
     ensures { option_map (λ parts. (parts.0.now, parts.1.now)) result ≡ specs.split_at_last byte text.now }
 {

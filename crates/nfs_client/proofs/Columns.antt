@@ -1,4 +1,4 @@
--- The columns of entries are told apart by the zero bytes behind them.
+-- The columns of entries are told apart by the zero bytes after them.
 use Rattle.std.proofs.Common.{◌≡◌, ◌<◌, ◌+◌, ◌/◌, ◌%◌, ℕ, Bool, true, false, List, [], ◌∷◌, ◌++◌, Option, Some, None, refl, sym, ap, ◌∙◌, arith, inl, inr, append_assoc}
 use Rattle.std.specs.Prelude.{◌==◌, ◌||◌, if◌then◌else◌, All, option_map, decimal}
 use Rattle.std.specs.List.{flat_map}
@@ -19,14 +19,14 @@ neither false b h = (refl, h)
 nonzero : (n : ℕ) → 0 < n → (n == 0) ≡ false
 nonzero n h = grind (arith, nat_tests)
 
--- a part without a zero byte, and the zero byte behind it
+-- a part without a zero byte, and the zero byte after it
 part_from : (done part rest : List ℕ) → has_zero part ≡ false → parts_from done (part ++ 0 ∷ rest) ≡ (done ++ part) ∷ parts rest
 part_from done [] rest free = ap (λ (p : List ℕ). p ∷ parts rest) (sym (append-nil done))
 part_from done (b ∷ part) rest free =
     let h = neither (b == 0) (has_zero part) free in
     rw (h.0) (part_from (done ++ b ∷ []) part rest h.1 ∙ ap (λ (p : List ℕ). p ∷ parts rest) (append_assoc done (b ∷ []) part))
 
--- texts whose parts these are, with a part more behind them
+-- texts whose parts these are, with a part more after them
 one_more : (text part : List ℕ) (ps : List (List ℕ)) → ((rest : List ℕ) → parts (text ++ 0 ∷ rest) ≡ ps ++ parts rest) → has_zero part ≡ false
     → (rest : List ℕ) → parts ((text ++ 0 ∷ part) ++ 0 ∷ rest) ≡ (ps ++ part ∷ []) ++ parts rest
 one_more text part ps before free rest =
@@ -58,7 +58,7 @@ size_free : (size : Option ℕ) → IsSize size → has_zero (size_column size) 
 size_free None fits = refl
 size_free (Some size) fits = digits_free (decimal size) (decimal_is_IsNumeral size fits).0.1
 
--- the columns of an entry, and what stands behind them
+-- the columns of an entry, and what stands after them
 entry_parts : (l : Listed) (rest : List ℕ) → IsSize l.size → is_torn Zeros l ≡ false → parts (columns 0 l ++ 0 ∷ rest) ≡ columns_of l ++ parts rest
 entry_parts l rest fits whole =
     let kind = kind_text l.kind in

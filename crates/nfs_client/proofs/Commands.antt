@@ -70,7 +70,7 @@ module _ {S A V : Type 0} (contents remaining : S → Option (List ℕ)) (taken 
   concluded value in_session (Err fault.Entry) new h is = absurd h
   concluded value in_session (Err fault.Failed) new h is = absurd h
 
--- the outcome of operations behind whose call no record was read
+-- the outcome of operations after whose call no record was read
 pub unasked : {S A V X : Type 0} (contents remaining : S → Option (List ℕ)) (taken : List Outcome → Option V) (value : X → V) (in_session : Bool) (ops : List Operation) (old new : Client S A) (f : ToolFault)
     → ExchangeGives contents remaining ops old new (Err f) → AskGives contents remaining taken value in_session ops old new (Err f)
 unasked contents remaining taken value in_session ops old new fault.Memory (inl h) = inl h.1

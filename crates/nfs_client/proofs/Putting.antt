@@ -48,7 +48,7 @@ outcome_bounds sent n _ h = absurd (differ n h)
     differ : (n : ℕ) → None ≡ Some n → ⊥
     differ n h = cc
 
--- ---- one WRITE behind others
+-- ---- one WRITE after others
 
 module _ {S A : Type 0} (contents remaining : S → Option (List ℕ)) (o : Open) (text bytes : List ℕ) (old mid new : Client S A) (counts : List ℕ) (done : ℕ) (writes : Writes contents remaining o text old counts mid) (so : sum counts ≡ done) (is : bytes ≡ piece (drop done text)) where
   behind : (r : Result ℕ ToolFault) → WriteGives contents remaining o done bytes mid new r → WriteGives contents remaining o (sum counts) (piece (drop (sum counts) text)) mid new r

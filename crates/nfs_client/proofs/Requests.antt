@@ -33,7 +33,7 @@ pub spells : {A X : Type 0} (bytes : X → List ℕ) (r : Request A) (xid : ℕ)
 spells bytes r xid caller ops count head (Ok call) asks counted head-is one = is_call r xid caller ops count head (bytes call) asks counted head-is one
 spells bytes r xid caller ops count head (Err fault) asks counted head-is one = one
 
--- ---- names one behind the other
+-- ---- names one after the other
 
 pub lookups_none : (ops : List Operation) (names : List (Bor (List ℕ))) → ops ++ lookups (map (λ n. n.now) (take 0 names)) ≡ ops
 lookups_none ops names = append-nil ops

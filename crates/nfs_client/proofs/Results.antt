@@ -1,4 +1,4 @@
--- Reading results one behind the other.
+-- Reading results one after the other.
 use Rattle.std.proofs.Common.{◌≡◌, ℕ, suc, ◌+◌, ◌-◌, ◌<◌, ◌≤◌, List, [], ◌∷◌, ◌++◌, Ok, Err, false, is_ok, refl, sym, ap, ◌∙◌, append_assoc, arith}
 use Rattle.std.proofs.lemmas.List.{append-nil}
 use Rattle.xdr_wire.specs.declared.fault.XdrFault.{XdrFault}

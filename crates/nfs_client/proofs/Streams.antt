@@ -27,7 +27,7 @@ appends_none (Some x) = sym (append-nil x)
 pub written_more : (a b c : Option (List ℕ)) (done n : ℕ) (bytes : List ℕ) → Appends a b (take done bytes) → Appends b c (take n (drop done bytes)) → Appends a c (take (done + n) bytes)
 written_more a b c done n bytes p q = rw (take-add done n bytes) (appends_trans a b c (take done bytes) (take n (drop done bytes)) p q)
 
--- the stream failed behind these bytes
+-- the stream failed after these bytes
 pub front_written : (a b c : Option (List ℕ)) (done : ℕ) (bytes : List ℕ) → Appends a b (take done bytes) → Keeps b c → WritesFront a c bytes
 front_written a b c done bytes p q = (take done bytes, drop done bytes, sym (take-append-drop done bytes), keeps a b c (take done bytes) p q)
   where
@@ -133,7 +133,7 @@ pub reading_breaks : {frame : Frame} {content : List ℕ} {left left' : Option (
 reading_breaks {left = left} {left' = left'} r piece left'' fault is c =
     (r.bytes ++ piece, consumes_trans left left' left'' r.bytes piece r.read c, frame_fault (r.bytes ++ piece) fault is)
 
--- a record ends in the piece, and bytes are behind it
+-- a record ends in the piece, and bytes come after it
 pub followed : (r piece content : List ℕ) (at to : ℕ) → at ≤ to → to < length piece → IsRecord content ((r ++ take at piece) ++ slice_range piece at to) → IsFollowed (r ++ piece)
 followed r piece content at to le more is =
     record {
@@ -145,7 +145,7 @@ followed r piece content at to le more is =
       more = omega (arith, length-drop to piece, more);
     }
 
--- The call was written, and no record was read behind it.
+-- The call was written, and no record was read after it.
 pub unheard : {S : Type 0} (contents remaining : S → Option (List ℕ)) (old mid new : S) (call : List ℕ) (fault : ToolFault) → Appends (contents old) (contents mid) call
     → NoneRead (remaining mid) (remaining new) fault → TalkFails contents remaining old new call fault
 unheard contents remaining old mid new call faults.Read wrote (bytes, read, is) = record { mid = mid; wrote = wrote; bytes = bytes; read = read; no_record = is }
@@ -157,7 +157,7 @@ unheard contents remaining old mid new call (faults.Refused op status) wrote (by
 unheard contents remaining old mid new call faults.Entry wrote (bytes, read, is) = absurd is
 unheard contents remaining old mid new call faults.Failed wrote (bytes, read, is) = absurd is
 
--- the call was written, and what was read behind it is a record, or is none
+-- the call was written, and what was read after it is a record, or is none
 pub talked : {S X : Type 0} (bytes : X → List ℕ) (contents remaining : S → Option (List ℕ)) (old mid new : S) (call : List ℕ) (result : Result X ToolFault) → Appends (contents old) (contents mid) call
     → RecordGives bytes (remaining mid) (remaining new) result → TalkGives bytes contents remaining old new call result
 talked bytes contents remaining old mid new call (Ok x) wrote read = record { mid = mid; wrote = wrote; read = read }

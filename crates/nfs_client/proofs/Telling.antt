@@ -10,7 +10,7 @@ use Rattle.nfs_client.specs.declared.running.Answer.{Answer}
 use Rattle.nfs_client.specs.declared.fault.ToolFault.{ToolFault}
 use Rattle.nfs_client.specs.declared.fault.ToolFault.TheVariants.{Failed}
 
--- a newline is put behind the bytes of a file; where memory is refused for the newline the client is spoilt
+-- a newline is put after the bytes of a file; where memory is refused for the newline the client is spoilt
 pub newline_told : {S A : Type 0} (contents remaining : S → Option (List ℕ)) (path : List ℕ) (old mid new : Client S A) (bytes : Vec ℕ A) (told : Result (Answer A) ToolFault)
     → CatGives contents remaining (says_text {A = A}) path old mid (Ok bytes) → NewlineGives bytes.items told → Spoils told mid new → CatTells contents remaining path old new told
 newline_told {S = S} {A = A} contents remaining path old mid new bytes (Ok answer) gives text spoils =

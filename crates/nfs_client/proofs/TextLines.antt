@@ -1,4 +1,4 @@
--- Items as lines, one behind the other.
+-- Items as lines, one after the other.
 use Rattle.std.proofs.Common.{◌≡◌, ℕ, List, [], ◌∷◌, ◌++◌, Option, Some, None, refl, sym, ap, ◌∙◌, append_assoc}
 use Rattle.std.specs.Prelude.{option_map, option_and_then}
 use Rattle.std.proofs.lemmas.List.{append-nil}
@@ -28,7 +28,7 @@ module _ {X : Type 0} (end : ℕ) (text : X → Option (List ℕ)) (whole : Opti
 pub lines_all : {X : Type 0} (end : ℕ) (text : X → Option (List ℕ)) (whole : Option (List ℕ)) (done : List ℕ) → whole ≡ behind done (lines_of end text []) → whole ≡ Some done
 lines_all end text whole done so = so ∙ ap Some (append-nil done)
 
--- three parts that are put one behind the other
+-- three parts that are put one after the other
 pub put_behind : (a b c d done line : List ℕ) → d ≡ c ++ 10 ∷ [] → c ≡ b ++ line → b ≡ a ++ done → d ≡ a ++ (done ++ (line ++ 10 ∷ []))
 put_behind a b c d done line p q r =
     p ∙ ap (λ (t : List ℕ). t ++ 10 ∷ []) (q ∙ ap (λ (t : List ℕ). t ++ line) r)

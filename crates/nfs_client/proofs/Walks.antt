@@ -35,7 +35,7 @@ module _ {S A : Type 0} (contents remaining : S → Option (List ℕ)) where
     ap (λ (r : Route). far r handle) so,
   )
 
-  -- an approach fails behind earlier approaches
+  -- an approach fails after earlier approaches
   pub no_further : {X : Type 0} (value : X → List ℕ) (most : ℕ) (names : List (List ℕ)) (old mid new : Client S A) (handles : List (List ℕ)) (route first : Route) (f : ToolFault) → Approaches contents remaining most names old handles mid
       → route ≡ route_behind names handles → first ≡ near route → most < length route.names → AskGives contents remaining handle_in value true (approach mid first) mid new (Err f)
       → WalkFails contents remaining most names old new f
@@ -65,11 +65,11 @@ far_is start left rest handle is = ap (route_of (Object handle)) is ∙ ap (with
 pub nearest_of : (done : ℕ) (names left first : List (Bor (List ℕ))) → first ≡ take most_names left → left ≡ drop done names → first ≡ take most_names (drop done names)
 nearest_of done names left first is so = is ∙ ap (take most_names) so
 
--- the number of names left that an approach walks, behind so many names
+-- the number of names left that an approach walks, after this many names
 pub near_length : (done : ℕ) (names first : List (Bor (List ℕ))) → first ≡ take most_names (drop done names) → length first ≡ min most_names (length (drop done names))
 near_length done names first is = ap length is ∙ length-take most_names (drop done names)
 
--- the names that are left behind the names of an approach
+-- the names that are left after the names of an approach
 pub stepped : (done : ℕ) (names first : List (Bor (List ℕ))) → first ≡ take most_names (drop done names) → drop (done + length first) names ≡ drop most_names (drop done names)
 stepped done names first is =
     sym (drop-drop (length first) done names) ∙ ap (λ (n : ℕ). drop n (drop done names)) (near_length done names first is) ∙ drop_min most_names (drop done names)
@@ -82,7 +82,7 @@ near_bounds done most names first is below =
 pub some_left : (most done : ℕ) (start : Start) (names : List (Bor (List ℕ))) → most < length names - done → most < length (route_of start (drop done names)).names
 some_left most done start names below = subst (λ (n : ℕ). most < n) (sym (length-map (drop done names) (λ n. n.now) ∙ length-drop done names)) below
 
--- at most so many names are left
+-- at most this many names are left
 pub arrived : {S A : Type 0} (contents remaining : S → Option (List ℕ)) (most : ℕ) (names : List (List ℕ)) (old new : Client S A) (handles : List (List ℕ)) (start : Start) (done : ℕ) (all left : List (Bor (List ℕ)))
     → Approaches contents remaining most names old handles new → route_of start (drop done all) ≡ route_behind names handles → left ≡ drop done all → length all - done ≤ most
     → WalkGives contents remaining itself most names old new (Ok (route_of start left))
@@ -124,7 +124,7 @@ module _ {S A X : Type 0} (contents remaining : S → Option (List ℕ)) (most :
   pub no_failed : ((route : Route) (mid : Client S A) → does route mid (Err fault.Failed) → ⊥) → Walked contents remaining most names does old new (Err fault.Failed) → ⊥
   no_failed none h = walked_none fault.Failed (λ w. w.gives) none h
 
-  -- the outcome behind a walk
+  -- the outcome after a walk
   pub behind : (mid : Client S A) (route : Route) (result : Result X ToolFault) → WalkGives contents remaining itself most names old mid (Ok route) → does route mid result
       → Walked contents remaining most names does old new result
   behind mid route (Ok x) walk h = (mid, route, walk, h)
@@ -197,7 +197,7 @@ module _ {S A : Type 0} (contents remaining : S → Option (List ℕ)) (asks : L
 
 -- ---- the request of a command
 
--- Behind a walk the request is made, or memory is refused for the request.
+-- After a walk the request is made, or memory is refused for the request.
 module _ {S A : Type 0} (contents remaining : S → Option (List ℕ)) where
   pub made_ready : (names : List (List ℕ)) (op : Operation) (old new : Client S A) (route : Route) (result : Result (Request A) ToolFault) → WalkGives contents remaining itself most_names names old new (Ok route)
       → IfOk result (λ r. Asks r (along new route op)) → PutGives result → ReadyGives contents remaining names op old new result

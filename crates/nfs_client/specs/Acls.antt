@@ -43,7 +43,7 @@ line_of v = option_and_then (λ kind. if nat_lt v.1.0 256 then Some (record { ki
 abbrev pub text_of : Value ace → Option (List ℕ)
 text_of v = option_map entry_text (line_of v)
 
--- entries as lines, each with a newline behind it
+-- entries as lines, each with a newline after it
 abbrev pub list_text : List (Value ace) → Option (List ℕ)
 list_text values = lines_of 10 text_of values
 
@@ -107,7 +107,7 @@ acl_of part _ = None
 abbrev pub acl_in : ListPart → List Outcome → Option (List ℕ)
 acl_in part results = option_and_then (acl_of part) (last_of results)
 
--- the lines are put behind the earlier ones
+-- the lines are put after the earlier ones
 abbrev pub PutsList : List ℕ → List ℕ → List (Value ace) → Result (Unit {0}) ToolFault → Type 0
 PutsList old new values (Ok done) = (text : List ℕ) × (list_text values ≡ Some text) × (new ≡ old ++ text)
 PutsList old new values (Err Reply) = list_text values ≡ None

@@ -41,7 +41,7 @@ SaysAs text (Err fault) (Err fault') = fault' ≡ fault
 SaysAs text (Ok v) (Err fault') = ⊥
 SaysAs text (Err fault) (Ok answer) = ⊥
 
--- a newline is put behind bytes, or memory is refused
+-- a newline is put after bytes, or memory is refused
 abbrev pub NewlineGives : {A : Type 0} → List ℕ → Result (Answer A) ToolFault → Type 0
 NewlineGives bytes (Ok answer) = answer_text answer ≡ bytes ++ 10 ∷ []
 NewlineGives bytes (Err fault) = fault ≡ Memory

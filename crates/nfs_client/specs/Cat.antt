@@ -16,7 +16,7 @@ use Rattle.nfs_client.specs.Walking.{Walked}
 use Rattle.nfs_client.specs.declared.client.Client.{Client}
 use Rattle.nfs_client.specs.declared.fault.ToolFault.{ToolFault}
 
--- bytes of a file, and whether the file ends behind them
+-- bytes of a file, and whether the file ends after them
 pub record Piece : Type 0 where
   pub bytes : List ℕ
   pub eof : Bool
@@ -44,7 +44,7 @@ bytes_of (p ∷ before) = bytes_of before ++ p.bytes
 abbrev pub read_from : {S A : Type 0} → Route → Client S A → ℕ → List Operation
 read_from route client offset = along client route (read offset)
 
--- Each READ begins behind the bytes read so far.
+-- Each READ begins after the bytes read so far.
 abbrev pub read_behind : {S A : Type 0} → Route → Client S A → List ℕ → List Operation
 read_behind route client bytes = read_from route client (length bytes)
 
@@ -60,12 +60,12 @@ by_pieces contents remaining route = record {
 abbrev pub piece_with : List ℕ → Bool → Piece
 piece_with bytes eof = record { bytes = bytes; eof = eof }
 
--- a piece that is put behind the bytes read so far
+-- a piece that is put after the bytes read so far
 abbrev pub PieceTaken : Said → List ℕ → List ℕ → Result Bool ToolFault → Type 0
 PieceTaken said old new (Ok eof) = (bytes : List ℕ) × SaidGives (piece_with bytes) piece_in said (Ok eof) × (new ≡ old ++ bytes)
 PieceTaken said old new (Err fault) = SaidGives (piece_with []) piece_in said (Err fault)
 
--- the exchange of a piece, which is put behind the bytes read so far
+-- the exchange of a piece, which is put after the bytes read so far
 abbrev pub ReadGives : {S A : Type 0} → (S → Option (List ℕ)) → (S → Option (List ℕ)) → Route → List ℕ → List ℕ → Client S A → Client S A → Result Bool ToolFault → Type 0
 ReadGives contents remaining route old_bytes new_bytes old new (Ok eof) =
     (bytes : List ℕ) × AskGives contents remaining piece_in itself true (read_behind route old old_bytes) old new (Ok (piece_with bytes eof)) × (new_bytes ≡ old_bytes ++ bytes)

@@ -14,13 +14,13 @@ use Rattle.nfs_client.specs.declared.fault.ToolFault.TheVariants.{Memory}
 abbrev pub caller_of : {S A : Type 0} → Client S A → Identity
 caller_of client = identity client.uid client.gid []
 
--- One exchange over a stream: a call of these operations is written, and behind it a record is read.
+-- One exchange over a stream: a call of these operations is written, and after it a record is read.
 pub record Exchange {S : Type 0} (contents remaining : S → Option (List ℕ)) (old new : S) (xid : ℕ) (caller : Identity) (ops : List Operation) (content : List ℕ) : Type 0 where
   pub call : List ℕ
   pub is_call : IsCall xid caller ops call
   pub talked : Talked contents remaining old new call content
 
--- An exchange that failed: a front of the call was written, or all of the call and no record was read behind it.
+-- An exchange that failed: a front of the call was written, or all of the call and no record was read after it.
 pub record Failing {S : Type 0} (contents remaining : S → Option (List ℕ)) (old new : S) (xid : ℕ) (caller : Identity) (ops : List Operation) (fault : ToolFault) : Type 0 where
   pub call : List ℕ
   pub is_call : IsCall xid caller ops call
@@ -30,7 +30,7 @@ pub record Failing {S : Type 0} (contents remaining : S → Option (List ℕ)) (
 abbrev pub next : ℕ → ℕ
 next number = (number + 1) % 2 ^ 32
 
--- the client's state behind an exchange that was begun
+-- the client's state after an exchange that was begun
 pub record Begun {S A : Type 0} (old new : Client S A) : Type 0 where
   pub unusable : new.usable ≡ false
   pub advanced : new.xid ≡ next old.xid

@@ -26,7 +26,7 @@ lookups names = map lookup names
 
 -- ---- words
 
--- the path is the directory's path from the root on, with this name behind it
+-- the path is the directory's path from the root on, with this name after it
 abbrev pub IsIn : List ℕ → List (List ℕ) → List ℕ → Type 0
 IsIn path directory name = names_in path ≡ Some (directory ++ name ∷ [])
 
@@ -47,7 +47,7 @@ Told contents remaining taken ops old new v =
     (content : List ℕ) × Exchange contents remaining old.stream new.stream old.xid (caller_of old) ops content
     × ((said old.xid (asked_of ops) content).answer ≡ AllDone) × (taken (said old.xid (asked_of ops) content).results ≡ v)
 
--- The number of the slot's next call behind a call in the session, or behind any other call.
+-- The number of the slot's next call after a call in the session, or after any other call.
 abbrev pub number_behind : Bool → ℕ → ℕ
 number_behind in_session number = if in_session then next number else number
 
@@ -55,13 +55,13 @@ number_behind in_session number = if in_session then next number else number
 abbrev pub takes_number : Bool → ℕ → Bool
 takes_number in_session op = in_session && not (op == 53)
 
--- the client's state behind an exchange by its reply
+-- the client's state after an exchange by its reply
 abbrev pub Concludes : {S A X : Type 0} → Bool → Result X ToolFault → Client S A → Client S A → Type 0
 Concludes in_session (Ok x) old new = new ≡ record old { usable = true; number = number_behind in_session old.number }
 Concludes in_session (Err (Refused op status)) old new = new ≡ record old { usable = true; number = number_behind (takes_number in_session op) old.number }
 Concludes in_session (Err fault) old new = new ≡ old
 
--- Where memory was refused behind an exchange, no other command runs in the end.
+-- Where memory was refused after an exchange, no other command runs in the end.
 abbrev pub Spoils : {S A X : Type 0} → Result X ToolFault → Client S A → Client S A → Type 0
 Spoils (Err Memory) old new = new ≡ record old { usable = false }
 Spoils told old new = new ≡ old
@@ -76,7 +76,7 @@ pub record Settled {S A : Type 0} (old new : Client S A) (number : ℕ) : Type 0
   pub session : new.session ≡ old.session
   pub numbered : new.number ≡ number
 
--- No record was read behind the call, and no other command runs.
+-- No record was read after the call, and no other command runs.
 abbrev pub GivesUp : {S A : Type 0} → (S → Option (List ℕ)) → (S → Option (List ℕ)) → List Operation → Client S A → Client S A → ToolFault → Type 0
 GivesUp contents remaining ops old new fault = Begun old new × Failing contents remaining old.stream new.stream old.xid (caller_of old) ops fault
 
@@ -90,12 +90,12 @@ abbrev pub Unjudged : {S A : Type 0} → (S → Option (List ℕ)) → (S → Op
 Unjudged contents remaining ops old new =
     Begun old new × (content : List ℕ) × Exchange contents remaining old.stream new.stream old.xid (caller_of old) ops content
 
--- Memory was refused: before the first byte of the call, as the record behind it was read, or for what the record says.
+-- Memory was refused: before the first byte of the call, as the record after it was read, or for what the record says.
 abbrev pub NoMemory : {S A : Type 0} → (S → Option (List ℕ)) → (S → Option (List ℕ)) → List Operation → Client S A → Client S A → Type 0
 NoMemory contents remaining ops old new = (new ≡ old) ⊎ (GivesUp contents remaining ops old new Memory ⊎ Unjudged contents remaining ops old new)
 
--- The outcome of operations with a value of their results: the value was taken; or the last operation run was refused; or no other command
--- runs.
+-- The outcome of operations with a value of their results: the value was taken, the last operation
+-- run was refused, or no other command runs.
 abbrev pub AskGives : {S A X V : Type 0} → (S → Option (List ℕ)) → (S → Option (List ℕ)) → (List Outcome → Option V) → (X → V) → Bool → List Operation → Client S A → Client S A → Result X ToolFault → Type 0
 AskGives contents remaining taken value in_session ops old new (Ok x) =
     Told contents remaining taken ops old new (Some (value x)) × Settled old new (number_behind in_session old.number)
@@ -109,8 +109,8 @@ AskGives contents remaining taken value in_session ops old new (Err Path) = ⊥
 AskGives contents remaining taken value in_session ops old new (Err Entry) = ⊥
 AskGives contents remaining taken value in_session ops old new (Err Failed) = ⊥
 
--- The outcome of a command, unless its words are wrong: then no operation is asked. On a client that isn't usable no command runs. Memory may
--- be refused before an operation is asked.
+-- The outcome of a command, unless its words are wrong: then no operation is asked. On a client
+-- that isn't usable no command runs. Memory may be refused before an operation is asked.
 abbrev pub Commanded : {S A X : Type 0} → (ToolFault → Type 0) → (Result X ToolFault → Type 0) → Client S A → Client S A → Result X ToolFault → Type 0
 Commanded wrong gives old new (Err Failed) = (old.usable ≡ false) × (new ≡ old)
 Commanded wrong gives old new (Err Path) = wrong Path × (new ≡ old)

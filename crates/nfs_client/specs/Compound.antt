@@ -46,25 +46,26 @@ pub record Compound : Type 0 where
   pub status : ℕ
   pub results : List Outcome
 
--- COMPOUND4res: the status, the tag, and the results behind their count
+-- COMPOUND4res: the status, the tag, and the results after their count
 abbrev pub compound_at : List ℕ → Read Compound
 compound_at bytes =
     read_at uint bytes >>= λ status. read_at (opaque 4294967295) status.1 >>= λ tag. read_at uint tag.1 >>= λ count.
     items_at result_at count.0 count.1 >>= λ results. Ok (record { status = status.0; results = results.0 }, results.1)
 
--- no bytes are behind it
+-- no bytes come after it
 abbrev pub all_of : Read Compound → Option Compound
 all_of (Ok (compound, [])) = Some compound
 all_of (Ok (compound, b ∷ rest)) = None
 all_of (Err fault) = None
 
--- the answer to a call: all its operations are OK, or the last one run, of this number, has this status; or the record is no reply
+-- the answer to a call: all operations are OK; the last one run, of this number, has this status;
+-- or the record is no reply
 pub data Answer : Type 0 where
   AllDone : Answer
   LastRefused : ℕ → ℕ → Answer
   NoReply : Answer
 
--- Behind the last result no operation is left where that result is OK. Its status is the status of the COMPOUND.
+-- After the last result no operation is left where that result is OK. Its status is the status of the COMPOUND.
 abbrev pub ended_by : List ℕ → ℕ → Outcome → Answer
 ended_by left status last =
     if outcome_status last == status then (if status == 0 then (if length left == 0 then AllDone else NoReply) else LastRefused (outcome_number last) status) else NoReply

@@ -24,7 +24,7 @@ abbrev pub Judges : Result (Unit {0}) ToolFault → Answer → Type 0
 Judges (Ok done) answer = answer ≡ AllDone
 Judges (Err fault) answer = FaultIs fault answer
 
--- So many results at the front of the bytes; or one of them can't be read; or memory is refused.
+-- This many results at the front of the bytes; or one of them can't be read; or memory is refused.
 abbrev pub ItemsGive : {X : Type 0} → (X → List Outcome) → ℕ → List ℕ → List ℕ → Result X ToolFault → Type 0
 ItemsGive view count old new (Ok results) = items_at result_at count old ≡ Ok (view results, new)
 ItemsGive view count old new (Err Reply) = is_ok (items_at result_at count old) ≡ false

@@ -21,12 +21,12 @@ letter Alarm = 76
 abbrev pub kind_in : ℕ → Option EntryKind
 kind_in b = if b == 65 then Some Allow else if b == 68 then Some Deny else if b == 85 then Some Audit else if b == 76 then Some Alarm else None
 
--- two digits at the front, and the rest behind them
+-- two digits at the front, and the rest after them
 abbrev pub byte_at : List ℕ → Option (ℕ × List ℕ)
 byte_at (high ∷ low ∷ rest) = option_map (λ n. (n, rest)) (byte_in high low)
 byte_at _ = None
 
--- eight digits at the front, and the rest behind them
+-- eight digits at the front, and the rest after them
 abbrev pub word_at : List ℕ → Option (ℕ × List ℕ)
 word_at text =
     option_and_then (λ a. option_and_then (λ b. option_and_then (λ c. option_and_then (λ d. Some (from_be_bytes w32 (a.0 ∷ b.0 ∷ c.0 ∷ d.0 ∷ []), d.1)) (byte_at c.1)) (byte_at b.1)) (byte_at a.1)) (byte_at text)
@@ -35,12 +35,12 @@ abbrev pub kind_at : List ℕ → Option (EntryKind × List ℕ)
 kind_at (b ∷ rest) = option_map (λ kind. (kind, rest)) (kind_in b)
 kind_at [] = None
 
--- the rest behind a colon at the front
+-- the rest after a colon at the front
 abbrev pub behind_colon : List ℕ → Option (List ℕ)
 behind_colon (b ∷ rest) = if b == 58 then Some rest else None
 behind_colon [] = None
 
--- A letter, two and eight hexadecimal digits in either case, with a colon behind each; the who is all of the rest.
+-- A letter, two and eight hexadecimal digits in either case, with a colon after each; the who is all of the rest.
 abbrev pub entry_in : List ℕ → Option EntryLine
 entry_in text =
     option_and_then (λ kind. option_and_then (λ a.

@@ -50,7 +50,7 @@ abbrev pub column_end : Ends → ℕ
 column_end Blanks = 32
 column_end Zeros = 0
 
--- the byte behind a line: a newline, or a zero byte
+-- the byte after a line: a newline, or a zero byte
 abbrev pub line_end : Ends → ℕ
 line_end Blanks = 10
 line_end Zeros = 0
@@ -58,8 +58,8 @@ line_end Zeros = 0
 abbrev pub has_zero : List ℕ → Bool
 has_zero bytes = list_any (λ byte. byte == 0) bytes
 
--- Whether a column has the byte that ends columns, where these can be told apart otherwise: a zero byte. A name or an owner may have a
--- space in it.
+-- Whether a column has the byte that ends columns, where these can be told apart otherwise: a zero
+-- byte. A name or an owner may have a space in it.
 abbrev pub is_torn : Ends → Listed → Bool
 is_torn Blanks l = false
 is_torn Zeros l = has_zero (text_column l.owner) || has_zero (text_column l.group) || has_zero l.name
@@ -68,18 +68,19 @@ is_torn Zeros l = has_zero (text_column l.owner) || has_zero (text_column l.grou
 abbrev pub line_with : Ends → Listed → Option (List ℕ)
 line_with ends l = if is_torn ends l then None else Some (columns (column_end ends) l)
 
--- items as lines, each with this byte behind it, where each item has a line
+-- items as lines, each with this byte after it, where each item has a line
 abbrev pub lines_of : {X : Type 0} → ℕ → (X → Option (List ℕ)) → List X → Option (List ℕ)
 lines_of end text [] = Some []
 lines_of end text (x ∷ xs) = option_and_then (λ t. option_map (λ rest. t ++ end ∷ rest) (lines_of end text xs)) (text x)
 
--- ---- columns with a zero byte behind each
+-- ---- columns with a zero byte after each
 
 -- an entry's columns
 abbrev pub columns_of : Listed → List (List ℕ)
 columns_of l = kind_text l.kind ∷ mode_column l.mode ∷ text_column l.owner ∷ text_column l.group ∷ size_column l.size ∷ l.name ∷ []
 
--- a text's parts, each of which has a zero byte behind it; the first of them begins with bytes that stand before the text
+-- a text's parts, each of which has a zero byte after it; the first of them begins with bytes that
+-- stand before the text
 abbrev pub parts_from : List ℕ → List ℕ → List (List ℕ)
 parts_from part [] = []
 parts_from part (byte ∷ text) = if byte == 0 then part ∷ parts_from [] text else parts_from (part ++ byte ∷ []) text

@@ -34,8 +34,8 @@ is_listed n = (n == 1) || (n == 4) || (n == 11) || (n == 33) || (n == 36) || (n 
 abbrev pub AreListed : List ℕ → Type 0
 AreListed set = (n : ℕ) → has_number set n ≡ is_listed n
 
--- READDIR of the entries behind a cookie, of at most 32,768 bytes. The verifier is zero, as in each reply that is taken; a dircount of
--- zero sets no bound.
+-- READDIR of the entries after a cookie, of at most 32,768 bytes. The verifier is zero, as in each
+-- reply that is taken; a dircount of zero sets no bound.
 abbrev pub readdir : List ℕ → ℕ → Operation
 readdir set cookie = Known kinds.ReadDir (cookie, (replicate 8 0, (0, (32768, set))))
 
@@ -57,11 +57,11 @@ line_by ends name (Err fault) = None
 abbrev pub line_in : Ends → Value entry → Option (List ℕ)
 line_in ends e = line_by ends (entry_name e) (seen_of (set_of (entry_attributes e)) (values_of (entry_attributes e)))
 
--- the lines of entries, each with its end behind it
+-- the lines of entries, each with its end after it
 abbrev pub lines_in : Ends → List (Value entry) → Option (List ℕ)
 lines_in ends entries = lines_of (line_end ends) (line_in ends) entries
 
--- the lines of a page's entries, their cookies, and whether the directory ends behind them
+-- the lines of a page's entries, their cookies, and whether the directory ends after them
 pub record Page : Type 0 where
   pub text : List ℕ
   pub cookies : List ℕ
@@ -97,7 +97,7 @@ abbrev pub cookie_of : List Page → ℕ
 cookie_of [] = 0
 cookie_of (p ∷ before) = last_or (cookie_of before) p.cookies
 
--- Each READDIR begins behind the last entry of the pages so far.
+-- Each READDIR begins after the last entry of the pages so far.
 abbrev pub by_listings : {S A : Type 0} → (S → Option (List ℕ)) → (S → Option (List ℕ)) → Ends → Route → List ℕ → Paging S A Page
 by_listings contents remaining ends route set = record {
   contents = contents;
@@ -109,7 +109,7 @@ by_listings contents remaining ends route set = record {
 
 -- ---- outcomes
 
--- lines are put behind the earlier ones
+-- lines are put after the earlier ones
 pub record GoesOn {A : Type 0} (old new : Listing A) (text cookies : List ℕ) : Type 0 where
   pub lines : new.text.items ≡ old.text.items ++ text
   pub behind : new.cookie ≡ last_or old.cookie cookies
@@ -140,7 +140,7 @@ abbrev pub PageTaken : {A : Type 0} → Said → Listing A → Listing A → Res
 PageTaken said old new (Ok eof) = (text : List ℕ) × (cookies : List ℕ) × SaidGives (page_with text cookies) (page_in old.ends) said (Ok eof) × GoesOn old new text cookies
 PageTaken said old new (Err fault) = SaidGives (page_with [] []) (page_in old.ends) said (Err fault)
 
--- the exchange of a page, whose lines are put behind those of the pages before it
+-- the exchange of a page, whose lines are put after those of the pages before it
 abbrev pub ListGives : {S A : Type 0} → (S → Option (List ℕ)) → (S → Option (List ℕ)) → Route → List ℕ → Listing A → Listing A → Client S A → Client S A → Result Bool ToolFault → Type 0
 ListGives contents remaining route set listing listing' old new (Ok eof) =
     (text : List ℕ) × (cookies : List ℕ)
@@ -154,10 +154,10 @@ LinesGive contents remaining ends value path old new result =
     Commanded (NoPath path) (λ told. (names : List (List ℕ)) × (set : List ℕ) × (names_in path ≡ Some names) × AreListed set
     × Walked contents remaining most_names names (λ route mid r. PagesGive (by_listings contents remaining ends route set) value text_of mid new r) old new told) old new result
 
--- with a space between two columns, and a newline behind each line
+-- with a space between two columns, and a newline after each line
 abbrev pub LsGives : {S A X : Type 0} → (S → Option (List ℕ)) → (S → Option (List ℕ)) → (X → List ℕ) → List ℕ → Client S A → Client S A → Result X ToolFault → Type 0
 LsGives contents remaining value path old new result = LinesGive contents remaining Blanks value path old new result
 
--- with a zero byte behind each column, which no column has
+-- with a zero byte after each column, which no column has
 abbrev pub LsZeroGives : {S A X : Type 0} → (S → Option (List ℕ)) → (S → Option (List ℕ)) → (X → List ℕ) → List ℕ → Client S A → Client S A → Result X ToolFault → Type 0
 LsZeroGives contents remaining value path old new result = LinesGive contents remaining Zeros value path old new result

@@ -1,4 +1,5 @@
--- Commands that ask page by page up to an end. The operations of each page depend on the pages before it, the last of them first.
+-- Commands that ask page by page up to an end. The operations of each page depend on the pages
+-- before it, the last of them first.
 use Rattle.std.specs.Prelude.{◌≡◌, ◌⊎◌, ◌<◌, ℕ, Bool, true, false, List, [], ◌∷◌, length, Option, Result, Ok, Err}
 use Rattle.nfs_ops.specs.Operations.{Operation}
 use Rattle.nfs_ops.specs.Results.{Outcome}
@@ -14,7 +15,7 @@ most_calls = 10000
 abbrev pub itself : {V : Type 0} → V → V
 itself v = v
 
--- Pages: the operations behind earlier pages, the value of their results, and whether it is the last page.
+-- Pages: the operations after earlier pages, the value of their results, and whether it is the last page.
 pub record Paging (S A V : Type 0) : Type 0 where
   pub contents : S → Option (List ℕ)
   pub remaining : S → Option (List ℕ)
@@ -23,7 +24,7 @@ pub record Paging (S A V : Type 0) : Type 0 where
   pub ends : V → Bool
 
 module _ {S A V : Type 0} (paging : Paging S A V) where
-  -- the outcome of the exchange behind these pages
+  -- the outcome of the exchange after these pages
   abbrev pub PageGives : List V → Client S A → Client S A → Result V ToolFault → Type 0
   PageGives before old new result = AskGives paging.contents paging.remaining paging.taken itself true (paging.asks old before) old new result
 
@@ -32,7 +33,7 @@ module _ {S A V : Type 0} (paging : Paging S A V) where
   Goes old [] new = new ≡ old
   Goes old (v ∷ before) new = (mid : Client S A) × Goes old before mid × (paging.ends v ≡ false) × PageGives before mid new (Ok v)
 
-  -- The exchange behind some pages fails. Where memory was refused no other command runs.
+  -- The exchange after some pages fails. Where memory was refused no other command runs.
   abbrev pub Stops : Client S A → Client S A → ToolFault → Type 0
   Stops old new fault =
       (mid : Client S A) × (last : Client S A) × (before : List V) × Goes old before mid × (length before < most_calls) × PageGives before mid last (Err fault) × Spoils {X = V} (Err fault) last new

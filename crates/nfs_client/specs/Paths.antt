@@ -12,12 +12,12 @@ is_name name = not (length name == 0)
 abbrev pub parts_of : List ℕ → Option (List (List ℕ))
 parts_of text = if list_all is_name (slice_split is_slash text) then Some (slice_split is_slash text) else None
 
--- the rest behind a slash at the front
+-- the rest after a slash at the front
 abbrev pub behind_slash : List ℕ → Option (List ℕ)
 behind_slash [] = None
 behind_slash (b ∷ rest) = if is_slash b then Some rest else None
 
--- the names of a path, from the root on: behind the first slash there is nothing in `/`, else the names
+-- the names of a path, from the root on: after the first slash there is nothing in `/`, else the names
 abbrev pub names_in : List ℕ → Option (List (List ℕ))
 names_in text = option_and_then (λ rest. if length rest == 0 then Some [] else parts_of rest) (behind_slash text)
 

@@ -1,4 +1,5 @@
--- put: a file is opened for writing, a text is written to the file piece by piece, each with the size behind it, and the file is closed.
+-- put: a file is opened for writing. A text is written to it piece by piece, each with the size
+-- after it, and the file is closed.
 use Rattle.std.specs.Prelude.{◌≡◌, ◌⊎◌, ℕ, ◌+◌, nat_le, ◌==◌, ◌&&◌, true, if◌then◌else◌, sum, codes, List, [], ◌∷◌, ◌++◌, length, take, drop, Option, Some, None, option_and_then, option_map, Result, Ok, Err}
 use Rattle.std.proofs.Common.{inl, inr}
 use Rattle.xdr_wire.specs.Xdr.{Value}
@@ -26,8 +27,8 @@ use Rattle.nfs_client.specs.declared.fault.ToolFault.TheVariants.{Refused}
 abbrev pub owner : List ℕ
 owner = codes "nfsc"
 
--- OPEN for writing (2), which denies others no access, of the file of this name, which is created where there is none (UNCHECKED4), with
--- the set of these attributes and these values
+-- OPEN of the file of this name for writing (2), which denies others no access, with the set of
+-- these attributes and these values. The file is created where there is none (UNCHECKED4).
 abbrev pub open_by : Seen → List ℕ → ℕ → List ℕ → Operation
 open_by s values client name = Known kinds.Open (0, (2, (0, (client, (owner, (inr (inl (inl (shown_set s, values))), inl name))))))
 
@@ -59,14 +60,14 @@ abbrev pub stateid_of : Outcome → Option (Value stateid)
 stateid_of (Done kinds.Open v) = Some v.0
 stateid_of _ = None
 
--- the open of an OPEN and of the GETFH behind it
+-- the open of an OPEN and of the GETFH after it
 abbrev pub open_of : Outcome × Outcome → Option Open
 open_of p = option_and_then (λ s. option_map (λ h. record { stateid = s; handle = h }) (handle_of p.1)) (stateid_of p.0)
 
 abbrev pub open_in : List Outcome → Option Open
 open_in results = option_and_then open_of (last_two results)
 
--- The count of a WRITE, of so many bytes that were sent: at least one.
+-- The count of a WRITE, of this many bytes that were sent: at least one.
 abbrev pub count_within : ℕ → ℕ → Option ℕ
 count_within sent n = if nat_le 1 n && nat_le n sent then Some n else None
 
@@ -84,7 +85,7 @@ written_in sent results = option_and_then (written_of sent) (before_last results
 abbrev pub OpenAsks : ℕ → List ℕ → List ℕ → List (List ℕ) → Operation → Type 0
 OpenAsks client path text directory op = (name : List ℕ) × IsIn path directory name × (op ≡ open_sized text client name)
 
--- an OPEN at the end of a route, and GETFH behind it
+-- an OPEN at the end of a route, and GETFH after it
 abbrev pub open_along : {S A : Type 0} → Client S A → Route → Operation → List Operation
 open_along client route op = sequence client ∷ walk route ++ op ∷ get_handle ∷ []
 
@@ -101,7 +102,7 @@ piece left = take 32768 left
 
 -- ---- outcomes
 
--- the answer to a refused WRITE behind its CLOSE: the refusal, unless the CLOSE ends by a fault that is no refusal
+-- the answer to a refused WRITE after its CLOSE: the refusal, unless the CLOSE ends by a fault that is no refusal
 abbrev pub told_behind : ℕ → Status → Result (Unit {0}) ToolFault → Result (Unit {0}) ToolFault
 told_behind op status (Ok done) = Err (Refused op status)
 told_behind op status (Err (Refused n s)) = Err (Refused op status)
@@ -114,12 +115,12 @@ module _ {S A : Type 0} (contents remaining : S → Option (List ℕ)) (o : Open
   abbrev pub CloseGives : Client S A → Client S A → Result (Unit {0}) ToolFault → Type 0
   CloseGives old new result = AskGives contents remaining takes_nothing nothing true (close_it old o) old new result
 
-  -- Each WRITE begins behind the bytes written so far. The counts of the WRITEs, the last first.
+  -- Each WRITE begins after the bytes written so far. The counts of the WRITEs, the last first.
   abbrev pub Writes : List ℕ → Client S A → List ℕ → Client S A → Type 0
   Writes text old [] new = new ≡ old
   Writes text old (n ∷ before) new = (mid : Client S A) × Writes text old before mid × WriteGives (sum before) (piece (drop (sum before) text)) mid new (Ok n)
 
-  -- the whole text is written; or a WRITE fails behind earlier ones
+  -- the whole text is written; or a WRITE fails after earlier ones
   abbrev pub TextGives : List ℕ → Client S A → Client S A → Result (Unit {0}) ToolFault → Type 0
   TextGives text old new (Ok done) = (counts : List ℕ) × Writes text old counts new × (sum counts ≡ length text)
   TextGives text old new (Err fault) =

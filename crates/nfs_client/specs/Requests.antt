@@ -25,7 +25,7 @@ abbrev pub PutGives : {X : Type 0} → Result X ToolFault → Type 0
 PutGives (Ok done) = Unit {0}
 PutGives (Err fault) = fault ≡ Memory
 
--- the bytes before so many operations
+-- the bytes before this many operations
 abbrev pub HeadGives : ℕ → Identity → ℕ → Result Buffer ToolFault → Type 0
 HeadGives xid caller count (Ok head) = head.bytes ≡ call_bytes xid (Some caller) ++ head_bytes count
 HeadGives xid caller count (Err fault) = fault ≡ Memory

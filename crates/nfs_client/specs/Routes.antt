@@ -1,4 +1,5 @@
--- The start of a walk, and the names that are left of it. A session takes 16 operations in a COMPOUND, and SEQUENCE is one of them.
+-- The start of a walk, and the names that are left of it. A session takes 16 operations in a
+-- COMPOUND, and SEQUENCE is one of them.
 use Rattle.std.specs.Prelude.{ℕ, ◌+◌, nat_le, if◌then◌else◌, List, [], ◌∷◌, ◌++◌, take, drop}
 use Rattle.nfs_ops.specs.Operations.{Operation, Known}
 use Rattle.nfs_ops.specs.declared.op_kind.OpKind.TheVariants as kinds
@@ -15,12 +16,13 @@ most_names = 13
 abbrev pub most_before_two : ℕ
 most_before_two = 12
 
--- the most names of two paths together, with the start of each, SAVEFH between them and one operation behind them
+-- the most names of two paths together, with the start of each, SAVEFH between them and one operation after them
 abbrev pub most_of_both : ℕ
 most_of_both = 11
 
--- The most names of the first of two paths, of so many names and so many, that may be left at the end of its approaches: where one COMPOUND can
--- walk both paths there is no approach. Else the first is walked to its end, before a name of the second is.
+-- The most names of the first of two paths that may be left at the end of its approaches. The paths
+-- have `names` and `others` names. Where one COMPOUND can walk both paths there is no approach.
+-- Else the first is walked to its end, before a name of the second is.
 abbrev pub left_of_first : ℕ → ℕ → ℕ
 left_of_first names others = if nat_le (names + others) most_of_both then most_of_both else 0
 
@@ -51,11 +53,11 @@ walk route = begins route.start ∷ lookups route.names
 abbrev pub near : Route → Route
 near route = record { start = route.start; names = take most_names route.names }
 
--- the route behind the first names, which end at the object of this filehandle
+-- the route after the first names, which end at the object of this filehandle
 abbrev pub far : Route → List ℕ → Route
 far route handle = record { start = Object handle; names = drop most_names route.names }
 
--- the route that is left of a path behind walks of its first names that ended at these filehandles, the last first
+-- the route that is left of a path after walks of its first names that ended at these filehandles, the last first
 abbrev pub route_behind : List (List ℕ) → List (List ℕ) → Route
 route_behind names [] = from_root names
 route_behind names (handle ∷ before) = far (route_behind names before) handle

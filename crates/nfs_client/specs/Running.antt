@@ -23,7 +23,8 @@ use Rattle.nfs_client.specs.declared.fault.ToolFault.TheVariants.{Memory}
 abbrev pub Tells : {A V : Type 0} → (Result V ToolFault → Type 0) → (V → List ℕ) → Result (Answer A) ToolFault → Type 0
 Tells {V = V} gives text result = (told : Result V ToolFault) × gives told × SaysAs text told result
 
--- The bytes of the file at a path, with a newline behind them; or memory is refused for the newline, and no other command runs.
+-- The bytes of the file at a path, with a newline after them; or memory is refused for the newline,
+-- and no other command runs.
 abbrev pub CatTells : {S A : Type 0} → (S → Option (List ℕ)) → (S → Option (List ℕ)) → List ℕ → Client S A → Client S A → Result (Answer A) ToolFault → Type 0
 CatTells {S = S} {A = A} contents remaining path old new result =
     Tells {V = Vec ℕ A} (CatGives contents remaining says_text path old new) says_line result

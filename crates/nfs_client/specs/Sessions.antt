@@ -75,8 +75,8 @@ MadeKnown contents remaining owner verifier old new result = AskGives contents r
 abbrev pub SessionMade : {S A : Type 0} → (S → Option (List ℕ)) → (S → Option (List ℕ)) → Registration → Client S A → Client S A → Result (List ℕ) ToolFault → Type 0
 SessionMade contents remaining r old new result = AskGives contents remaining session_in session_value false (create_session r.client r.number ∷ []) old new result
 
--- EXCHANGE_ID gives a client id, and CREATE_SESSION by its numbers a session, on which the client calls by number 1 then; or the first
--- exchange fails, or the second.
+-- EXCHANGE_ID gives a client id, and CREATE_SESSION by its numbers a session, on which the client
+-- calls by number 1 then. Or the first exchange fails, or the second.
 abbrev pub OpenGives : {S A : Type 0} → (S → Option (List ℕ)) → (S → Option (List ℕ)) → S → ℕ → ℕ → List ℕ → List ℕ → Result (Client S A) ToolFault → Type 0
 OpenGives {S} {A} contents remaining stream uid gid owner verifier (Ok client) =
     (start : Client S A) × (known : Client S A) × (made : Client S A) × (r : Registration) × (session : List ℕ) × IsNew stream uid gid start
@@ -90,8 +90,8 @@ OpenGives {S} {A} contents remaining stream uid gid owner verifier (Err fault) =
 abbrev pub Ends : {S A : Type 0} → (S → Option (List ℕ)) → (S → Option (List ℕ)) → Operation → Client S A → Client S A → Result (Unit {0}) ToolFault → Type 0
 Ends contents remaining op old new result = AskGives contents remaining takes_nothing nothing false (op ∷ []) old new result
 
--- DESTROY_SESSION is OK, and then DESTROY_CLIENTID; or the first exchange fails, or the second. Where memory was refused for the second no
--- other command runs.
+-- DESTROY_SESSION is OK, and then DESTROY_CLIENTID; or the first exchange fails, or the second.
+-- Where memory was refused for the second no other command runs.
 abbrev pub EndGives : {S A : Type 0} → (S → Option (List ℕ)) → (S → Option (List ℕ)) → Client S A → Client S A → Result (Unit {0}) ToolFault → Type 0
 EndGives {S} {A} contents remaining old new (Ok done) =
     (mid : Client S A) × Ends contents remaining (destroy_session old.session) old mid (Ok tt) × Ends contents remaining (destroy_client old.client) mid new (Ok tt)

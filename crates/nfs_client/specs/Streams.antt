@@ -11,12 +11,12 @@ use Rattle.nfs_client.specs.declared.fault.ToolFault.TheVariants.{Read, Write, R
 abbrev pub WritesFront : Option (List ℕ) → Option (List ℕ) → List ℕ → Type 0
 WritesFront held held' bytes = (front : List ℕ) × (rest : List ℕ) × (bytes ≡ front ++ rest) × Appends held held' front
 
--- all of the bytes were written, or the stream failed behind a front of the bytes
+-- all of the bytes were written, or the stream failed after a front of the bytes
 abbrev pub WriteGives : Option (List ℕ) → Option (List ℕ) → List ℕ → Result (Unit {0}) ToolFault → Type 0
 WriteGives held held' bytes (Ok done) = Appends held held' bytes
 WriteGives held held' bytes (Err fault) = (fault ≡ Write) × WritesFront held held' bytes
 
--- the bytes are a record, and more bytes behind it
+-- the bytes are a record, and more bytes after it
 pub record IsFollowed (bytes : List ℕ) : Type 0 where
   pub content : List ℕ
   pub first : List ℕ
@@ -25,21 +25,21 @@ pub record IsFollowed (bytes : List ℕ) : Type 0 where
   pub one_record : IsRecord content first
   pub more : 0 < length rest
 
--- A fault of these bytes, which can't be framed as one record: they break the limit of a record, or bytes are behind their record; or memory
--- is refused.
+-- A fault of these bytes, which can't be framed as one record: they break the limit of a record, or
+-- bytes come after their record. Or memory is refused.
 abbrev pub IsFrameFault : List ℕ → ToolFault → Type 0
 IsFrameFault bytes Reply = Breaks bytes ⊎ IsFollowed bytes
 IsFrameFault bytes Memory = Unit {0}
 IsFrameFault bytes fault = ⊥
 
--- the bytes are a record, or a part of a record, with the framer behind it
+-- the bytes are a record, or a part of a record, with the framer after it
 abbrev pub PieceGives : Frame → List ℕ → List ℕ → Result Bool ToolFault → Type 0
 PieceGives framer content bytes (Ok true) = IsRecord content bytes
 PieceGives framer content bytes (Ok false) = Stands framer content bytes
 PieceGives framer content bytes (Err fault) = IsFrameFault bytes fault
 
--- a fault of reading a reply, of which these bytes were read: a record that isn't whole, behind which no more can be read, or bytes that can't
--- be framed
+-- A fault of reading a reply, of which these bytes were read. They are a record that isn't whole,
+-- after which no more can be read, or they can't be framed.
 abbrev pub IsReadFault : List ℕ → ToolFault → Type 0
 IsReadFault bytes Read = IsUnfinished bytes
 IsReadFault bytes fault = IsFrameFault bytes fault
@@ -52,13 +52,13 @@ abbrev pub RecordGives : {X : Type 0} → (X → List ℕ) → Option (List ℕ)
 RecordGives bytes left left' (Ok content) = ReadsRecord left left' (bytes content)
 RecordGives bytes left left' (Err fault) = (read : List ℕ) × Consumes left left' read × IsReadFault read fault
 
--- bytes were written, and behind them a record was read
+-- bytes were written, and after them a record was read
 pub record Talked {S : Type 0} (contents remaining : S → Option (List ℕ)) (old new : S) (call content : List ℕ) : Type 0 where
   pub mid : S
   pub wrote : Appends (contents old) (contents mid) call
   pub read : ReadsRecord (remaining mid) (remaining new) content
 
--- bytes were written, and nothing behind them; what was read then is no record, for this fault
+-- bytes were written, and nothing after them; what was read then is no record, for this fault
 pub record Unheard {S : Type 0} (contents remaining : S → Option (List ℕ)) (old new : S) (call : List ℕ) (fault : ToolFault) : Type 0 where
   pub mid : S
   pub wrote : Appends (contents old) (contents mid) call
@@ -66,7 +66,7 @@ pub record Unheard {S : Type 0} (contents remaining : S → Option (List ℕ)) (
   pub read : Consumes (remaining mid) (remaining new) bytes
   pub no_record : IsReadFault bytes fault
 
--- a front of the bytes was written and the stream failed; or all bytes were, and no record was read behind them
+-- a front of the bytes was written and the stream failed; or all bytes were, and no record was read after them
 abbrev pub TalkFails : {S : Type 0} → (S → Option (List ℕ)) → (S → Option (List ℕ)) → S → S → List ℕ → ToolFault → Type 0
 TalkFails contents remaining old new call Write = WritesFront (contents old) (contents new) call
 TalkFails contents remaining old new call fault = Unheard contents remaining old new call fault

@@ -27,7 +27,8 @@ TakeGives value taken (Err Reply) = taken ≡ None
 TakeGives value taken (Err Memory) = Unit {0}
 TakeGives value taken (Err fault) = ⊥
 
--- The value of the results of a reply where all is done, else its fault. A reply whose results have no such value is no reply.
+-- The value of the results of a reply where all is done, else its fault. A reply whose results have
+-- no such value is no reply.
 abbrev pub SaidGives : {X V : Type 0} → (X → V) → (List Outcome → Option V) → Said → Result X ToolFault → Type 0
 SaidGives value taken said (Ok x) = (said.answer ≡ AllDone) × (taken said.results ≡ Some (value x))
 SaidGives value taken said (Err Reply) = (said.answer ≡ NoReply) ⊎ ((said.answer ≡ AllDone) × (taken said.results ≡ None))

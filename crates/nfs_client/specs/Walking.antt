@@ -22,7 +22,8 @@ abbrev pub along_both : {S A : Type 0} → Client S A → Route → Route → Op
 along_both client first second op = sequence client ∷ walk first ++ save ∷ walk second ++ op ∷ []
 
 module _ {S A : Type 0} (contents remaining : S → Option (List ℕ)) where
-  -- The outcome of approaches until at most so many names are left, and of a step behind them with the route left; or an approach fails.
+  -- The outcome of approaches until at most this many names are left, and then of a step with the
+  -- route left; or an approach fails.
   abbrev pub Walked : {X : Type 0} → ℕ → List (List ℕ) → (Route → Client S A → Result X ToolFault → Type 0) → Client S A → Client S A → Result X ToolFault → Type 0
   Walked most names does old new (Ok x) =
       (mid : Client S A) × (route : Route) × WalkGives contents remaining itself most names old mid (Ok route) × does route mid (Ok x)
@@ -30,7 +31,8 @@ module _ {S A : Type 0} (contents remaining : S → Option (List ℕ)) where
       WalkFails contents remaining most names old new fault
       ⊎ ((mid : Client S A) × (route : Route) × WalkGives contents remaining itself most names old mid (Ok route) × does route mid (Err fault))
 
-  -- The outcome of a command that asks an operation at the end of a path, and takes a value of the results, unless its words are wrong.
+  -- The outcome of a command that asks an operation at the end of a path, unless its words are
+  -- wrong. It takes a value of the results.
   abbrev pub CommandTells : {X V : Type 0} → (List Outcome → Option V) → (X → V) → (List (List ℕ) → Operation → Type 0) → (ToolFault → Type 0) → Client S A → Client S A → Result X ToolFault → Type 0
   CommandTells taken value asks wrong old new result =
       Commanded wrong (λ told. (names : List (List ℕ)) × (op : Operation) × asks names op
@@ -40,25 +42,27 @@ module _ {S A : Type 0} (contents remaining : S → Option (List ℕ)) where
   abbrev pub CommandGives : (List (List ℕ) → Operation → Type 0) → (ToolFault → Type 0) → Client S A → Client S A → Result (Unit {0}) ToolFault → Type 0
   CommandGives asks wrong old new result = CommandTells takes_nothing nothing asks wrong old new result
 
-  -- The outcome of a command that asks an operation at the ends of two paths, and takes no value: of the walk of the first, and behind it
-  -- of the second.
+  -- The outcome of a command that asks an operation at the ends of two paths, and takes no value.
+  -- It is that of the walk of the first, and after it of the second.
   abbrev pub BothGive : (List (List ℕ) → List (List ℕ) → Operation → Type 0) → (ToolFault → Type 0) → Client S A → Client S A → Result (Unit {0}) ToolFault → Type 0
   BothGive asks wrong old new result =
       Commanded wrong (λ told. (names : List (List ℕ)) × (others : List (List ℕ)) × (op : Operation) × asks names others op
       × Walked (left_of_first (length names) (length others)) names (λ first mid r. Walked most_of_both others (λ second last s. AskGives contents remaining takes_nothing nothing true (along_both last first second op) last new s) mid new r) old new told) old new result
 
-  -- behind a walk memory is refused for the request
+  -- after a walk memory is refused for the request
   pub record Unready (most : ℕ) (names : List (List ℕ)) (old new : Client S A) (fault : ToolFault) : Type 0 where
     pub is_memory : fault ≡ Memory
     pub route : Route
     pub walk : WalkGives contents remaining itself most names old new (Ok route)
 
-  -- the request of an operation at the end of a path, which walks the names left; or an approach fails, or memory is refused for the request
+  -- The request of an operation at the end of a path, which walks the names left. Or an approach
+  -- fails, or memory is refused for the request.
   abbrev pub ReadyGives : List (List ℕ) → Operation → Client S A → Client S A → Result (Request A) ToolFault → Type 0
   ReadyGives names op old new (Ok request) = (route : Route) × WalkGives contents remaining itself most_names names old new (Ok route) × Asks request (along new route op)
   ReadyGives names op old new (Err fault) = WalkFails contents remaining most_names names old new fault ⊎ Unready most_names names old new fault
 
-  -- the request of an operation at the ends of two paths; or an approach of the first or of the second fails, or memory is refused
+  -- The request of an operation at the ends of two paths. Or an approach of the first or of the
+  -- second fails, or memory is refused.
   abbrev pub BothReady : List (List ℕ) → List (List ℕ) → Operation → Client S A → Client S A → Result (Request A) ToolFault → Type 0
   BothReady names others op old new (Ok request) =
       (mid : Client S A) × (first : Route) × (second : Route) × WalkGives contents remaining itself (left_of_first (length names) (length others)) names old mid (Ok first)

@@ -24,7 +24,7 @@ fn told<T>(read: Result<T, XdrFault>) -> Result<T, ToolFault>
     }
 }
 
-/// Reads so many results.
+/// Reads this many results.
 fn read_results<'a, A: Allocator>(
     alloc: A,
     count: u32,
@@ -60,7 +60,7 @@ fn read_compound<A: Allocator>(
     Ok((status, results))
 }
 
-/// The answer by the last result, with these operations left behind it.
+/// The answer by the last result, with these operations left after it.
 fn judge_last(left: &[u32], status: u32, last: &OpResult<'_>) -> Result<(), ToolFault>
     ensures { Judges result (ended_by left.now status (read_view last.now)) }
 {
@@ -99,8 +99,9 @@ fn judge(asked: &[u32], status: u32, results: &[OpResult<'_>]) -> Result<(), Too
     judge(left, status, others)
 }
 
-/// The results in a record for the call of this transaction with the operations of these numbers, where each operation is OK. `Refused`:
-/// the last operation that was run has another status. `Reply`: the record is no reply to the call.
+/// The results in a record for the call of this transaction with the operations of these numbers,
+/// where each operation is OK. `Refused`: the last operation that was run has another status.
+/// `Reply`: the record is no reply to the call.
 pub(crate) fn read_answer<'a, A: Allocator>(
     alloc: A,
     xid: u32,

@@ -102,8 +102,8 @@ impl<S: Read + Write, A: Allocator + Copy> Client<S, A> {
         told
     }
 
-    /// Approaches the end of a path until at most so many names are left. Behind an approach the client isn't usable until the command is
-    /// over.
+    /// Approaches the end of a path until at most this many names are left. After an approach the
+    /// client isn't usable until the command is over.
     pub(crate) fn reach<'a>(
         &mut self,
         names: &'a [&'a [u8]],
@@ -153,7 +153,8 @@ impl<S: Read + Write, A: Allocator + Copy> Client<S, A> {
         }
     }
 
-    /// The request of an operation at the ends of two routes. The object at the end of the first route is the saved filehandle.
+    /// The request of an operation at the ends of two routes. The object at the end of the first
+    /// route is the saved filehandle.
     fn request_both(
         &self,
         first: &Route<'_, A>,
@@ -171,8 +172,8 @@ impl<S: Read + Write, A: Allocator + Copy> Client<S, A> {
         Ok(request)
     }
 
-    /// Approaches the ends of two paths, the end of the first path first. The request of an operation there, which walks the names left of
-    /// both.
+    /// Approaches the ends of two paths, the end of the first path first. The request of an
+    /// operation there, which walks the names left of both.
     pub(crate) fn ready_both(
         &mut self,
         names: &[&[u8]],

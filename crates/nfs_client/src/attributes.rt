@@ -23,8 +23,8 @@ use nfs_types::{Attributes, Bitmap};
 use std::alloc::{Allocator, Global};
 use std::io::{Read, Write};
 
-/// The attributes of an object that a server gave: which, and their values, one after the other by rising number (RFC 8881,
-/// section 3.3.9).
+/// The attributes of an object that a server gave: which, and their values, one after the other by
+/// rising number (RFC 8881, section 3.3.9).
 #[derive(Drop)]
 pub struct Given<A: Allocator = Global> {
     /// The attributes that are given.
@@ -74,7 +74,8 @@ impl<S: Read + Write, A: Allocator + Copy> Client<S, A> {
         told
     }
 
-    /// The attributes of an object that are asked for, as far as the server gives them. `Stat::read` reads some of them.
+    /// The attributes of an object that are asked for, as far as the server gives them.
+    /// `Stat::read` reads some of them.
     pub fn attributes(&mut self, path: &[u8], asked: Bitmap) -> Result<Given<A>, ToolFault>
         ensures failed { self.old.usable ≡ false → result ≡ Err Failed }
         ensures gives { CommandTells S.contents S.remaining attributes_in given_value (GetAttrAsks path.now (bitmap_value asked)) (NoPath path.now) self.old self.new result }

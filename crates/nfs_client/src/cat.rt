@@ -47,7 +47,7 @@ impl<A: Allocator + Copy> Reply<A> {
         }
     }
 
-    /// Puts the bytes at the end of the results behind the bytes read so far. Whether the file ends there.
+    /// Puts the bytes at the end of the results after the bytes read so far. Whether the file ends there.
     fn put_piece(&self, alloc: A, bytes: &mut Vec<u8, A>) -> Result<bool, ToolFault>
         ensures { PieceTaken (said self.now.xid self.now.asked.items self.now.content.items) bytes.old.items bytes.new.items result }
     {
@@ -78,7 +78,7 @@ impl<S: Read + Write, A: Allocator + Copy> Client<S, A> {
         self.request_along(route, op)
     }
 
-    /// Reads the bytes behind the bytes read so far. Whether the file ends behind them.
+    /// Reads the bytes after the bytes read so far. Whether the file ends after them.
     fn read_piece(
         &mut self,
         route: &Route<'_, A>,

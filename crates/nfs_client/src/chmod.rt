@@ -33,8 +33,8 @@ fn of_mode(mode: u32) -> ShownAttributes<'static>
 }
 
 impl<S: Read + Write, A: Allocator + Copy> Client<S, A> {
-    /// Sets the mode of an object to this word of one to four octal digits, and the access control list with the mode. `Entry`: the word
-    /// is no mode.
+    /// Sets the mode of an object to this word of one to four octal digits, and the access control
+    /// list with the mode. `Entry`: the word is no mode.
     pub fn chmod(&mut self, word: &[u8], path: &[u8]) -> Result<(), ToolFault>
         ensures failed { self.old.usable ≡ false → result ≡ Err Failed }
         ensures gives { CommandGives S.contents S.remaining (ChModAsks word.now path.now) (WrongMode word.now path.now) self.old self.new result }

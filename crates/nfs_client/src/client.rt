@@ -35,7 +35,7 @@ pub struct Client<S, A: Allocator = Global> {
     pub(crate) usable: bool,
 }
 
-/// The record that came behind a call, with the operations of the call.
+/// The record that came after a call, with the operations of the call.
 #[derive(Drop)]
 pub(crate) struct Reply<A: Allocator> {
     xid: u32,
@@ -74,8 +74,9 @@ impl<S: Read + Write, A: Allocator + Copy> Client<S, A> {
     ghost use Rattle.nfs_client.specs.Commands.{sequence, Concludes, Spoils, AskGives};
     ghost use Rattle.nfs_client.specs.declared.fault.ToolFault.TheVariants.{Memory, Failed};
 
-    /// A client that goes on with a session of the client of this number, over a stream on which no exchange is left open. The client
-    /// calls as this user and in this group alone. The last number is the number of the next call on slot 0.
+    /// A client that goes on with a session of the client of this number, over a stream on which no
+    /// exchange is left open. The client calls as this user and in this group alone. The last
+    /// number is the number of the next call on slot 0.
     pub fn resume(
         alloc: A,
         stream: S,
@@ -103,7 +104,7 @@ impl<S: Read + Write, A: Allocator + Copy> Client<S, A> {
         }
     }
 
-    /// Writes the call of a request's operations, and reads the record behind it.
+    /// Writes the call of a request's operations, and reads the record after it.
     pub(crate) fn exchange(&mut self, request: Request<A>) -> Result<Reply<A>, ToolFault>
         ensures { (ops : List Operation) → Asks request ops → ExchangeGives S.contents S.remaining ops self.old self.new result }
     {
@@ -163,8 +164,8 @@ impl<S: Read + Write, A: Allocator + Copy> Client<S, A> {
         }
     }
 
-    /// The exchange is over where its reply gave this: the value of the results, or that the last operation was refused. A call in a
-    /// session takes the slot's number.
+    /// The exchange is over where its reply gave this: the value of the results, or that the last
+    /// operation was refused. A call in a session takes the slot's number.
     pub(crate) fn conclude<T>(&mut self, told: &Result<T, ToolFault>, in_session: bool)
         ensures { Concludes in_session told.now self.old self.new }
     {

@@ -41,7 +41,7 @@ fn byte(high: u8, low: u8) -> Option<u8>
     Some(16 * high + low)
 }
 
-/// Two hexadecimal digits at the front, and the rest behind them.
+/// Two hexadecimal digits at the front, and the rest after them.
 fn byte_at(text: &[u8]) -> Option<(u8, &[u8])>
     ensures { option_map (λ x. (x.0, x.1.now)) result ≡ byte_at text.now }
 {
@@ -51,7 +51,7 @@ fn byte_at(text: &[u8]) -> Option<(u8, &[u8])>
     }
 }
 
-/// Eight hexadecimal digits at the front, and the rest behind them.
+/// Eight hexadecimal digits at the front, and the rest after them.
 fn word_at(text: &[u8]) -> Option<(u32, &[u8])>
     ensures { option_map (λ x. (x.0, x.1.now)) result ≡ word_at text.now }
 {
@@ -62,7 +62,7 @@ fn word_at(text: &[u8]) -> Option<(u32, &[u8])>
     Some((u32::from_be_bytes([a, b, c, d]), rest))
 }
 
-/// The rest behind a colon at the front.
+/// The rest after a colon at the front.
 fn behind_colon(text: &[u8]) -> Option<&[u8]>
     ensures { option_map (λ rest. rest.now) result ≡ behind_colon text.now }
 {
@@ -97,7 +97,7 @@ fn letter(kind: EntryKind) -> u8
     }
 }
 
-/// The type of an entry by the letter at the front, and the rest behind it.
+/// The type of an entry by the letter at the front, and the rest after it.
 fn kind_at(text: &[u8]) -> Option<(EntryKind, &[u8])>
     ensures { option_map (λ x. (x.0, x.1.now)) result ≡ kind_at text.now }
 {
@@ -138,8 +138,9 @@ pub(crate) fn hex_word(value: u32) -> [u8; 8]
 impl<'a> EntryText<'a> {
     ghost use Rattle.nfs_client.specs.EntryViews.{entry_line};
 
-    /// The entry of a text: a letter (A, D, U or L), two and eight hexadecimal digits in either case, and a who, with a colon before each
-    /// but the first. The who is all behind the third colon.
+    /// The entry of a text: a letter (A, D, U or L), two and eight hexadecimal digits in either
+    /// case, and a who. A colon stands before each but the first. The who is all after the third
+    /// colon.
     pub fn read(text: &'a [u8]) -> Option<Self>
         ensures { option_map entry_line result ≡ entry_in text.entry.now }
     {

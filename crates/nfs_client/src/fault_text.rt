@@ -106,8 +106,9 @@ fn failed_text(number: u32) -> FaultText
 }
 
 impl ToolFault {
-    /// The text that a program prints: `refused OP STATUS` by the names of both, as in `refused READ ACCESS`, and for any other fault
-    /// `failed N` with its number. `text` takes no memory.
+    /// The text that a program prints: `refused OP STATUS` by the names of both, as in
+    /// `refused READ ACCESS`. For any other fault it is `failed N` with its number. `text` takes no
+    /// memory.
     pub fn text(self) -> FaultText
         ensures { result ≡ fault_text self }
     {

@@ -155,7 +155,7 @@ impl<S: Read + Write, A: Allocator + Copy> Client<S, A> {
         told
     }
 
-    /// The access control list of an object, or a part of it: a line for each entry, with a newline behind it.
+    /// The access control list of an object, or a part of it: a line for each entry, with a newline after it.
     pub(crate) fn get_list(&mut self, part: ListPart, path: &[u8]) -> Result<Vec<u8, A>, ToolFault>
         ensures failed { self.old.usable ≡ false → result ≡ Err Failed }
         ensures gives { CommandTells S.contents S.remaining (acl_in part) (λ v. v.items) (GetAclAsks part path.now) (NoPath path.now) self.old self.new result }
@@ -172,7 +172,7 @@ impl<S: Read + Write, A: Allocator + Copy> Client<S, A> {
         }
     }
 
-    /// The access control list of an object: a line for each entry, with a newline behind it.
+    /// The access control list of an object: a line for each entry, with a newline after it.
     pub fn getacl(&mut self, path: &[u8]) -> Result<Vec<u8, A>, ToolFault>
         ensures failed { self.old.usable ≡ false → result ≡ Err Failed }
         ensures gives { CommandTells S.contents S.remaining (acl_in ListPart.Acl) (λ v. v.items) (GetAclAsks ListPart.Acl path.now) (NoPath path.now) self.old self.new result }
@@ -180,7 +180,8 @@ impl<S: Read + Write, A: Allocator + Copy> Client<S, A> {
         self.get_list(ListPart::Acl, path)
     }
 
-    /// The entries that allow and deny, dacl, of the access control list of an object: a line for each entry, with a newline behind it.
+    /// The entries that allow and deny, dacl, of the access control list of an object: a line for
+    /// each entry, with a newline after it.
     pub fn getdacl(&mut self, path: &[u8]) -> Result<Vec<u8, A>, ToolFault>
         ensures failed { self.old.usable ≡ false → result ≡ Err Failed }
         ensures gives { CommandTells S.contents S.remaining (acl_in ListPart.Dacl) (λ v. v.items) (GetAclAsks ListPart.Dacl path.now) (NoPath path.now) self.old self.new result }
@@ -188,7 +189,8 @@ impl<S: Read + Write, A: Allocator + Copy> Client<S, A> {
         self.get_list(ListPart::Dacl, path)
     }
 
-    /// The entries that watch, sacl, of the access control list of an object: a line for each entry, with a newline behind it.
+    /// The entries that watch, sacl, of the access control list of an object: a line for each
+    /// entry, with a newline after it.
     pub fn getsacl(&mut self, path: &[u8]) -> Result<Vec<u8, A>, ToolFault>
         ensures failed { self.old.usable ≡ false → result ≡ Err Failed }
         ensures gives { CommandTells S.contents S.remaining (acl_in ListPart.Sacl) (λ v. v.items) (GetAclAsks ListPart.Sacl path.now) (NoPath path.now) self.old self.new result }

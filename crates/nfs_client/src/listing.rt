@@ -25,12 +25,12 @@ pub struct Listed<'a> {
     pub name: &'a [u8],
 }
 
-/// What ends the columns and the lines of a listing.
+/// These bytes end the columns and the lines of a listing.
 #[derive(Clone, Copy, Debug)]
 pub(crate) enum Ends {
-    /// A space between two columns, and a newline behind a line. A name may have both.
+    /// A space between two columns, and a newline after a line. A name may have both.
     Blanks,
-    /// A zero byte behind each column. No column has one.
+    /// A zero byte after each column. No column has one.
     Zeros,
 }
 
@@ -45,7 +45,7 @@ impl Ends {
         }
     }
 
-    /// The byte behind a line.
+    /// The byte after a line.
     pub(crate) fn line(self) -> u8
         ensures { result ≡ line_end self }
     {
@@ -56,7 +56,7 @@ impl Ends {
     }
 }
 
-/// Puts a column and this byte behind the column.
+/// Puts a column and this byte after the column.
 fn put_column<A: Allocator>(out: &mut Vec<u8, A>, text: &[u8], end: u8) -> Result<(), AllocError>
     ensures { OnOk result (out.new.items ≡ out.old.items ++ (text.now ++ end ∷ [])) }
 {
@@ -157,7 +157,8 @@ impl Listed<'_> {
         out.extend_from_slice(self.name)
     }
 
-    /// Puts the line: kind, mode, owner, group, size and name, with a space between two. `?` is an attribute that isn't known.
+    /// Puts the line: kind, mode, owner, group, size and name, with a space between two. `?` is an
+    /// attribute that isn't known.
     pub fn put<A: Allocator>(&self, out: &mut Vec<u8, A>) -> Result<(), AllocError>
         ensures { OnOk result (out.new.items ≡ out.old.items ++ line (listed self.now)) }
     {
@@ -165,7 +166,7 @@ impl Listed<'_> {
     }
 }
 
-/// The columns of entries are told apart by the zero byte behind each, whatever bytes names and owners have.
+/// The columns of entries are told apart by the zero byte after each, whatever bytes names and owners have.
 pub fn columns_are_told_apart()
     ensures { (ls : List lines.Listed) (text : List ℕ) → All (λ l. IsSize l.size) ls → lines_of 0 (line_with ends.Zeros) ls ≡ Some text → parts text ≡ flat_map columns_of ls }
 {}

@@ -55,9 +55,9 @@ fn text_in(text: Option<Bytes<'_>>) -> Option<&[u8]>
 /// The lines of a directory, as far as it is listed.
 #[derive(Drop)]
 pub(crate) struct Listing<A: Allocator> {
-    /// A line for each given entry, with its end behind it.
+    /// A line for each given entry, with its end after it.
     text: Vec<u8, A>,
-    /// What ends the columns and the lines.
+    /// These bytes end the columns and the lines.
     ends: Ends,
     /// The cookie of the last given entry, 0 before the first.
     cookie: u64,
@@ -102,7 +102,7 @@ impl<A: Allocator> Listing<A> {
         Ok(())
     }
 
-    /// Puts the lines of the page in a result. Whether the directory ends behind it.
+    /// Puts the lines of the page in a result. Whether the directory ends after it.
     fn put_page(&mut self, found: Option<OpResult<'_>>) -> Result<bool, ToolFault>
         ensures { PutsPage self.old self.new (option_and_then (page_of self.old.ends) (option_map read_view found.entry)) result }
     {
@@ -118,7 +118,7 @@ impl<A: Allocator> Listing<A> {
 }
 
 impl<A: Allocator + Copy> Reply<A> {
-    /// Puts the lines of the page at the end of the results. Whether the directory ends behind it.
+    /// Puts the lines of the page at the end of the results. Whether the directory ends after it.
     fn put_page(&self, alloc: A, listing: &mut Listing<A>) -> Result<bool, ToolFault>
         ensures { PageTaken (said self.now.xid self.now.asked.items self.now.content.items) listing.old listing.new result }
     {
@@ -132,7 +132,7 @@ impl<A: Allocator + Copy> Reply<A> {
 impl<S: Read + Write, A: Allocator + Copy> Client<S, A> {
     ghost use Rattle.std.specs.Prelude.{IfOk};
 
-    /// The request of the entries behind this cookie.
+    /// The request of the entries after this cookie.
     fn prepare_list(
         &self,
         route: &Route<'_, A>,
@@ -152,7 +152,7 @@ impl<S: Read + Write, A: Allocator + Copy> Client<S, A> {
         self.request_along(route, op)
     }
 
-    /// Lists the entries behind those listed so far. Whether the directory ends behind them.
+    /// Lists the entries after those listed so far. Whether the directory ends after them.
     fn list_page(
         &mut self,
         route: &Route<'_, A>,
@@ -215,8 +215,8 @@ impl<S: Read + Write, A: Allocator + Copy> Client<S, A> {
         }
     }
 
-    /// The entries of a directory, in at most 10,000 calls: a line for each, with a newline behind it (`Listed::put`). `Reply`: the
-    /// directory has more entries.
+    /// The entries of a directory, in at most 10,000 calls: a line for each, with a newline after
+    /// it (`Listed::put`). `Reply`: the directory has more entries.
     pub fn ls(&mut self, path: &[u8]) -> Result<Vec<u8, A>, ToolFault>
         ensures failed { self.old.usable ≡ false → result ≡ Err Failed }
         ensures gives { LsGives S.contents S.remaining (λ v. v.items) path.now self.old self.new result }
@@ -224,8 +224,9 @@ impl<S: Read + Write, A: Allocator + Copy> Client<S, A> {
         self.list(path, Ends::Blanks)
     }
 
-    /// As `ls`, with a zero byte in place of each space between two columns and of each newline behind a line. So the columns can be
-    /// told apart, whatever bytes names and owners have. `Reply` also: an owner, an owning group or a name has a zero byte.
+    /// As `ls`, with a zero byte in place of each space between two columns and of each newline
+    /// after a line. So the columns can be told apart, whatever bytes names and owners have.
+    /// `Reply` also: an owner, an owning group or a name has a zero byte.
     pub fn ls_zero(&mut self, path: &[u8]) -> Result<Vec<u8, A>, ToolFault>
         ensures failed { self.old.usable ≡ false → result ≡ Err Failed }
         ensures gives { LsZeroGives S.contents S.remaining (λ v. v.items) path.now self.old self.new result }

@@ -22,7 +22,7 @@ impl<'a, A: Allocator> Model for Path<'a, A> {
     ghost view = { λ p. map (λ n. n.now) p.names.items };
 }
 
-/// The rest behind a slash at the front.
+/// The rest after a slash at the front.
 fn behind_slash(text: &[u8]) -> Option<&[u8]>
     ensures { option_map (λ rest. rest.now) result ≡ behind_slash text.now }
 {
@@ -47,8 +47,8 @@ fn are_names(parts: &[&[u8]]) -> bool
 }
 
 impl<'a, A: Allocator> Path<'a, A> {
-    /// The path of a text: `/`, or names each with `/` in front. `Path`: the text is neither, as `//` or a name with `/` behind it. A name
-    /// isn't looked at, since the server does that.
+    /// The path of a text: `/`, or names each with `/` in front. `Path`: the text is neither, as
+    /// `//` or a name with `/` after it. A name isn't looked at, since the server does that.
     pub fn read(alloc: A, text: &'a [u8]) -> Result<Self, ToolFault>
         ensures { PathGives (λ path. path) text.entry.now result }
     {

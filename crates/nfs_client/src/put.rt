@@ -49,7 +49,8 @@ pub(crate) struct Opened<A: Allocator> {
 /// The owner of an open, within its client.
 const OWNER: &[u8] = b"nfsc";
 
-/// The size that a file gets as it is opened: none, so that its bytes stay until others are written, or 0 where the text is empty.
+/// The size that a file gets as it is opened: 0 where the text is empty, else none. Without one its
+/// bytes stay until others are written.
 fn size_at_open(text: &[u8]) -> Option<u64>
     ensures { result ≡ size_at_open text.now }
 {
@@ -66,7 +67,7 @@ fn stateid_told(found: OpResult<'_>) -> Option<StateId>
     }
 }
 
-/// The open at the end of results: of an OPEN and of the GETFH behind it.
+/// The open at the end of results: of an OPEN and of the GETFH after it.
 fn open_told<A: Allocator + Copy>(
     alloc: A,
     results: Vec<OpResult<'_>, A>,
@@ -86,7 +87,8 @@ fn open_told<A: Allocator + Copy>(
     Ok(Opened { stateid, handle })
 }
 
-/// The count of a WRITE's result, of so many bytes that were sent. None: the result has no such count.
+/// The count of a WRITE's result, of this many bytes that were sent. None: the result has no such
+/// count.
 fn written(found: Option<OpResult<'_>>, sent: usize) -> Option<usize>
     ensures { result ≡ option_and_then (written_of sent) (option_map read_view found.entry) }
 {
@@ -133,7 +135,7 @@ impl<A: Allocator + Copy> Reply<A> {
         }
     }
 
-    /// The count of a WRITE, of so many bytes that were sent.
+    /// The count of a WRITE, of this many bytes that were sent.
     fn written(&self, alloc: A, sent: usize) -> Result<usize, ToolFault>
         ensures { SaidGives itself (written_in sent) (said self.now.xid self.now.asked.items self.now.content.items) result }
     {
@@ -147,7 +149,8 @@ impl<A: Allocator + Copy> Reply<A> {
     }
 }
 
-/// OPEN for writing of the file of this name, which is created where there is none, with these attributes by these values.
+/// OPEN for writing of the file of this name, which is created where there is none, with these
+/// attributes by these values.
 fn opening<'a>(
     client: u64,
     name: &'a [u8],
@@ -187,8 +190,9 @@ impl<S: Read + Write, A: Allocator + Copy> Client<S, A> {
         told
     }
 
-    /// The request that writes bytes of an open file from an offset on, and makes them its last. Without the size the end of a longer text
-    /// would stay; a size before the bytes would leave a file empty whose WRITE is refused.
+    /// The request that writes bytes of an open file from an offset on, and makes them its last.
+    /// Without the size the end of a longer text would stay; a size before the bytes would leave a
+    /// file empty whose WRITE is refused.
     fn prepare_write(
         &self,
         opened: &Opened<A>,
@@ -270,8 +274,8 @@ impl<S: Read + Write, A: Allocator + Copy> Client<S, A> {
         self.run(request, true)
     }
 
-    /// Closes a file behind the last WRITE, also behind a refused WRITE, whose fault is the answer then. A CLOSE without a reply is
-    /// answered in its place.
+    /// Closes a file after the last WRITE, also after a refused WRITE, whose fault is the answer
+    /// then. A CLOSE without a reply is answered in its place.
     fn close_behind(
         &mut self,
         opened: &Opened<A>,
@@ -299,7 +303,7 @@ impl<S: Read + Write, A: Allocator + Copy> Client<S, A> {
         told
     }
 
-    /// The request of an OPEN at the end of a route, and of the filehandle behind it.
+    /// The request of an OPEN at the end of a route, and of the filehandle after it.
     fn request_open(&self, route: &Route<'_, A>, op: Op<'_>) -> Result<Request<A>, ToolFault>
         ensures asks { IfOk result (λ r. Asks r (open_along self.now (route_value route.now) (op_view op.entry))) }
         ensures memory { PutGives result }
@@ -327,11 +331,13 @@ impl<S: Read + Write, A: Allocator + Copy> Client<S, A> {
         }
     }
 
-    /// Makes a text the bytes of a file, which is created where there is none: OPEN, for each 32,768 bytes a WRITE with the size behind it,
-    /// CLOSE. The file is closed behind a refused WRITE too, whose fault is the answer then.
+    /// Makes a text the bytes of a file, which is created where there is none. The operations are
+    /// OPEN, for each 32,768 bytes a WRITE with the size after it, and CLOSE. The file is closed
+    /// after a refused WRITE too, whose fault is the answer then.
     ///
-    /// A file that is there keeps its bytes up to the first WRITE, and has a front of the text behind each. So where the first WRITE is refused
-    /// a file has the bytes that it had, or none where this call created it; where a later one is, a front of the text.
+    /// A file that is there keeps its bytes up to the first WRITE, and has a front of the text
+    /// after each. So where the first WRITE is refused a file has the bytes that it had, or none
+    /// where this call created it. Where a later one is refused it has a front of the text.
     pub fn put(&mut self, path: &[u8], text: &[u8]) -> Result<(), ToolFault>
         ensures failed { self.old.usable ≡ false → result ≡ Err Failed }
         ensures gives { PutCommandGives S.contents S.remaining path.now text.now self.old self.new result }

@@ -47,7 +47,7 @@ pub(crate) fn sendable(bytes: &[u8]) -> Result<Bytes<'_>, ToolFault>
     }
 }
 
-/// The bytes before so many operations.
+/// The bytes before this many operations.
 fn head<A: Allocator>(
     alloc: A,
     xid: u32,

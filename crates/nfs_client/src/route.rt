@@ -13,8 +13,8 @@ use nfs_types::Handle;
 use std::alloc::Allocator;
 use xdr_wire::Opaque;
 
-/// The most names that a COMPOUND walks before one operation. With SEQUENCE and the start of the walk these are the 16 operations that a
-/// session takes.
+/// The most names that a COMPOUND walks before one operation. With SEQUENCE and the start of the
+/// walk these are the 16 operations that a session takes.
 pub(crate) const MOST_NAMES: usize = 13;
 
 /// The most names that a COMPOUND walks before two operations.
@@ -23,8 +23,9 @@ pub(crate) const MOST_BEFORE_TWO: usize = 12;
 /// The most names of two paths that a COMPOUND walks before one operation, with SAVEFH between them.
 pub(crate) const MOST_OF_BOTH: usize = 11;
 
-/// The most names of the first of two paths, of so many names and so many, that may be left at the end of its approaches. Where one COMPOUND
-/// can walk both paths there is no approach; else the first is walked to its end, before a name of the second is.
+/// The most names of the first of two paths that may be left at the end of its approaches. The
+/// paths have `names` and `others` names. Where one COMPOUND can walk both paths there is no
+/// approach. Else the first is walked to its end, before a name of the second is.
 pub(crate) fn left_of_first(names: usize, others: usize) -> usize
     ensures { result ≡ left_of_first names others }
 {

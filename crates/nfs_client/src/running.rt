@@ -14,7 +14,8 @@ use std::io::{Read, Write};
 /// The bytes of the line of rights.
 const RIGHTS_LINE: usize = 25;
 
-/// The answer to a command, as text: lines, each with a newline behind it, or the bytes of a file with a newline behind them.
+/// The answer to a command, as text: lines, each with a newline after it, or the bytes of a file
+/// with a newline after them.
 #[derive(Drop)]
 pub enum Answer<A: Allocator = Global> {
     /// `ok`: the command was done, and has no other text.
@@ -80,7 +81,7 @@ fn lines<A: Allocator>(told: Result<Vec<u8, A>, ToolFault>) -> Result<Answer<A>,
     }
 }
 
-/// The bytes of a file, with a newline behind them.
+/// The bytes of a file, with a newline after them.
 fn with_newline<A: Allocator>(bytes: Vec<u8, A>) -> Result<Answer<A>, ToolFault>
     ensures { NewlineGives bytes.items result }
 {
@@ -93,7 +94,7 @@ impl<S: Read + Write, A: Allocator + Copy> Client<S, A> {
     ghost use Rattle.nfs_client.specs.WordViews.{command_line};
     ghost use Rattle.nfs_client.specs.Running.{CatTells, Runs};
 
-    /// The bytes of a file, with a newline behind them.
+    /// The bytes of a file, with a newline after them.
     fn cat_text(&mut self, path: &[u8]) -> Result<Answer<A>, ToolFault>
         ensures { CatTells S.contents S.remaining path.now self.old self.new result }
     {
@@ -126,8 +127,9 @@ impl<S: Read + Write, A: Allocator + Copy> Client<S, A> {
         }
     }
 
-    /// Runs a command, and gives its answer as text: the lines of `ls`, `getacl`, `getdacl` and `getsacl`, the bytes of a file with a
-    /// newline behind them, the rights of `access`, and `ok` of any other command. The text of a fault is `ToolFault::text`.
+    /// Runs a command, and gives its answer as text. It is the lines of `ls`, `getacl`, `getdacl`
+    /// and `getsacl`, the bytes of a file with a newline after them, or the rights of `access`. Of
+    /// any other command it is `ok`. The text of a fault is `ToolFault::text`.
     pub fn answer(&mut self, command: Command<'_>) -> Result<Answer<A>, ToolFault>
         ensures failed { self.old.usable ≡ false → result ≡ Err Failed }
         ensures gives { Runs S.contents S.remaining (command_line command.entry) self.old self.new result }

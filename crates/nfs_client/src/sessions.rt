@@ -208,10 +208,12 @@ impl<S: Read + Write, A: Allocator + Copy> Client<S, A> {
         told
     }
 
-    /// A client with a session of its own: EXCHANGE_ID, then CREATE_SESSION. The client calls as this user and in this group alone.
+    /// A client with a session of its own: EXCHANGE_ID, then CREATE_SESSION. The client calls as
+    /// this user and in this group alone.
     ///
-    /// The owner says which client this is to the server, and the verifier which start of the client (RFC 8881, section 2.4). Clients that
-    /// run beside each other have an owner each: a start of an owner ends what an earlier start has open, and no other user may start it.
+    /// The owner says which client this is to the server, and the verifier which start of the
+    /// client (RFC 8881, section 2.4). Clients that run beside each other have an owner each: a
+    /// start of an owner ends what an earlier start has open. No other user may start that owner.
     /// `Memory`: also where the owner has more than 1,024 bytes.
     pub fn open(
         alloc: A,

@@ -108,8 +108,8 @@ fn of_aces<'a>(part: ListPart, aces: &'a [Ace<'a>]) -> Result<ShownAttributes<'a
 }
 
 impl<S: Read + Write, A: Allocator + Copy> Client<S, A> {
-    /// Sets the access control list of an object, or a part of it, to these entries, each as text. `Entry`: an entry can't be read, or there
-    /// is none.
+    /// Sets the access control list of an object, or a part of it, to these entries, each as text.
+    /// `Entry`: an entry can't be read, or there is none.
     pub(crate) fn set_list(
         &mut self,
         part: ListPart,
@@ -138,7 +138,8 @@ impl<S: Read + Write, A: Allocator + Copy> Client<S, A> {
         }
     }
 
-    /// Sets the access control list of an object to these entries, each as text. `Entry`: an entry can't be read, or there is none.
+    /// Sets the access control list of an object to these entries, each as text. `Entry`: an entry
+    /// can't be read, or there is none.
     pub fn setacl(&mut self, path: &[u8], texts: &[&[u8]]) -> Result<(), ToolFault>
         ensures failed { self.old.usable ≡ false → result ≡ Err Failed }
         ensures gives { CommandGives S.contents S.remaining (SetAclAsks ListPart.Acl path.now (map (λ t. t.now) texts.now)) (WrongList path.now (map (λ t. t.now) texts.now)) self.old self.new result }
@@ -146,8 +147,8 @@ impl<S: Read + Write, A: Allocator + Copy> Client<S, A> {
         self.set_list(ListPart::Acl, path, texts)
     }
 
-    /// Sets the entries that allow and deny, dacl, of the access control list of an object to these entries, each as text. `Entry`: an
-    /// entry can't be read, or there is none.
+    /// Sets the entries that allow and deny, dacl, of the access control list of an object to these
+    /// entries, each as text. `Entry`: an entry can't be read, or there is none.
     pub fn setdacl(&mut self, path: &[u8], texts: &[&[u8]]) -> Result<(), ToolFault>
         ensures failed { self.old.usable ≡ false → result ≡ Err Failed }
         ensures gives { CommandGives S.contents S.remaining (SetAclAsks ListPart.Dacl path.now (map (λ t. t.now) texts.now)) (WrongList path.now (map (λ t. t.now) texts.now)) self.old self.new result }
@@ -155,8 +156,8 @@ impl<S: Read + Write, A: Allocator + Copy> Client<S, A> {
         self.set_list(ListPart::Dacl, path, texts)
     }
 
-    /// Sets the entries that watch, sacl, of the access control list of an object to these entries, each as text. `Entry`: an entry can't
-    /// be read, or there is none.
+    /// Sets the entries that watch, sacl, of the access control list of an object to these entries,
+    /// each as text. `Entry`: an entry can't be read, or there is none.
     pub fn setsacl(&mut self, path: &[u8], texts: &[&[u8]]) -> Result<(), ToolFault>
         ensures failed { self.old.usable ≡ false → result ≡ Err Failed }
         ensures gives { CommandGives S.contents S.remaining (SetAclAsks ListPart.Sacl path.now (map (λ t. t.now) texts.now)) (WrongList path.now (map (λ t. t.now) texts.now)) self.old self.new result }

@@ -16,7 +16,7 @@ use rpc_record::RECORD_LIMIT;
 use std::alloc::Allocator;
 use xdr_wire::Writer;
 
-/// The values of these attributes, one behind the other.
+/// The values of these attributes, one after the other.
 pub(crate) fn values_of<A: Allocator>(
     alloc: A,
     shown: &ShownAttributes<'_>,

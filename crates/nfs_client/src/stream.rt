@@ -32,8 +32,8 @@ pub fn write_out<W: Write>(stream: &mut W, bytes: &[u8]) -> Result<(), ToolFault
     Ok(())
 }
 
-/// Goes through a piece, and joins its part of the record. Whether the record ends with the piece. `Reply`: the record breaks the stream,
-/// or bytes are behind it.
+/// Goes through a piece, and joins its part of the record. Whether the record ends with the piece.
+/// `Reply`: the record breaks the stream, or bytes come after it.
 fn take_piece<A: Allocator>(
     framer: &mut Framer,
     content: &mut Vec<u8, A>,
@@ -61,8 +61,8 @@ fn take_piece<A: Allocator>(
     }
 }
 
-/// Reads a record, in at most 200,000 reads. `Read`: the stream failed or ended, or the record took more reads. `Reply`: the stream breaks
-/// in the record, or bytes are behind it.
+/// Reads a record, in at most 200,000 reads. `Read`: the stream failed or ended, or the record took
+/// more reads. `Reply`: the stream breaks in the record, or bytes come after it.
 fn read_record<A: Allocator, R: Read>(alloc: A, stream: &mut R) -> Result<Vec<u8, A>, ToolFault>
     ensures { RecordGives (λ v. v.items) (R.remaining stream.old) (R.remaining stream.new) result }
 {
@@ -86,7 +86,7 @@ fn read_record<A: Allocator, R: Read>(alloc: A, stream: &mut R) -> Result<Vec<u8
     Err(ToolFault::Read)
 }
 
-/// Writes a call, and reads the record behind it.
+/// Writes a call, and reads the record after it.
 pub(crate) fn talk<A: Allocator, S: Read + Write>(
     alloc: A,
     stream: &mut S,

@@ -35,7 +35,7 @@ const SETDACL: &[u8] = b"setdacl";
 
 const SETSACL: &[u8] = b"setsacl";
 
-/// A command, with its words as given. A wrong word is told where the command is run.
+/// A command, with its words as given. A wrong word gets its fault where the command is run.
 #[derive(Clone, Copy, Debug)]
 pub enum Command<'a> {
     /// `ls P`: lists a directory.
@@ -56,8 +56,8 @@ pub enum Command<'a> {
     ChMod(&'a [u8], &'a [u8]),
     /// `getacl P`, `getdacl P`, `getsacl P`: the access control list, or a part of it.
     GetAcl(ListPart, &'a [u8]),
-    /// `setacl P ENTRY..`, `setdacl P ENTRY..`, `setsacl P ENTRY..`: sets the access control list or a part of it, to one entry at
-    /// least.
+    /// `setacl P ENTRY..`, `setdacl P ENTRY..`, `setsacl P ENTRY..`: sets the access control list
+    /// or a part of it, to one entry at least.
     SetAcl(ListPart, &'a [u8], &'a [&'a [u8]]),
     /// `access P`: the rights of the caller.
     Access(&'a [u8]),

@@ -37,7 +37,7 @@ reload_told gives old new line held held' name told (Ok good) asks is loads tell
     (load_text told, inr (inr (inr (record { asks = asks; name = name; is = is; told = told; loads = loads; text = refl; answered = tells.0 }))), tells.1)
 reload_told gives old new line held held' name told (Err fault) asks is loads tells = subst IsScriptFault (sym tells) tt
 
--- a line is answered behind earlier lines
+-- a line is answered after earlier lines
 pub line_answered : {A T : Type 0} (gives : Giving T) (old new : Lent A T) (p q : Progress A) (line : List ℕ) (good : Bool) (held held' : Option (List ℕ)) → line ≡ p.line.items → LineWrites gives old new line held held' (Ok good)
     → q.is_good ≡ (p.is_good && good) → q.line ≡ p.line → Answers gives old new p q held held' (Ok tt)
 line_answered {A = A} gives old new p q line good held held' is writes both same first whole out before =
@@ -139,7 +139,7 @@ trail_written hub total lines held held' held'' (Err fault) is first second = se
 
 -- ---- a script
 
--- the part of a script that so many reads read
+-- the part of a script that this many reads read
 pub record Running {A T : Type 0} (gives : Giving T) (old new : Lent A T) (p : Progress A) (count : ℕ) (left left' held held' : Option (List ℕ)) : Type 0 where
   pub text : List ℕ
   pub out : List ℕ

@@ -31,7 +31,8 @@ unknown l = None
 abbrev pub pending_of : {A : Type 0} → Local A → Option (List ℕ)
 pending_of l = pending_at l.hub.now l.conn
 
--- so many bytes where the hub took or gave them, and a refusal of the hub as an error of its kind
+-- the number of bytes where the hub took or gave them, and a refusal of the hub as an error of its
+-- kind
 abbrev pub ToldAs : {X : Type 0} → (X → ℕ) → Result X HubFault → Result ℕ Error → Type 0
 ToldAs count (Ok x) (Ok n) = n ≡ count x
 ToldAs count (Err fault) (Err error) = error_kind error ≡ kind_of fault

@@ -1,4 +1,4 @@
--- The effects and the answers of a script: the answer to each line, and behind the last line the trail.
+-- The effects and the answers of a script: the answer to each line, and after the last line the trail.
 use Rattle.std.specs.Prelude.{◌≡◌, ◌⊎◌, ℕ, ◌≤◌, ◌==◌, ◌&&◌, not, Bool, true, false, List, [], ◌∷◌, ◌++◌, length, codes, decimal, Option, Some, None, Result, Ok, Err}
 use Rattle.std.specs.List.{flat_map, list_all}
 use Rattle.std.specs.Io.KnownBytes.{Appends, Consumes, IsAtEnd}
@@ -91,7 +91,7 @@ abbrev pub is_loaded : Result (Unit {0}) LoadFault → Bool
 is_loaded (Ok done) = true
 is_loaded (Err fault) = false
 
--- ---- one line, by the hub and the texts before it and behind it
+-- ---- one line, by the hub and the texts before it and after it
 
 -- the answer to a command is printed; the texts stay
 pub record Asked {A T : Type 0} (old new : Lent A T) (line out : List ℕ) (good : Bool) : Type 0 where
@@ -113,7 +113,8 @@ pub record Reloaded {A T : Type 0} (gives : Giving T) (old new : Lent A T) (line
   pub text : out ≡ load_text told
   pub answered : good ≡ is_loaded told
 
--- The effect and the text of a line, and whether the text is neither `bad line` nor `failed` nor `book`. A skipped line prints no text.
+-- The effect and the text of a line, and whether the text is neither `bad line` nor `failed` nor
+-- `book`. A skipped line prints no text.
 abbrev pub LinePrints : {A T : Type 0} → Giving T → Lent A T → Lent A T → List ℕ → List ℕ → Bool → Type 0
 LinePrints gives old new line out good =
     ((is_skipped line ≡ true) × (out ≡ []) × (good ≡ true) × (new ≡ old))
@@ -133,7 +134,7 @@ Print {A = A} {T = T} gives old new (line ∷ before) out good =
 abbrev pub is_within : ℕ → Bool
 is_within b = not (b == 10)
 
--- lines, each with a newline behind it
+-- lines, each with a newline after it
 abbrev pub joined : List (List ℕ) → List ℕ
 joined [] = []
 joined (line ∷ before) = joined before ++ (line ++ 10 ∷ [])
@@ -143,7 +144,7 @@ abbrev pub AreLines : List (List ℕ) → Type 0
 AreLines [] = Unit {0}
 AreLines (line ∷ before) = (list_all is_within line ≡ true) × AreLines before
 
--- a text is these lines, with a newline behind each, and the last line without a newline
+-- a text is these lines, with a newline after each, and the last line without a newline
 pub record IsCut (text : List ℕ) (lines : List (List ℕ)) (last : List ℕ) : Type 0 where
   pub parts : text ≡ joined lines ++ last
   pub are_lines : AreLines lines
@@ -170,7 +171,7 @@ IsScriptFault Write = Unit {0}
 IsScriptFault Memory = Unit {0}
 IsScriptFault fault = ⊥
 
--- the state of a script with this hub and these texts behind this text, with the printed text
+-- the state of a script with this hub and these texts after this text, with the printed text
 pub record Stands {A T : Type 0} (gives : Giving T) (old new : Lent A T) (p : Progress A) (text out : List ℕ) : Type 0 where
   pub whole : List (List ℕ)
   pub cut : IsCut text whole p.line.items
@@ -199,7 +200,7 @@ abbrev pub LineWrites : {A T : Type 0} → Giving T → Lent A T → Lent A T �
 LineWrites gives old new line held held' (Ok good) = (printed : List ℕ) × LinePrints gives old new line printed good × Appends held held' printed
 LineWrites gives old new line held held' (Err fault) = IsScriptFault fault
 
--- the line that was read so far is answered behind these lines, and stays
+-- the line that was read so far is answered after these lines, and stays
 pub record Answered {A T : Type 0} (gives : Giving T) (first new : Lent A T) (p q : Progress A) (held held' : Option (List ℕ)) (whole : List (List ℕ)) (out : List ℕ) : Type 0 where
   pub printed : List ℕ
   pub wrote : Appends held held' printed
@@ -211,7 +212,7 @@ Answers {A = A} {T = T} gives old new p q held held' (Ok done) =
     (first : Lent A T) → (whole : List (List ℕ)) → (out : List ℕ) → Print gives first old whole out p.is_good → Answered gives first new p q held held' whole out
 Answers gives old new p q held held' (Err fault) = IsScriptFault fault
 
--- the script goes on behind this piece, and the text printed for it is written
+-- the script goes on after this piece, and the text printed for it is written
 abbrev pub GoesOn : {A T : Type 0} → Giving T → Lent A T → Lent A T → Progress A → Progress A → List ℕ → Option (List ℕ) → Option (List ℕ) → Result (Unit {0}) ToolFault → Type 0
 GoesOn {A = A} {T = T} gives old new p q piece held held' (Ok done) =
     (first : Lent A T) → (text : List ℕ) → (out : List ℕ) → Stands gives first old p text out
@@ -223,7 +224,7 @@ abbrev pub WritesTrail : {A X : Type 0} → Hub A → Option (List ℕ) → Opti
 WritesTrail hub held held' (Ok x) = (text : List ℕ) × IsTrailOf hub text × Appends held held' text
 WritesTrail hub held held' (Err fault) = fault ≡ Write
 
--- the last line is answered, and behind it comes the trail of the hub in its state then
+-- the last line is answered, and after it comes the trail of the hub in its state then
 pub record Finished {A T : Type 0} (gives : Giving T) (first new : Lent A T) (p : Progress A) (good : Bool) (held held' : Option (List ℕ)) (text out : List ℕ) : Type 0 where
   pub whole : List (List ℕ)
   pub cut : IsCut text whole p.line.items
@@ -242,7 +243,8 @@ Finishes gives old new p held held' (Err fault) = IsScriptFault fault
 abbrev pub MOST_BYTES : ℕ
 MOST_BYTES = 4096000000
 
--- all of the reader was read, and each of its lines was answered; behind them comes the trail of the hub in its state then
+-- all of the reader was read, and each of its lines was answered; after them comes the trail of the
+-- hub in its state then
 pub record Ended {A T : Type 0} (gives : Giving T) (old new : Lent A T) (good : Bool) (left left' held held' : Option (List ℕ)) : Type 0 where
   pub text : List ℕ
   pub read : Consumes left left' text

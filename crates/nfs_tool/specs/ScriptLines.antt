@@ -47,7 +47,7 @@ said_in _ = None
 abbrev pub text_in : List ℕ → Option (List ℕ)
 text_in bytes = if is_utf8 bytes then Some bytes else None
 
--- the name behind `reload`
+-- the name after `reload`
 abbrev pub reload_in : List (List ℕ) → Option (List ℕ)
 reload_in (word ∷ name ∷ []) = if bytes_eq word (codes "reload") then text_in name else None
 reload_in _ = None

@@ -1,4 +1,5 @@
-//! Scripts of a client's commands over a hub in memory, and with them the client of NFS version 4.1 (RFC 8881), `nfs_client`.
+//! Scripts of a client's commands over a hub in memory, and with them the client of NFS version 4.1
+//! (RFC 8881), `nfs_client`.
 #![tactic(auto)]
 
 mod local;

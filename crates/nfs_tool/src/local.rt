@@ -8,8 +8,9 @@ use nfs_types::Moment;
 use std::alloc::{Allocator, Global};
 use std::io::{self, ErrorKind, Read, Write};
 
-/// A stream over a connection of a hub, which is lent: the bytes of a write come to the connection as a piece, and the bytes of a read are
-/// taken from the replies that are pending on it. A read gives no bytes where none are pending.
+/// A stream over a connection of a hub, which is lent. The bytes of a write come to the connection
+/// as a piece. The bytes of a read are taken from the replies that are pending on it. A read gives
+/// no bytes where none are pending.
 #[derive(Drop)]
 pub struct Local<'h, A: Allocator + Copy = Global> {
     hub: &'h mut Hub<A>,
@@ -18,8 +19,8 @@ pub struct Local<'h, A: Allocator + Copy = Global> {
     seconds: i64,
 }
 
-/// The error for a refusal of the hub: `NotConnected` where no such connection is open, `BrokenPipe` where the connection is broken, and
-/// `OutOfMemory`.
+/// The error for a refusal of the hub: `NotConnected` where no such connection is open,
+/// `BrokenPipe` where the connection is broken, and `OutOfMemory`.
 fn error_of(fault: HubFault) -> io::Error
     ensures { error_kind result ≡ kind_of fault }
 {
@@ -35,7 +36,8 @@ fn error_of(fault: HubFault) -> io::Error
 impl<'h, A: Allocator + Copy> Local<'h, A> {
     ghost use Rattle.nfs_tool.specs.LocalStreams.{IsMomentOf};
 
-    /// A stream over the connection of this number; each of its pieces comes so many whole seconds behind the epoch.
+    /// A stream over the connection of this number; each of its pieces comes this many whole
+    /// seconds after the epoch.
     pub fn new(hub: &'h mut Hub<A>, conn: ConnId, seconds: i64) -> Self
         ensures same_hub { result.hub.ghost_name ≡ hub.entry.ghost_name }
         ensures hub { result.hub.now ≡ hub.old }

@@ -29,7 +29,8 @@ pub(crate) enum Wish<'a> {
     Reload(&'a str),
 }
 
-/// The number of decimal digits; there may be zeros in front. `None`: a byte is no digit, or the number has more than 32 bits.
+/// The number of decimal digits; there may be zeros in front. `None`: a byte is no digit, or the
+/// number has more than 32 bits.
 fn number_in(word: &[u8]) -> Option<u32>
     ensures { result ≡ number_in word.now }
 {
@@ -89,7 +90,7 @@ fn text_in(bytes: &[u8]) -> Option<&str>
     str::from_utf8(bytes).ok()
 }
 
-/// The name behind `reload`.
+/// The name after `reload`.
 fn reload_in<'a>(words: &'a [&'a [u8]]) -> Option<&'a str>
     ensures { option_map (λ t. t.now) result ≡ reload_in (map (λ w. w.now) words.entry.now) }
 {

@@ -1,4 +1,5 @@
-//! Running a script against a hub in memory: lines of commands, each by a client of its own, and lines that load another book.
+//! Running a script against a hub in memory: lines of commands, each by a client of its own, and
+//! lines that load another book.
 ghost use Rattle.std.specs.Prelude.{◌≡◌, ◌∷◌, [], ◌&&◌, ◌++◌, false, true, Ok, map, option_map, length, codes, decimal};
 ghost use Rattle.std.specs.List.{flat_map};
 ghost use Rattle.nfs_tool.specs.Reloading.{lent};
@@ -49,7 +50,8 @@ fn unconnected(fault: HubFault) -> ToolFault
     }
 }
 
-/// Runs a command by a client and a session of its own. The session is ended behind the command, also where the command was refused.
+/// Runs a command by a client and a session of its own. The session is ended after the command,
+/// also where the command was refused.
 fn run_over<S: Read + Write + Drop, A: Allocator + Copy>(
     alloc: A,
     stream: S,
@@ -67,8 +69,8 @@ fn run_over<S: Read + Write + Drop, A: Allocator + Copy>(
     told
 }
 
-/// Runs the command of the line of this number over a connection of its own, at the moment of so many seconds. No two lines have one
-/// verifier.
+/// Runs the command of the line of this number over a connection of its own, at the moment of that
+/// many seconds. No two lines have one verifier.
 fn run<A: Allocator + Copy>(
     alloc: A,
     hub: &mut Hub<A>,
@@ -200,7 +202,8 @@ fn wished<'a>(line: &[u8], words: &'a [&'a [u8]]) -> Option<Wish<'a>>
     }
 }
 
-/// Answers the line of this number, which isn't skipped. Whether the answer is neither `bad line` nor `failed` nor `book`.
+/// Answers the line of this number, which isn't skipped. Whether the answer is neither `bad line`
+/// nor `failed` nor `book`.
 fn answer_words<A: Allocator + Copy, T: Texts, W: Write>(
     alloc: A,
     global: Global,
@@ -257,7 +260,8 @@ impl<A: Allocator + Copy> Progress<A> {
         }
     }
 
-    /// Answers the part of a line that was read, as a line. `Read`: there are more lines than so many reads give.
+    /// Answers the part of a line that was read, as a line. `Read`: there are more lines than
+    /// 1,000,000 reads give.
     fn answer<T: Texts, W: Write>(
         &mut self,
         alloc: A,
@@ -365,7 +369,7 @@ fn tell_trail<A: Allocator + Copy, W: Write>(hub: &Hub<A>, writer: &mut W) -> Re
     }
 }
 
-/// Answers the line behind the last newline, and writes the trail.
+/// Answers the line after the last newline, and writes the trail.
 fn finish<A: Allocator + Copy, T: Texts, W: Write>(
     alloc: A,
     global: Global,
@@ -387,16 +391,20 @@ fn finish<A: Allocator + Copy, T: Texts, W: Write>(
     }
 }
 
-/// Runs a script: lines `as UID GID COMMAND ..` and `reload FILE`, with spaces between their words. A line of nothing but spaces, or one
-/// that begins with `#`, is skipped. A line `as` runs its command over a connection of the hub, with a client and a session of its own, at
-/// the moment of as many seconds as its number among all lines, which begins with 1. Its answer is written: the text of the command,
-/// `refused OP STATUS`, or `failed N` for any other fault. A line `reload` reads the text of its name as a book, which becomes the hub's
-/// (`Hub::reload`): `ok`, or `book N` where the text is no book, by the number of its fault, or `failed 5` where no epoch of a book is
-/// left. `bad line` is written where a line isn't UTF-8 or is neither, and where the name has no text. At the end come `trail TOTAL` and
-/// the lines of the trail that are kept.
+/// Runs a script: lines `as UID GID COMMAND ..` and `reload FILE`, with spaces between their words.
+/// A line of nothing but spaces, or one that begins with `#`, is skipped. A line `as` runs its
+/// command over a connection of the hub, with a client and a session of its own. It runs at the
+/// moment of as many seconds as its number among all lines, which begins with 1. Its answer is
+/// written: the text of the command, `refused OP STATUS`, or `failed N` for any other fault. A line
+/// `reload` reads the text of its name as a book, which becomes the hub's (`Hub::reload`). Its
+/// answer is `ok`, or `book N` where the text is no book, by the number of its fault. It is
+/// `failed 5` where no epoch of a book is left. `bad line` is written where a line isn't UTF-8 or
+/// is neither, and where the name has no text. At the end come `trail TOTAL` and the lines of the
+/// trail that are kept.
 ///
-/// True: no line was answered `bad line`, `failed` or `book`. `Read`: the reader failed, or did not end within 1,000,000 reads. `Write`:
-/// the writer failed, or took no bytes. `Memory`: a line has none. A book takes its memory of `global`.
+/// True: no line was answered `bad line`, `failed` or `book`. `Read`: the reader failed, or did not
+/// end within 1,000,000 reads. `Write`: the writer failed, or took no bytes. `Memory`: a line has
+/// none. A book takes its memory of `global`.
 pub fn script<A: Allocator + Copy, T: Texts, R: Read, W: Write>(
     alloc: A,
     global: Global,

@@ -78,8 +78,8 @@ fn may_leave(op: u32) -> bool {
     op == OP_WRITE || op == OP_SETATTR || op == OP_CLOSE
 }
 
-/// Makes bytes those of a file. Where the server refused some of them, it is said how many the file has. Where it said nothing
-/// any more, it is said that they may be there in part.
+/// Makes bytes those of a file. Where the server refused some of them, it is said how many the file
+/// has. Where it said nothing any more, it is said that they may be there in part.
 fn send<S: Read + Write, R: Eprint>(
     client: &mut Client<S>,
     voice: Voice<'_, R>,

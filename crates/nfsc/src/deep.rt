@@ -339,8 +339,8 @@ fn change_all<S: Read + Write, R: Eprint>(
     }
 }
 
-/// `Locked`: by the change the caller could no longer read the list of an object and change it again. The first of them is
-/// said.
+/// `Locked`: by the change the caller could no longer read the list of an object and change it
+/// again. The first of them is said.
 fn keep_rights<S: Read + Write, R: Eprint>(
     client: &mut Client<S>,
     voice: &Voice<'_, R>,
@@ -375,9 +375,10 @@ fn plan(alloc: Global, wanted: &Change<'_>, objects: &[Object]) -> Result<Answer
     Ok(Answer::Text(text))
 }
 
-/// Does something to the object at a path and to all below it, or says what would be done. All of it is listed before
-/// anything is changed. Where a directory can't be listed, nothing is; nor where a list would leave the caller without the
-/// right to change it again, unless it is forced.
+/// Does something to the object at a path and to all below it, or says what would be done. All of
+/// it is listed before anything is changed. Where a directory can't be listed, nothing is. Nor is
+/// anything where a list would leave the caller without the right to change it again, unless it is
+/// forced.
 pub(crate) fn run<S: Read + Write, R: Print + Eprint>(
     client: &mut Client<S>,
     voice: Voice<'_, R>,

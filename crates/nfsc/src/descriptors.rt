@@ -1,4 +1,4 @@
-//! What stands in for standard input, output or error where it is closed.
+//! A file stands in for standard input, output or error where it is closed.
 use std::fs::{File, OpenOptions};
 use std::os::fd::AsRawFd;
 
@@ -17,10 +17,12 @@ fn free_descriptor(rt: &HostRuntime) -> Option<i32> {
     Some(file.as_raw_fd())
 }
 
-/// What stands in for the first of standard input, output and error that is closed: else the connection would have its
-/// descriptor, and get what is said there. `None`: none is closed.
+/// Opens a file that stands in for the first of standard input, output and error that is closed.
+/// Else the connection would have its descriptor, and get what is said there. `None`: none is
+/// closed.
 ///
-/// To read standard input fails then, and so does to write standard output. What is said on standard error isn't heard.
+/// To read standard input fails then, and so does to write standard output. What is said on
+/// standard error isn't heard.
 pub(crate) fn stand_in(rt: &HostRuntime) -> Option<File> {
     let descriptor = free_descriptor(rt)?;
     if descriptor >= FIRST_DESCRIPTOR {

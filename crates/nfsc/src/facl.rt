@@ -205,8 +205,8 @@ fn changed<S: Read + Write>(
     }
 }
 
-/// Changes the list of an object. Unless it is forced, a list that leaves the caller without the right to read it and to
-/// change it again is refused.
+/// Changes the list of an object. Unless it is forced, a list that leaves the caller without the
+/// right to read it and to change it again is refused.
 pub(crate) fn apply<S: Read + Write>(
     client: &mut Client<S>,
     alloc: Global,

@@ -17,7 +17,7 @@ fn behind<'a>(word: &'a str, option: &str) -> Option<&'a str> {
     (rest.is_empty() || rest.starts_with('=')).then_some(rest)
 }
 
-/// The value of this option among the words before the command, behind the program's name. Each option has a value, as
+/// The value of this option among the words before the command, after the program's name. Each option has a value, as
 /// its next word or after `=`. `None`: the option isn't there, or has no value.
 pub(crate) fn value_of<'a>(words: &'a [String], option: &str) -> Option<&'a str> {
     let mut is_value = true;
@@ -96,8 +96,9 @@ fn put_unsaid<R: Env + Alloc>(
     Ok(())
 }
 
-/// The words of a call, of which the first is the program's name, with the options behind it that the words don't have:
-/// those of a user by the book, and those of `NFSC_PORT`, `NFSC_UID` and `NFSC_GID`.
+/// The words of a call, of which the first is the program's name, with the options after it that
+/// the words don't have. These options are those of a user by the book, and those of `NFSC_PORT`,
+/// `NFSC_UID` and `NFSC_GID`.
 pub(crate) fn with_given<R: Env + Alloc>(
     rt: &R,
     alloc: Global,

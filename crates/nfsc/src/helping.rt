@@ -5,7 +5,8 @@ use nfsc_options::COMMANDS;
 use std::io;
 use std::io::Write;
 
-/// The commands that `nfsc` has beside those of the client. The line of a command, and no other, begins with four spaces.
+/// The commands that `nfsc` has beside those of the client. The line of a command, and no other,
+/// begins with four spaces.
 const MORE_COMMANDS: &str = "\
 Commands for files and lists in words:
 
@@ -79,8 +80,8 @@ fn usage_in(table: &'static str, name: &str) -> Option<&'static str> {
     Some(usage)
 }
 
-/// The words that the commands of a name want: of the client's command, of one over several of them, and of one over an
-/// object and all below it.
+/// The words that the commands of a name want. They are those of the client's command, of one over
+/// several of them, and of one over an object and all below it.
 #[derive(Clone, Copy)]
 pub(crate) struct Usages {
     pub(crate) plain: Option<&'static str>,

@@ -86,14 +86,14 @@ impl Judged {
 /// The rights to read a list and to change it again.
 const OWN: u32 = mask::READ_ACL | mask::WRITE_ACL;
 
-/// Whether a list grants a caller the rights to read it and to change it again. The object has the owner and the group of
-/// this one.
+/// Whether a list grants a caller the rights to read it and to change it again. The object has the
+/// owner and the group of this one.
 fn is_own(list: &AclList, object: &Judged, caller: &Caller) -> bool {
     why(list, object.owner, object.group, caller, OWN) == Reason::Granted
 }
 
-/// Whether a caller that may read a list and change it again may do so by these entries too. What can't be judged for want
-/// of a name's number is as it was.
+/// Whether a caller that may read a list and change it again may do so by these entries too. What
+/// can't be judged for want of a name's number is as it was.
 fn stays_own(
     alloc: Global,
     book: &Book,
@@ -110,7 +110,8 @@ fn stays_own(
     }
 }
 
-/// `Locked`: by these entries the caller would no longer be granted to read the list of an object and to change it again.
+/// `Locked`: by these entries the caller would no longer be granted to read the list of an object
+/// and to change it again.
 pub(crate) fn keeps_rights<S: Read + Write>(
     client: &mut Client<S>,
     alloc: Global,

@@ -6,8 +6,8 @@ use std::net::TcpStream;
 use std::rt::Clock;
 use std::time::{Duration, Instant};
 
-/// A stream to the server. An answer is late where it isn't whole in its time after the first write of its call, and so
-/// is a call that isn't taken in that time.
+/// A stream to the server. An answer is late where it isn't whole in its time after the first write
+/// of its call. So is a call that isn't taken in that time.
 #[derive(Drop)]
 pub(crate) struct Link<'a, R> {
     rt: &'a R,

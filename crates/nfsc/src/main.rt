@@ -1,8 +1,10 @@
-//! `nfsc`: runs one command on the NFS version 4.1 server (RFC 8881) at 127.0.0.1, and prints its answer.
+//! `nfsc`: runs one command on the NFS version 4.1 server (RFC 8881) at 127.0.0.1, and prints its
+//! answer.
 //!
-//! The status is 0; 2 where the words aren't understood, with `clap`'s text on standard error; and else 1: after a refusal or another fault of the
-//! command, which is printed in place of its answer, and where there is no server or no such file, which is told on standard error. What was
-//! wrong, and what would do, is told on standard error too.
+//! The status is 0; 2 where the words aren't understood, with `clap`'s text on standard error; and
+//! else 1. It is 1 after a refusal or another fault of the command, which is printed in place of
+//! its answer. It is 1 too where there is no server or no such file, which is said on standard
+//! error. What was wrong, and what would do, is said on standard error too.
 #![tactic(auto)]
 
 mod around;
@@ -58,7 +60,8 @@ const GROUPS: &str =
 /// The sentence on a book that nothing is looked up in.
 const BOOK: &str = "--book wants --as NAME too, but for the commands 'why', 'who' and 'batch'";
 
-/// Says on standard error what `clap` says of the words. A fault has the program's name in front, and help stays as it is.
+/// Says on standard error what `clap` says of the words. A fault has the program's name in front,
+/// and help stays as it is.
 fn say_words<R: Eprint, E: Display>(rt: &R, alloc: Global, error: &E) -> Result<()> {
     let text = format!(in alloc; "{error}")?;
     match text.as_str().strip_prefix("error: ") {

@@ -116,7 +116,7 @@ impl Words {
 }
 
 /// The words of a line, with spaces and tabs between them. Within `'` all is taken as it is, within `"` all but a
-/// backslash, and behind a backslash the next character is. `None`: a quote isn't closed, or nothing comes after a
+/// backslash, and after a backslash the next character is. `None`: a quote isn't closed, or nothing comes after a
 /// backslash.
 pub(crate) fn words_in(alloc: Global, line: &str) -> Result<Option<Vec<String>>, AllocError> {
     let mut read = Words {

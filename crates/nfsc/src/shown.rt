@@ -2,8 +2,8 @@
 use std::fmt::{Display, Formatter};
 use std::{fmt, str};
 
-/// A path as it is printed, on one line: control characters, the backslash and what isn't UTF-8 are `\x` and two
-/// hexadecimal digits for each byte.
+/// A path as it is printed, on one line. Control characters, the backslash and what isn't UTF-8 are
+/// `\x` and two hexadecimal digits for each byte.
 #[derive(Clone, Copy)]
 pub(crate) struct Shown<'a>(pub(crate) &'a [u8]);
 

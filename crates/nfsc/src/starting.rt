@@ -7,8 +7,9 @@ use std::time::{SystemTime, UNIX_EPOCH};
 /// The first bytes of an owner, which say what it is.
 const NAME: &[u8; 4] = b"nfsc";
 
-/// The owner of this run (RFC 8881, section 2.4): `nfsc`, and 16 random bytes of the system. No two runs have one owner, also where they
-/// start in the same instant, by one process after the other or by several machines.
+/// The owner of this run (RFC 8881, section 2.4): `nfsc`, and 16 random bytes of the system. No two
+/// runs have one owner, also where they start in the same instant, by one process after the other
+/// or by several machines.
 ///
 /// An error: the system gives no random bytes.
 pub(crate) fn owner<R: RandomSource>(rt: &R) -> io::Result<[u8; 20]> {

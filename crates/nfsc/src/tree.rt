@@ -16,7 +16,7 @@ const COLUMNS: usize = 6;
 pub(crate) struct Object {
     pub(crate) path: Vec<u8>,
     pub(crate) kind: Kind,
-    /// The columns before the name, as they are printed, with a space behind each.
+    /// The columns before the name, as they are printed, with a space after each.
     pub(crate) columns: String,
 }
 
@@ -91,7 +91,7 @@ fn object_in(alloc: Global, directory: &[u8], entry: &[&[u8]]) -> Result<Object,
 }
 
 impl Tree {
-    /// Puts the objects of a directory's listing, in which a zero byte stands behind each column.
+    /// Puts the objects of a directory's listing, in which a zero byte stands after each column.
     fn put(&mut self, alloc: Global, directory: &[u8], listing: &[u8]) -> Result<(), Fault> {
         let Some(text) = listing.strip_suffix(b"\0") else {
             return Ok(());

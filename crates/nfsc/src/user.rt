@@ -44,7 +44,8 @@ fn caller_in(alloc: Global, uid: u32, text: &str) -> Result<Option<Caller>, Faul
 }
 
 impl<'a> Asked<'a> {
-    /// The user of a text: a name of the book, or a number; with its groups after a colon, where the book doesn't say them.
+    /// The user of a text: a name of the book, or a number; with its groups after a colon, where
+    /// the book doesn't say them.
     pub(crate) fn read(alloc: Global, book: &Book, text: &'a str) -> Result<Self, Fault> {
         if let Some(uid) = uid_in(book, text) {
             return Ok(Asked {

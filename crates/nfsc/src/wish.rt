@@ -19,8 +19,8 @@ pub(crate) enum Wish<'a> {
     },
     /// `getfacl P`: the list in words.
     GetFacl(&'a [u8]),
-    /// `setfacl P ENTRY..`, `addfacl P [N] ENTRY..`, `delfacl P N..`: changes the list, with `--force` also where the caller
-    /// can't change it back.
+    /// `setfacl P ENTRY..`, `addfacl P [N] ENTRY..`, `delfacl P N..`: changes the list, with
+    /// `--force` also where the caller can't change it back.
     ChangeFacl {
         path: &'a [u8],
         change: Change<'a>,
@@ -63,7 +63,7 @@ pub(crate) enum Wish<'a> {
     },
 }
 
-/// The flags behind a command's name.
+/// The flags after a command's name.
 #[derive(Clone, Copy)]
 struct Flags {
     is_deep: bool,
@@ -188,8 +188,8 @@ fn of_paths<'a>(words: &[&str], bytes: &'a [&'a [u8]]) -> Option<Wish<'a>> {
 }
 
 impl<'a> Wish<'a> {
-    /// Reads the command of these words, as text and as bytes. `None`: there is no such command, or it has another number
-    /// of words.
+    /// Reads the command of these words, as text and as bytes. `None`: there is no such command, or
+    /// it has another number of words.
     pub(crate) fn read(words: &'a [&'a str], bytes: &'a [&'a [u8]]) -> Option<Self> {
         if let Some(wish) = deep_in(words, bytes) {
             return Some(wish);

@@ -8,7 +8,8 @@ use Rattle.nfstrail.specs.declared.choice.Choice.{Choice}
 use Rattle.nfstrail.specs.declared.fate.Fate.{Fate}
 use Rattle.nfstrail.specs.declared.fate.Fate.TheVariants.{Unread, LeftOut, Chosen}
 
--- a line is left out only where it is the text of something that isn't asked for, and chosen only as something that it is the text of
+-- A line is left out only where it is the text of something that isn't asked for. It is chosen only
+-- as something that it is the text of.
 abbrev pub IsFate : Choice → List ℕ → Fate → Type 0
 IsFate choice text Unread = ⊤
 IsFate choice text (LeftOut stamped) = IsTextOf stamped text × (takes choice stamped ≡ false)
@@ -18,12 +19,14 @@ IsFate choice text (Chosen stamped) = IsTextOf stamped text × (takes choice sta
 abbrev pub marked : Bool → List ℕ → List ℕ → List ℕ
 marked raw words text = if raw then text else words ++ text
 
--- the bytes after the last newline, which are no line, are written whole, after a mark; as they stand, without a newline
+-- the bytes after the last newline, which are no line, are written whole, after a mark; as they
+-- stand, without a newline
 abbrev pub torn : Bool → List ℕ → List ℕ
 torn raw text = if raw then text else marked raw (codes "not ended: ") text ++ 10 ∷ []
 
--- a line is given without its newline: one that isn't understood is written whole, after its mark; one that is left out isn't written; one
--- that is asked for is written as it stands, where that is wanted
+-- A line is given without its newline. One that isn't understood is written whole, after its mark.
+-- One that is left out isn't written. One that is asked for is written as it stands, where that is
+-- wanted.
 abbrev pub IsWritten : Bool → Fate → List ℕ → Option (List ℕ) → Option (List ℕ) → Type 0
 IsWritten raw Unread text held held' = Appends held held' (marked raw (codes "not understood: ") text ++ 10 ∷ [])
 IsWritten raw (LeftOut stamped) text held held' = held' ≡ held

@@ -63,8 +63,8 @@ impl Choice {
         fits(self.user, line.uid) && fits(self.op, line.op) && is_among(&self.objects, line.object)
     }
 
-    /// Whether a line of the file is asked for. Missing lines may be anybody's, so their number is given whoever is asked for; a start is
-    /// nobody's.
+    /// Whether a line of the file is asked for. Missing lines may be anybody's, so their number is
+    /// given whoever is asked for; a start is nobody's.
     pub(crate) fn takes(&self, stamped: &Stamped) -> bool
         ensures { result ≡ specs.takes self.now stamped.now }
     {

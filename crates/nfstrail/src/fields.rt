@@ -1,4 +1,5 @@
-//! The fields of a line of the trail, as they stand in its text. What is read here is compared with the text as a whole afterwards.
+//! The fields of a line of the trail, as they stand in its text. What is read here is compared with
+//! the text as a whole afterwards.
 use access_guard::{Cause, Line, LineKind};
 use nfs_ops::operation_name;
 

@@ -1,7 +1,7 @@
 //! `nfstrail`: prints the trail of a home for people.
 //!
-//! The status is 0; 2 where the words aren't understood, with a text on standard error; and else 1, with what is wrong and where on standard
-//! error. Nothing is written but that.
+//! The status is 0; it is 2 where the words aren't understood, with a text on standard error. Else
+//! it is 1, with what is wrong and where on standard error. Nothing is written but that.
 #![tactic(auto)]
 
 mod asking;

@@ -68,7 +68,8 @@ fn text_of(second: u64) -> [u8; MOMENT]
     moment_text(second as i64)
 }
 
-/// The second since 1970 of a moment in UTC, as `2026-11-26T20:28:01Z ` with the space after it. `None`: the text is no moment.
+/// The second since 1970 of a moment in UTC, as `2026-11-26T20:28:01Z ` with the space after it.
+/// `None`: the text is no moment.
 pub(crate) fn read_moment(text: &[u8]) -> Option<u64>
     ensures { IfSome result (λ second. IsMoment second text.now) }
 {

@@ -1,7 +1,9 @@
-//! The tree of a store as it is now, read while a server may write it: no lock is taken and nothing is synced, so no server is kept from it.
+//! The tree of a store as it is now, read while a server may write it. No lock is taken and nothing
+//! is synced, so no server is kept from it.
 //!
-//! The first file is read before the second one, and its front again after that. Where the front is another one, or the two files don't make a
-//! tree, a checkpoint was written meanwhile, and they are read again.
+//! The first file is read before the second one, and its front again after that. Where the front is
+//! another one, or the two files don't make a tree, a checkpoint was written meanwhile, and they
+//! are read again.
 use crate::fault::Fault;
 use crate::home::{Home, Part};
 use journal::{Disk, LoadFault, Slot};
