@@ -274,7 +274,7 @@ def goes(tree, room):
 
 def wrong_words(tree, lab):
     """Words that a program doesn't take: the fault begins with its name, and help doesn't."""
-    short = {"nfsc": ["--port", "1", "--uid", "0", "--gid", "0"], "nfstore": ["."], "acl_lines": [], "nfslab": [], "nfsd": []}
+    short = {"nfsc": ["--port", "1", "--uid", "0", "--gid", "0"], "nfstore": ["."], "nfstrail": ["."], "acl_lines": [], "nfslab": [], "nfsd": []}
     for name, words in short.items():
         program = built(tree, name)
         for more, start in ((["--nonsense"], f"{name}: unexpected argument '--nonsense' found\n"), (["--help"], "")):

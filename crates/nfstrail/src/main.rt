@@ -187,7 +187,13 @@ fn run_words(rt: &HostRuntime, alloc: Global, words: &[String]) -> ExitCode {
     let options = match Options::read(alloc, words) {
         Ok(options) => options,
         Err(error) => {
-            let _ = rt.eprint(&error);
+            // help is said as it is, and a fault has the program's name in front
+            if let Ok(text) = format!(in alloc; "{error}") {
+                let _ = match text.as_str().strip_prefix("error: ") {
+                    Some(fault) => eprint!(rt; "nfstrail: {fault}"),
+                    None => eprint!(rt; "{text}"),
+                };
+            }
             return ExitCode::from(2);
         }
     };
