@@ -77,8 +77,8 @@ def archive(tree, busybox, path):
         subprocess.run(words, cwd=tree, stdin=names.stdout, stdout=it, stderr=subprocess.DEVNULL, check=True)
 
 
-def made(room, nfsd):
-    """The kernel and the initramfs: Debian's part, which is made once in a room, then what stands in guest/, and nfsd."""
+def made(room, programs):
+    """The kernel and the initramfs: Debian's part, made once in a room, then what stands in guest/, and programs."""
     kernel, debian, busybox = (f"{room}/{name}" for name in ("vmlinuz", "debian.cpio", "busybox"))
     if not os.path.exists(debian):
         tree = f"{room}/tree"
@@ -94,8 +94,10 @@ def made(room, nfsd):
         os.rename(f"{debian}.new", debian)
         shutil.rmtree(tree)
     archive(f"{HERE}/guest", busybox, f"{room}/own.cpio")
-    os.makedirs(f"{room}/served/usr/bin", exist_ok=True)
-    shutil.copy(nfsd, f"{room}/served/usr/bin/nfsd")
+    shutil.rmtree(f"{room}/served", ignore_errors=True)
+    os.makedirs(f"{room}/served/usr/bin")
+    for name, path in programs.items():
+        shutil.copy(path, f"{room}/served/usr/bin/{name}")
     archive(f"{room}/served", busybox, f"{room}/served.cpio")
     with open(f"{room}/initramfs", "wb") as whole:
         for part in (debian, f"{room}/own.cpio", f"{room}/served.cpio"):

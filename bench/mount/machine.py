@@ -4,6 +4,8 @@ import socket
 import subprocess
 import time
 
+# an x86-64-v2, for which `rt run` builds
+CPU = "qemu64,+ssse3,+sse4.1,+sse4.2,+popcnt"
 # how long a boot may take, and how long after a command's own time its answer is waited for
 BOOT, PATIENCE = 600, 60
 
@@ -54,7 +56,7 @@ class Machine:
 def words(kernel, initramfs, port):
     """The guest sees this machine's 127.0.0.1 as 10.0.2.2, and as 10.0.3.2 of its second client."""
     return [
-        *("qemu-system-x86_64", "-accel", "tcg,thread=multi", "-cpu", "qemu64", "-smp", "1", "-m", "1536"),
+        *("qemu-system-x86_64", "-accel", "tcg,thread=multi", "-cpu", CPU, "-smp", "1", "-m", "1536"),
         *("-nodefaults", "-no-reboot", "-display", "none", "-serial", "stdio"),
         *("-kernel", kernel, "-initrd", initramfs),
         *("-append", f"console=ttyS0 quiet panic=-1 no_timer_check mitigations=off random.trust_cpu=on CONTROL={port}"),
