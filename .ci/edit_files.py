@@ -115,8 +115,14 @@ def proof_of(folder, file, text, start, name):
 def body_of(text, start, indent):
     """Where the body of a function at this place begins and where it ends, behind its braces; or nothing where it has none, or an empty one."""
     line = re.compile(r"(?m)^.*$").match(text, text.rfind("\n", 0, start) + 1)
-    while line and not line[0].endswith("{"):
-        if line[0].endswith(";") or line[0].strip() == "{}" or line.end() == len(text):
+    # how many braces of a clause are open: a clause may have several lines, and end one with a brace
+    depth = 0
+    while line:
+        is_clause = depth > 0 or re.match(r"\s*(?:requires|ensures)\b", line[0])
+        depth += line[0].count("{") - line[0].count("}") if is_clause else 0
+        if not is_clause and line[0].endswith("{"):
+            break
+        if depth == 0 and (line[0].endswith(";") or line[0].strip() == "{}") or line.end() == len(text):
             return None
         line = re.compile(r"(?m)^.*$").match(text, line.end() + 1)
     end = re.compile(rf"(?m)^{indent}\}}$").search(text, line.end()) if line else None
