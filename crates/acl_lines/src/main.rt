@@ -32,7 +32,8 @@ fn answer_all(rt: &(impl Input + Print), alloc: Global, form: &Form) -> Result<(
     Ok(())
 }
 
-/// Says on standard error what `clap` says of the words. A fault has the program's name in front, and help stays as it is.
+/// Says on standard error what `clap` says of the words. A fault has the program's name in front,
+/// and help stays as it is.
 fn say_words<R: Eprint, E: Display>(rt: &R, alloc: Global, error: &E) -> Result<()> {
     let text = format!(in alloc; "{error}")?;
     match text.as_str().strip_prefix("error: ") {

@@ -1,4 +1,4 @@
--- What is written as a refusal is read as one.
+-- A refusal of any status is read as that refusal.
 use Rattle.std.proofs.Common.{◌≡◌, ◌≢◌, ◌<◌, ◌^◌, ℕ, Bool, cond, List, ◌++◌, Some, Ok, refl, sym, subst, inl, inr, lit<, eq-eqb, arith}
 use Rattle.std.proofs.lemmas.Bool.{ne_eqb, cases_eq}
 use Rattle.nfs_types.specs.declared.status.Status.{Status}

@@ -28,7 +28,7 @@ pub(crate) struct Stamp {
 pub(crate) enum Change {
     /// Another file is at its place.
     Moved,
-    /// The same file was written.
+    /// The file was written in place.
     Written,
 }
 

@@ -180,7 +180,8 @@ fn run_options(rt: &HostRuntime, alloc: Global, options: &Options<'_>) -> Result
     Ok(status(rt, alloc, options, served))
 }
 
-/// Says on standard error what `clap` says of the words. A fault has the program's name in front, and help stays as it is.
+/// Says on standard error what `clap` says of the words. A fault has the program's name in front,
+/// and help stays as it is.
 fn say_words<R: Eprint, E: Display>(rt: &R, alloc: Global, error: &E) -> Result<()> {
     let text = format!(in alloc; "{error}")?;
     match text.as_str().strip_prefix("error: ") {

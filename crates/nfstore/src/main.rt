@@ -96,7 +96,8 @@ fn make(rt: &HostRuntime, alloc: Global, folder: &str, directory: &str) -> ExitC
     ExitCode::FAILURE
 }
 
-/// Says on standard error what `clap` says of the words. A fault has the program's name in front, and help stays as it is.
+/// Says on standard error what `clap` says of the words. A fault has the program's name in front,
+/// and help stays as it is.
 fn say_words<R: Eprint, E: Display>(rt: &R, alloc: Global, error: &E) -> Result<()> {
     let text = format!(in alloc; "{error}")?;
     match text.as_str().strip_prefix("error: ") {

@@ -9,7 +9,7 @@ use session_slots::World;
 
 /// A world of which some changes are noted.
 pub trait Noted: World {
-    /// What is known of each call of a turn in which nothing was noted: from which world to which it leads.
+    /// From which world to which each call may lead in a turn in which nothing was noted.
     ghost leaves: { Self → Self → Type 0 };
 }
 
