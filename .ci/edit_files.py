@@ -243,7 +243,8 @@ def items_of(folder):
         if path.endswith(".rt"):
             found += reach.items_of_source(path, text, masked(text), without_bodies, code)
         elif not OWN_PROOF.fullmatch(path):
-            found += reach.items_of_definitions(path, code(text), "/+" in path)
+            is_parent = path.endswith("/Lib.antt") or os.path.isdir(f"{folder}/{path.removesuffix('.antt')}")
+            found += reach.items_of_definitions(path, code(text), "/+" in path, is_parent)
     return found
 
 
@@ -257,7 +258,7 @@ def whole(crate, folder, all):
     """A sum of a whole crate, in a list, and what it reaches in the crates below it."""
     files, found = files_of(folder, "src", "specs", "proofs"), 0
     for path in files:
-        found |= all.named(code_of(path, text_of(f"{folder}/{path}")), crate, path, True)
+        found |= all.named(code_of(path, text_of(f"{folder}/{path}")), crate, path, True, True)
     return [sum_of_files(folder, files)], all.closed(found, crate) & all.below_of(crate)
 
 
@@ -267,12 +268,12 @@ def rest_of(crate, folder, all, edit, places):
     elsewhere, the texts are the whole crate."""
     if not places:
         return *whole(crate, folder, all), 0
-    named = lambda path, text, wide=False: all.named(code_of(path, text), crate, path, wide)
+    named = lambda path, text, wide=False, calls=True: all.named(code_of(path, text), crate, path, wide, calls)
     said, around, found = [], 0, 0
     for file in sorted({place.file for place in places}):
         outside = without_bodies(text_of(f"{folder}/{file}"))
         said += [file, code_of(file, outside)]
-        around |= named(file, outside)
+        around |= named(file, outside, calls="macro_rules!" in outside)
     for place in sorted(places):
         body = "\n".join(text_of(f"{folder}/{place.file}").split("\n")[place.first - 1 : place.last])
         own = files_of(folder, place.proof) if place.proof else []

@@ -1,20 +1,24 @@
 """What of the crates a proof can rest on, by names: the items of sources, definitions and lemmas, each with the names that it declares and the words that it has.
 
 A function is proved by its own contract and body, and by the contracts, types, constants, definitions and lemmas that these name, and that those name in
-turn. So of other text only what is reached by a name can bear on a proof. A name reaches every item that declares it, whatever module it is of: what is
-reached so is more than what is meant, never less. What limits it is who can name an item at all: what isn't `pub` only its own crate, and what has no
-`pub` at all only its own module and those inside it; and no crate names what is of a crate above it.
+turn. So of other text only what is reached by a name can bear on a proof. A word by itself reaches what its own file declares, or brings by a `use` line. A
+word in a `use` line, or after a dot or two colons, reaches every item that declares it, whatever module it is of: a field, a method and a module's item of one
+name alike. So what is reached is more than what is meant, never less. What limits it is who can name an item at all: no crate what is of a crate above it; a
+function that isn't `pub` only its own crate, and one without any `pub`, as a definition or a `use` line without, only its own module and those inside it.
 
-Items are: the signature and contract of one function; a type with its fields, variants and ghost lines; a trait; a constant; a macro, whole; each name that
-a `use` line brings; a `mod` line; and of definitions and of shared proofs each declaration with all its equations, a block `module` or `mutual` as one.
-A type is reached by its fields and variants as well, a trait by its methods, an operator by each of its parts.
+Items are: the signature and contract of one function, with the head of the `impl` that it is in; a type with its fields, variants and ghost lines; a trait; a
+constant; a macro, whole; each name that a `use` line brings; a `mod` line; and of definitions and of shared proofs each declaration with its equations, a
+block `module` or `mutual` as one. Of a declaration whose equations are shut outside of it, as a lemma's are, only its type: "a definition's clauses are shut
+to everything", but for `abbrev`, for `unfoldable`, and for what its module or one below it names in an `unfolding` (antt/docs/primer-language.md, section
+4.11). A type is reached by its fields and variants as well, a trait by its methods, an operator by each of its parts.
 
 What acts without being named, and is reached so:
   an `impl` of a trait (operators, `?`, `for`, drop, `Model`, derived functions call it) where the type that it is for is reached, since a value of a type
     comes only from what names the type; an `impl` for types that the crates don't declare where its trait is reached; else, and for an alias, always;
-  the lines `#![..]` of a source, and a `mod` line with an attribute, which name lemmas for all functions below them: always;
-  a call of a macro among items, a glob, and what this script can't read: always;
-  a proof in a folder that begins with a +, by which several functions go down: always.
+  the lines `#![..]` of a source, and a `mod` line with a tactic, which name lemmas for all functions below them: always;
+  a call of a macro among items, a glob, and what this script can't read: always, and with a glob each word of its file reaches any item;
+  a proof in a folder that begins with a +, by which several functions go down: always;
+  the words of a macro reach what any file declares, since they mean what they mean where it is called.
 No lemma or definition acts unnamed. By the kit's pages the tactics take the hypotheses and their list (antt/docs/primer-tactics.md, section 4.10: "the
 hypotheses, the lemmas of `L` and the members of the sets that it names"; a `ruleset` "is its list and nothing more"). Where a goal has no answer,
 `tactic(auto)` tries `search rules` and `grind` with sets of std's alone, with what `using(..)` and `unfolding(..)` of its attribute name
@@ -26,11 +30,15 @@ import os
 import re
 from collections import defaultdict, namedtuple
 
-# an item: its file, the names that it declares, its text, who can name it, whether it is always reached, the name of the type, the trait or the alias that it
-# is, and of an `impl` of a trait the words of its type and of its trait
-Item = namedtuple("Item", "file names text sight always wide type impl", defaults=(False, False, "", ()))
+# an item: its file, the names that it declares, its text, who can name it; whether it is always reached; whether each of its words can name what other files
+# have; whether it can name functions; the name of the type, the trait or the alias that it is, or that it is a function; and of an `impl` of a trait the words
+# of its type and of its trait
+Item = namedtuple("Item", "file names text sight always wide calls type impl", defaults=(False, False, False, "", ()))
+FUNCTION = "()"
 # who can name an item: every crate above too; its crate; its own file and those below it
 WORLD, CRATE, FILE = "world", "crate", "file"
+# of a macro: its words mean what they mean where it is called
+ANYWHERE = "anywhere"
 
 # what stands between names, in definitions
 BETWEEN = re.compile(r"[\s(){}.;,@\"«»]+")
@@ -66,6 +74,8 @@ HEAD = re.compile(
     r"\s*(?:ghost\s+)?(pub\s*(?:\([^)]*\))?\s+)?(?:ghost\s+)?(?:(?:default|unsafe|async|extern\s*\S*|const(?=\s+(?:unsafe\s+)?fn))\s+)*"
     r"(use|mod|fn|struct|enum|union|trait|impl|const|static|type|macro_rules)\b!?\s*(\w*)"
 )
+# an attribute by which a derived function may call one
+CALLING = re.compile(r"#\[\s*(?!derive\b|tactic\b|repr\b|must_use\b|non_exhaustive\b|cfg\b|allow\b)\w")
 INNER_NAME = re.compile(r"\b(?:fn|struct|enum|union|trait|const|static|type|mod|ghost|macro_rules!)\s+(?:mut\s+)?(\w+)")
 
 
@@ -140,8 +150,9 @@ def leaves(masked):
     return said, has_glob
 
 
-def plain_header(header):
-    """The trait and the type of an `impl`'s head, each as text, without the parameters of the `impl`; the trait is empty where there is none."""
+def header_words(header, renamed):
+    """The words of the trait and of the type of an `impl`'s head, without the parameters of the `impl`; of the trait none where it is of none. Beside a name that
+    a `use` line gave stands the name that it is for."""
     text = re.sub(r"\s+", " ", header).replace("->", "  ")
     text = text[re.search(r"\bimpl\b", text).end() :].lstrip()
     params = set()
@@ -162,18 +173,20 @@ def plain_header(header):
             end = at
             break
     trait, kind = ("", text[:end]) if cut_at is None else (text[:cut_at], text[cut_at + 5 : end])
-    words = lambda it: [word for word in re.findall(r"(?<!')\b\w+", it) if word not in params]
+    words = lambda it: [name for word in re.findall(r"(?<!')\b\w+", it) if word not in params for name in (word, *renamed.get(word, ()))]
     return words(trait), words(kind)
 
 
 def items_of_source(file, text, masked, made, code):
     """The items of a source. `made` takes the bodies of functions from a text, and `code` its comments."""
-    found = []
+    found, renamed = [], defaultdict(list)
+    for name, other in re.findall(r"(\w+)\s+as\s+(\w+)", masked):
+        renamed[other].append(name)
 
-    def add(names, text, sight, always=False, wide=False, type="", impl=()):
-        found.append(Item(file, declared(names), code(text), sight, always, always or wide, type, impl))
+    def add(names, text, sight, always=False, wide=False, calls=False, type="", impl=()):
+        found.append(Item(file, declared(names), code(text), sight, always, wide or always, calls or always, type, impl))
 
-    def named(begin, end, within="", sight_within=None):
+    def named(begin, end, within=""):
         # the attributes are no part of the head
         at = begin
         while ATTRIBUTE.match(masked, at):
@@ -195,30 +208,31 @@ def items_of_source(file, text, masked, made, code):
         attributes = text[begin:at]
         if kind == "use":
             its, has_glob = leaves(bare)
-            for names, line in its:
-                add(names, attributes + line, sight, always=has_glob, wide=True)
+            attributes = code(attributes)
+            calls = not re.match(r"\s*(?:pub\s*)?ghost\b", bare)
+            found.extend(Item(file, names, f"{attributes} {line}".strip(), sight, has_glob, True, calls) for names, line in its)
         elif kind == "mod":
             add([name, *INNER_NAME.findall(bare)], whole, CRATE if sight == FILE else sight, always=bool(re.search(r"\btactic\b", attributes)))
         elif kind == "macro_rules":
-            add([name], whole, WORLD, wide=True)
+            add([name], whole, WORLD, wide=ANYWHERE, calls=True)
         elif kind in ("struct", "enum", "union"):
             derived = [f"{name}{it}" for part in re.findall(r"derive\(([^)]*)\)", attributes) for it in PLAIN.findall(part)]
-            add([name, *fields_of(bare), *derived], whole, WORLD, type=name)
+            add([name, *fields_of(bare), *derived], whole, WORLD, calls=bool(CALLING.search(code(whole))), type=name)
         elif kind == "trait":
             add([name, *INNER_NAME.findall(bare)], made(whole), WORLD, type=name)
         elif kind == "type":
             add([name], whole, WORLD, type=f"={name}")
         elif kind in ("const", "static"):
-            add([name, *INNER_NAME.findall(bare)], within + whole, WORLD)
+            add([name, *INNER_NAME.findall(bare)], within + whole, WORLD, calls=True)
         elif kind == "impl":
             implemented(begin, at, end)
         else:
-            add([name], within + made(whole), sight)
+            add([name], within + made(whole), sight, type=FUNCTION if kind == "fn" else "")
 
     def implemented(begin, at, end):
         opening = masked.find("{", at, end)
         opening = end if opening < 0 else opening
-        trait, kind = plain_header(masked[at:opening])
+        trait, kind = header_words(masked[at:opening], renamed)
         if trait:
             add([f"{kind[-1] if kind else ''}{trait[-1]}", f"{next(iter(kind), '')}{trait[0]}"], made(text[begin:end]), WORLD, impl=(kind, trait))
             return
@@ -242,11 +256,16 @@ def items_of_source(file, text, masked, made, code):
 # ---- definitions and lemmas
 
 MARKS = r"(?:(?:pattern|unfoldable|abbrev|opaque|open|axiom|pub)\s+)*"
-SIGNATURE = re.compile(rf"({MARKS})(?:(?:data|record|ruleset)\s+(?:pub\s+)?)?([^\s(){{}}.;,@\"]+)(?:\s+\{{[^}}]*\}})?(?:\s+[({{].*?)?\s*(?::(?:\s|$)|$|=|where\b)")
 TYPE = re.compile(rf"({MARKS})(?:data|record|ruleset)\s+(?:pub\s+)?([^\s(){{}}.;,@\"]+)")
 VALUE = re.compile(rf"({MARKS})([^\s(){{}}.;,@\"]+)(?:\s+\{{[^}}]*\}})?(?:\s*$|\s+:(?:\s|$))")
 BLOCK = re.compile(rf"({MARKS})(?:module|mutual)\b")
-INSIDE = re.compile(rf"(?m)^[ ]+{MARKS}((?:[^\s(){{}}.;,@\"]+[ ]+)+)(?:\{{[^}}]*\}}[ ]+)?(?::(?=\s)|(?=[({{].*:))|^[ ]+{MARKS}(?:data|record|ruleset)[ ]+(\S+)")
+INSIDE = re.compile(rf"\s+{MARKS}(?:(?:data|record|ruleset)\s+(?:pub\s+)?(\S+)|([^(){{}}.;,@\"]+?)(?:\s+\{{[^}}]*\}})?\s+:(?:\s|$))")
+
+
+def inside(lines):
+    """The names that the lines of a block, or of a type, declare."""
+    found = [name for it in map(INSIDE.match, lines[1:]) if it for names in [(it[1] or it[2]).split()] if not {"=", "→", "λ", "|", "↦"} & set(names) for name in names]
+    return [name for name in found if name != ":"]
 
 
 def statement(lines):
@@ -255,8 +274,8 @@ def statement(lines):
     return "\n".join(it.rstrip() for it in lines[:end])
 
 
-def items_of_definitions(file, text, is_always):
-    """The items of a file of definitions or lemmas."""
+def items_of_definitions(file, text, is_always, is_parent):
+    """The items of a file of definitions or lemmas. That of a parent can be unfolded in the modules below it."""
     groups = []
     for line in text.split("\n"):
         if not line.strip():
@@ -271,9 +290,9 @@ def items_of_definitions(file, text, is_always):
     for lines in groups:
         whole, head = "\n".join(it.rstrip() for it in lines), lines[0]
         brought = re.match(rf"{MARKS}use\s", head)
-        sight = WORLD if re.match(rf"{MARKS}", head) and re.search(r"\bpub\b", re.match(MARKS, head)[0]) else FILE
+        sight = WORLD if re.search(r"\bpub\b", re.match(MARKS, head)[0]) else FILE
         if is_always:
-            found.append(Item(file, frozenset(), whole, WORLD, True, True))
+            found.append(Item(file, frozenset(), whole, WORLD, True, True, True))
         elif brought:
             its, has_glob = leaves(whole)
             found += [Item(file, names, line, sight, has_glob, True) for names, line in its]
@@ -282,20 +301,19 @@ def items_of_definitions(file, text, is_always):
         elif re.match(r"infix[lr]?\s", head):
             found.append(Item(file, declared(head.split()[2:]), whole, WORLD))
         elif BLOCK.match(head):
-            names = [name for it in INSIDE.findall(whole) for part in it for name in part.split()]
-            found.append(Item(file, declared(names), whole, WORLD))
+            found.append(Item(file, declared(inside(lines)), whole, WORLD))
         else:
             kind = TYPE.match(head)
             it = kind or VALUE.match(head)
             if not it or re.match(rf"{MARKS}open\s", head):
-                found.append(Item(file, frozenset(), whole, WORLD, True, True))
+                found.append(Item(file, frozenset(), whole, WORLD, True, True, True))
                 continue
             names = [it[2]]
-            if not kind and not re.search(r"\b(?:abbrev|unfoldable|axiom|pattern)\b", head[: it.start(2)]) and it[2] not in unfolded:
+            if not kind and not re.search(r"\b(?:abbrev|unfoldable|axiom|pattern)\b", head[: it.start(2)]) and it[2] not in unfolded and not is_parent:
                 whole = statement(lines)
             if kind:
-                names += [name for part in INSIDE.findall(whole) for own in part for name in own.split()]
-            found.append(Item(file, declared(names), whole, WORLD if "pub" in head.split(it[2])[0] else FILE))
+                names += inside(lines)
+            found.append(Item(file, declared(names), whole, WORLD if re.search(r"\bpub\b", head[: it.start(2)]) else FILE))
     return found
 
 
@@ -303,6 +321,12 @@ def items_of_definitions(file, text, is_always):
 
 # a crate whose inner names a text can name by their whole paths: what the kit makes of its contracts and its functions' proofs
 INWARD = re.compile(r"\bRattle\.(\w+)(?!\w|\.specs\.(?!contracts\b)\w|\.proofs\.[A-Z])")
+
+
+def inward(text):
+    """The crates whose inner names a text can name."""
+    return frozenset(INWARD.findall(text))
+
 
 def chain(file):
     """The files whose private names a file sees: its own, and those of the modules that it is in."""
@@ -317,12 +341,11 @@ def chain(file):
 
 def places_in(found):
     """The places of a set of items, from the first on."""
-    if found.bit_count() > 500:
-        return [at for at, sign in enumerate(reversed(bin(found))) if sign == "1"]
-    places = []
-    while found:
-        places.append((found & -found).bit_length() - 1)
-        found &= found - 1
+    signs, places = bin(found)[:1:-1], []
+    at = signs.find("1")
+    while at >= 0:
+        places.append(at)
+        at = signs.find("1", at + 1)
     return places
 
 
@@ -335,28 +358,29 @@ class Reach:
         for crate, its in items.items():
             self.of_crate[crate] = ((1 << len(its)) - 1) << len(self.items)
             self.items += [(crate, it) for it in its]
-        types = {it.type for _, it in self.items if it.type}
-        self.world, self.crate, self.local, self.hidden, self.own, self.macros = (defaultdict(int) for _ in range(6))
+        types = {it.type for _, it in self.items} - {"", FUNCTION}
+        self.world, self.crate, self.local, self.inner, self.own, self.macros, self.any = (defaultdict(int) for _ in range(7))
         self.globs, self.merged = set(), {}
-        self.implemented, self.always, self.opened = defaultdict(int), 0, defaultdict(set)
+        self.implemented, self.always, self.functions, self.opened = defaultdict(int), 0, 0, defaultdict(set)
         for at, (crate, it) in enumerate(self.items):
-            self.opened[crate, it.file] |= {name for name in INWARD.findall(it.text) if name in below}
+            self.opened[crate, it.file] |= inward(it.text)
             bit = 1 << at
             self.always |= bit if it.always else 0
+            self.functions |= bit if it.type == FUNCTION else 0
             if it.impl:
                 self.give_impl(bit, it, types)
-            if it.wide and it.always:
+            if it.always and re.search(r"\buse\b", it.text):
                 self.globs.add((crate, it.file))
             for name in it.names:
                 self.own[name, crate, it.file] |= bit
-                if it.wide and it.text.find("macro_rules!") >= 0:
-                    self.macros[name] |= bit
+                self.any[name] |= bit
+                if it.file.endswith(".rt"):
+                    self.inner[name, crate] |= bit
+                if it.wide == ANYWHERE:
+                    self.macros[name, crate if "macro_export" not in it.text else ""] |= bit
                 if it.sight == WORLD:
                     self.world[name, crate] |= bit
-                    continue
-                if it.file.endswith(".rt"):
-                    self.hidden[name, crate] |= bit
-                if it.sight == CRATE:
+                elif it.sight == CRATE:
                     self.crate[name, crate] |= bit
                 else:
                     self.local[name, crate, it.file] |= bit
@@ -374,16 +398,18 @@ class Reach:
                 return
         self.always |= bit
 
-    def named(self, text, crate, file, wide=False):
+    def named(self, text, crate, file, wide=False, calls=False):
         """The items that a text of a file can name: those of its own file and what its `use` lines bring by each word, and any by a word after a dot or two
-        colons. By each word any, where the text is `wide`."""
+        colons. By each word any, where the text is `wide`. Functions only where the text `calls` any."""
         words, after = words_of(text)
-        wide |= (crate, file) in self.globs
-        found, files, crates = 0, chain(file), [crate, *self.below[crate]]
-        # definitions can name what a source hides, through what the kit makes of it
-        inward = {*self.opened[crate, file], *([crate] if file.endswith(".antt") else [])}
+        if wide == ANYWHERE:
+            return functools.reduce(lambda found, word: found | self.any.get(word, 0) | self.implemented.get(word, 0), words, 0)
+        wide = wide or (crate, file) in self.globs
+        found, files, crates, is_source = 0, chain(file), [crate, *self.below[crate]], file.endswith(".rt")
         for word in words:
-            found |= self.implemented.get(word, 0) | self.own.get((word, crate, file), 0) | self.macros.get(word, 0)
+            found |= self.implemented.get(word, 0) | self.own.get((word, crate, file), 0)
+            if is_source:
+                found |= self.macros.get((word, crate), 0) | self.macros.get((word, ""), 0)
         for word in words if wide else after:
             if (word, crate) not in self.merged:
                 self.merged[word, crate] = self.crate.get((word, crate), 0)
@@ -392,8 +418,12 @@ class Reach:
             found |= self.merged[word, crate]
             for it in files:
                 found |= self.local.get((word, crate, it), 0)
-            for it in inward:
-                found |= self.hidden.get((word, it), 0)
+        if not calls:
+            found &= ~self.functions
+        # what a source hides, and functions, through what the kit makes of them
+        for it in self.opened.get((crate, file), frozenset()) | inward(text):
+            for word in words:
+                found |= self.inner.get((word, it), 0)
         return found
 
     def seen_from(self, crate):
@@ -421,7 +451,7 @@ class Reach:
             for at in places_in(left):
                 if self.next[at] is None:
                     of, it = self.items[at]
-                    self.next[at] = self.named(it.text, of, it.file, it.wide)
+                    self.next[at] = self.named(it.text, of, it.file, it.wide, it.calls)
                 more |= self.next[at]
             left = more & seen & ~done
         if not known:
