@@ -197,7 +197,7 @@ COMMENT_LINE = re.compile(r"(?m)^[ \t]*--(?: .*)?\n")
 def code_of(path, text):
     """A source without comments, and without line breaks and blanks that say nothing; or definitions without lines of comments, where lines say something."""
     if not path.endswith(".rt"):
-        return COMMENT_LINE.sub("", text)
+        return text if "{-" in text else COMMENT_LINE.sub("", text)
     bare = TEXT_OR_COMMENT.sub(lambda it: " " if it[0].lstrip().startswith("//") else it[0], text)
     return TEXT_OR_BLANKS.sub(lambda it: " " if it[0].isspace() else it[0], bare).strip()
 
@@ -225,9 +225,9 @@ def sum_of(texts):
     return hashlib.sha256("\0".join(texts).encode()).hexdigest()
 
 
-def sum_of_files(folder, paths, made=lambda text: text):
-    """A sum of files by their paths, each without its comments, and as `made` of it."""
-    return sum_of([it for path in paths for it in (path, code_of(path, made(text_of(f"{folder}/{path}"))))])
+def sum_of_files(folder, paths):
+    """A sum of files by their paths, each without its comments."""
+    return sum_of([it for path in paths for it in (path, code_of(path, text_of(f"{folder}/{path}")))])
 
 
 def masked(text):
@@ -254,21 +254,21 @@ def reach_of(folders, below):
 
 
 @functools.cache
-def whole(crate, folder, all):
+def whole(crate, folder, items):
     """A sum of a whole crate, in a list, and what it reaches in the crates below it."""
     files, found = files_of(folder, "src", "specs", "proofs"), 0
     for path in files:
-        found |= all.named(code_of(path, text_of(f"{folder}/{path}")), crate, path, True, True)
-    return [sum_of_files(folder, files)], all.closed(found, crate) & all.below_of(crate)
+        found |= items.named(code_of(path, text_of(f"{folder}/{path}")), crate, path, True, True)
+    return [sum_of_files(folder, files)], items.closed(found, crate) & items.below_of(crate)
 
 
-def rest_of(crate, folder, all, edit, places):
+def rest_of(crate, folder, items, edit, places):
     """What the verdict on an edit rests on, beside itself: texts, of which the first are those of its file without bodies, and the items that these reach; and
     texts of the functions in whose bodies it stands, with their own proofs, and the items that these reach beside the others. Where a part of it stands
     elsewhere, the texts are the whole crate."""
     if not places:
-        return *whole(crate, folder, all), 0
-    named = lambda path, text, wide=False, calls=True: all.named(code_of(path, text), crate, path, wide, calls)
+        return *whole(crate, folder, items), 0
+    named = lambda path, text, wide=False, calls=True: items.named(code_of(path, text), crate, path, wide, calls)
     said, around, found = [], 0, 0
     for file in sorted({place.file for place in places}):
         outside = without_bodies(text_of(f"{folder}/{file}"))
@@ -283,16 +283,16 @@ def rest_of(crate, folder, all, edit, places):
             found |= named(path, text_of(f"{folder}/{path}"), True)
     for pair in edit.pairs:
         found |= named(pair.file, "\n".join([pair.old, pair.new, pair.right or ""]))
-    around = all.closed(around, crate)
-    return said, around, all.closed(found, crate, around)
+    around = items.closed(around, crate)
+    return said, around, items.closed(found, crate, around)
 
 
-def digests_of(crate, folder, around, all):
-    """For each edit of a crate its name, and a sum of all that the verdict on it rests on: the edit, what `rest_of` says, and what is around the crate. `all`
-    has the items of all crates. An edit that can't be read has none."""
+def digests_of(crate, folder, around, items):
+    """For each edit of a crate its name, and a sum of all that the verdict on it rests on: the edit, what `rest_of` says, and what is around the crate. `items`
+    are those of all crates. An edit that can't be read has none."""
     good, bad = edits_of(folder)
     said = [(name, "-") for name, _ in bad]
     for edit in good:
-        own, first, more = rest_of(crate, folder, all, edit, places_of(folder, edit))
-        said.append((edit.name, sum_of([text_of(edit.path), sum_of(own), all.sum(first), all.sum(more), around])))
+        own, first, more = rest_of(crate, folder, items, edit, places_of(folder, edit))
+        said.append((edit.name, sum_of([text_of(edit.path), sum_of(own), items.sum(first), items.sum(more), around])))
     return sorted(said)

@@ -1,10 +1,14 @@
-"""What of the crates a proof can rest on, by names: the items of sources, definitions and lemmas, each with the names that it declares and the words that it has.
+"""What of the crates a proof can rest on, by names: the items of sources, definitions and lemmas, each with the names that it declares and the words that it
+has.
 
 A function is proved by its own contract and body, and by the contracts, types, constants, definitions and lemmas that these name, and that those name in
 turn. So of other text only what is reached by a name can bear on a proof. A word by itself reaches what its own file declares, or brings by a `use` line. A
 word in a `use` line, or after a dot or two colons, reaches every item that declares it, whatever module it is of: a field, a method and a module's item of one
 name alike. So what is reached is more than what is meant, never less. What limits it is who can name an item at all: no crate what is of a crate above it; a
-function that isn't `pub` only its own crate, and one without any `pub`, as a definition or a `use` line without, only its own module and those inside it.
+function that isn't `pub` only its own crate, and one without any `pub`, as a definition or a `use` line without, only its own module and those inside it. And
+functions are named only where they can be called: in the bodies that the edit stands in, in macros, constants, and attributes that a derive reads, and on the
+way there in `use` lines. No clause and no definition can name one (CONTRACTS.md, "Clauses": constants, types, variants and members of traits), but through
+what the kit makes of it, `Rattle.CRATE.specs.contracts` and `Rattle.CRATE.proofs`: a file that has such a path can.
 
 Items are: the signature and contract of one function, with the head of the `impl` that it is in; a type with its fields, variants and ghost lines; a trait; a
 constant; a macro, whole; each name that a `use` line brings; a `mod` line; and of definitions and of shared proofs each declaration with its equations, a
