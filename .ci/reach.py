@@ -35,8 +35,8 @@ import re
 from collections import defaultdict, namedtuple
 
 # an item: its file, the names that it declares, its text, who can name it; whether it is always reached; whether each of its words can name what other files
-# have; whether it can name functions; the name of the type, the trait or the alias that it is, or that it is a function or a macro; and of an `impl` of a trait the words
-# of its type and of its trait
+# have; whether it can name functions; the name of the type, the trait or the alias that it is, or that it is a function or a macro; and of an `impl` of a
+# trait the words of its type and of its trait
 Item = namedtuple("Item", "file names text sight always wide calls type impl", defaults=(False, False, False, "", ()))
 FUNCTION = "()"
 # who can name an item: every crate above too; its crate; its own file and those below it
