@@ -1,14 +1,14 @@
 """What of the crates a proof can rest on, by names: the items of sources, definitions and lemmas, each with the names that it declares and the words that it
 has.
 
-A function is proved by its own contract and body, and by the contracts, types, constants, definitions and lemmas that these name, and that those name in
-turn. So of other text only what is reached by a name can bear on a proof. A word by itself reaches what its own file declares, or brings by a `use` line. A
-word in a `use` line, or after a dot or two colons, reaches every item that declares it, whatever module it is of: a field, a method and a module's item of one
-name alike. So what is reached is more than what is meant, never less. What limits it is who can name an item at all: no crate what is of a crate above it; a
+A function is proved by its own contract and body, and by the contracts, types, constants, definitions and lemmas that these name, and that those name in turn.
+So of other text only what is reached by a name can bear on a proof. A word by itself reaches what its own file declares, or brings by a `use` line. A word in
+a `use` line, or after a dot or two colons, reaches every item that declares it, whatever module it is of: a field, a method and a module's item of one name
+alike. So what is reached is more than what is meant, never less. What limits it is who can name an item at all: no crate what is of a crate above it; a
 function that isn't `pub` only its own crate, and one without any `pub`, as a definition or a `use` line without, only its own module and those inside it. And
-functions are named only where they can be called: in the bodies that the edit stands in, in macros, constants, and attributes that a derive reads, and on the
-way there in `use` lines. No clause and no definition can name one (CONTRACTS.md, "Clauses": constants, types, variants and members of traits), but through
-what the kit makes of it, `Rattle.CRATE.specs.contracts` and `Rattle.CRATE.proofs`: a file that has such a path can.
+functions and macros are named only where they can be called: in the bodies that the edit stands in, in macros, constants, and attributes that a derive reads,
+and on the way there in `use` lines. No clause and no definition can name one (CONTRACTS.md, "Clauses": constants, types, variants and members of traits), but
+through what the kit makes of it, `Rattle.CRATE.specs.contracts` and `Rattle.CRATE.proofs`: a file that has such a path can.
 
 Items are: the signature and contract of one function, with the head of the `impl` that it is in; a type with its fields, variants and ghost lines; a trait; a
 constant; a macro, whole; each name that a `use` line brings; a `mod` line; and of definitions and of shared proofs each declaration with its equations, a
@@ -35,8 +35,8 @@ import re
 from collections import defaultdict, namedtuple
 
 # an item: its file, the names that it declares, its text, who can name it; whether it is always reached; whether each of its words can name what other files
-# have; whether it can name functions; the name of the type, the trait or the alias that it is, or that it is a function; and of an `impl` of a trait the words
-# of its type and of its trait
+# have; whether it can name functions; the name of the type, the trait or the alias that it is, or that it is a function or a macro; and of an `impl` of a
+# trait the words of its type and of its trait
 Item = namedtuple("Item", "file names text sight always wide calls type impl", defaults=(False, False, False, "", ()))
 FUNCTION = "()"
 # who can name an item: every crate above too; its crate; its own file and those below it
@@ -155,8 +155,8 @@ def leaves(masked):
 
 
 def header_words(header, renamed):
-    """The words of the trait and of the type of an `impl`'s head, without the parameters of the `impl`; of the trait none where it is of none. Beside a name that
-    a `use` line gave stands the name that it is for."""
+    """The words of the trait and of the type of an `impl`'s head, without the parameters of the `impl`; of the trait none where it is of none. Beside a name
+    that a `use` line gave stands the name that it is for."""
     text = re.sub(r"\s+", " ", header).replace("->", "  ")
     text = text[re.search(r"\bimpl\b", text).end() :].lstrip()
     params = set()
@@ -218,7 +218,7 @@ def items_of_source(file, text, masked, made, code):
         elif kind == "mod":
             add([name, *INNER_NAME.findall(bare)], whole, CRATE if sight == FILE else sight, always=bool(re.search(r"\btactic\b", attributes)))
         elif kind == "macro_rules":
-            add([name], whole, WORLD, wide=ANYWHERE, calls=True)
+            add([name], whole, WORLD, wide=ANYWHERE, calls=True, type=FUNCTION)
         elif kind in ("struct", "enum", "union"):
             derived = [f"{name}{it}" for part in re.findall(r"derive\(([^)]*)\)", attributes) for it in PLAIN.findall(part)]
             add([name, *fields_of(bare), *derived], whole, WORLD, calls=bool(CALLING.search(code(whole))), type=name)
@@ -268,8 +268,8 @@ INSIDE = re.compile(rf"\s+{MARKS}(?:(?:data|record|ruleset)\s+(?:pub\s+)?(\S+)|(
 
 def inside(lines):
     """The names that the lines of a block, or of a type, declare."""
-    found = [name for it in map(INSIDE.match, lines[1:]) if it for names in [(it[1] or it[2]).split()] if not {"=", "→", "λ", "|", "↦"} & set(names) for name in names]
-    return [name for name in found if name != ":"]
+    heads = ((it[1] or it[2]).split() for it in map(INSIDE.match, lines[1:]) if it)
+    return [name for names in heads if not {"=", "→", "λ", "|", "↦"} & set(names) for name in names if name != ":"]
 
 
 def statement(lines):
