@@ -46,7 +46,8 @@ pub fn before_zeros(bytes: &[u8]) -> usize
 pub(crate) fn alarm(key: u64, least: u64, count: u64, rest: &[u8]) -> Option<bool>
     ensures { ScansSo key least count rest.now result }
 {
-    for place in 0..before_zeros(rest) / 4 + 1 {
+    let places = before_zeros(rest) / 4 + 1;
+    for place in 0..places {
         let (_, bytes) = rest.split_at(4 * place);
         if let Some(is_unknown) = alarm_at(key, least, count, bytes) {
             return Some(is_unknown);
