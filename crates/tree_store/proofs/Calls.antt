@@ -1,5 +1,5 @@
 -- The calls of a store follow from what its steps do.
-use Rattle.std.proofs.Common.{◌≡◌, inl, inr, ℕ, true, false, List, [], ◌∷◌, refl, sym, subst, Ok, Err, Some, None}
+use Rattle.std.proofs.Common.{◌≡◌, inl, inr, ℕ, ◌≤◌, ◌<◌, ◌+◌, ◌^◌, true, false, List, [], ◌∷◌, refl, sym, ◌∙◌, ap, subst, arith, Ok, Err, Some, None}
 use Rattle.std.specs.Prelude.{Option, Result, OnErr}
 use Rattle.xdr_wire.specs.Reading.{read_at}
 use Rattle.node_tree.specs.World.{World}
@@ -7,7 +7,7 @@ use Rattle.node_tree.specs.Forms.{change, step_value}
 use Rattle.node_tree.specs.Steps.{Step}
 use Rattle.compound_run.specs.Known.{Known}
 use Rattle.client_changes.specs.Comparing.{AreSame, AreNear}
-use Rattle.client_changes.proofs.Alike.{same_is_near}
+use Rattle.client_changes.proofs.Alike.{same_is_near, same_itself}
 use Rattle.tree_changes.specs.Noting.{bare}
 use Rattle.tree_changes.specs.Stepped.{Leads}
 use Rattle.tree_changes.specs.Replays.{ReadsAs, Replays}

@@ -1,5 +1,5 @@
 -- The steps of reading find what a checkpoint and records hold, or that they hold nothing.
-use Rattle.std.specs.Prelude.{◌≡◌, List, [], Option, None, Result, Ok, Err}
+use Rattle.std.specs.Prelude.{◌≡◌, List, [], Option, Some, None, Result, Ok, Err}
 use Rattle.xdr_wire.specs.Xdr.{Value}
 use Rattle.xdr_wire.specs.Reading.{read_at}
 use Rattle.node_tree.specs.World.{World}

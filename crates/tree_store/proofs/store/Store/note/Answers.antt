@@ -1,8 +1,10 @@
-use Rattle.std.proofs.Common.{◌≡◌, true, refl, Ok, Err, subst}
+use Rattle.std.proofs.Common.{◌≡◌, true, refl, Ok, Err, subst, sym}
 use Rattle.node_tree.specs.World.{World}
 use Rattle.tree_changes.specs.Replays.{Replays}
+use Rattle.client_changes.specs.Applying.{Leads}
 use Rattle.compound_run.specs.Views.{lent_view}
 use Rattle.client_changes.proofs.Alike.{same_itself}
+use Rattle.journal.specs.Frames.{Bytes}
 use Rattle.tree_store.specs.Running.{Store}
 use Rattle.tree_store.specs.Kept.{Kept}
 use Rattle.tree_store.specs.Holds.{LeadsOn}

@@ -1,4 +1,7 @@
 use Rattle.std.proofs.Common.{true, Ok, Err, subst}
+use Rattle.compound_run.specs.Known.{Known}
+use Rattle.client_changes.specs.Comparing.{AreSame}
+use Rattle.compound_run.specs.Views.{lent_view}
 use Rattle.tree_store.specs.Running.{Store}
 use Rattle.tree_store.specs.Kept.{Kept, kept_with}
 use Rattle.tree_store.specs.Standing.{Stands}
