@@ -10,11 +10,12 @@ functions and macros are named only where they can be called: in the bodies that
 and on the way there in `use` lines. No clause and no definition can name one (CONTRACTS.md, "Clauses": constants, types, variants and members of traits), but
 through what the kit makes of it, `Rattle.CRATE.specs.contracts` and `Rattle.CRATE.proofs`: a file that has such a path can.
 
-Items are: the signature and contract of one function, with the head of the `impl` that it is in; a type with its fields, variants and ghost lines; a trait; a
-constant; a macro, whole; each name that a `use` line brings; a `mod` line; and of definitions and of shared proofs each declaration with its equations, a
-block `module` or `mutual` as one. Of a declaration whose equations are shut outside of it, as a lemma's are, only its type: "a definition's clauses are shut
-to everything", but for `abbrev`, for `unfoldable`, and for what its module or one below it names in an `unfolding` (antt/docs/primer-language.md, section
-4.11). A type is reached by its fields and variants as well, a trait by its methods, an operator by each of its parts.
+Items are, without the tactics that they are proved by: the signature and contract of one function, with the head of the `impl` that it is in; a type with its
+fields, variants and ghost lines; a trait; a constant; a macro, whole; each name that a `use` line brings; a `mod` line; and of definitions and of shared
+proofs each declaration with its equations, a block `module` or `mutual` as one. Of a declaration whose equations are shut outside of it, as a lemma's are,
+only its type: "a definition's clauses are shut to everything", but for `abbrev`, for `unfoldable`, and for what its module or one below it names in an
+`unfolding` (antt/docs/primer-language.md, section 4.11). A type is reached by its fields and variants as well, a trait by its methods, an operator by each of
+its parts.
 
 What acts without being named, and is reached so:
   an `impl` of a trait (operators, `?`, `for`, drop, `Model`, derived functions call it) where the type that it is for is reached, since a value of a type
@@ -78,6 +79,8 @@ HEAD = re.compile(
     r"\s*(?:ghost\s+)?(pub\s*(?:\([^)]*\))?\s+)?(?:ghost\s+)?(?:(?:default|unsafe|async|extern\s*\S*|const(?=\s+(?:unsafe\s+)?fn))\s+)*"
     r"(use|mod|fn|struct|enum|union|trait|impl|const|static|type|macro_rules)\b!?\s*(\w*)"
 )
+# how the functions of an item are proved themselves, by which no other is
+TACTIC = re.compile(r"#\[\s*tactic\((?:[^()]|\([^()]*\))*\)\s*\]\s*")
 # an attribute by which a derived function may call one
 CALLING = re.compile(r"#\[\s*(?!derive\b|tactic\b|repr\b|must_use\b|non_exhaustive\b|cfg\b|allow\b)\w")
 INNER_NAME = re.compile(r"\b(?:fn|struct|enum|union|trait|const|static|type|mod|ghost|macro_rules!)\s+(?:mut\s+)?(\w+)")
@@ -188,7 +191,8 @@ def items_of_source(file, text, masked, made, code):
         renamed[other].append(name)
 
     def add(names, text, sight, always=False, wide=False, calls=False, type="", impl=()):
-        found.append(Item(file, declared(names), code(text), sight, always, wide or always, calls or always, type, impl))
+        text = code(text) if always else TACTIC.sub("", code(text))
+        found.append(Item(file, declared(names), text, sight, always, wide or always, calls or always, type, impl))
 
     def named(begin, end, within=""):
         # the attributes are no part of the head
