@@ -1,23 +1,25 @@
 -- The effects and the answers of a script by its lines.
-use Rattle.std.proofs.Common.{◌≡◌, ◌≢◌, ℕ, ◌+◌, ◌*◌, ◌≤◌, ◌==◌, ◌&&◌, Bool, true, false, List, [], ◌∷◌, ◌++◌, length, take, codes, Option, Some, Result, Ok, Err, refl, sym, ap, subst, ◌∙◌, append_assoc, arith, inl, inr}
-use Rattle.std.specs.List.{flat_map}
+use Rattle.std.proofs.Common.{◌≡◌, ◌≢◌, ℕ, ◌+◌, ◌<◌, ◌≤◌, ◌==◌, ◌&&◌, Bool, true, false, List, [], ◌∷◌, ◌++◌, take, codes, Option, Some, Result, Ok, Err, refl, sym, ap, subst, ◌∙◌, append_assoc, arith, inl, inr}
+use Rattle.std.specs.List.{concat, flat_map}
 use Rattle.std.specs.Fmt.{decimal}
-use Rattle.std.specs.Io.KnownBytes.{Appends, Consumes, IsAtEnd}
+use Rattle.std.specs.Io.KnownBytes.{Appends, Consumes, IsAtEnd, Keeps}
 use Rattle.std.proofs.lemmas.Bool.{cases_Bool}
 use Rattle.std.proofs.lemmas.Bool.Decides.{Decides-eqb}
-use Rattle.std.proofs.lemmas.List.{append-nil, length-append, length-take}
-use Rattle.std.proofs.Math.Nat.{min-le_right}
-use Rattle.std.proofs.lemmas.List.Folds.{list_all-append}
+use Rattle.std.proofs.lemmas.List.{append-nil, length-append}
+use Rattle.std.proofs.lemmas.List.Elements.{All-append, All-cons, All-nil}
+use Rattle.std.proofs.lemmas.List.Folds.{concat-append, list_all-append}
 use Rattle.nfs_client.proofs.Streams.{appends_trans, appends_none, consumes_trans, consumes_none}
 use Rattle.access_guard.specs.Log.{Log}
 use Rattle.access_guard.specs.declared.line.Line.{Line}
 use Rattle.compound_run.specs.State as server
 use Rattle.nfs_hub.specs.Machine.{State}
 use Rattle.nfs_hub.specs.Hub.{IsHub}
+use Rattle.nfs_hub.specs.Served.{IsPiece}
 use Rattle.nfs_hub.specs.declared.hub.Hub.{Hub}
+use Rattle.nfs_hub.proofs.TurnLaws.{consumes_kept}
 use Rattle.nfs_tool.specs.Reloading.{Giving, Lent, Loads}
 use Rattle.nfs_tool.specs.ScriptLines.{Said, Run, Reload, is_skipped, line_in}
-use Rattle.nfs_tool.specs.Script.{is_answered, is_loaded, load_text, told_text, Tells, LineWrites, LinePrints, Print, is_within, joined, IsCut, IsScriptFault, Stands, Begins, Answered, Answers, GoesOn, Puts, IsTrailOf, WritesTrail, trail_line, trail_text, Finished, Finishes, ScriptGives}
+use Rattle.nfs_tool.specs.Script.{is_answered, is_loaded, load_text, told_text, Tells, LineWrites, LinePrints, Print, is_within, joined, IsCut, IsScriptFault, Stands, Begins, Answered, Answers, GoesOn, Puts, IsTrailOf, WritesTrail, trail_line, trail_text, Finished, Finishes, Reads, ScriptGives}
 use Rattle.nfs_tool.specs.declared.reloading.LoadFault.{LoadFault}
 use Rattle.nfs_client.specs.declared.running.Answer.{Answer}
 use Rattle.nfs_tool.specs.declared.scripting.Progress.{Progress}
@@ -139,54 +141,73 @@ trail_written hub total lines held held' held'' (Err fault) is first second = se
 
 -- ---- a script
 
+pub bytes_more : (pieces : List (List ℕ)) (piece : List ℕ) → concat (pieces ++ piece ∷ []) ≡ concat pieces ++ piece
+bytes_more pieces piece =
+    let one : concat (piece ∷ []) ≡ piece = append-nil piece in
+    concat-append pieces (piece ∷ []) ∙ ap (λ (bs : List ℕ). concat pieces ++ bs) one
+
+module _ {count : ℕ} {left left' : Option (List ℕ)} (r : Reads count left left') where
+  -- one piece more
+  abbrev pub reads_more : (piece : List ℕ) (left'' : Option (List ℕ)) (most : ℕ) → count + 1 ≤ most → IsPiece piece → Consumes left' left'' piece → Reads most left left''
+  reads_more piece left'' most few is more = record {
+    pieces = r.pieces ++ piece ∷ [];
+    are = All-append IsPiece r.pieces (piece ∷ []) r.are (All-cons IsPiece piece [] is (All-nil IsPiece));
+    few = let long = length-append r.pieces (piece ∷ []) in omega (arith, long, r.few, few);
+    read = subst (λ (bs : List ℕ). Consumes left left'' bs) (sym (bytes_more r.pieces piece)) (consumes_trans left left' left'' (concat r.pieces) piece r.read more);
+  }
+
+  -- nothing more
+  abbrev pub reads_end : (left'' : Option (List ℕ)) (most : ℕ) → count ≤ most → Consumes left' left'' [] → Reads most left left''
+  reads_end left'' most few nothing = record {
+    pieces = r.pieces;
+    are = r.are;
+    few = omega (arith, r.few, few);
+    read = subst (λ (bs : List ℕ). Consumes left left'' bs) (append-nil (concat r.pieces)) (consumes_trans left left' left'' (concat r.pieces) [] r.read nothing);
+  }
+
+  -- the reader failed
+  pub reads_kept : (left'' : Option (List ℕ)) (most : ℕ) → count ≤ most → Keeps left' left'' → Reads most left left''
+  reads_kept left'' most few keeps = record { pieces = r.pieces; are = r.are; few = omega (arith, r.few, few); read = consumes_kept left left' left'' (concat r.pieces) r.read keeps }
+
 -- the part of a script that this many reads read
 pub record Running {A T : Type 0} (gives : Giving T) (old new : Lent A T) (p : Progress A) (count : ℕ) (left left' held held' : Option (List ℕ)) : Type 0 where
-  pub text : List ℕ
+  pub reads : Reads count left left'
   pub out : List ℕ
-  pub read : Consumes left left' text
   pub wrote : Appends held held' out
-  pub stands : Stands gives old new p text out
-  pub few : length text ≤ 4096 * count
+  pub stands : Stands gives old new p (concat reads.pieces) out
 
 pub runs_none : {A T : Type 0} (gives : Giving T) (lent : Lent A T) (p : Progress A) (left held : Option (List ℕ)) → Begins p → Running gives lent lent p 0 left left held held
 runs_none gives lent p left held begins =
     let Q : List ℕ → Type 0 = λ l. IsCut [] [] l in
     let R : Bool → Type 0 = λ g. Print gives lent lent [] [] g in
     record {
-      text = [];
+      reads = record { pieces = []; are = All-nil IsPiece; few = omega arith; read = consumes_none left };
       out = [];
-      read = consumes_none left;
       wrote = appends_none held;
       stands = record { whole = []; cut = subst Q (sym begins.0) (record { parts = refl; are_lines = tt; is_line = refl }); printed = subst R (sym begins.1) (refl, refl, refl) };
-      few = omega arith;
     }
 
-pub runs_further : {A T : Type 0} (gives : Giving T) (x y z : Lent A T) (p q : Progress A) (count n : ℕ) (buf : List ℕ) (left left' left'' held held' held'' : Option (List ℕ)) → Running gives x y p count left left' held held'
-    → Consumes left' left'' (take n buf) → length buf ≤ 4096 → GoesOn gives y z p q (take n buf) held' held'' (Ok tt) → Running gives x z q (count + 1) left left'' held held''
-runs_further gives x y z p q count n buf left left' left'' held held' held'' r more short goes =
-    let g = goes x r.text r.out r.stands in
+pub runs_further : {A T : Type 0} (gives : Giving T) (x y z : Lent A T) (p q : Progress A) (count : ℕ) (piece : List ℕ) (left left' left'' held held' held'' : Option (List ℕ)) → Running gives x y p count left left' held held'
+    → IsPiece piece → Consumes left' left'' piece → GoesOn gives y z p q piece held' held'' (Ok tt) → Running gives x z q (count + 1) left left'' held held''
+runs_further gives x y z p q count piece left left' left'' held held' held'' r is more goes =
+    let g = goes x (concat r.reads.pieces) r.out r.stands in
+    let S : List ℕ → Type 0 = λ t. Stands gives x z q t (r.out ++ g.0) in
     record {
-      text = r.text ++ take n buf;
+      reads = reads_more r.reads piece left'' (count + 1) (omega arith) is more;
       out = r.out ++ g.0;
-      read = consumes_trans left left' left'' r.text (take n buf) r.read more;
       wrote = appends_trans held held' held'' r.out g.0 r.wrote g.1;
-      stands = g.2;
-      few = rw (length-append r.text (take n buf)) (omega (arith, r.few, length-take n buf, min-le_right n (length buf)));
+      stands = subst S (sym (bytes_more r.reads.pieces piece)) g.2;
     }
 
 pub script_ended : {A T : Type 0} (gives : Giving T) (x y z : Lent A T) (p : Progress A) (count n : ℕ) (buf : List ℕ) (left left' left'' held held' held'' : Option (List ℕ)) (result : Result Bool ToolFault)
-    → Running gives x y p count left left' held held' → count ≤ 1000000 → n ≡ 0 → Consumes left' left'' (take n buf) → IsAtEnd left'' → Finishes gives y z p held' held'' result → ScriptGives gives x z left left'' held held'' result
+    → Running gives x y p count left left' held held' → count < 1000000 → n ≡ 0 → Consumes left' left'' (take n buf) → IsAtEnd left'' → Finishes gives y z p held' held'' result → ScriptGives gives x z left left'' held held'' result
 script_ended {A = A} {T = T} gives x y z p count n buf left left' left'' held held' held'' (Ok good) r below none more ends finishes =
-    let f : Finished gives x z p good held' held'' r.text r.out = finishes x r.text r.out r.stands in
+    let f : Finished gives x z p good held' held'' (concat r.reads.pieces) r.out = finishes x (concat r.reads.pieces) r.out r.stands in
     let C : ℕ → Type 0 = λ m. Consumes left' left'' (take m buf) in
-    let nothing : Consumes left' left'' [] = subst C none more in
-    let S : List ℕ → Type 0 = λ t. Consumes left left'' t in
     let W : List ℕ → Type 0 = λ o. Appends held held'' o in
     record {
-      text = r.text;
-      read = subst S (append-nil r.text) (consumes_trans left left' left'' r.text [] r.read nothing);
+      reads = reads_end r.reads left'' 999999 (omega (arith, below)) (subst C none more);
       at_end = ends;
-      few = omega (arith, r.few);
       whole = f.whole;
       last = p.line.items;
       cut = f.cut;
@@ -196,4 +217,6 @@ script_ended {A = A} {T = T} gives x y z p count n buf left left' left'' held he
       is_trail = f.is_trail;
       wrote = subst W (sym (append_assoc r.out f.printed f.trail)) (appends_trans held held' held'' r.out (f.printed ++ f.trail) r.wrote f.wrote);
     }
-script_ended gives x y z p count n buf left left' left'' held held' held'' (Err fault) r below none more ends finishes = finishes
+script_ended gives x y z p count n buf left left' left'' held held' held'' (Err fault) r below none more ends finishes =
+    let C : ℕ → Type 0 = λ m. Consumes left' left'' (take m buf) in
+    (finishes, reads_end r.reads left'' 1000000 (omega (arith, below)) (subst C none more))

@@ -1,11 +1,12 @@
 -- The effects and the answers of a script: the answer to each line, and after the last line the trail.
-use Rattle.std.specs.Prelude.{◌≡◌, ◌⊎◌, ℕ, ◌≤◌, ◌==◌, ◌&&◌, not, Bool, true, false, List, [], ◌∷◌, ◌++◌, length, codes, decimal, Option, Some, None, Result, Ok, Err}
-use Rattle.std.specs.List.{flat_map, list_all}
+use Rattle.std.specs.Prelude.{◌≡◌, ◌⊎◌, ℕ, ◌-◌, ◌≤◌, ◌==◌, ◌&&◌, not, Bool, true, false, List, [], ◌∷◌, ◌++◌, length, codes, decimal, Option, Some, None, Result, Ok, Err}
+use Rattle.std.specs.List.{All, concat, flat_map, list_all}
 use Rattle.std.specs.Io.KnownBytes.{Appends, Consumes, IsAtEnd}
 use Rattle.access_guard.specs.Text.{line_text}
 use Rattle.access_guard.specs.declared.line.Line.{Line}
 use Rattle.nfs_hub.specs.Machine.{State}
 use Rattle.nfs_hub.specs.Hub.{IsHub}
+use Rattle.nfs_hub.specs.Served.{IsPiece}
 use Rattle.nfs_hub.specs.declared.hub.Hub.{Hub}
 use Rattle.nfs_hub.specs.declared.fault.HubFault.{HubFault}
 use Rattle.nfs_hub.specs.declared.fault.HubFault.TheVariants as hub_fault
@@ -239,20 +240,25 @@ Finishes {A = A} {T = T} gives old new p held held' (Ok good) =
     (first : Lent A T) → (text : List ℕ) → (out : List ℕ) → Stands gives first old p text out → Finished gives first new p good held held' text out
 Finishes gives old new p held held' (Err fault) = IsScriptFault fault
 
--- the most bytes of a script, in at most 1,000,000 reads of at most 4,096 bytes
-abbrev pub MOST_BYTES : ℕ
-MOST_BYTES = 4096000000
+-- the most reads of a script
+abbrev pub MOST_READS : ℕ
+MOST_READS = 1000000
 
--- all of the reader was read, and each of its lines was answered; after them comes the trail of the
--- hub in its state then
+-- what was read: at most this many pieces, each of at least a byte and at most 4,096
+pub record Reads (most : ℕ) (left left' : Option (List ℕ)) : Type 0 where
+  pub pieces : List (List ℕ)
+  pub are : All IsPiece pieces
+  pub few : length pieces ≤ most
+  pub read : Consumes left left' (concat pieces)
+
+-- All of the reader was read, and each of its lines was answered; after them comes the trail of the
+-- hub in its state then. The read that finds the end is one of the most reads.
 pub record Ended {A T : Type 0} (gives : Giving T) (old new : Lent A T) (good : Bool) (left left' held held' : Option (List ℕ)) : Type 0 where
-  pub text : List ℕ
-  pub read : Consumes left left' text
+  pub reads : Reads (MOST_READS - 1) left left'
   pub at_end : IsAtEnd left'
-  pub few : length text ≤ MOST_BYTES
   pub whole : List (List ℕ)
   pub last : List ℕ
-  pub cut : IsCut text whole last
+  pub cut : IsCut (concat reads.pieces) whole last
   pub printed : List ℕ
   pub prints : Print gives old new (last ∷ whole) printed good
   pub trail : List ℕ
@@ -261,4 +267,4 @@ pub record Ended {A T : Type 0} (gives : Giving T) (old new : Lent A T) (good : 
 
 abbrev pub ScriptGives : {A T : Type 0} → Giving T → Lent A T → Lent A T → Option (List ℕ) → Option (List ℕ) → Option (List ℕ) → Option (List ℕ) → Result Bool ToolFault → Type 0
 ScriptGives gives old new left left' held held' (Ok good) = Ended gives old new good left left' held held'
-ScriptGives gives old new left left' held held' (Err fault) = IsScriptFault fault
+ScriptGives gives old new left left' held held' (Err fault) = IsScriptFault fault × Reads MOST_READS left left'
