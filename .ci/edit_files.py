@@ -11,11 +11,14 @@ An edit is a file `crates/NAME/must-fail/X.edit` of lines:
 
 Further pairs apply to what the earlier ones made. A pair without `right:` has the text of `new:` in the twin too.
 """
+import functools
 import glob
 import hashlib
 import os
 import re
 from collections import namedtuple
+
+import reach
 
 # a change of a file's text: the file, the text, what it becomes in the wrong body, and in the right twin
 Pair = namedtuple("Pair", "file old new right")
@@ -194,7 +197,7 @@ COMMENT_LINE = re.compile(r"(?m)^[ \t]*--(?: .*)?\n")
 def code_of(path, text):
     """A source without comments, and without line breaks and blanks that say nothing; or definitions without lines of comments, where lines say something."""
     if not path.endswith(".rt"):
-        return COMMENT_LINE.sub("", text)
+        return text if "{-" in text else COMMENT_LINE.sub("", text)
     bare = TEXT_OR_COMMENT.sub(lambda it: " " if it[0].lstrip().startswith("//") else it[0], text)
     return TEXT_OR_BLANKS.sub(lambda it: " " if it[0].isspace() else it[0], bare).strip()
 
@@ -222,32 +225,74 @@ def sum_of(texts):
     return hashlib.sha256("\0".join(texts).encode()).hexdigest()
 
 
-def sum_of_files(folder, paths, made=lambda text: text):
-    """A sum of files by their paths, each without its comments, and as `made` of it."""
-    return sum_of([it for path in paths for it in (path, code_of(path, made(text_of(f"{folder}/{path}"))))])
+def sum_of_files(folder, paths):
+    """A sum of files by their paths, each without its comments."""
+    return sum_of([it for path in paths for it in (path, code_of(path, text_of(f"{folder}/{path}")))])
 
 
-def outside_of(folder):
-    """A sum of all of a crate by which functions are proved that are others than those that a body, or a proof of its own, is of."""
-    lemmas = [path for path in files_of(folder, "specs", "proofs") if not OWN_PROOF.fullmatch(path)]
-    return sum_of([sum_of_files(folder, files_of(folder, "src"), without_bodies), sum_of_files(folder, lemmas)])
+def masked(text):
+    """A source whose comments and quoted texts are blanks."""
+    return TEXT_OR_COMMENT.sub(lambda it: re.sub(r"[^\n]", " ", it[0]), text)
 
 
-def inside_of(folder, places):
-    """A sum of the functions in whose bodies an edit stands, with their own proofs; of the whole crate, where a part of it stands elsewhere."""
+def items_of(folder):
+    """The items of a crate: of its sources, its definitions and its shared proofs."""
+    found = []
+    for path in files_of(folder, "src", "specs", "proofs"):
+        text, code = text_of(f"{folder}/{path}"), lambda it, path=path: code_of(path, it)
+        if path.endswith(".rt"):
+            found += reach.items_of_source(path, text, masked(text), without_bodies, code)
+        elif not OWN_PROOF.fullmatch(path):
+            is_parent = path.endswith("/Lib.antt") or os.path.isdir(f"{folder}/{path.removesuffix('.antt')}")
+            found += reach.items_of_definitions(path, code(text), "/+" in path, is_parent)
+    return found
+
+
+def reach_of(folders, below):
+    """The items of all crates, by the folder of each and the crates below it."""
+    return reach.Reach({name: items_of(folder) for name, folder in folders.items()}, below)
+
+
+@functools.cache
+def whole(crate, folder, items):
+    """A sum of a whole crate, in a list, and what it reaches in the crates below it."""
+    files, found = files_of(folder, "src", "specs", "proofs"), 0
+    for path in files:
+        found |= items.named(code_of(path, text_of(f"{folder}/{path}")), crate, path, True, True)
+    return [sum_of_files(folder, files)], items.closed(found, crate) & items.below_of(crate)
+
+
+def rest_of(crate, folder, items, edit, places):
+    """What the verdict on an edit rests on, beside itself: texts, of which the first are those of its file without bodies, and the items that these reach; and
+    texts of the functions in whose bodies it stands, with their own proofs, and the items that these reach beside the others. Where a part of it stands
+    elsewhere, the texts are the whole crate."""
     if not places:
-        return sum_of_files(folder, files_of(folder, "src", "specs", "proofs"))
-    said = []
+        return *whole(crate, folder, items), 0
+    named = lambda path, text, wide=False, calls=True: items.named(code_of(path, text), crate, path, wide, calls)
+    said, around, found = [], 0, 0
+    for file in sorted({place.file for place in places}):
+        outside = without_bodies(text_of(f"{folder}/{file}"))
+        said += [file, code_of(file, outside)]
+        around |= named(file, outside, calls="macro_rules!" in outside)
     for place in sorted(places):
         body = "\n".join(text_of(f"{folder}/{place.file}").split("\n")[place.first - 1 : place.last])
         own = files_of(folder, place.proof) if place.proof else []
         said += [place.file, place.name, code_of(place.file, body), sum_of_files(folder, own)]
-    return sum_of(said)
+        found |= named(place.file, body)
+        for path in own:
+            found |= named(path, text_of(f"{folder}/{path}"), True)
+    for pair in edit.pairs:
+        found |= named(pair.file, "\n".join([pair.old, pair.new, pair.right or ""]))
+    around = items.closed(around, crate)
+    return said, around, items.closed(found, crate, around)
 
 
-def digests_of(folder, around):
-    """For each edit of a crate its name, and a sum of all that the verdict on it rests on: the edit; the functions in whose bodies it stands; all of the crate
-    by which these are proved; and what is around the crate. An edit that can't be read has none."""
-    outside, (good, bad) = outside_of(folder), edits_of(folder)
-    said = [(it.name, sum_of([text_of(it.path), inside_of(folder, places_of(folder, it)), outside, around])) for it in good]
-    return sorted(said + [(name, "-") for name, _ in bad])
+def digests_of(crate, folder, around, items):
+    """For each edit of a crate its name, and a sum of all that the verdict on it rests on: the edit, what `rest_of` says, and what is around the crate. `items`
+    are those of all crates. An edit that can't be read has none."""
+    good, bad = edits_of(folder)
+    said = [(name, "-") for name, _ in bad]
+    for edit in good:
+        own, first, more = rest_of(crate, folder, items, edit, places_of(folder, edit))
+        said.append((edit.name, sum_of([text_of(edit.path), sum_of(own), items.sum(first), items.sum(more), around])))
+    return sorted(said)

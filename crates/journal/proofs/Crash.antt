@@ -1,10 +1,11 @@
 -- A crash leaves a front of the frames of one file, unless digests fit by chance.
-use Rattle.std.proofs.Common.{◌≡◌, ◌≢◌, ◌⊎◌, inl, inr, ⊎_elim, ℕ, ◌+◌, ◌<◌, ◌≤◌, List, [], ◌∷◌, ◌++◌, length, Some, None, refl, sym, ◌∙◌, ap, subst, arith, append_assoc}
-use Rattle.std.proofs.lemmas.List.{nil_from_length}
+use Rattle.std.proofs.Common.{◌≡◌, ◌≢◌, ◌⊎◌, inl, inr, ⊎_elim, ℕ, ◌+◌, true, List, [], ◌∷◌, ◌++◌, length, Some, None, refl, sym, ◌∙◌, ap, subst, arith, append_assoc}
 use Rattle.std.proofs.lemmas.Bool.{cases_eq}
+use Rattle.journal.specs.Disk.{AreZeros}
 use Rattle.journal.specs.Frames.{Bytes, Frame, frame_with, frame_at, all_framed, Stand, Holds}
 use Rattle.journal.specs.Crash.{IsFront, Fluke, CrashLaw}
-use Rattle.journal.proofs.Standing.{stand_framed, splits, none_in_nothing}
+use Rattle.journal.proofs.Standing.{stand_framed, splits}
+use Rattle.journal.proofs.Zeros.{loose_or_zeros, no_frame_in_zeros}
 
 same_or_not : (a b : Bytes) → (a ≡ b) ⊎ (a ≢ b)
 same_or_not [] [] = inl refl
@@ -114,19 +115,18 @@ front_or_fluke key generation number (s ∷ tail) (l ∷ later) more rest holds 
           differs = fluke.differs;
         }
 
--- no fluke where nothing is left after the safe bytes
-no_fluke_in_nothing : (key generation number : ℕ) (later : List Frame) (more : Bytes) → length more ≤ 0 → Fluke key generation number later more → ⊥
-no_fluke_in_nothing key generation number later more none fluke =
-    nothing_stands fluke.front fluke.stray (number + length fluke.front) (subst (λ (b : Bytes). Stand key generation number fluke.front b fluke.stray) (nil_from_length more (omega arith)) fluke.stand) fluke.fits
+-- no fluke where only zero bytes are left after the safe ones
+no_fluke_in_zeros : (key generation number : ℕ) (later : List Frame) (more : Bytes) → AreZeros more → Fluke key generation number later more → ⊥
+no_fluke_in_zeros key generation number later more zeros fluke = nothing_stands fluke.front fluke.stray (number + length fluke.front) fluke.stand fluke.fits
   where
-    nothing_stands : (front : List Frame) (stray : Bytes) (n : ℕ) → Stand key generation number front [] stray → frame_at key generation n stray ≡ Some (fluke.frame, fluke.after) → ⊥
-    nothing_stands [] stray n stand fits = contradicts (ap (frame_at key generation n) (sym stand) ∙ fits) (none_in_nothing key generation n)
+    nothing_stands : (front : List Frame) (stray : Bytes) (n : ℕ) → Stand key generation number front more stray → frame_at key generation n stray ≡ Some (fluke.frame, fluke.after) → ⊥
+    nothing_stands [] stray n stand fits = contradicts (ap (frame_at key generation n) (sym stand) ∙ fits) (no_frame_in_zeros key generation n more zeros)
       where
-        contradicts : frame_at key generation n [] ≡ Some (fluke.frame, fluke.after) → frame_at key generation n [] ≡ None → ⊥
+        contradicts : frame_at key generation n more ≡ Some (fluke.frame, fluke.after) → frame_at key generation n more ≡ None → ⊥
         contradicts is isnt = cc
-    nothing_stands (f ∷ front) stray n stand fits = contradicts stand.1 (none_in_nothing key generation number)
+    nothing_stands (f ∷ front) stray n stand fits = contradicts stand.1 (no_frame_in_zeros key generation number more zeros)
       where
-        contradicts : frame_at key generation number [] ≡ Some (f, stand.0) → frame_at key generation number [] ≡ None → ⊥
+        contradicts : frame_at key generation number more ≡ Some (f, stand.0) → frame_at key generation number more ≡ None → ⊥
         contradicts is isnt = cc
 
 pub crash_law : CrashLaw
@@ -145,8 +145,8 @@ crash_law key generation kept later going d w left frames rest m holds =
     (λ (fluke : Fluke key generation (length kept) later m.more). inr (some fluke, fluke))
     (front_or_fluke key generation (length kept) split.tail later m.more rest (subst (λ (n : ℕ). Holds key generation n m.more split.tail rest) start split.holds))
   where
-    some : Fluke key generation (length kept) later m.more → 0 < d.loose
-    some fluke = elim (cases_eq d.loose 0) [
-      | inl none ↦ absurd (no_fluke_in_nothing key generation (length kept) later m.more (omega (arith, m.few, none)) fluke)
-      | inr more ↦ omega arith
+    some : Fluke key generation (length kept) later m.more → d.loose ≡ true
+    some fluke = elim (loose_or_zeros d left m) [
+      | inl loose ↦ loose
+      | inr zeros ↦ absurd (no_fluke_in_zeros key generation (length kept) later m.more zeros fluke)
     ]

@@ -1,4 +1,5 @@
 pub mod Standing
+pub mod Zeros
 pub mod Choosing
 pub mod Crash
 pub mod Gathering

@@ -1,22 +1,22 @@
 -- While records are appended to one of two files, a crash leaves its checkpoint and a front of the
 -- records, unless a digest fits by chance.
-use Rattle.std.proofs.Common.{◌≡◌, ◌≢◌, ◌⊎◌, inl, inr, ⊎_elim, ℕ, ◌<◌, ◌≤◌, ◌+◌, ◌*◌, Bool, true, false, List, [], ◌∷◌, ◌++◌, length, drop, Option, Some, None, nat_lt, refl, sym, ◌∙◌, ap, subst, arith, append_assoc, length-append, length-drop}
+use Rattle.std.proofs.Common.{◌≡◌, ◌⊎◌, inl, inr, ⊎_elim, ℕ, ◌<◌, ◌≤◌, ◌+◌, ◌*◌, Bool, true, false, List, [], ◌∷◌, ◌++◌, length, drop, Option, Some, None, refl, sym, ◌∙◌, ap, subst, arith, append_assoc, length-append}
 use Rattle.std.specs.Bool.{if◌then◌else◌}
 use Rattle.std.specs.Prelude.{◌==◌}
-use Rattle.std.proofs.lemmas.Bool.{cases_eq}
 use Rattle.std.proofs.lemmas.Bool.Decides.{nat_tests}
-use Rattle.std.proofs.lemmas.List.{append-nil, append_cancel_left, nil_from_length}
+use Rattle.std.proofs.lemmas.List.{append-nil, append_cancel_left}
 use Rattle.std.proofs.Math.Seq.{drop-append-add}
 use Rattle.journal.specs.declared.head.Head.{Head}
 use Rattle.journal.specs.declared.disk.Slot.{Slot}
 use Rattle.journal.specs.declared.disk.Slot.TheVariants.{A, B}
-use Rattle.journal.specs.Disk.{Act, Disk, other, settled, on_disk, MayLeave}
-use Rattle.journal.specs.Frames.{Bytes, Frame, VERSION, END, head_at, head_for, all_framed, framed, AreFit, IsFit, Stand, Holds}
-use Rattle.journal.specs.Files.{File, Has, Content, contents, with_part, bodies, rank, rank_of, generation_at, generation_in, Alarm, AlarmAt, SaysSo}
-use Rattle.journal.specs.Opening.{Both, Chooses, Refuses, IsWrongAt, slot_of, greater, in_slot}
-use Rattle.journal.specs.Crash.{IsFront, AreMarked, IsWritten, Fluke, HeadFluke, IsHeadOf}
-use Rattle.journal.specs.Living.{IsPassed, IsLive, IsKept, Chance, LiveLaw}
-use Rattle.journal.proofs.Standing.{stand_framed, splits, no_head_past, no_head_in_nothing}
+use Rattle.journal.specs.Disk.{Disk, settled, on_disk, AreRoom, MayLeave}
+use Rattle.journal.specs.Frames.{Bytes, Frame, END, head_at, all_framed, framed, AreFit, Holds}
+use Rattle.journal.specs.Files.{File, Has, Content, contents, with_part, bodies, rank, rank_of, generation_at, generation_in, Alarm, SaysSo}
+use Rattle.journal.specs.Opening.{IsWrongAt, slot_of, greater, in_slot}
+use Rattle.journal.specs.Crash.{IsFront, IsWritten, Fluke, HeadFluke, IsHeadOf}
+use Rattle.journal.specs.Living.{IsKept, Chance, LiveLaw}
+use Rattle.journal.proofs.Standing.{stand_framed, splits}
+use Rattle.journal.proofs.Zeros.{alarm_is_loose}
 use Rattle.journal.proofs.Crash.{crash_law}
 use Rattle.journal.proofs.Steps.{marked_append}
 use Rattle.journal.proofs.Heads.{head_again, stand_ends, plain_head}
@@ -86,20 +86,14 @@ module _ (key generation : ℕ) (kept later : List Frame) (going : Bool) (checkp
   holds : Holds key generation 0 left x.frames x.rest
   holds = subst (λ (g : ℕ). Holds key g 0 left x.frames x.rest) generation_is has.holds
 
-  some_loose : (place : ℕ) (h : Head) → head_at key (drop place m.more) ≡ Some h → 0 < d.loose
-  some_loose place h at = elim (cases_eq d.loose 0) [
-    | inl none ↦ absurd (no_head_past key place m.more h (omega (arith, m.few, none)) at)
-    | inr more ↦ omega arith
-  ]
-
   stray : (unknown : Bool) (h : Head) → length kept ≤ length x.frames → SaysSo unknown (length x.frames) h → IsHeadOf key generation 0 (kept ++ later) h → ⊥
-  stray true h enough says is = says (plain_head key generation 0 (length kept) (kept ++ later) h (marked_append (length kept) kept later w.kept_marked w.later_marked) is).version
+  stray true h enough says is = says.1 (plain_head key generation 0 (length kept) (kept ++ later) h (marked_append (length kept) kept later w.kept_marked w.later_marked) is).version
   stray false h enough says is =
       let plain = plain_head key generation 0 (length kept) (kept ++ later) h (marked_append (length kept) kept later w.kept_marked w.later_marked) is in
       absurd (omega (arith, plain.safe, enough, says.1))
 
   -- an alarm in what is left of it is a head by chance
-  alarmed : (unknown : Bool) → IsFront kept x.frames → Alarm key generation (length x.frames) unknown x.rest → (0 < d.loose) × HeadFluke key generation generation (kept ++ later) m.more
+  alarmed : (unknown : Bool) → IsFront kept x.frames → Alarm key generation (length x.frames) unknown x.rest → (d.loose ≡ true) × HeadFluke key generation generation (kept ++ later) m.more
   alarmed unknown front alarm =
       let split = splits key generation 0 kept x.frames (all_framed key generation 0 kept ++ m.more) m.more x.rest (stand_framed key generation 0 kept m.more w.kept_fit) (subst (λ (b : Bytes). Holds key generation 0 b x.frames x.rest) bytes_are holds) in
       let ends = stand_ends key generation (0 + length kept) split.tail m.more x.rest split.holds.stand in
@@ -107,7 +101,7 @@ module _ (key generation : ℕ) (kept later : List Frame) (going : Bool) (checkp
       let same : drop place m.more ≡ drop (4 * alarm.place) x.rest = ap (drop place) ends.is ∙ drop-append-add ends.front x.rest (4 * alarm.place) in
       let at : head_at key (drop place m.more) ≡ Some alarm.alarm.head = ap (head_at key) same ∙ alarm.alarm.at in
       let enough : length kept ≤ length x.frames = omega (arith, ap length front.is, length-append kept front.more) in (
-        some_loose place alarm.alarm.head at,
+        alarm_is_loose key d left m place (length x.frames) unknown alarm.alarm.head at alarm.alarm.says,
         record { place = place; head = alarm.alarm.head; fits = at; recent = alarm.alarm.recent; stray = stray unknown alarm.alarm.head enough alarm.alarm.says },
       )
 
@@ -123,7 +117,7 @@ module _ (key generation : ℕ) (kept later : List Frame) (going : Bool) (checkp
         of_later = record { more = fronts.1.more; is = same_more kept fronts.0.more later fronts.1.more (fronts.1.is ∙ ap (λ (l : List Frame). l ++ fronts.1.more) fronts.0.is) };
         content = content;
       }))
-      (λ (chance : (0 < d.loose) × Fluke key generation (length kept) later m.more). inr (chance.0, inl chance.1))
+      (λ (chance : (d.loose ≡ true) × Fluke key generation (length kept) later m.more). inr (chance.0, inl chance.1))
       (crash_law key generation kept later going d w left x.frames x.rest m holds)
 
   -- something alarming in it is a chance
@@ -134,9 +128,8 @@ module _ (key generation : ℕ) (kept later : List Frame) (going : Bool) (checkp
 
 pub at_rest_is : (d : Disk) (old file : Bytes) → d ≡ settled old → MayLeave d file → file ≡ old
 at_rest_is d old file is m =
-    let few : length m.more ≤ 0 = subst (λ (n : ℕ). length m.more ≤ n) (ap (λ (e : Disk). e.loose) is) m.few in
-    m.is ∙ ap (λ (l : Bytes). l ++ m.more) (ap (λ (e : Disk). e.safe) is)
-    ∙ ap (λ (l : Bytes). old ++ l) (nil_from_length m.more (omega arith)) ∙ append-nil old
+    let none : m.more ≡ [] = subst (λ (r : Bool). AreRoom r m.more) (ap (λ (e : Disk). e.room) is) (m.only_room (ap (λ (e : Disk). e.loose) is)) in
+    m.is ∙ ap (λ (l : Bytes). l ++ m.more) (ap (λ (e : Disk). e.safe) is) ∙ ap (λ (l : Bytes). old ++ l) none ∙ append-nil old
 
 first_counts : (m n : ℕ) → n < m → slot_of m n ≡ A
 first_counts m n less = grind (arith, nat_tests)
@@ -184,47 +177,45 @@ module _ (key generation : ℕ) (kept later : List Frame) (checkpoint : Content)
 pub live_law : LiveLaw
 live_law key generation A kept later going checkpoint acts live a b m n =
     let d = on_disk A acts in
-    let b_is : b ≡ live.old = at_rest_is (on_disk B acts) live.old b live.at_rest n in
-    let other_has : (y : File) → Has key b y → Has key live.old y = λ y has. subst (λ (l : Bytes). Has key l y) b_is has in (
+    let passed = live.passed b n in (
       λ slot number content chosen.
           ⊎_elim
           (λ (st : Stays key generation kept later checkpoint chosen.both.in_a).
-          inl (first_lives key generation kept later checkpoint d m.more a b live.some chosen.both.in_a chosen.both.in_b st (live.passed.lesser chosen.both.in_b (other_has chosen.both.in_b chosen.both.has_b)) slot number content chosen.slot_is chosen.generation_is chosen.content_is))
+          inl (first_lives key generation kept later checkpoint d m.more a b live.some chosen.both.in_a chosen.both.in_b st (passed.lesser chosen.both.in_b chosen.both.has_b) slot number content chosen.slot_is chosen.generation_is chosen.content_is))
           (λ (chance : Chance key generation kept later d m.more). inr chance)
           (stays key generation kept later going checkpoint d live.written live.whole a m chosen.both.in_a chosen.both.has_a),
       λ unknown refused.
           let x = refused.both.in_a in
           let y = refused.both.in_b in
-          let lesser = live.passed.lesser y (other_has y refused.both.has_b) in
+          let lesser = passed.lesser y refused.both.has_b in
           ⊎_elim
           (λ (st : Stays key generation kept later checkpoint x).
           wrong key generation kept later checkpoint d m.more a b live.some unknown (greater (rank x) (rank y)) (length x.frames) (length y.frames) x.rest y.rest (Chance key generation kept later d m.more)
           (first_is_greater (rank x) (rank y) (subst (λ (k : ℕ). rank y < k) (sym st.rank_is) lesser) ∙ st.rank_is)
           (by_chance key generation kept later going checkpoint d live.written live.whole a m x refused.both.has_a unknown st.kept_stand)
-          (λ alarm. absurd (live.passed.quiet y (other_has y refused.both.has_b) unknown alarm))
+          (λ alarm. absurd (passed.quiet y refused.both.has_b unknown alarm))
           refused.wrong)
           (λ (chance : Chance key generation kept later d m.more). chance)
           (stays key generation kept later going checkpoint d live.written live.whole a m x refused.both.has_a),
     )
 live_law key generation B kept later going checkpoint acts live a b m n =
     let d = on_disk B acts in
-    let a_is : a ≡ live.old = at_rest_is (on_disk A acts) live.old a live.at_rest m in
-    let other_has : (x : File) → Has key a x → Has key live.old x = λ x has. subst (λ (l : Bytes). Has key l x) a_is has in (
+    let passed = live.passed a m in (
       λ slot number content chosen.
           ⊎_elim
           (λ (st : Stays key generation kept later checkpoint chosen.both.in_b).
-          inl (second_lives key generation kept later checkpoint d n.more a b live.some chosen.both.in_a chosen.both.in_b st (live.passed.lesser chosen.both.in_a (other_has chosen.both.in_a chosen.both.has_a)) slot number content chosen.slot_is chosen.generation_is chosen.content_is))
+          inl (second_lives key generation kept later checkpoint d n.more a b live.some chosen.both.in_a chosen.both.in_b st (passed.lesser chosen.both.in_a chosen.both.has_a) slot number content chosen.slot_is chosen.generation_is chosen.content_is))
           (λ (chance : Chance key generation kept later d n.more). inr chance)
           (stays key generation kept later going checkpoint d live.written live.whole b n chosen.both.in_b chosen.both.has_b),
       λ unknown refused.
           let x = refused.both.in_a in
           let y = refused.both.in_b in
-          let lesser = live.passed.lesser x (other_has x refused.both.has_a) in
+          let lesser = passed.lesser x refused.both.has_a in
           ⊎_elim
           (λ (st : Stays key generation kept later checkpoint y).
           wrong key generation kept later checkpoint d n.more a b live.some unknown (greater (rank x) (rank y)) (length x.frames) (length y.frames) x.rest y.rest (Chance key generation kept later d n.more)
           (second_is_greater (rank x) (rank y) (subst (λ (k : ℕ). rank x < k) (sym st.rank_is) lesser) ∙ st.rank_is)
-          (λ alarm. absurd (live.passed.quiet x (other_has x refused.both.has_a) unknown alarm))
+          (λ alarm. absurd (passed.quiet x refused.both.has_a unknown alarm))
           (by_chance key generation kept later going checkpoint d live.written live.whole b n y refused.both.has_b unknown st.kept_stand)
           refused.wrong)
           (λ (chance : Chance key generation kept later d n.more). chance)

@@ -1,7 +1,6 @@
 -- A crash while a checkpoint is written leaves the old file or the whole new one, unless a digest
 -- fits by chance.
-use Rattle.std.proofs.Common.{◌≡◌, ◌≢◌, ◌⊎◌, inl, inr, ⊎_elim, ℕ, ◌<◌, ◌≤◌, ◌+◌, ◌*◌, Bool, true, false, List, [], ◌∷◌, ◌++◌, length, drop, Option, Some, None, nat_lt, refl, sym, ◌∙◌, ap, subst, arith, append_assoc}
-use Rattle.std.specs.Bool.{if◌then◌else◌}
+use Rattle.std.proofs.Common.{◌≡◌, ◌≢◌, ◌⊎◌, inl, inr, ⊎_elim, ℕ, ◌<◌, ◌≤◌, ◌+◌, ◌*◌, Bool, true, false, List, [], ◌∷◌, ◌++◌, length, drop, Option, Some, None, refl, sym, ◌∙◌, ap, subst, arith}
 use Rattle.std.proofs.lemmas.Bool.{cases_eq, cases_lt}
 use Rattle.std.proofs.lemmas.Bool.Decides.{nat_tests}
 use Rattle.std.proofs.Math.Seq.{drop-append-add}
@@ -9,14 +8,14 @@ use Rattle.std.proofs.lemmas.List.{append-nil}
 use Rattle.journal.specs.declared.head.Head.{Head}
 use Rattle.journal.specs.declared.disk.Slot.{Slot}
 use Rattle.journal.specs.declared.disk.Slot.TheVariants.{A, B}
-use Rattle.journal.specs.Disk.{Act, Synced, Emptied, Found, Disk, other, settled, on_disk, if_same, after_sync, after_emptying, MayLeave}
-use Rattle.journal.specs.Frames.{Bytes, Frame, VERSION, head_at, head_for, frame_at, all_framed, Stand, Holds}
-use Rattle.journal.specs.Files.{File, Has, Content, contents, rank, rank_of, generation_at, generation_in, Alarm, AlarmAt, SaysSo}
-use Rattle.journal.specs.Opening.{Chooses, Refuses, IsWrongAt, slot_of, greater, in_slot}
-use Rattle.journal.specs.Crash.{IsFront, AreMarked, IsWritten, Fluke, HeadFluke, IsHeadOf}
-use Rattle.journal.specs.Living.{IsLive, IsPassed}
-use Rattle.journal.specs.Replacing.{IsBase, IsReplaced, ChanceInNew, IsOld, IsNew, ReplacingLaw, FinishLaw, StartLaw, RenewLaw}
-use Rattle.journal.proofs.Standing.{no_head_past, none_in_nothing, stand_framed, splits}
+use Rattle.journal.specs.Disk.{Act, Synced, Emptied, Found, Disk, other, settled, on_disk, if_same, after_sync, AreZeros, MayLeave}
+use Rattle.journal.specs.Frames.{Bytes, Frame, head_at, frame_at, all_framed, Stand, Holds}
+use Rattle.journal.specs.Files.{File, Has, Content, contents, rank, rank_of, generation_at, generation_in, Alarm, SaysSo}
+use Rattle.journal.specs.Opening.{Chooses, IsWrongAt, slot_of, greater, in_slot}
+use Rattle.journal.specs.Crash.{IsFront, IsWritten, Fluke, IsHeadOf}
+use Rattle.journal.specs.Replacing.{IsBase, ChanceInNew, IsOld, IsNew, ReplacingLaw, FinishLaw, StartLaw, RenewLaw}
+use Rattle.journal.proofs.Standing.{stand_framed, splits}
+use Rattle.journal.proofs.Zeros.{room_is_zeros, no_frame_in_zeros, no_alarm_in_zeros, head_is_loose, alarm_is_loose}
 use Rattle.journal.proofs.Crash.{crash_law}
 use Rattle.journal.proofs.Steps.{sync_law, begin_law}
 use Rattle.journal.proofs.Heads.{stand_ends, plain_head}
@@ -61,12 +60,6 @@ module _ (key generation : ℕ) (later : List Frame) (going : Bool) (d : Disk) (
   bytes_are : left ≡ m.more
   bytes_are = m.is ∙ ap (λ (l : Bytes). l ++ m.more) w.safe
 
-  some_loose : (place : ℕ) (h : Head) → head_at key (drop place m.more) ≡ Some h → 0 < d.loose
-  some_loose place h at = elim (cases_eq d.loose 0) [
-    | inl none ↦ absurd (no_head_past key place m.more h (omega (arith, m.few, none)) at)
-    | inr more ↦ omega arith
-  ]
-
   -- a file of the rank of the old one, or a greater one, is the new one, or there is a chance
   risen : generation ≤ rank y → 0 < rank y → ((rank y ≡ generation + 1) × IsFront y.frames later × Whole y.frames y.generation (rank y)) ⊎ ChanceInNew key generation later d m.more
   risen most some =
@@ -76,10 +69,10 @@ module _ (key generation : ℕ) (later : List Frame) (going : Bool) (d : Disk) (
       elim (cases_eq (rank y) (generation + 1)) [
         | inl next ↦ ⊎_elim
             (λ (fronts : IsFront [] y.frames × IsFront y.frames later). inl (next, fronts.1, whole))
-            (λ (chance : (0 < d.loose) × Fluke key (generation + 1) 0 later m.more). inr (chance.0, inl chance.1))
+            (λ (chance : (d.loose ≡ true) × Fluke key (generation + 1) 0 later m.more). inr (chance.0, inl chance.1))
             (crash_law key (generation + 1) [] later going d w left y.frames y.rest m (subst (λ (g : ℕ). Holds key g 0 left y.frames y.rest) (whole.generation_is ∙ next) has.holds))
         | inr differ ↦ inr (
-          some_loose 0 first.head at,
+          head_is_loose key d left m 0 first.head at (λ version none. absurd (omega (arith, some, none, first.generation_is))),
           inr (record {
             place = 0;
             head = first.head;
@@ -91,7 +84,7 @@ module _ (key generation : ℕ) (later : List Frame) (going : Bool) (d : Disk) (
       ]
 
   stray : (unknown : Bool) (h : Head) → SaysSo unknown (length y.frames) h → IsHeadOf key (generation + 1) 0 later h → ⊥
-  stray true h says is = says (plain_head key (generation + 1) 0 0 later h w.later_marked is).version
+  stray true h says is = says.1 (plain_head key (generation + 1) 0 0 later h w.later_marked is).version
   stray false h says is =
       let plain = plain_head key (generation + 1) 0 0 later h w.later_marked is in
       absurd (omega (arith, plain.safe, says.1))
@@ -103,7 +96,7 @@ module _ (key generation : ℕ) (later : List Frame) (going : Bool) (d : Disk) (
       let place = length ends.front + 4 * alarm.place in
       let same : drop place m.more ≡ drop (4 * alarm.place) y.rest = ap (drop place) (sym bytes_are ∙ ends.is) ∙ drop-append-add ends.front y.rest (4 * alarm.place) in
       let at : head_at key (drop place m.more) ≡ Some alarm.alarm.head = ap (head_at key) same ∙ alarm.alarm.at in (
-        some_loose place alarm.alarm.head at,
+        alarm_is_loose key d left m place (length y.frames) unknown alarm.alarm.head at alarm.alarm.says,
         inr (record { place = place; head = alarm.alarm.head; fits = at; recent = omega (arith, most, alarm.alarm.recent); stray = stray unknown alarm.alarm.head alarm.alarm.says }),
       )
 
@@ -184,17 +177,16 @@ wrong key unknown least na nb sa sb b C first second full (inr (inr both)) = ful
 pub replacing_law : ReplacingLaw
 replacing_law key generation A content later going acts r a b m n =
     let d = on_disk B acts in
-    let a_is : a ≡ r.old = at_rest_is (on_disk A acts) r.old a r.at_rest m in
-    let old_has : (x : File) → Has key a x → Has key r.old x = λ x has. subst (λ (l : Bytes). Has key l x) a_is has in (
+    let base = r.counts a m in (
       λ slot number chosen c.
           let x = c.both.in_a in
           let y = c.both.in_b in
-          let rank_x : rank x ≡ generation = r.counts.rank_is x (old_has x c.both.has_a) in
-          let content_x : contents x.frames ≡ content = r.counts.content_is x (old_has x c.both.has_a) in
+          let rank_x : rank x ≡ generation = base.rank_is x c.both.has_a in
+          let content_x : contents x.frames ≡ content = base.content_is x c.both.has_a in
           elim (cases_lt (rank y) generation) [
             | inl less ↦ inl (old_first x y generation content slot number chosen rank_x content_x less c.slot_is c.generation_is c.content_is)
             | inr most ↦ elim (cases_eq generation 0) [
-              | inl none ↦ absurd (not_both (r.counts.new_is none).0)
+              | inl none ↦ absurd (not_both (base.new_is none).0)
               | inr some ↦ ⊎_elim
                   (λ (up : (rank y ≡ generation + 1) × IsFront y.frames later × Whole y.frames y.generation (rank y)).
                   inr (inl (new_second x y generation later slot number chosen rank_x up.0 up.1 up.2 c.slot_is c.generation_is c.content_is)))
@@ -205,23 +197,22 @@ replacing_law key generation A content later going acts r a b m n =
       λ unknown c.
           let x = c.both.in_a in
           let y = c.both.in_b in
-          let rank_x : rank x ≡ generation = r.counts.rank_is x (old_has x c.both.has_a) in
+          let rank_x : rank x ≡ generation = base.rank_is x c.both.has_a in
           let bound = no_less (rank x) (rank y) in
           wrong key unknown (greater (rank x) (rank y)) (length x.frames) (length y.frames) x.rest y.rest b (ChanceInNew key generation later d n.more)
-          (λ alarm. absurd (r.counts.quiet x (old_has x c.both.has_a) unknown (more_recent key generation (greater (rank x) (rank y)) (length x.frames) unknown x.rest (omega (arith, rank_x, bound.0)) alarm)))
+          (λ alarm. absurd (base.quiet x c.both.has_a unknown (more_recent key generation (greater (rank x) (rank y)) (length x.frames) unknown x.rest (omega (arith, rank_x, bound.0)) alarm)))
           (λ alarm. alarmed key generation later going d r.written b n y c.both.has_b unknown (greater (rank x) (rank y)) (omega (arith, rank_x, bound.0)) alarm)
-          (λ none full. absurd (not_both (r.counts.new_is (omega (arith, none, rank_x, bound.0))).0))
+          (λ none full. absurd (not_both (base.new_is (omega (arith, none, rank_x, bound.0))).0))
           c.wrong,
     )
 replacing_law key generation B content later going acts r a b m n =
     let d = on_disk A acts in
-    let b_is : b ≡ r.old = at_rest_is (on_disk B acts) r.old b r.at_rest n in
-    let old_has : (x : File) → Has key b x → Has key r.old x = λ x has. subst (λ (l : Bytes). Has key l x) b_is has in (
+    let base = r.counts b n in (
       λ slot number chosen c.
           let x = c.both.in_a in
           let y = c.both.in_b in
-          let rank_y : rank y ≡ generation = r.counts.rank_is y (old_has y c.both.has_b) in
-          let content_y : contents y.frames ≡ content = r.counts.content_is y (old_has y c.both.has_b) in
+          let rank_y : rank y ≡ generation = base.rank_is y c.both.has_b in
+          let content_y : contents y.frames ≡ content = base.content_is y c.both.has_b in
           elim (cases_lt generation (rank x)) [
             | inl more ↦ ⊎_elim
                 (λ (up : (rank x ≡ generation + 1) × IsFront x.frames later × Whole x.frames x.generation (rank x)).
@@ -233,12 +224,12 @@ replacing_law key generation B content later going acts r a b m n =
       λ unknown c.
           let x = c.both.in_a in
           let y = c.both.in_b in
-          let rank_y : rank y ≡ generation = r.counts.rank_is y (old_has y c.both.has_b) in
+          let rank_y : rank y ≡ generation = base.rank_is y c.both.has_b in
           let bound = no_less (rank x) (rank y) in
           wrong key unknown (greater (rank x) (rank y)) (length x.frames) (length y.frames) x.rest y.rest b (ChanceInNew key generation later d m.more)
           (λ alarm. alarmed key generation later going d r.written a m x c.both.has_a unknown (greater (rank x) (rank y)) (omega (arith, rank_y, bound.1)) alarm)
-          (λ alarm. absurd (r.counts.quiet y (old_has y c.both.has_b) unknown (more_recent key generation (greater (rank x) (rank y)) (length y.frames) unknown y.rest (omega (arith, rank_y, bound.1)) alarm)))
-          (λ none full. absurd (full (b_is ∙ (r.counts.new_is (omega (arith, none, rank_y, bound.1))).1)))
+          (λ alarm. absurd (base.quiet y c.both.has_b unknown (more_recent key generation (greater (rank x) (rank y)) (length y.frames) unknown y.rest (omega (arith, rank_y, bound.1)) alarm)))
+          (λ none full. absurd (full (base.new_is (omega (arith, none, rank_y, bound.1))).1))
           c.wrong,
     )
 
@@ -255,13 +246,16 @@ finish_law key generation s content later checkpoint acts r whole = record {
   written = (sync_law key (generation + 1) [] later (other s) acts r.written).0;
   whole = whole;
   some = omega arith;
-  old = r.old;
-  at_rest = apart_slots s after_sync (on_disk (other (other s)) acts) ∙ ap (λ (t : Slot). on_disk t acts) (twice_other s) ∙ r.at_rest;
-  passed = record {
-    lesser = λ x has. omega (arith, r.counts.rank_is x has);
-    quiet = λ x has unknown alarm. r.counts.quiet x has unknown (more_recent key generation (generation + 1) (length x.frames) unknown x.rest (omega arith) alarm);
-  };
+  passed = λ old m.
+      let base = r.counts old (subst (λ (d : Disk). MayLeave d old) same m) in
+      record {
+        lesser = λ x has. omega (arith, base.rank_is x has);
+        quiet = λ x has unknown alarm. base.quiet x has unknown (more_recent key generation (generation + 1) (length x.frames) unknown x.rest (omega arith) alarm);
+      };
 }
+  where
+    same : on_disk (other (other s)) (Synced (other s) ∷ acts) ≡ on_disk s acts
+    same = apart_slots s after_sync (on_disk (other (other s)) acts) ∙ ap (λ (t : Slot). on_disk t acts) (twice_other s)
 
 -- what a file has is one thing
 record Same (x y : File) : Type 0 where
@@ -345,35 +339,31 @@ found_settled B a b = refl
 
 pub start_law : StartLaw
 start_law key a b s generation content c = record {
-  old = in_slot s a b;
-  at_rest = on_other_twice s (Found B b ∷ Found A a ∷ []) ∙ found_settled s a b;
-  counts = base_found key a b s generation content c;
-  written = begin_law key (generation + 1) (other s) (Found B b ∷ Found A a ∷ []);
+  counts = λ old m. subst (IsBase key generation s content) (sym (at_rest_is (on_disk s (Synced (other s) ∷ Emptied (other s) ∷ both)) (in_slot s a b) old (on_other_twice s both ∙ found_settled s a b) m)) (base_found key a b s generation content c);
+  written = begin_law key (generation + 1) (other s) both;
 }
-
-disk_of : List ℕ → List ℕ → ℕ → Disk
-disk_of safe unsynced loose = record { safe = safe; unsynced = unsynced; loose = loose }
-
-is_settled : (d : Disk) (bytes : Bytes) → d.safe ≡ bytes → d.unsynced ≡ [] → d.loose ≡ 0 → d ≡ settled bytes
-unfolding disk_of
-is_settled d bytes e1 e2 e3 =
-    ap (λ (l : Bytes). disk_of l d.unsynced d.loose) e1 ∙ ap (λ (l : Bytes). disk_of bytes l d.loose) e2 ∙ ap (λ (n : ℕ). disk_of bytes [] n) e3
+  where
+    both : List Act
+    both = Found B b ∷ Found A a ∷ []
 
 pub renew_law : RenewLaw
-renew_law key generation s kept content checkpoint acts live none whole =
-    let bytes = all_framed key generation 0 kept in
-    let stand = subst (λ (b : Bytes). Stand key generation 0 kept b []) (append-nil bytes) (stand_framed key generation 0 kept [] live.written.kept_fit) in
-    let generation_is : generation ≡ generation_at key bytes = sym (ap (generation_at key) (sym (append-nil bytes)) ∙ generation_first key generation kept content [] whole live.written.kept_fit) in
-    let has : Has key bytes (record { generation = generation; frames = kept; rest = [] }) = record {
-      generation_is = generation_is;
-      holds = record { stand = stand; no_more = none_in_nothing key generation (0 + length kept) };
-    } in
-    record {
-      old = bytes;
-      at_rest = on_other_twice s acts ∙ is_settled (on_disk s acts) bytes live.written.safe (live.written.unsynced refl) none;
-      counts = base_of key generation s (Some content) bytes (record { generation = generation; frames = kept; rest = [] }) has
-          (ap (rank_of generation) whole) whole
-          (λ unknown alarm. no_head_past key (4 * alarm.place) [] alarm.alarm.head (omega arith) alarm.alarm.at)
-          (λ zero. absurd (omega (arith, zero, live.some)));
-      written = begin_law key (generation + 1) (other s) acts;
-    }
+renew_law key generation s kept content checkpoint acts live none whole = record {
+  counts = λ old m. counts old (subst (λ (d : Disk). MayLeave d old) (on_other_twice s acts) m);
+  written = begin_law key (generation + 1) (other s) acts;
+}
+  where
+    -- after its frames the file has only room
+    counts : (old : Bytes) → MayLeave (on_disk s acts) old → IsBase key generation s (Some content) old
+    counts old m =
+        let zeros : AreZeros m.more = room_is_zeros (on_disk s acts).room m.more (m.only_room none) in
+        let bytes_are : old ≡ all_framed key generation 0 kept ++ m.more = m.is ∙ ap (λ (l : Bytes). l ++ m.more) live.written.safe in
+        let has : Has key old (record { generation = generation; frames = kept; rest = m.more }) = record {
+          generation_is = sym (ap (generation_at key) bytes_are ∙ generation_first key generation kept content m.more whole live.written.kept_fit);
+          holds = record {
+            stand = subst (λ (b : Bytes). Stand key generation 0 kept b m.more) (sym bytes_are) (stand_framed key generation 0 kept m.more live.written.kept_fit);
+            no_more = no_frame_in_zeros key generation (0 + length kept) m.more zeros;
+          };
+        } in
+        base_of key generation s (Some content) old (record { generation = generation; frames = kept; rest = m.more }) has (ap (rank_of generation) whole) whole
+        (λ unknown alarm. no_alarm_in_zeros key generation (length kept) unknown m.more zeros alarm)
+        (λ zero. absurd (omega (arith, zero, live.some)))

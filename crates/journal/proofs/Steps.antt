@@ -3,8 +3,8 @@ use Rattle.std.proofs.Common.{◌≡◌, ℕ, ◌+◌, ◌≤◌, true, false, L
 use Rattle.std.proofs.lemmas.List.{append-nil}
 use Rattle.journal.specs.declared.disk.Slot.{Slot}
 use Rattle.journal.specs.declared.disk.Slot.TheVariants.{A, B}
-use Rattle.journal.specs.Disk.{Act, Appended, Tore, Synced, Unsynced, Emptied, Disk, on_disk, if_same, with_bytes, with_torn, after_sync, after_emptying}
-use Rattle.journal.specs.Frames.{Bytes, Frame, framed, IsFit, AreFit, all_framed}
+use Rattle.journal.specs.Disk.{Synced, Emptied, Disk, on_disk, if_same, with_bytes, with_torn, after_sync, after_emptying}
+use Rattle.journal.specs.Frames.{Bytes, Frame, framed, AreFit, all_framed}
 use Rattle.journal.specs.Crash.{AreMarked, IsWritten}
 use Rattle.journal.specs.Steps.{BeginLaw, AppendLaw, SyncLaw}
 
@@ -66,7 +66,7 @@ append_law key generation kept later s acts f w fit marked = (
     kept_marked = w.kept_marked;
     later_marked = marked_append (length kept) later (f ∷ []) w.later_marked (marked, tt);
   }),
-  subst (IsWritten key generation kept (later ++ f ∷ []) false) (sym (on_itself s (with_torn (framed key generation (length (kept ++ later)) f)) (on_disk s acts))) (record {
+  subst (IsWritten key generation kept (later ++ f ∷ []) false) (sym (on_itself s with_torn (on_disk s acts))) (record {
     safe = w.safe;
     unsynced = λ going. absurd (never going);
     kept_fit = w.kept_fit;

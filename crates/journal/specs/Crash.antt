@@ -1,5 +1,5 @@
 -- A crash leaves a front of the frames of one file, unless digests fit by chance.
-use Rattle.std.specs.Prelude.{◌≡◌, ◌⊎◌, ◌≤◌, ◌<◌, ◌+◌, ℕ, Bool, true, List, [], ◌∷◌, ◌++◌, length, drop, Some}
+use Rattle.std.specs.Prelude.{◌≡◌, ◌⊎◌, ◌≤◌, ◌+◌, ℕ, Bool, true, List, [], ◌∷◌, ◌++◌, length, drop, Some}
 use Rattle.journal.specs.declared.head.Head.{Head}
 use Rattle.journal.specs.Disk.{Disk, MayLeave}
 use Rattle.journal.specs.Frames.{Bytes, Frame, frame_at, head_at, head_for, AreFit, all_framed, Stand, Holds}
@@ -57,5 +57,5 @@ abbrev pub CrashLaw : Type 0
 CrashLaw = (key generation : ℕ) (kept later : List Frame) (going : Bool) (d : Disk) → IsWritten key generation kept later going d
     → (left : Bytes) (frames : List Frame) (rest : Bytes) → (m : MayLeave d left)
     → Holds key generation 0 left frames rest
-    → (IsFront kept frames × IsFront frames (kept ++ later)) ⊎ ((0 < d.loose)
+    → (IsFront kept frames × IsFront frames (kept ++ later)) ⊎ ((d.loose ≡ true)
     × Fluke key generation (length kept) later m.more)

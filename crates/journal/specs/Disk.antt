@@ -1,5 +1,5 @@
 -- Two files that are only appended to and emptied: what is on the disk, and what a crash may leave.
-use Rattle.std.specs.Prelude.{◌≡◌, ◌≤◌, ◌+◌, ℕ, Bool, true, false, List, [], ◌∷◌, ◌++◌, length, Option, Some, None}
+use Rattle.std.specs.Prelude.{◌≡◌, ◌≢◌, ◌≤◌, ◌+◌, ℕ, Bool, true, false, List, [], ◌∷◌, ◌++◌, length, drop, slice_index, Option, Some, None}
 use Rattle.journal.specs.declared.disk.Slot.{Slot}
 use Rattle.journal.specs.declared.disk.Slot.TheVariants.{A, B}
 
@@ -31,24 +31,28 @@ pub record Disk : Type 0 where
   pub safe : List ℕ
   -- the bytes that were appended after them, and which a read returns too
   pub unsynced : List ℕ
-  -- the most bytes that a crash may leave after the safe ones
-  pub loose : ℕ
+  -- not all that was done with it is on the disk: a crash may leave any bytes after the safe ones
+  pub loose : Bool
+  -- there may be room ahead: zero bytes after all of these, over which later bytes are appended
+  pub room : Bool
 
 abbrev pub settled : List ℕ → Disk
-settled bytes = record { safe = bytes; unsynced = []; loose = 0 }
+settled bytes = record { safe = bytes; unsynced = []; loose = false; room = false }
 
+-- Bytes are appended over the room or past it, and more room may be made behind them. None of it is
+-- on the disk before the next sync.
 abbrev pub with_bytes : List ℕ → Disk → Disk
-with_bytes bytes d = record { safe = d.safe; unsynced = d.unsynced ++ bytes; loose = d.loose + length bytes }
+with_bytes bytes d = record { safe = d.safe; unsynced = d.unsynced ++ bytes; loose = true; room = true }
 
-abbrev pub with_torn : List ℕ → Disk → Disk
-with_torn bytes d = record { safe = d.safe; unsynced = d.unsynced; loose = d.loose + length bytes }
+abbrev pub with_torn : Disk → Disk
+with_torn d = record { safe = d.safe; unsynced = d.unsynced; loose = true; room = true }
 
 abbrev pub after_sync : Disk → Disk
-after_sync d = settled (d.safe ++ d.unsynced)
+after_sync d = record { safe = d.safe ++ d.unsynced; unsynced = []; loose = false; room = d.room }
 
--- A file that is emptied and not yet synced may have any bytes after a crash, no more than it may have had before.
+-- A file that is emptied and not yet synced may have any bytes after a crash. Its room is gone with its bytes.
 abbrev pub after_emptying : Disk → Disk
-after_emptying d = record { safe = []; unsynced = []; loose = length d.safe + d.loose }
+after_emptying d = record { safe = []; unsynced = []; loose = true; room = false }
 
 -- an act on one file does this to a file
 abbrev pub if_same : Slot → Slot → (Disk → Disk) → Disk → Disk
@@ -63,18 +67,33 @@ on_disk s [] = settled []
 on_disk s (Found t bytes ∷ acts) = if_same s t (λ d. settled bytes) (on_disk s acts)
 on_disk s (Unfound t ∷ acts) = on_disk s acts
 on_disk s (Appended t bytes ∷ acts) = if_same s t (with_bytes bytes) (on_disk s acts)
-on_disk s (Tore t bytes ∷ acts) = if_same s t (with_torn bytes) (on_disk s acts)
+on_disk s (Tore t bytes ∷ acts) = if_same s t with_torn (on_disk s acts)
 on_disk s (Synced t ∷ acts) = if_same s t after_sync (on_disk s acts)
 on_disk s (Unsynced t ∷ acts) = on_disk s acts
 on_disk s (Emptied t ∷ acts) = if_same s t after_emptying (on_disk s acts)
 on_disk s (Unemptied t ∷ acts) = if_same s t after_emptying (on_disk s acts)
 
--- A crash leaves the safe bytes, and after them any bytes, no more than are loose: writes may be lost, torn, reordered
--- and spoiled.
+abbrev pub AreZeros : List ℕ → Type 0
+AreZeros [] = Unit {0}
+AreZeros (b ∷ bytes) = (b ≡ 0) × AreZeros bytes
+
+-- This is how many bytes stand before the zero bytes at the end.
+pub record IsBeforeZeros (bytes : List ℕ) (count : ℕ) : Type 0 where
+  pub within : count ≤ length bytes
+  pub zeros : AreZeros (drop count bytes)
+  pub last : (n : ℕ) → count ≡ n + 1 → slice_index bytes n ≢ 0
+
+-- these bytes are room ahead, if there may be any, and else there are none
+abbrev pub AreRoom : Bool → List ℕ → Type 0
+AreRoom true bytes = AreZeros bytes
+AreRoom false bytes = bytes ≡ []
+
+-- A crash leaves the safe bytes, and after them any bytes, if anything is loose: writes may be lost, torn, reordered
+-- and spoiled. Where nothing is loose, only the room stands after the safe bytes.
 pub record MayLeave (d : Disk) (file : List ℕ) : Type 0 where
   pub more : List ℕ
   pub is : file ≡ d.safe ++ more
-  pub few : length more ≤ d.loose
+  pub only_room : d.loose ≡ false → AreRoom d.room more
 
 -- the known acts so far, the newest first, have this one in front of them afterwards, if they are still known
 abbrev pub Adds : Option (List Act) → Act → Option (List Act) → Type 0

@@ -50,9 +50,10 @@ abbrev pub rank : File → ℕ
 rank x = rank_of x.generation (contents x.frames)
 
 -- A head after the frames of a file says this where something is wrong. Its version isn't known; or
--- the file was longer, since more frames than stand in it had been synced.
+-- the file was longer, since more frames than stand in it had been synced. No version is 0, so that
+-- the zero bytes of room ahead say nothing.
 abbrev pub SaysSo : Bool → ℕ → Head → Type 0
-SaysSo true count h = h.version ≢ VERSION
+SaysSo true count h = (h.version ≢ 0) × (h.version ≢ VERSION)
 SaysSo false count h = (h.version ≡ VERSION) × (count < h.safe)
 
 -- such a head, of no lesser generation, whose digest fits, stands at the front of the bytes

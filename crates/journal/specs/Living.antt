@@ -1,9 +1,9 @@
 -- While records are appended to one of two files, a crash leaves its checkpoint and a front of the
 -- records, unless a digest fits by chance.
-use Rattle.std.specs.Prelude.{◌≡◌, ◌⊎◌, ◌<◌, ℕ, Bool, List, [], ◌∷◌, ◌++◌, length, Option, Some, None}
+use Rattle.std.specs.Prelude.{◌≡◌, ◌⊎◌, ◌<◌, ℕ, Bool, true, List, ◌++◌, length, Option, Some}
 use Rattle.journal.specs.declared.disk.Slot.{Slot}
 use Rattle.journal.specs.declared.disk.Slot.TheVariants.{A, B}
-use Rattle.journal.specs.Disk.{Act, Disk, other, settled, on_disk, MayLeave}
+use Rattle.journal.specs.Disk.{Act, Disk, other, on_disk, MayLeave}
 use Rattle.journal.specs.Frames.{Bytes, Frame}
 use Rattle.journal.specs.Files.{File, Has, Content, contents, bodies, rank, Alarm}
 use Rattle.journal.specs.Opening.{Chooses, Refuses, in_slot}
@@ -16,14 +16,12 @@ pub record IsPassed (key generation : ℕ) (bytes : Bytes) : Type 0 where
   pub quiet : (x : File) → Has key bytes x → (unknown : Bool) → Alarm key generation (length x.frames) unknown x.rest → ⊥
 
 -- After these acts this file counts. Its checkpoint and the first records are kept, and later ones
--- were appended. The other file is settled, and passed by.
+-- were appended. Whatever a crash leaves of the other file is passed by.
 pub record IsLive (key generation : ℕ) (s : Slot) (kept later : List Frame) (going : Bool) (checkpoint : Content) (acts : List Act) : Type 0 where
   pub written : IsWritten key generation kept later going (on_disk s acts)
   pub whole : contents kept ≡ Some checkpoint
   pub some : 0 < generation
-  pub old : Bytes
-  pub at_rest : on_disk (other s) acts ≡ settled old
-  pub passed : IsPassed key generation old
+  pub passed : (old : Bytes) → MayLeave (on_disk (other s) acts) old → IsPassed key generation old
 
 -- This file counts, with its checkpoint, all records that are kept, and a front of the later ones.
 pub record IsKept (s : Slot) (generation : ℕ) (later : List Frame) (checkpoint : Content) (slot : Slot) (number : ℕ) (content : Option Content) : Type 0 where
@@ -36,7 +34,7 @@ pub record IsKept (s : Slot) (generation : ℕ) (later : List Frame) (checkpoint
 -- a digest fits by chance in bytes that weren't synced: those of a frame, or that of a head
 abbrev pub Chance : ℕ → ℕ → List Frame → List Frame → Disk → Bytes → Type 0
 Chance key generation kept later d more =
-    (0 < d.loose) × (Fluke key generation (length kept) later more
+    (d.loose ≡ true) × (Fluke key generation (length kept) later more
     ⊎ HeadFluke key generation generation (kept ++ later) more)
 
 -- **Unless a digest fits by chance, two things hold after a crash. What is chosen is a checkpoint

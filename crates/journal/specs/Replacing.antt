@@ -1,9 +1,9 @@
 -- A crash while a checkpoint is written leaves the old file or the whole new one, unless a digest
 -- fits by chance.
-use Rattle.std.specs.Prelude.{◌≡◌, ◌⊎◌, ◌<◌, ◌+◌, ℕ, Bool, true, List, [], ◌∷◌, ◌++◌, length, Option, Some, None}
+use Rattle.std.specs.Prelude.{◌≡◌, ◌⊎◌, ◌+◌, ℕ, Bool, true, false, List, [], ◌∷◌, length, Option, Some}
 use Rattle.journal.specs.declared.disk.Slot.{Slot}
 use Rattle.journal.specs.declared.disk.Slot.TheVariants.{A, B}
-use Rattle.journal.specs.Disk.{Act, Disk, Found, Synced, Emptied, other, settled, on_disk, MayLeave}
+use Rattle.journal.specs.Disk.{Act, Disk, Found, Synced, Emptied, other, on_disk, MayLeave}
 use Rattle.journal.specs.Frames.{Bytes, Frame}
 use Rattle.journal.specs.Files.{File, Has, Content, contents, rank, Alarm}
 use Rattle.journal.specs.Opening.{Chooses, Refuses, in_slot}
@@ -18,18 +18,16 @@ pub record IsBase (key generation : ℕ) (s : Slot) (content : Option Content) (
   pub quiet : (x : File) → Has key bytes x → (unknown : Bool) → Alarm key generation (length x.frames) unknown x.rest → ⊥
   pub new_is : generation ≡ 0 → (s ≡ B) × (bytes ≡ [])
 
--- After these acts this file counts and is settled, and frames of a checkpoint of the next generation were appended to
--- the other one.
+-- After these acts this file counts, whatever a crash leaves of it, and frames of a checkpoint of the next generation
+-- were appended to the other one.
 pub record IsReplaced (key generation : ℕ) (s : Slot) (content : Option Content) (later : List Frame) (going : Bool) (acts : List Act) : Type 0 where
-  pub old : Bytes
-  pub at_rest : on_disk s acts ≡ settled old
-  pub counts : IsBase key generation s content old
+  pub counts : (old : Bytes) → MayLeave (on_disk s acts) old → IsBase key generation s content old
   pub written : IsWritten key (generation + 1) [] later going (on_disk (other s) acts)
 
 -- a digest fits by chance in bytes of the other file that weren't synced
 abbrev pub ChanceInNew : ℕ → ℕ → List Frame → Disk → Bytes → Type 0
 ChanceInNew key generation later d more =
-    (0 < d.loose) × (Fluke key (generation + 1) 0 later more ⊎ HeadFluke key (generation + 1) generation later more)
+    (d.loose ≡ true) × (Fluke key (generation + 1) 0 later more ⊎ HeadFluke key (generation + 1) generation later more)
 
 -- the old file counts, with its content
 pub record IsOld (s : Slot) (generation : ℕ) (content : Option Content) (slot : Slot) (number : ℕ) (chosen : Option Content) : Type 0 where
@@ -74,5 +72,5 @@ StartLaw = (key : ℕ) (a b : Bytes) (s : Slot) (generation : ℕ) (content : Op
 -- So is a file that counts, all of whose frames are kept.
 abbrev pub RenewLaw : Type 0
 RenewLaw = (key generation : ℕ) (s : Slot) (kept : List Frame) (content : Content) (checkpoint : Content) (acts : List Act)
-    → IsLive key generation s kept [] true checkpoint acts → (on_disk s acts).loose ≡ 0 → contents kept ≡ Some content
+    → IsLive key generation s kept [] true checkpoint acts → (on_disk s acts).loose ≡ false → contents kept ≡ Some content
     → IsReplaced key generation s (Some content) [] true (Synced (other s) ∷ Emptied (other s) ∷ acts)

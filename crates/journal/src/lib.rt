@@ -11,6 +11,7 @@ mod laws;
 mod opening;
 mod reading;
 
+pub use alarm::before_zeros;
 pub use disk::{Disk, LoadFault, Slot};
 pub use frames::{Frame, Frames};
 pub use head::Head;

@@ -11,7 +11,7 @@ use Rattle.nfs_hub.specs.declared.hub.Hub.{Hub}
 use Rattle.nfs_hub.specs.Answer.{Served}
 use Rattle.nfs_hub.specs.Machine.{Connected, State, OnConnection, ChangesConnection}
 use Rattle.nfs_hub.specs.Hub.{IsHub, SameConnection, IsUnchanged, pending_at, broken_at}
-use Rattle.nfs_streams.specs.Seats.{IsFresh, AreWaiting}
+use Rattle.nfs_streams.specs.Seats.{IsFresh, AreWaiting, FewAreWaiting}
 use Rattle.nfs_streams.specs.Standing.{StreamEnds}
 use Rattle.nfs_streams.specs.declared.streams.StreamEnd.TheVariants as end
 use Rattle.nfs_streams.proofs.Lists.{none_some}
@@ -96,3 +96,7 @@ module _ {A : Type 0} (hub : Hub A) (id : ℕ) (b : Bool) (tells : (s : State) �
 pub drained : {A : Type 0} (hub : Hub A) (id : ℕ) (bytes : List ℕ) → AreWaiting hub id bytes → length bytes ≡ 0 → AreWaiting hub id []
 drained hub id [] waiting none = waiting
 drained hub id (x ∷ bytes) waiting none = absurd (omega (arith, none))
+
+-- few bytes wait
+pub few : {A : Type 0} (hub : Hub A) (id : ℕ) (bytes : List ℕ) → AreWaiting hub id bytes → length bytes ≤ 4096 → FewAreWaiting hub id
+few hub id bytes waiting le pending at = subst (λ (l : List ℕ). length l ≤ 4096) (sym (waiting pending at)) le

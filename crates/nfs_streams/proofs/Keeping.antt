@@ -1,5 +1,5 @@
 -- The trail, and what outlives a restart, are kept while serving goes on.
-use Rattle.std.proofs.Common.{◌≡◌, inl, inr, ⊎_elim, ℕ, true, List, [], ◌∷◌, ◌++◌, Option, Some, None, refl, sym, ◌∙◌, ap, subst, arith}
+use Rattle.std.proofs.Common.{◌≡◌, inl, inr, ⊎_elim, ℕ, Bool, true, false, List, [], ◌∷◌, ◌++◌, Option, Some, None, refl, sym, ◌∙◌, ap, subst, arith}
 use Rattle.std.proofs.lemmas.List.{append-nil}
 use Rattle.journal.specs.Disk.{Act as DiskAct, on_disk}
 use Rattle.journal.specs.Frames.{Bytes, Frame}
@@ -53,10 +53,13 @@ content_with parts records = record { parts = parts; records = records }
 whole : (c : Content) (front : List Frame) → front ≡ [] → content_with c.parts (c.records ++ bodies front) ≡ c
 whole c front none = ap (λ (l : List Frame). content_with c.parts (c.records ++ bodies l)) none ∙ ap (content_with c.parts) (append-nil c.records)
 
+never_both : {t : Bool} → t ≡ true → t ≡ false → ⊥
+never_both is isnt = cc
+
 pub stands_leaves : (key : ℕ) (history : List DiskAct) (store : TreeStore) (kept : Kept) → StandsFor key history store kept → Leaves key history (IsHeld kept)
 stands_leaves key history store kept st a b left_a left_b =
     let law = live_law key store.journal.generation store.journal.slot st.frames [] true st.content history st.live a b left_a left_b in
-    let never : Chance key store.journal.generation st.frames [] (on_disk store.journal.slot history) (in_slot store.journal.slot left_a.more left_b.more) → ⊥ = λ chance. absurd (omega (arith, chance.0, st.none_loose)) in (
+    let never : Chance key store.journal.generation st.frames [] (on_disk store.journal.slot history) (in_slot store.journal.slot left_a.more left_b.more) → ⊥ = λ chance. absurd (never_both chance.0 st.none_loose) in (
       λ slot number content chosen.
           ⊎_elim
           (λ (k : IsKeptIn store.journal.slot store.journal.generation [] st.content slot number content).

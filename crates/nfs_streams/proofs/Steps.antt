@@ -26,8 +26,8 @@ use Rattle.nfs_streams.specs.declared.streams.StreamEnd.{StreamEnd}
 use Rattle.nfs_streams.specs.declared.streams.StreamEnd.TheVariants as end
 use Rattle.nfs_streams.specs.declared.serving.AllEnd.TheVariants.{Served, Turns, Wait, Keep}
 use Rattle.nfs_streams.specs.Acts.{Act, Just, IsSettled, IsStored, Waited, Knocked, Admitted, Closed, Heard, Ended, Unread, Looked, Loaded, Begun, Given, Kept, Lost, Expired, Told, Unwritten, Adds, conn_at, ahead, fault_at, of_streams, went}
-use Rattle.nfs_streams.specs.Runs.{Runs, HasKept, On, StepAt, AnswersOne, FaultIs, CanHear, IsSpent, IsWaiting, MayHear, MayClose, most_open}
-use Rattle.nfs_streams.specs.Seats.{Stands, AreWaiting, Knows, IsSeated, IsFresh, place_at, taken}
+use Rattle.nfs_streams.specs.Runs.{Runs, HasKept, On, StepAt, AnswersOne, FaultIs, CanBegin, CanHear, IsSpent, IsWaiting, MayHear, MayClose, most_open}
+use Rattle.nfs_streams.specs.Seats.{Stands, AreWaiting, FewAreWaiting, Knows, IsSeated, IsFresh, place_at, taken}
 use Rattle.nfs_streams.specs.Standing.{Origin, Left, Keeping, Stage, Listening, Knocking, Full, Looking, Giving, Piecing, Unkept, Answering, Stopped, Ending, Way, Standing, StreamEnds, IsClosing, ends_at, broken_end, closed_stage}
 use Rattle.nfs_streams.proofs.Lists.{none_some, set_here, set_there, set_back, taken_swap, adds_on, closed_here, closed_there, admitted_here, admitted_there, ahead_heard, turns_heard, ahead_heard_there, turns_heard_there, ahead_given, fault_given, left_given, ahead_given_there, fault_given_there, left_begun, ahead_admitted, turns_admitted, fault_admitted, ahead_admitted_there, turns_admitted_there, fault_admitted_there}
 use Rattle.nfs_streams.proofs.Hubs.{pending_of, broken_of, stepped}
@@ -54,6 +54,10 @@ module _ {A : Type 0} {start : ℕ} {hub : Hub A} {acts : List Act} {s : State} 
   -- the connection can hear
   can_hear : AreWaiting hub p.conn [] → p.fault ≡ None → On acts i s CanHear
   can_hear drained none = (p.conn, here.connected, here.conn, here.opened, (whole_at here none, waiting_at st i p here [] drained))
+
+  -- a piece may begin
+  can_begin : FewAreWaiting hub p.conn → p.fault ≡ None → On acts i s CanBegin
+  can_begin few none = (p.conn, here.connected, here.conn, here.opened, (whole_at here none, few here.connected.pending (pending_of hub s st.is p.conn here.connected here.opened)))
 
   -- the stream may be read
   may_hear : IsSettled acts → AreWaiting hub p.conn [] → p.fault ≡ None → p.ahead ≡ [] → MayHear acts i s
@@ -94,12 +98,12 @@ module _ {A : Type 0} {n : ℕ} {o : Origin} {hub : Hub A} {left : Left} {before
 
 -- ---- bytes are given
 
--- a piece begins where no reply waits
-pub begins : {A : Type 0} {n m : ℕ} {o : Origin} {hub : Hub A} {left : Left} {now : Option (List Act)} (ps : List (Option (Peer A))) (i : ℕ) (p : Peer A) → i < length ps → (most : ℕ) → p.fault ≡ None → (most ≡ m) ⊎ ((most ≡ 4096) × AreWaiting hub p.conn [])
+-- a piece begins where few bytes wait
+pub begins : {A : Type 0} {n m : ℕ} {o : Origin} {hub : Hub A} {left : Left} {now : Option (List Act)} (ps : List (Option (Peer A))) (i : ℕ) (p : Peer A) → i < length ps → (most : ℕ) → p.fault ≡ None → (most ≡ m) ⊎ ((most ≡ 4096) × FewAreWaiting hub p.conn)
     → Standing (Piecing n i m) o hub (set ps i (Some p)) left now → Standing (Piecing n i most) o hub (set ps i (Some p)) left now
 begins {n = n} {o = o} {hub = hub} {left = left} {now = now} ps i p lt most none (inl same) st = subst (λ (k : ℕ). Standing (Piecing n i k) o hub (set ps i (Some p)) left now) (sym same) st
 begins {o = o} {left = left} ps i p lt most none (inr new) st =
-    let run : Runs o.limits (Begun i ∷ st.acts) o.start st.machine = (st.machine, st.way.0, (st.way.2, can_hear ps i p lt st.stands new.1 none), refl) in
+    let run : Runs o.limits (Begun i ∷ st.acts) o.start st.machine = (st.machine, st.way.0, (st.way.2, can_begin ps i p lt st.stands new.1 none), refl) in
     record {
       acts = Begun i ∷ st.acts;
       machine = st.machine;

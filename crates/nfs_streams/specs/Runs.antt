@@ -21,6 +21,10 @@ MAX_READ = 65536
 abbrev pub MAX_WRITTEN : ℕ
 MAX_WRITTEN = 131072
 
+-- the most bytes of replies that wait where a piece begins
+abbrev pub MAX_WAITING : ℕ
+MAX_WAITING = 4096
+
 -- the most connections that are open at once, and the number of places
 abbrev pub MOST_PLACES : ℕ
 MOST_PLACES = 16
@@ -82,6 +86,10 @@ IsWhole c = c.broken ≡ false
 abbrev pub CanHear : Connected → Type 0
 CanHear c = (c.broken ≡ false) × (c.pending ≡ [])
 
+-- a connection is whole, and few bytes are pending on it
+abbrev pub CanBegin : Connected → Type 0
+CanBegin c = (c.broken ≡ false) × (length c.pending ≤ MAX_WAITING)
+
 -- a connection is broken, and no bytes are pending on it
 abbrev pub IsSpent : Connected → Type 0
 IsSpent c = (c.broken ≡ true) × (c.pending ≡ [])
@@ -133,20 +141,20 @@ IsKept earlier s = HasKept s.served.state.trail s.served.state.total earlier
 -- failed. A stream is admitted only just after a stream has knocked, at a free place below 16,
 -- while fewer connections are open than may be. At most 65,536 bytes are read at once. Then all
 -- that was read before of that stream is given, no bytes are pending on its connection, and its
--- turns aren't used up. A piece begins only where no bytes are pending on its connection. Bytes are
--- given only to a connection that is whole, of what was read of it, in that order, and no more than
--- the piece has left. They are given only where it was asked for another book since the last read,
--- and where the trail of the server, as it is then, has been kept. At most 131,072 bytes are
--- written at once. Writing is tried only where bytes are pending on the connection, the trail of
--- the server in its present state has been kept, after a book too, and all that outlives a restart
--- of the server in its present state is stored.
+-- turns aren't used up. A piece begins only where at most 4,096 bytes are pending on its connection.
+-- Bytes are given only to a connection that is whole, of what was read of it, in that order, and no
+-- more than the piece has left. They are given only where it was asked for another book since the
+-- last read, and where the trail of the server, as it is then, has been kept. At most 131,072 bytes
+-- are written at once. Writing is tried only where bytes are pending on the connection, the trail
+-- of the server in its present state has been kept, after a book too, and all that outlives a
+-- restart of the server in its present state is stored.
 abbrev pub Allowed : Limits → List Act → Act → State → Type 0
 Allowed limits earlier (Admitted place id) s = Just Knocked earlier × (conn_at earlier place ≡ None) × (open_in earlier < most_open limits) × (place < MOST_PLACES)
 Allowed limits earlier (Closed place end) s = MayClose limits earlier place end s
 Allowed limits earlier (Heard place bytes) s = MayHear earlier place s × (length bytes ≤ MAX_READ) × (turns_at earlier place < limits.reads)
 Allowed limits earlier (Ended place) s = MayHear earlier place s
 Allowed limits earlier (Unread place) s = MayHear earlier place s
-Allowed limits earlier (Begun place) s = IsSettled earlier × On earlier place s CanHear
+Allowed limits earlier (Begun place) s = IsSettled earlier × On earlier place s CanBegin
 Allowed limits earlier (Given place bytes fault) s =
     IsSettled earlier × IsLooked earlier × IsKept earlier s × On earlier place s IsWhole
     × (length bytes ≤ left_of_piece earlier place) × (bytes ≡ take (length bytes) (ahead earlier place))

@@ -1,11 +1,12 @@
 -- The connections at all places, as the hub has them.
-use Rattle.std.specs.Prelude.{◌≡◌, ◌≢◌, ◌⊎◌, ◌≤◌, ℕ, List, Option, Some, None, get_or, is_some}
+use Rattle.std.specs.Prelude.{◌≡◌, ◌≢◌, ◌⊎◌, ◌≤◌, ℕ, List, length, Option, Some, None, get_or, is_some}
 use Rattle.std.specs.List.{count_by}
 use Rattle.nfs_hub.specs.declared.hub.Hub.{Hub}
 use Rattle.nfs_hub.specs.Machine.{Connected, State}
 use Rattle.nfs_hub.specs.Hub.{IsHub, pending_at}
 use Rattle.nfs_streams.specs.declared.peer.Peer.{Peer}
 use Rattle.nfs_streams.specs.Acts.{Act, conn_at, open_in, ahead, turns_at, fault_at}
+use Rattle.nfs_streams.specs.Runs.{MAX_WAITING}
 
 -- the connection of a place
 abbrev pub place_at : {A : Type 0} → List (Option (Peer A)) → ℕ → Option (Peer A)
@@ -62,3 +63,7 @@ pub record Stands {A : Type 0} (start : ℕ) (hub : Hub A) (places : List (Optio
 -- these bytes are pending on the connection of a number, if it is open
 abbrev pub AreWaiting : {A : Type 0} → Hub A → ℕ → List ℕ → Type 0
 AreWaiting hub id bytes = (pending : List ℕ) → pending_at hub id ≡ Some pending → pending ≡ bytes
+
+-- few bytes are pending on the connection of a number, if it is open
+abbrev pub FewAreWaiting : {A : Type 0} → Hub A → ℕ → Type 0
+FewAreWaiting hub id = (pending : List ℕ) → pending_at hub id ≡ Some pending → length pending ≤ MAX_WAITING

@@ -5,7 +5,7 @@ ghost use Rattle.nfs_hub.specs.Machine.{Close};
 ghost use Rattle.nfs_hub.specs.Hub.{Goes};
 ghost use Rattle.nfs_streams.specs.declared.serving.Limits.{Limits};
 ghost use Rattle.nfs_streams.specs.Acts.{Act, Adds, Closed};
-ghost use Rattle.nfs_streams.specs.Seats.{AreWaiting};
+ghost use Rattle.nfs_streams.specs.Seats.{AreWaiting, FewAreWaiting};
 ghost use Rattle.nfs_streams.specs.Standing.{Listening, Giving, Piecing, Unkept, Answering, Changes, StreamEnds, broken_end, given_stage, kept_stage, stays};
 
 use crate::ahead::Ahead;
@@ -13,8 +13,11 @@ use crate::streams::{Moved, StreamEnd, Streams};
 use nfs_hub::{Clock, ConnId, Hub, HubFault};
 use std::alloc::Allocator;
 
-/// The most bytes that are given of a connection from when no reply of it waits.
+/// The most bytes of a piece of what was read of a connection.
 const PIECE: usize = 4096;
+
+/// The most bytes of replies that wait where a piece begins.
+const MAX_WAITING: usize = 4096;
 
 /// The most bytes of one write.
 const MAX_WRITTEN: usize = 131_072;
@@ -143,11 +146,13 @@ pub(crate) fn listen<A: Allocator + Copy, S: Streams<A>, C: Clock>(
     }
 }
 
-/// How many bytes may be given: a piece where no reply waits, else what is left of the piece that was begun.
+/// How many bytes may be given: a piece where few bytes wait to be written, else what is left of
+/// the piece that was begun.
+#[tactic(auto, using(crate::proofs::Hubs::few))]
 fn room<A: Allocator + Copy>(hub: &Hub<A>, conn: ConnId, left: usize) -> usize
-    ensures { (result ≡ left) ⊎ ((result ≡ 4096) × AreWaiting hub.now conn []) }
+    ensures { (result ≡ left) ⊎ ((result ≡ 4096) × FewAreWaiting hub.now conn) }
 {
-    if is_waiting(hub, conn) {
+    if waiting(hub, conn).len() > MAX_WAITING {
         return left;
     }
     PIECE
@@ -204,8 +209,8 @@ fn give_front<A: Allocator + Copy, S: Streams<A>, C: Clock>(
 }
 
 /// Gives what was read of the stream of a place to the hub, one record after the other. It does so
-/// while no reply waits, and then up to 4,096 bytes from the first whose record has a reply on. The
-/// trail is kept after each record. `false`: it couldn't be kept.
+/// in pieces of at most 4,096 bytes, while at most 4,096 bytes of replies wait. The trail is kept
+/// after each record. `false`: it couldn't be kept.
 pub(crate) fn give<A: Allocator + Copy, S: Streams<A>, C: Clock>(
     hub: &mut Hub<A>,
     streams: &mut S,

@@ -220,13 +220,14 @@ fn free_places<A: Allocator + Copy>(alloc: A) -> Result<Vec<Option<Peer<A>>, A>,
 /// admitted, if the place is free. It is asked for another book of names, and one that has come is
 /// loaded. So each call whose last byte is read after a book had come is judged by that book. What
 /// was read is given to the hub, in order, one record after the other, and **the lines of the trail
-/// are kept after each, before the next one runs**. So none is lost. It is given while no reply
-/// waits, and then as far as 4,096 bytes from where none did; the rest waits until the replies are
-/// written. So a peer that sends and doesn't read costs the replies to 4,096 bytes. Then all that
-/// outlives a restart of the server is kept in the store, if there is one, **before any byte of a
-/// reply to what ran is written**. So a crash at any moment leaves all of which a reply was
-/// written. The notes of the tree's changes are forgotten then. Last the waiting bytes are written,
-/// at most 128 KiB of each connection, as far as the streams take them.
+/// are kept after each, before the next one runs**. So none is lost. It is given in pieces of at
+/// most 4,096 bytes, the next only while at most 4,096 bytes of replies wait; the rest waits until
+/// these are written. So a peer that sends and doesn't read costs 4,096 bytes and the replies to
+/// 4,096 bytes. Then all that outlives a restart of the server is kept in the store, if there is
+/// one, **before any byte of a reply to what ran is written**. So a crash at any moment leaves all
+/// of which a reply was written, and a sync is for all calls of a turn. The notes of the tree's
+/// changes are forgotten then. Last the waiting bytes are written, at most 128 KiB of each
+/// connection, as far as the streams take them.
 ///
 /// The store is one over the files of `streams` that was begun with the tree and the numbers that
 /// the server has. The server has noted the changes of its tree since then.

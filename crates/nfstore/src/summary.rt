@@ -51,7 +51,7 @@ fn write_files<W: Write>(out: &mut W, looked: &Looked) -> io::Result<()> {
     writeln!(out, "version {}", standing.version)?;
     writeln!(out, "frames {}", standing.frames)?;
     writeln!(out, "records {}", counts.records)?;
-    writeln!(out, "torn {}", standing.rest)
+    writeln!(out, "torn {}", standing.torn)
 }
 
 /// Writes what was kept.

@@ -1,2 +1,3 @@
 mod Frames
+mod Rooms
 mod Stops

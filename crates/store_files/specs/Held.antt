@@ -1,5 +1,5 @@
 -- The folder of a store as it is held: its two files, the key, and what the system said where a call failed.
-use Rattle.std.specs.Prelude.{◌≡◌, ◌≢◌, ◌⊎◌, ◌≤◌, ◌+◌, ◌-◌, ℕ, Bool, true, false, List, [], length, Option, Some, None, Result, Ok, Err}
+use Rattle.std.specs.Prelude.{◌≡◌, ◌≢◌, ◌⊎◌, ◌≤◌, ◌<◌, ◌+◌, ◌-◌, ℕ, nat_lt, if◌then◌else◌, Bool, true, false, List, [], length, Option, Some, None, Result, Ok, Err}
 use Rattle.std.specs.declared.fs.File.{File}
 use Rattle.std.specs.declared.io.Error.{Error}
 use Rattle.std.specs.declared.io.ErrorKind.TheVariants.{OutOfMemory}
@@ -19,12 +19,21 @@ use Rattle.store_files.specs.declared.store_file.StoreFile.{StoreFile}
 
 -- ---- one file
 
+-- the file has this many bytes, and no room ahead
 abbrev pub of_length : ℕ → StoreFile → StoreFile
-of_length n x = record x { len = n }
+of_length n x = record x { len = n; end = n }
 
--- how many more bytes it may have
+-- how many more bytes may be appended
 abbrev pub room : StoreFile → ℕ
 room x = x.limit - x.len
+
+-- as many bytes as the file has, but at least 64 KiB and at most 4 MiB
+abbrev pub wanted : ℕ → ℕ
+wanted len = if nat_lt len 65536 then 65536 else (if nat_lt 4194304 len then 4194304 else len)
+
+-- how many zero bytes are written ahead
+abbrev pub ahead : StoreFile → ℕ
+ahead x = if nat_lt (room x) (wanted x.len) then room x else wanted x.len
 
 -- a load finds this: of a file that is there any bytes, whose number is its length from then on; of
 -- another none
@@ -34,7 +43,14 @@ IsFound (Some file) bytes old new = new ≡ of_length (length bytes) old
 
 -- bytes are appended only where there is room for them
 abbrev pub IsGrown : ℕ → StoreFile → StoreFile → Type 0
-IsGrown more old new = (more ≤ room old) × (new ≡ of_length (old.len + more) old)
+IsGrown more old new = (more ≤ room old) × (new ≡ record old { len = old.len + more })
+
+-- A sync changes only how far the room goes. It is made where bytes were appended past it, and no
+-- further than the limit.
+pub record IsSynced (old new : StoreFile) : Type 0 where
+  pub stays : new ≡ record old { end = new.end }
+  pub enough : old.len ≤ old.end → new.end ≡ old.end
+  pub made : old.end < old.len → old.file ≢ None → (old.len ≤ new.end) × (new.end ≤ old.len + ahead old)
 
 -- ---- the folder
 
@@ -66,7 +82,8 @@ Keeps old (Unfound slot) new = (new ≡ old) ⊎ HasFailed slot old new
 Keeps old (Appended slot bytes) new =
     IsGrown (length bytes) (file_in slot old) (file_in slot new) × (new ≡ with_file slot (file_in slot new) old)
 Keeps old (Tore slot bytes) new = HasFailed slot old new
-Keeps old (Synced slot) new = new ≡ old
+Keeps old (Synced slot) new =
+    IsSynced (file_in slot old) (file_in slot new) × (new ≡ with_file slot (file_in slot new) old)
 Keeps old (Unsynced slot) new = HasFailed slot old new
 Keeps old (Emptied slot) new = new ≡ with_file slot (of_length 0 (file_in slot old)) old
 Keeps old (Unemptied slot) new = HasFailed slot old new
@@ -108,9 +125,9 @@ IsFault (Failed failure) = error_kind failure.error ≢ OutOfMemory
 IsFault (Damaged part) = part ≢ Folder
 IsFault Memory = Unit {0}
 
--- an open file
+-- an open file, all of whose bytes stand before the end of its room
 abbrev pub IsThere : StoreFile → Type 0
-IsThere x = x.file ≢ None
+IsThere x = (x.file ≢ None) × (x.len ≤ x.end)
 
 -- a folder is opened to be written: both files are open, and nothing has failed
 pub record IsOpen (f : StoreFolder) : Type 0 where

@@ -3,6 +3,7 @@ use Rattle.std.specs.Prelude.{◌≡◌, ◌≤◌, ℕ, length, Option, Some, N
 use Rattle.xdr_wire.specs.Xdr.{Value}
 use Rattle.xdr_wire.specs.Reading.{Read, read_at}
 use Rattle.journal.specs.declared.head.Head.{Head}
+use Rattle.journal.specs.Disk.{IsBeforeZeros}
 use Rattle.journal.specs.Frames.{Bytes, head_form, head_of}
 use Rattle.journal.specs.Files.{File, Has, generation_in}
 use Rattle.store_files.specs.declared.damage.Standing.{Standing}
@@ -26,7 +27,8 @@ version_said file = version_in (first_head file)
 abbrev pub generation_said : Bytes → ℕ
 generation_said file = generation_in (first_head file)
 
--- This stands at the front of a file: what its first head says, the frames that it has, and the bytes after them.
+-- This stands at the front of a file: what its first head says, the frames that it has, the bytes after them, and how
+-- many of those come before the zero bytes at the end.
 pub record IsStanding (key : ℕ) (file : Bytes) (s : Standing) : Type 0 where
   pub version_is : s.version ≡ version_said file
   pub generation_is : s.generation ≡ generation_said file
@@ -34,4 +36,5 @@ pub record IsStanding (key : ℕ) (file : Bytes) (s : Standing) : Type 0 where
   pub has : Has key file in_file
   pub frames_are : s.frames ≡ length in_file.frames
   pub rest_is : s.rest ≡ length in_file.rest
+  pub torn_is : IsBeforeZeros in_file.rest s.torn
   pub few : s.rest ≤ length file

@@ -5,7 +5,7 @@ ghost use Rattle.journal.specs.Files.{generation_in};
 ghost use Rattle.store_files.specs.Standings.{IsStanding, first_head, version_in};
 
 use crate::fault::Part;
-use journal::{Frames, Head, OpenFault, choose};
+use journal::{Frames, Head, OpenFault, before_zeros, choose};
 use std::alloc::{AllocError, Allocator};
 use std::fmt;
 use std::fmt::{Display, Formatter};
@@ -21,6 +21,8 @@ pub struct Standing {
     pub frames: u64,
     /// The number of bytes after them.
     pub rest: usize,
+    /// How many of these stand before the zero bytes at the end, which may be room ahead: what a crash tore.
+    pub torn: usize,
 }
 
 /// A place in a file of a journal: after the frames that stand.
@@ -87,6 +89,7 @@ pub fn what_stands(key: u64, file: &[u8]) -> Standing
         generation,
         frames: frames.number,
         rest: frames.rest.len(),
+        torn: before_zeros(frames.rest),
     }
 }
 

@@ -75,7 +75,7 @@ fn open_key<R: Files<File = File> + Alloc>(
     if !is_there(rt, path, Part::Key)? {
         return Err(FolderFault::Damaged(Part::Key));
     }
-    open_part(rt, path, Part::Key, Opening::Append)
+    open_part(rt, path, Part::Key, Opening::Write)
 }
 
 /// The key that was found, if one was. Where there is none beside a file of the journal, it has rotted.
@@ -142,7 +142,7 @@ fn find_files<R: Files<File = File> + Alloc>(
     if !there.a {
         return Err(FolderFault::Damaged(Part::A));
     }
-    let a = open_file(rt, path, Part::A, Opening::Append)?;
+    let a = open_file(rt, path, Part::A, Opening::Write)?;
     if !there.b && !a.is_empty() {
         return Err(FolderFault::Damaged(Part::B));
     }
@@ -284,7 +284,9 @@ impl StoreFolder {
     }
 
     /// Waits until what was done with a file is on the disk.
-    fn sync_file(&self, slot: Slot) -> io::Result<()> {
+    fn sync_file(&mut self, slot: Slot) -> io::Result<()>
+        ensures { MatchResult result (λ done. Keeps self.old (Synced slot) self.new) (λ e. self.new ≡ self.old) }
+    {
         match slot {
             Slot::A => self.a.sync(),
             Slot::B => self.b.sync(),

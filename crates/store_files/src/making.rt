@@ -15,8 +15,8 @@ use std::{fs, io};
 pub(crate) enum Opening {
     /// To be read.
     Read,
-    /// To be read and appended to.
-    Append,
+    /// To be read and written.
+    Write,
     /// The same, and made where it isn't there.
     Make,
 }
@@ -52,7 +52,7 @@ pub(crate) fn open_part<R: Files<File = File> + Alloc>(
         return Err(FolderFault::Memory);
     };
     let mut options = OpenOptions::new();
-    options.read(true).append(how != Opening::Read);
+    options.read(true).write(how != Opening::Read);
     options.create(how == Opening::Make).mode(FILE_MODE);
     match options.open(rt, name.as_str()) {
         Ok(file) => Ok(file),

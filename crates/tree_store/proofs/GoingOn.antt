@@ -37,14 +37,14 @@ stands_leaves key history store kept is s so =
     leaves_live key store.journal.generation store.journal.slot s.frames [] true s.content history is s.live (none_written store.journal.slot history s.none_loose)
     (λ front it. so (content_of s.content.parts (s.content.records ++ bodies front)) (subst (λ (c : Content). Holds c kept) (same_content s.content front it) s.holds))
 
-pub stands_of : (key : ℕ) (history : List Act) (store : Store) (kept : Kept) (j : Journal) (frames : List Frame) (content : Content) → store.journal ≡ j → store.known ≡ kept.1 → IsLive key j.generation j.slot frames [] true content history → (on_disk j.slot history).loose ≡ 0 → Holds content kept → j.key ≡ key → j.number ≡ length frames → j.safe ≡ length frames → j.has_failed ≡ false → Stands key history store kept
+pub stands_of : (key : ℕ) (history : List Act) (store : Store) (kept : Kept) (j : Journal) (frames : List Frame) (content : Content) → store.journal ≡ j → store.known ≡ kept.1 → IsLive key j.generation j.slot frames [] true content history → (on_disk j.slot history).loose ≡ false → Holds content kept → j.key ≡ key → j.number ≡ length frames → j.safe ≡ length frames → j.has_failed ≡ false → Stands key history store kept
 stands_of key history store kept j frames content is next live none holds key_is number safe going =
     let back : j ≡ store.journal = sym is in
     record {
       frames = frames;
       content = content;
       live = subst (λ (i : Journal). IsLive key i.generation i.slot frames [] true content history) back live;
-      none_loose = subst (λ (i : Journal). (on_disk i.slot history).loose ≡ 0) back none;
+      none_loose = subst (λ (i : Journal). (on_disk i.slot history).loose ≡ false) back none;
       holds = holds;
       key_is = subst (λ (i : Journal). i.key ≡ key) back key_is;
       number_is = subst (λ (i : Journal). i.number ≡ length frames) back number;

@@ -1,8 +1,8 @@
 -- The frames of a checkpoint are written into one of two files.
-use Rattle.std.proofs.Common.{◌≡◌, ℕ, ◌+◌, true, false, List, [], ◌∷◌, ◌++◌, length, map, Option, Some, None, refl, sym, ◌∙◌, ap, subst, arith}
+use Rattle.std.proofs.Common.{◌≡◌, ℕ, ◌+◌, true, false, List, [], ◌∷◌, ◌++◌, length, Option, Some, None, refl, sym, ◌∙◌, ap, subst, arith}
 use Rattle.std.proofs.lemmas.List.{append-nil}
 use Rattle.journal.specs.declared.disk.Slot.{Slot}
-use Rattle.journal.specs.Disk.{Act, Appended, Tore, Synced, Unsynced, Emptied, Unemptied, Disk, other, settled, on_disk, after_sync, after_emptying, with_bytes, with_torn}
+use Rattle.journal.specs.Disk.{Act, Appended, Tore, Synced, Unsynced, Emptied, Unemptied, Disk, other, on_disk, MayLeave, after_sync, after_emptying, with_bytes, with_torn}
 use Rattle.journal.specs.Frames.{Bytes, Frame, PART, framed, frame_with, IsFit, all_framed}
 use Rattle.journal.specs.Files.{Content, contents, with_part, bodies}
 use Rattle.journal.specs.Crash.{IsFront, IsWritten}
@@ -87,30 +87,32 @@ one_whole (p ∷ parts) (f ∷ front) x it is = by_rest (contents front) refl (�
 
 -- ---- the acts of a checkpoint
 
-module _ (key generation : ℕ) (s : Slot) (content : Option Content) (acts : List Act) (old : Bytes) (at_rest : on_disk s acts ≡ settled old) (base : IsBase key generation s content old) where
+-- whatever a crash leaves of a file counts, and so it is after acts that leave the file as it was
+pub still : (key generation : ℕ) (s : Slot) (content : Option Content) (d e : Disk) → e ≡ d → ((bytes : Bytes) → MayLeave d bytes → IsBase key generation s content bytes) → (bytes : Bytes) → MayLeave e bytes → IsBase key generation s content bytes
+still key generation s content d e is base bytes m = base bytes (subst (λ (x : Disk). MayLeave x bytes) is m)
+
+module _ (key generation : ℕ) (s : Slot) (content : Option Content) (acts : List Act) (base : (bytes : Bytes) → MayLeave (on_disk s acts) bytes → IsBase key generation s content bytes) where
   emptied : (d : Disk) → IsWritten key (generation + 1) [] [] true (after_emptying d)
   emptied d = record { safe = refl; unsynced = λ going. refl; kept_fit = tt; later_fit = tt; kept_marked = tt; later_marked = tt }
 
   emptied_there : IsWritten key (generation + 1) [] [] true (on_disk (other s) (Emptied (other s) ∷ acts))
   emptied_there = subst (IsWritten key (generation + 1) [] [] true) (sym (on_itself (other s) after_emptying (on_disk (other s) acts))) (emptied (on_disk (other s) acts))
 
-  rest_there : on_disk s (Emptied (other s) ∷ acts) ≡ settled old
-  rest_there = off_other s after_emptying (on_disk s acts) ∙ at_rest
+  base_there : (bytes : Bytes) → MayLeave (on_disk s (Emptied (other s) ∷ acts)) bytes → IsBase key generation s content bytes
+  base_there = still key generation s content (on_disk s acts) (on_disk s (Emptied (other s) ∷ acts)) (off_other s after_emptying (on_disk s acts)) base
 
   pub begun_emptied : IsReplaced key generation s content [] true (Emptied (other s) ∷ acts)
-  begun_emptied = record { old = old; at_rest = rest_there; counts = base; written = emptied_there }
+  begun_emptied = record { counts = base_there; written = emptied_there }
 
   pub begun_unemptied : IsReplaced key generation s content [] true (Unemptied (other s) ∷ acts)
-  begun_unemptied = record { old = old; at_rest = rest_there; counts = base; written = emptied_there }
+  begun_unemptied = record { counts = base_there; written = emptied_there }
 
   pub begun_unsynced : IsReplaced key generation s content [] false (Unsynced (other s) ∷ Emptied (other s) ∷ acts)
-  begun_unsynced = record { old = old; at_rest = rest_there; counts = base; written = (sync_law key (generation + 1) [] [] (other s) (Emptied (other s) ∷ acts) emptied_there).1 }
+  begun_unsynced = record { counts = base_there; written = (sync_law key (generation + 1) [] [] (other s) (Emptied (other s) ∷ acts) emptied_there).1 }
 
   pub begun_synced : IsReplaced key generation s content [] true (Synced (other s) ∷ Emptied (other s) ∷ acts)
   begun_synced = record {
-    old = old;
-    at_rest = off_other s after_sync (on_disk s (Emptied (other s) ∷ acts)) ∙ rest_there;
-    counts = base;
+    counts = still key generation s content (on_disk s (Emptied (other s) ∷ acts)) (on_disk s (Synced (other s) ∷ Emptied (other s) ∷ acts)) (off_other s after_sync (on_disk s (Emptied (other s) ∷ acts))) base_there;
     written = (sync_law key (generation + 1) [] [] (other s) (Emptied (other s) ∷ acts) emptied_there).0;
   }
 
@@ -137,17 +139,17 @@ module _ (key generation : ℕ) (s : Slot) (content : Option Content) (frames : 
   written = subst (λ (n : ℕ). IsWritten key (generation + 1) [] (frames ++ f ∷ []) true (on_disk (other s) (Appended (other s) (framed key (generation + 1) n f) ∷ acts)) × IsWritten key (generation + 1) [] (frames ++ f ∷ []) false (on_disk (other s) (Tore (other s) (framed key (generation + 1) n f) ∷ acts))) (sym place)
       (append_law key (generation + 1) [] frames (other s) acts f r.written (subst (λ (n : ℕ). IsFit key (generation + 1) n f) place fit) (omega (arith, unmarked)))
 
-  rest_after : on_disk s (Appended (other s) bytes ∷ acts) ≡ settled r.old
-  rest_after = off_other s (with_bytes bytes) (on_disk s acts) ∙ r.at_rest
+  base_after : (left : Bytes) → MayLeave (on_disk s (Appended (other s) bytes ∷ acts)) left → IsBase key generation s content left
+  base_after = still key generation s content (on_disk s acts) (on_disk s (Appended (other s) bytes ∷ acts)) (off_other s (with_bytes bytes) (on_disk s acts)) r.counts
 
   pub part_appended : IsReplaced key generation s content (frames ++ f ∷ []) true (Appended (other s) bytes ∷ acts)
-  part_appended = record { old = r.old; at_rest = rest_after; counts = r.counts; written = written.0 }
+  part_appended = record { counts = base_after; written = written.0 }
 
   pub part_torn : IsReplaced key generation s content (frames ++ f ∷ []) false (Tore (other s) bytes ∷ acts)
-  part_torn = record { old = r.old; at_rest = off_other s (with_torn bytes) (on_disk s acts) ∙ r.at_rest; counts = r.counts; written = written.1 }
+  part_torn = record { counts = still key generation s content (on_disk s acts) (on_disk s (Tore (other s) bytes ∷ acts)) (off_other s with_torn (on_disk s acts)) r.counts; written = written.1 }
 
   pub part_unsynced : IsReplaced key generation s content (frames ++ f ∷ []) false (Unsynced (other s) ∷ Appended (other s) bytes ∷ acts)
-  part_unsynced = record { old = r.old; at_rest = rest_after; counts = r.counts; written = (sync_law key (generation + 1) [] (frames ++ f ∷ []) (other s) (Appended (other s) bytes ∷ acts) written.0).1 }
+  part_unsynced = record { counts = base_after; written = (sync_law key (generation + 1) [] (frames ++ f ∷ []) (other s) (Appended (other s) bytes ∷ acts) written.0).1 }
 
   now_written : written_since (other s) acts ++ bytes ≡ all_framed key (generation + 1) 0 (frames ++ f ∷ [])
   now_written =
@@ -164,10 +166,10 @@ module _ (key generation : ℕ) (s : Slot) (content : Option Content) (frames : 
   written_part_unsynced = bytes_on_itself (other s) (λ (b : Bytes). b ++ bytes) (written_since (other s) acts) ∙ now_written
 
   pub end_synced : (checkpoint : Content) → contents (frames ++ f ∷ []) ≡ Some checkpoint → IsLive key (generation + 1) (other s) (frames ++ f ∷ []) [] true checkpoint (Synced (other s) ∷ Appended (other s) bytes ∷ acts)
-  end_synced checkpoint whole = finish_law key generation s content (frames ++ f ∷ []) checkpoint (Appended (other s) bytes ∷ acts) (record { old = r.old; at_rest = rest_after; counts = r.counts; written = written.0 }) whole
+  end_synced checkpoint whole = finish_law key generation s content (frames ++ f ∷ []) checkpoint (Appended (other s) bytes ∷ acts) (record { counts = base_after; written = written.0 }) whole
 
   pub written_end_synced : written_since (other s) (Synced (other s) ∷ Appended (other s) bytes ∷ acts) ≡ []
   written_end_synced = bytes_on_itself (other s) (λ (b : Bytes). []) (written_since (other s) (Appended (other s) bytes ∷ acts))
 
-  pub none_loose_end : (on_disk (other s) (Synced (other s) ∷ Appended (other s) bytes ∷ acts)).loose ≡ 0
+  pub none_loose_end : (on_disk (other s) (Synced (other s) ∷ Appended (other s) bytes ∷ acts)).loose ≡ false
   none_loose_end = ap (λ (d : Disk). d.loose) (on_itself (other s) after_sync (on_disk (other s) (Appended (other s) bytes ∷ acts)))

@@ -1,15 +1,15 @@
 -- A record is appended to the file that counts, and synced.
-use Rattle.std.proofs.Common.{◌≡◌, ℕ, ◌≤◌, Bool, true, false, List, [], ◌∷◌, ◌++◌, length, Option, Some, None, refl, sym, ◌∙◌, ap, subst, arith, length-append}
+use Rattle.std.proofs.Common.{◌≡◌, ℕ, ◌≤◌, Bool, true, false, List, [], ◌∷◌, ◌++◌, length, Option, Some, None, refl, sym, ◌∙◌, ap, subst}
 use Rattle.std.specs.Bool.{if◌then◌else◌}
 use Rattle.std.specs.Prelude.{◌==◌}
-use Rattle.std.proofs.lemmas.List.{append-nil, nil_from_length}
+use Rattle.std.proofs.lemmas.List.{append-nil}
 use Rattle.journal.specs.declared.disk.Slot.{Slot}
 use Rattle.journal.specs.declared.disk.Slot.TheVariants.{A, B}
-use Rattle.journal.specs.Disk.{Act, Found, Unfound, Appended, Tore, Synced, Unsynced, Emptied, Unemptied, Disk, other, settled, on_disk, if_same, after_sync, after_emptying, with_bytes, with_torn}
+use Rattle.journal.specs.Disk.{Act, Found, Unfound, Appended, Tore, Synced, Unsynced, Emptied, Unemptied, Disk, other, settled, on_disk, if_same, after_sync, after_emptying, with_bytes, with_torn, MayLeave}
 use Rattle.journal.specs.Frames.{Bytes, Frame, END, framed, IsFit, all_framed}
 use Rattle.journal.specs.Files.{Content, contents, with_part, bodies}
 use Rattle.journal.specs.Crash.{IsFront, IsWritten}
-use Rattle.journal.specs.Living.{IsLive}
+use Rattle.journal.specs.Living.{IsLive, IsPassed}
 use Rattle.journal.proofs.Steps.{on_itself, append_law, sync_law}
 use Rattle.tree_store.specs.Leaving.{written_since, if_same_bytes}
 
@@ -29,26 +29,32 @@ bytes_on_itself B f b = refl
 
 -- ---- what is written is loose
 
-loose_in : (s t : Slot) (f : Bytes → Bytes) (g : Disk → Disk) (b : Bytes) (d : Disk) → length b ≤ d.loose → (length b ≤ d.loose → length (f b) ≤ (g d).loose) → length (if_same_bytes s t f b) ≤ (if_same s t g d).loose
-loose_in A A f g b d few more = more few
-loose_in A B f g b d few more = few
-loose_in B A f g b d few more = few
-loose_in B B f g b d few more = more few
-
-few_written : (s : Slot) (acts : List Act) → length (written_since s acts) ≤ (on_disk s acts).loose
-few_written s [] = omega arith
-few_written s (Found t bytes ∷ acts) = loose_in s t (λ b. []) (λ d. settled bytes) (written_since s acts) (on_disk s acts) (few_written s acts) (λ few. omega arith)
-few_written s (Unfound t ∷ acts) = few_written s acts
-few_written s (Appended t bytes ∷ acts) = loose_in s t (λ b. b ++ bytes) (with_bytes bytes) (written_since s acts) (on_disk s acts) (few_written s acts) (λ few. omega (arith, few, length-append (written_since s acts) bytes))
-few_written s (Tore t bytes ∷ acts) = loose_in s t (λ b. b ++ bytes) (with_torn bytes) (written_since s acts) (on_disk s acts) (few_written s acts) (λ few. omega (arith, few, length-append (written_since s acts) bytes))
-few_written s (Synced t ∷ acts) = loose_in s t (λ b. []) after_sync (written_since s acts) (on_disk s acts) (few_written s acts) (λ few. omega arith)
-few_written s (Unsynced t ∷ acts) = few_written s acts
-few_written s (Emptied t ∷ acts) = loose_in s t (λ b. []) after_emptying (written_since s acts) (on_disk s acts) (few_written s acts) (λ few. omega arith)
-few_written s (Unemptied t ∷ acts) = loose_in s t (λ b. []) after_emptying (written_since s acts) (on_disk s acts) (few_written s acts) (λ few. omega arith)
-
 -- where nothing is loose nothing was written
-pub none_written : (s : Slot) (acts : List Act) → (on_disk s acts).loose ≡ 0 → written_since s acts ≡ []
-none_written s acts none = nil_from_length (written_since s acts) (let few = few_written s acts in omega (arith, few, none))
+abbrev NoneIn : Bytes → Disk → Type 0
+NoneIn b d = d.loose ≡ false → b ≡ []
+
+none_in : (s t : Slot) (f : Bytes → Bytes) (g : Disk → Disk) (b : Bytes) (d : Disk) → NoneIn b d → NoneIn (f b) (g d) → NoneIn (if_same_bytes s t f b) (if_same s t g d)
+none_in A A f g b d was now = now
+none_in A B f g b d was now = was
+none_in B A f g b d was now = was
+none_in B B f g b d was now = now
+
+it_is_loose : (b : Bytes) → true ≡ false → b ≡ []
+it_is_loose b e = absurd (apart e)
+  where
+    apart : true ≡ false → ⊥
+    apart is = cc
+
+pub none_written : (s : Slot) (acts : List Act) → (on_disk s acts).loose ≡ false → written_since s acts ≡ []
+none_written s [] = λ none. refl
+none_written s (Found t bytes ∷ acts) = none_in s t (λ b. []) (λ d. settled bytes) (written_since s acts) (on_disk s acts) (none_written s acts) (λ none. refl)
+none_written s (Unfound t ∷ acts) = none_written s acts
+none_written s (Appended t bytes ∷ acts) = none_in s t (λ b. b ++ bytes) (with_bytes bytes) (written_since s acts) (on_disk s acts) (none_written s acts) (it_is_loose (written_since s acts ++ bytes))
+none_written s (Tore t bytes ∷ acts) = none_in s t (λ b. b ++ bytes) with_torn (written_since s acts) (on_disk s acts) (none_written s acts) (it_is_loose (written_since s acts ++ bytes))
+none_written s (Synced t ∷ acts) = none_in s t (λ b. []) after_sync (written_since s acts) (on_disk s acts) (none_written s acts) (λ none. refl)
+none_written s (Unsynced t ∷ acts) = none_written s acts
+none_written s (Emptied t ∷ acts) = none_in s t (λ b. []) after_emptying (written_since s acts) (on_disk s acts) (none_written s acts) (λ none. refl)
+none_written s (Unemptied t ∷ acts) = none_in s t (λ b. []) after_emptying (written_since s acts) (on_disk s acts) (none_written s acts) (λ none. refl)
 
 pub front_of_none : (front : List Frame) → IsFront front [] → front ≡ []
 front_of_none [] f = refl
@@ -100,7 +106,7 @@ more_contents (f ∷ kept) more c is = by_test (f.kind == END) (contents kept) (
 
 -- ---- the acts of a record
 
-module _ (key generation : ℕ) (s : Slot) (kept : List Frame) (content : Content) (acts : List Act) (live : IsLive key generation s kept [] true content acts) (none : (on_disk s acts).loose ≡ 0) (number : ℕ) (place : number ≡ length kept) (f : Frame) (fit : IsFit key generation number f) (marked : f.safe ≤ length kept) where
+module _ (key generation : ℕ) (s : Slot) (kept : List Frame) (content : Content) (acts : List Act) (live : IsLive key generation s kept [] true content acts) (none : (on_disk s acts).loose ≡ false) (number : ℕ) (place : number ≡ length kept) (f : Frame) (fit : IsFit key generation number f) (marked : f.safe ≤ length kept) where
   abbrev bytes : Bytes
   bytes = framed key generation number f
 
@@ -111,26 +117,28 @@ module _ (key generation : ℕ) (s : Slot) (kept : List Frame) (content : Conten
   written = subst (λ (n : ℕ). IsWritten key generation kept (f ∷ []) true (on_disk s (Appended s (framed key generation n f) ∷ acts)) × IsWritten key generation kept (f ∷ []) false (on_disk s (Tore s (framed key generation n f) ∷ acts))) place_there
       (append_law key generation kept [] s acts f live.written (subst (λ (n : ℕ). IsFit key generation n f) (sym place_there) fit) marked)
 
-  rest_there : on_disk (other s) (Appended s bytes ∷ acts) ≡ settled live.old
-  rest_there = off_this s (with_bytes bytes) (on_disk (other s) acts) ∙ live.at_rest
+  -- after acts that leave the other file as it was, what a crash leaves of it is passed by
+  passed_still : (d : Disk) → d ≡ on_disk (other s) acts → (old : Bytes) → MayLeave d old → IsPassed key generation old
+  passed_still d is old m = live.passed old (subst (λ (x : Disk). MayLeave x old) is m)
+
+  same_there : on_disk (other s) (Appended s bytes ∷ acts) ≡ on_disk (other s) acts
+  same_there = off_this s (with_bytes bytes) (on_disk (other s) acts)
 
   pub record_appended : IsLive key generation s kept (f ∷ []) true content (Appended s bytes ∷ acts)
-  record_appended = record { written = written.0; whole = live.whole; some = live.some; old = live.old; at_rest = rest_there; passed = live.passed }
+  record_appended = record { written = written.0; whole = live.whole; some = live.some; passed = passed_still (on_disk (other s) (Appended s bytes ∷ acts)) same_there }
 
   pub record_torn : IsLive key generation s kept (f ∷ []) false content (Tore s bytes ∷ acts)
-  record_torn = record { written = written.1; whole = live.whole; some = live.some; old = live.old; at_rest = off_this s (with_torn bytes) (on_disk (other s) acts) ∙ live.at_rest; passed = live.passed }
+  record_torn = record { written = written.1; whole = live.whole; some = live.some; passed = passed_still (on_disk (other s) (Tore s bytes ∷ acts)) (off_this s with_torn (on_disk (other s) acts)) }
 
   pub record_unsynced : IsLive key generation s kept (f ∷ []) false content (Unsynced s ∷ Appended s bytes ∷ acts)
-  record_unsynced = record { written = (sync_law key generation kept (f ∷ []) s (Appended s bytes ∷ acts) written.0).1; whole = live.whole; some = live.some; old = live.old; at_rest = rest_there; passed = live.passed }
+  record_unsynced = record { written = (sync_law key generation kept (f ∷ []) s (Appended s bytes ∷ acts) written.0).1; whole = live.whole; some = live.some; passed = passed_still (on_disk (other s) (Appended s bytes ∷ acts)) same_there }
 
   pub record_synced : IsLive key generation s (kept ++ f ∷ []) [] true (record { parts = content.parts; records = content.records ++ f.body ∷ [] }) (Synced s ∷ Appended s bytes ∷ acts)
   record_synced = record {
     written = (sync_law key generation kept (f ∷ []) s (Appended s bytes ∷ acts) written.0).0;
     whole = more_contents kept (f ∷ []) content live.whole;
     some = live.some;
-    old = live.old;
-    at_rest = off_this s after_sync (on_disk (other s) (Appended s bytes ∷ acts)) ∙ rest_there;
-    passed = live.passed;
+    passed = passed_still (on_disk (other s) (Synced s ∷ Appended s bytes ∷ acts)) (off_this s after_sync (on_disk (other s) (Appended s bytes ∷ acts)) ∙ same_there);
   }
 
   now_written : (b : Bytes) → b ≡ [] → b ++ bytes ≡ all_framed key generation (length kept) (f ∷ [])
@@ -148,5 +156,5 @@ module _ (key generation : ℕ) (s : Slot) (kept : List Frame) (content : Conten
   pub written_synced : written_since s (Synced s ∷ Appended s bytes ∷ acts) ≡ []
   written_synced = bytes_on_itself s (λ (b : Bytes). []) (written_since s (Appended s bytes ∷ acts))
 
-  pub none_loose_synced : (on_disk s (Synced s ∷ Appended s bytes ∷ acts)).loose ≡ 0
+  pub none_loose_synced : (on_disk s (Synced s ∷ Appended s bytes ∷ acts)).loose ≡ false
   none_loose_synced = ap (λ (d : Disk). d.loose) (on_itself s after_sync (on_disk s (Appended s bytes ∷ acts)))

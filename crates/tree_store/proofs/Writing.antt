@@ -30,7 +30,7 @@ use Rattle.tree_store.proofs.Doing.{does_nothing, does_one, does_two, does_then,
 use Rattle.tree_store.proofs.Crashes.{leaves_found, leaves_live, leaves_replaced}
 use Rattle.tree_store.proofs.Records.{off_other, front_of_none, none_written}
 use Rattle.tree_store.proofs.Parts as steps
-use Rattle.tree_store.proofs.Parts.{frames_push, frames_count, none_whole, all_whole, one_whole}
+use Rattle.tree_store.proofs.Parts.{still, frames_push, frames_count, none_whole, all_whole, one_whole}
 use Rattle.tree_store.proofs.GoingOn.{same_content, stands_of}
 
 -- ---- a file that counts
@@ -40,9 +40,7 @@ pub chosen_counts : (key : ℕ) (a b : Bytes) (s : Slot) (generation : ℕ) (con
 chosen_counts key a b s generation content c =
     let r = start_law key a b s generation content c in
     record {
-      bytes = r.old;
-      at_rest = sym (twice s (both_found a b)) ∙ r.at_rest;
-      base = r.counts;
+      base = still key generation s content (on_disk s (Synced (other s) ∷ Emptied (other s) ∷ both_found a b)) (on_disk s (both_found a b)) (sym (twice s (both_found a b))) r.counts;
       leaves = leaves_found key a b s generation content c;
     }
   where
@@ -55,9 +53,7 @@ standing_counts key history store kept s =
     let slot = store.journal.slot in
     let r = renew_law key store.journal.generation slot s.frames s.content s.content history s.live s.none_loose s.live.whole in
     record {
-      bytes = r.old;
-      at_rest = sym (off_other slot after_sync (on_disk slot (Emptied (other slot) ∷ history)) ∙ off_other slot after_emptying (on_disk slot history)) ∙ r.at_rest;
-      base = r.counts;
+      base = still key store.journal.generation slot (Some s.content) (on_disk slot (Synced (other slot) ∷ Emptied (other slot) ∷ history)) (on_disk slot history) (sym (off_other slot after_sync (on_disk slot (Emptied (other slot) ∷ history)) ∙ off_other slot after_emptying (on_disk slot history))) r.counts;
       leaves = leaves_live key store.journal.generation slot s.frames [] true s.content history (λ o. o ≡ Some s.content) s.live (none_written slot history s.none_loose)
           (λ front it. ap (λ (c : Content). Some c) (sym (same_content s.content front it)));
     }
@@ -72,27 +68,27 @@ module _ (key generation : ℕ) (s : Slot) (content : Option Content) (history :
   nothing_whole front x it whole = absurd (never_none x (sym (ap contents (front_of_none front it)) ∙ whole))
 
   emptied : Leaves key (Emptied (other s) ∷ history) (λ o. o ≡ content)
-  emptied = leaves_replaced key generation s content [] true (Emptied (other s) ∷ history) (λ o. o ≡ content) (steps.begun_emptied key generation s content history counts.bytes counts.at_rest counts.base)
-      (steps.written_emptied key generation s content history counts.bytes counts.at_rest counts.base) refl nothing_whole
+  emptied = leaves_replaced key generation s content [] true (Emptied (other s) ∷ history) (λ o. o ≡ content) (steps.begun_emptied key generation s content history counts.base)
+      (steps.written_emptied key generation s content history counts.base) refl nothing_whole
 
   unemptied : Leaves key (Unemptied (other s) ∷ history) (λ o. o ≡ content)
-  unemptied = leaves_replaced key generation s content [] true (Unemptied (other s) ∷ history) (λ o. o ≡ content) (steps.begun_unemptied key generation s content history counts.bytes counts.at_rest counts.base)
-      (steps.written_unemptied key generation s content history counts.bytes counts.at_rest counts.base) refl nothing_whole
+  unemptied = leaves_replaced key generation s content [] true (Unemptied (other s) ∷ history) (λ o. o ≡ content) (steps.begun_unemptied key generation s content history counts.base)
+      (steps.written_unemptied key generation s content history counts.base) refl nothing_whole
 
   unsynced : Leaves key (Unsynced (other s) ∷ Emptied (other s) ∷ history) (λ o. o ≡ content)
-  unsynced = leaves_replaced key generation s content [] false (Unsynced (other s) ∷ Emptied (other s) ∷ history) (λ o. o ≡ content) (steps.begun_unsynced key generation s content history counts.bytes counts.at_rest counts.base)
-      (steps.written_unsynced key generation s content history counts.bytes counts.at_rest counts.base) refl nothing_whole
+  unsynced = leaves_replaced key generation s content [] false (Unsynced (other s) ∷ Emptied (other s) ∷ history) (λ o. o ≡ content) (steps.begun_unsynced key generation s content history counts.base)
+      (steps.written_unsynced key generation s content history counts.base) refl nothing_whole
 
   synced : Leaves key (Synced (other s) ∷ Emptied (other s) ∷ history) (λ o. o ≡ content)
-  synced = leaves_replaced key generation s content [] true (Synced (other s) ∷ Emptied (other s) ∷ history) (λ o. o ≡ content) (steps.begun_synced key generation s content history counts.bytes counts.at_rest counts.base)
-      (steps.written_synced key generation s content history counts.bytes counts.at_rest counts.base) refl nothing_whole
+  synced = leaves_replaced key generation s content [] true (Synced (other s) ∷ Emptied (other s) ∷ history) (λ o. o ≡ content) (steps.begun_synced key generation s content history counts.base)
+      (steps.written_synced key generation s content history counts.base) refl nothing_whole
 
   pub begin_goes : {D : Type 0} (adds : Adding D) (c : Checkpoint) (old new : D) → BeginGives adds key s generation (Ok c) old new → Does adds key history (λ o. o ≡ content) (IsBegun key generation s content c []) old new
   begin_goes adds c old new (twice, same) =
       does_two adds key history (λ o. o ≡ content) (IsBegun key generation s content c []) old twice.mid new (Emptied (other s)) (Synced (other s)) counts.leaves twice.one emptied twice.two synced
       (record {
-        replaced = steps.begun_synced key generation s content history counts.bytes counts.at_rest counts.base;
-        written = steps.written_synced key generation s content history counts.bytes counts.at_rest counts.base;
+        replaced = steps.begun_synced key generation s content history counts.base;
+        written = steps.written_synced key generation s content history counts.base;
         checkpoint_is = same;
       })
 

@@ -1,6 +1,6 @@
 -- After a crash at any moment a content of two files is chosen and nothing is refused, unless a
 -- digest fits by chance.
-use Rattle.std.specs.Prelude.{ℕ, ◌≡◌, ◌⊎◌, ◌<◌, ◌≤◌, ◌+◌, Bool, List, [], ◌∷◌, ◌++◌, length, Option}
+use Rattle.std.specs.Prelude.{ℕ, ◌≡◌, ◌⊎◌, ◌≤◌, ◌+◌, Bool, true, List, [], ◌∷◌, ◌++◌, length, Option}
 use Rattle.journal.specs.declared.disk.Slot.{Slot}
 use Rattle.journal.specs.declared.disk.Slot.TheVariants.{A, B}
 use Rattle.journal.specs.Disk.{Act, Found, Unfound, Appended, Tore, Synced, Unsynced, Emptied, Unemptied, on_disk, MayLeave, IsGoing}
@@ -48,7 +48,7 @@ pub record Fluked (key : ℕ) (history : List Act) (a b : Bytes) : Type 0 where
   pub written : IsWritten key generation kept later going (on_disk slot history)
   pub later_are : written_since slot history ≡ all_framed key generation (length kept) later
   pub left : MayLeave (on_disk slot history) (in_slot slot a b)
-  pub unsynced : 0 < (on_disk slot history).loose
+  pub unsynced : (on_disk slot history).loose ≡ true
   -- the generation of the file that counts: this one, or the one that it replaces
   pub least : ℕ
   pub near : generation ≤ least + 1

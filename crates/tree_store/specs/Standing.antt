@@ -14,7 +14,7 @@ pub record Stands (key : ℕ) (history : List Act) (store : Store) (kept : Kept)
   pub frames : List Frame
   pub content : Content
   pub live : IsLive key store.journal.generation store.journal.slot frames [] true content history
-  pub none_loose : (on_disk store.journal.slot history).loose ≡ 0
+  pub none_loose : (on_disk store.journal.slot history).loose ≡ false
   pub holds : Holds content kept
   pub key_is : store.journal.key ≡ key
   pub number_is : store.journal.number ≡ length frames

@@ -1,19 +1,19 @@
 -- The steps of writing append a record or a checkpoint, and a crash meanwhile leaves what was kept
 -- or was to be kept.
-use Rattle.std.specs.Prelude.{ℕ, ◌≡◌, ◌⊎◌, ◌+◌, ◌^◌, ◌<◌, ◌≤◌, true, false, List, [], ◌∷◌, ◌++◌, length, map, Option, Result, Ok, Err}
+use Rattle.std.specs.Prelude.{ℕ, ◌≡◌, ◌⊎◌, ◌+◌, true, false, List, [], ◌∷◌, ◌++◌, length, map, Option, Result, Ok, Err}
 use Rattle.std.specs.List.{AllByRecursion}
 use Rattle.xdr_wire.specs.Xdr.{HasSpelling, spelling}
 use Rattle.journal.specs.declared.disk.Slot.{Slot}
 use Rattle.journal.specs.declared.journal.Checkpoint.{Checkpoint}
 use Rattle.journal.specs.declared.journal.Journal.{Journal}
-use Rattle.journal.specs.Disk.{Act, Appended, Tore, Synced, Unsynced, other, settled, on_disk}
+use Rattle.journal.specs.Disk.{Act, Appended, Tore, Synced, Unsynced, other, on_disk, MayLeave}
 use Rattle.journal.specs.Frames.{Bytes, Frame, PART, RECORD, framed, all_framed, frame_with, IsFit}
 use Rattle.journal.specs.Files.{Content}
 use Rattle.journal.specs.Replacing.{IsBase, IsReplaced}
 use Rattle.journal.specs.Keeping.{Adding, Twice}
 use Rattle.node_tree.specs.World.{World, Object, Name}
 use Rattle.compound_run.specs.Known.{Known}
-use Rattle.client_changes.specs.Comparing.{AreSame, AreNear}
+use Rattle.client_changes.specs.Comparing.{AreNear}
 use Rattle.tree_changes.specs.Parts.{part, parts, object_value, name_value}
 use Rattle.tree_store.specs.declared.checkpoint.Fronts as checkpoints
 use Rattle.tree_store.specs.declared.checkpoint.Written.{Written}
@@ -115,11 +115,9 @@ FrontsLead f known = BeginsClients f.first f.second f.third known
 abbrev pub all_parts : World → Fronts → List Bytes
 all_parts w f = f.first ∷ f.second ∷ f.third ∷ map (spelling part) (parts w)
 
--- after these acts this file counts, with its generation and content, and all of it is synced
+-- after these acts this file counts, with its generation and content, whatever a crash leaves of it
 pub record Counts (key generation : ℕ) (s : Slot) (content : Option Content) (history : List Act) : Type 0 where
-  pub bytes : Bytes
-  pub at_rest : on_disk s history ≡ settled bytes
-  pub base : IsBase key generation s content bytes
+  pub base : (bytes : Bytes) → MayLeave (on_disk s history) bytes → IsBase key generation s content bytes
   pub leaves : Leaves key history (λ o. o ≡ content)
 
 abbrev pub written_store : {A : Type 0} → Written A → Store

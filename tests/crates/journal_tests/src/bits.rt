@@ -2,7 +2,7 @@
 
 use crate::memory::{Memory, left_of};
 use crate::script::{REFUSED, number_in, run};
-use journal::Slot;
+use journal::{Slot, before_zeros};
 use std::alloc::{AllocError, Global};
 use std::process::Abort;
 use std::test::Fail;
@@ -64,5 +64,36 @@ fn each_bit_turned_is_refused_or_leaves_a_front(rt: HostRuntime) -> Result<(), F
     assert_eq!(rt; first.refused, 340 * 8);
     // Without the last record, of 64 bytes, a front is left.
     assert_eq!(rt; first.fronts, 64 * 8);
+    Ok(())
+}
+
+#[test]
+fn each_bit_turned_beside_room_too(rt: HostRuntime) -> Result<(), Fail> {
+    let alloc = rt.alloc();
+    let mut disk = Memory::new(alloc, 1000);
+    assert!(rt; run(alloc, &mut disk).is_ok());
+    let mut a = left_of(alloc, &disk.events, Slot::A)?.whole;
+    let mut b = left_of(alloc, &disk.events, Slot::B)?.whole;
+    let room = [0u8; 72];
+    a.extend_from_slice(&room)?;
+    b.extend_from_slice(&room)?;
+    assert_eq!(rt; number_in(alloc, &a, &b), 7);
+    let first = turn_each(alloc, &a, &b, true)?;
+    // A bit of the room is passed over, and the frames are judged as without it.
+    assert_eq!(rt;
+        (first.refused, first.fronts, first.wrong),
+        (340 * 8, (64 + 72) * 8, 0)
+    );
+    let second = turn_each(alloc, &a, &b, false)?;
+    assert_eq!(rt; (second.refused, second.wrong), (0, 0));
+    Ok(())
+}
+
+#[test]
+fn what_stands_before_zeros(rt: HostRuntime) -> Result<(), Fail> {
+    assert_eq!(rt; before_zeros(&[]), 0);
+    assert_eq!(rt; before_zeros(&[0, 0]), 0);
+    assert_eq!(rt; before_zeros(&[0, 7, 0, 0]), 2);
+    assert_eq!(rt; before_zeros(&[0, 7]), 2);
     Ok(())
 }

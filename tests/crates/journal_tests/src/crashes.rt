@@ -7,8 +7,15 @@ use std::alloc::{AllocError, Global};
 use std::process::Abort;
 use std::test::Fail;
 
-/// A file of which some sixths of the loose bytes stand, others are spoiled, and all after a length are lost.
-fn spoiled(left: &Left, mask: u32, len: usize, other: u8) -> Result<Vec<u8>, AllocError> {
+/// A file of which some sixths of the loose bytes stand, others are spoiled, and all after a length are lost. Where there
+/// is room ahead, some of it follows: zero bytes, or spoiled ones where anything is loose.
+fn spoiled(
+    left: &Left,
+    mask: u32,
+    len: usize,
+    other: u8,
+    ahead: usize,
+) -> Result<Vec<u8>, AllocError> {
     let mut file = left.safe.clone()?;
     let sixth = left.loose.len() / 6 + 1;
     for at in 0..len.min(left.loose.len()) {
@@ -16,6 +23,12 @@ fn spoiled(left: &Left, mask: u32, len: usize, other: u8) -> Result<Vec<u8>, All
         let stands = (mask >> place) & 1 == 1;
         let byte = *left.loose.get(at).unwrap_or(&0);
         file.push(if stands { byte } else { other })?;
+    }
+    if left.room {
+        let byte = if left.loose.is_empty() { 0 } else { other };
+        for _ in 0..ahead {
+            file.push(byte)?;
+        }
     }
     Ok(file)
 }
@@ -43,11 +56,13 @@ fn bad_after(
         for cut in 0..longest / step.max(1) + 2 {
             let len = longest.saturating_sub(cut.saturating_mul(step));
             let other = if cut % 2 == 0 { 0 } else { 0xa5 };
-            let first = spoiled(&a, mask, len, other)?;
-            let second = spoiled(&b, mask, len, other)?;
-            let number = number_in(alloc, &first, &second);
-            if number < kept || all < number {
-                bad = bad.saturating_add(1);
+            for ahead in [0usize, 5, 120] {
+                let first = spoiled(&a, mask, len, other, ahead)?;
+                let second = spoiled(&b, mask, len, other, ahead)?;
+                let number = number_in(alloc, &first, &second);
+                if number < kept || all < number {
+                    bad = bad.saturating_add(1);
+                }
             }
         }
     }
@@ -102,7 +117,7 @@ fn bad_starts(alloc: Global, a: &[u8], b: &[u8]) -> Result<u32, AllocError> {
         return Ok(1);
     }
     let mut bad = 0u32;
-    for count in 4..disk.events.len().saturating_add(1) {
+    for count in 2..disk.events.len().saturating_add(1) {
         bad = bad.saturating_add(bad_after(alloc, &disk, count, 4, 50)?);
     }
     Ok(bad)
@@ -119,9 +134,11 @@ fn a_start_after_each_crash_keeps_what_it_read(rt: HostRuntime) -> Result<(), Fa
             let a = left_of(alloc, events, Slot::A)?;
             let b = left_of(alloc, events, Slot::B)?;
             for mask in 0..4u32 {
-                let first = spoiled(&a, mask, 1000, 0)?;
-                let second = spoiled(&b, mask, 1000, 0)?;
-                bad = bad.saturating_add(bad_starts(alloc, &first, &second)?);
+                for ahead in [0usize, 100] {
+                    let first = spoiled(&a, mask, 1000, 0, ahead)?;
+                    let second = spoiled(&b, mask, 1000, 0, ahead)?;
+                    bad = bad.saturating_add(bad_starts(alloc, &first, &second)?);
+                }
             }
         }
     }

@@ -6,6 +6,7 @@ use std::alloc::{AllocError, Allocator, Global};
 /// What was done with a file.
 #[derive(Drop)]
 pub(crate) enum Done {
+    Found(Vec<u8>),
     Appended(Vec<u8>),
     Synced,
     Emptied,
@@ -52,8 +53,7 @@ impl Memory {
     /// A file has these bytes, which are safe.
     pub(crate) fn found(&mut self, slot: Slot, bytes: &[u8]) -> Result<(), AllocError> {
         let bytes = bytes.to_vec(self.alloc)?;
-        self.note(slot, Done::Appended(bytes));
-        self.note(slot, Done::Synced);
+        self.note(slot, Done::Found(bytes));
         Ok(())
     }
 
@@ -92,7 +92,7 @@ impl Disk for Memory {
             Ok(file) => file,
             Err(AllocError) => return Err(LoadFault::Memory),
         };
-        match file.whole.to_vec(alloc) {
+        match whole_of(alloc, &file) {
             Ok(bytes) => Ok(bytes),
             Err(AllocError) => Err(LoadFault::Memory),
         }
@@ -122,12 +122,23 @@ impl Disk for Memory {
     }
 }
 
-/// A file after some events: its safe bytes, those that a crash may spoil, and what a read returns.
+/// A file after some events: its safe bytes, those that a crash may spoil, and what a read returns before the room.
 #[derive(Drop)]
 pub(crate) struct Left {
     pub safe: Vec<u8>,
     pub loose: Vec<u8>,
     pub whole: Vec<u8>,
+    /// Zero bytes may stand after these.
+    pub room: bool,
+}
+
+/// What a read of a file returns: zero bytes too, where there is room ahead.
+fn whole_of<A: Allocator>(alloc: A, file: &Left) -> Result<Vec<u8, A>, AllocError> {
+    let mut bytes = file.whole.to_vec(alloc)?;
+    if file.room {
+        bytes.extend_from_slice(&[0u8; 100])?;
+    }
+    Ok(bytes)
 }
 
 /// A file after these events.
@@ -136,6 +147,7 @@ pub(crate) fn left_of(alloc: Global, events: &[Event], slot: Slot) -> Result<Lef
         safe: Vec::new(alloc),
         loose: Vec::new(alloc),
         whole: Vec::new(alloc),
+        room: false,
     };
     for event in events {
         if event.slot == slot {
@@ -147,7 +159,16 @@ pub(crate) fn left_of(alloc: Global, events: &[Event], slot: Slot) -> Result<Lef
 
 fn apply(left: &mut Left, done: &Done) -> Result<(), AllocError> {
     match done {
+        Done::Found(bytes) => {
+            left.safe.clear();
+            left.safe.extend_from_slice(bytes)?;
+            left.loose.clear();
+            left.whole.clear();
+            left.whole.extend_from_slice(bytes)?;
+            left.room = false;
+        }
         Done::Appended(bytes) => {
+            left.room = true;
             left.loose.extend_from_slice(bytes)?;
             left.whole.extend_from_slice(bytes)?;
         }
@@ -161,6 +182,7 @@ fn apply(left: &mut Left, done: &Done) -> Result<(), AllocError> {
             left.loose.extend_from_slice(&was)?;
             left.safe.clear();
             left.whole.clear();
+            left.room = false;
         }
     }
     Ok(())

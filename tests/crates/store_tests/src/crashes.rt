@@ -41,8 +41,10 @@ fn bad_after(
         for cut in 0..longest / step.max(1) + 2 {
             let len = longest.saturating_sub(cut.saturating_mul(step));
             let other = if cut % 2 == 0 { 0 } else { 0xa5 };
-            let first = spoiled(&a, mask, len, other)?;
-            let second = spoiled(&b, mask, len, other)?;
+            // none of the room ahead, or some of it
+            let ahead = [0usize, 5, 120][(cut % 3) as usize];
+            let first = spoiled(&a, mask, len, other, ahead)?;
+            let second = spoiled(&b, mask, len, other, ahead)?;
             if !turns.fits(alloc, &first, &second, kept, all)? {
                 bad = bad.saturating_add(1);
             }

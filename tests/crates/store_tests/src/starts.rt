@@ -49,15 +49,15 @@ fn bad_starts(alloc: Global, turns: &Turns, a: &[u8], b: &[u8]) -> Result<u32, A
         return Ok(1);
     }
     let mut bad = 0u32;
-    for count in 4..disk.events.len().saturating_add(1) {
+    for count in 2..disk.events.len().saturating_add(1) {
         let Some(events) = disk.events.get(..count) else {
             return Ok(1);
         };
         let first = left_of(alloc, events, Slot::A)?;
         let second = left_of(alloc, events, Slot::B)?;
         for mask in [0, 5, 63] {
-            let a = spoiled(&first, mask, 100_000, 0xa5)?;
-            let b = spoiled(&second, mask, 100_000, 0xa5)?;
+            let a = spoiled(&first, mask, 100_000, 0xa5, 50)?;
+            let b = spoiled(&second, mask, 100_000, 0xa5, 50)?;
             if !turns.has_last(alloc, &a, &b)? {
                 bad = bad.saturating_add(1);
             }

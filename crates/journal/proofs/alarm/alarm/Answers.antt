@@ -2,7 +2,7 @@ use Rattle.std.proofs.Common.{◌*◌, inl, inr, ℕ, drop, sym, subst, arith}
 use Rattle.std.proofs.lemmas.Bool.{cases_eq, cases_lt}
 use Rattle.journal.specs.Frames.{Bytes}
 use Rattle.journal.specs.Files.{AlarmAt}
-use Rattle.journal.proofs.Standing.{no_head_past}
+use Rattle.journal.proofs.Zeros.{no_alarm_past}
 use Rattle.journal.proofs.alarm.alarm.Goals as goal
 
 pub loop-place-preserved : goal.loop-place-preserved
@@ -14,5 +14,5 @@ loop-place-preserved c k below unknown alarm = elim (cases_eq k c.loop-place.pla
 pub returns : goal.returns
 returns c unknown a = elim (cases_lt a.place c.loop-place.place) [
   | inl less ↦ c.loop-place.invariant a.place less unknown a.alarm
-  | inr more ↦ no_head_past c.args.key (4 * a.place) c.args.rest.now a.alarm.head (omega (arith, more, c.loop-place-test.false)) a.alarm.at
+  | inr more ↦ no_alarm_past c.args.key c.args.least c.args.count c.before_zeros.result (4 * a.place) unknown c.args.rest.now c.before_zeros.ensures (omega (arith, more, c.loop-place-test.false)) a.alarm
 ]

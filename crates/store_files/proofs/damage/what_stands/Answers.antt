@@ -1,4 +1,5 @@
-use Rattle.std.proofs.Common.{◌≡◌, ◌∙◌, ◌+◌, ◌≤◌, ℕ, Some, None, sym, ap, arith, length}
+use Rattle.std.proofs.Common.{◌≡◌, ◌∙◌, ◌+◌, ◌≤◌, ℕ, Some, None, sym, ap, subst, arith, length}
+use Rattle.journal.specs.Disk.{IsBeforeZeros}
 use Rattle.journal.specs.Frames.{Bytes, lent, frame_at}
 use Rattle.journal.specs.Files.{generation_in, generation_at}
 use Rattle.store_files.specs.Standings.{version_in}
@@ -38,5 +39,6 @@ returns c =
       has = done.has;
       frames_are = e.stays ∙ done.count;
       rest_is = same;
+      torn_is = subst (λ (b : Bytes). IsBeforeZeros b c.before_zeros.result) e.takes.1 c.before_zeros.ensures;
       few = omega (arith, same, i.few);
     }
