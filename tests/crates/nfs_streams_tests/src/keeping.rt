@@ -1,5 +1,5 @@
 //! What is done between a read and the replies: the trail is kept after each record, a book that came with the read counts, and a peer that
-//! never reads gets one piece in.
+//! never reads gets 4,096 bytes of replies and one piece in.
 
 use crate::memory::{Memory, Time};
 use crate::peers::{Script, script_of};
@@ -52,13 +52,14 @@ fn deaf(alloc: Global, hasher: RandomState, piece: usize) -> Result<(usize, u64)
     ))
 }
 
-/// Of 65,536 bytes that are read of a peer that never reads 4,096 are given: 37 calls of 108 bytes, and a part of one.
+/// Of 4,096 bytes that are read of a peer that never reads all are given: 37 calls of 108 bytes, and a part of one. Of 65,536 bytes 57 calls are given
+/// until more than 4,096 bytes wait, since a reply has 72; and then what is left of the piece that began with the last of them: 36 calls and a part of one.
 #[test]
 fn one_piece_is_given_while_replies_wait(rt: HostRuntime) -> Result<(), Fail> {
     let hasher = RandomState::new(&rt)?;
     assert_eq!(rt; deaf(rt.alloc(), hasher, 4096)?, (4096, 38));
-    assert_eq!(rt; deaf(rt.alloc(), hasher, 65_536)?, (65_536, 38));
-    assert_eq!(rt; deaf(rt.alloc(), hasher, 70_000)?, (65_536, 38));
+    assert_eq!(rt; deaf(rt.alloc(), hasher, 65_536)?, (65_536, 94));
+    assert_eq!(rt; deaf(rt.alloc(), hasher, 70_000)?, (65_536, 94));
     Ok(())
 }
 
