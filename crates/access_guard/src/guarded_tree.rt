@@ -1,9 +1,9 @@
 //! A tree beside its guard, and the book.
-ghost use Rattle.std.specs.Prelude.{◌≡◌, ◌≢◌, ◌+◌, ◌<◌, ◌≤◌, ◌^◌, [], ◌++◌, length, drop, if◌then◌else◌, MatchOption, OnOk, OnErr, IfOk, IsOk, IsOkUnless, IfSome, IsSome, IsTrue, Some, true, false};
+ghost use Rattle.std.specs.Prelude.{◌≡◌, ◌≢◌, ◌+◌, ◌<◌, ◌≤◌, ◌^◌, ◌==◌, ℕ, [], ◌++◌, find, length, drop, if◌then◌else◌, MatchOption, OnOk, OnErr, IfOk, IsOk, IsOkUnless, IfSome, IsSome, IsTrue, Some, true, false};
 ghost use Rattle.std.specs.Option.{option_copied};
 ghost use Rattle.std.specs.NonZero.{non_zero_usize_get};
 ghost use Rattle.acl_shape.specs.Bounds.{IsBounded};
-ghost use Rattle.node_tree.specs.World.{object, kind_of, bytes_of, bytes_at, child_named, name_after, has_entries, link_count, name_count, parent_of, is_one};
+ghost use Rattle.node_tree.specs.World.{Name, object, kind_of, bytes_of, bytes_at, child_named, name_after, has_entries, link_count, name_count, parent_of, is_one};
 ghost use Rattle.node_tree.specs.Changes.{made, with_new, with_link, unlinked, renamed, with_write, with_size, with_list, with_owner};
 ghost use Rattle.node_tree.specs.Refusals.{add_refusal, link_refusal, unlink_refusal, is_below, may_replace, may_move, write_refusal, resize_refusal};
 ghost use Rattle.node_tree.specs.Sound.{IsSound, IsTick, IsNextName, most_bytes};
@@ -249,6 +249,14 @@ impl<A: Allocator + Copy> GuardedTree<A> {
         ensures next { IfSome (option_copied result) (IsNextName self.now.world directory cookie) }
     {
         self.tree.list_after(directory, cookie)
+    }
+
+    /// As [`Tree::name_of`].
+    pub fn name_of(&self, cookie: u64) -> Option<&DirEntry<A>>
+        ensures value { option_copied result ≡ find (λ n. n.cookie == cookie) self.now.world.names }
+        ensures again { (directory last : ℕ) (n : Name) → name_after self.now.world directory last ≡ Some n → n.cookie ≡ cookie → option_copied result ≡ Some n }
+    {
+        self.tree.name_of(cookie)
     }
 
     /// As [`Tree::is_below`].

@@ -1,6 +1,6 @@
 -- The entries of a directory, one by one.
 use Rattle.std.proofs.Common.{◌≡◌, ℕ, ◌+◌, ◌<◌, ◌≤◌, ◌^◌, Bool, true, false, ◌&&◌, cond, zero, suc, inl, inr, length, append-nil, refl, ap, sym, ◌∙◌, subst, List, nat_lt, arith}
-use Rattle.std.specs.Prelude.{[], ◌∷◌, ◌==◌, Option, Some, None, Result, Ok, Err, find, filter, map, take, bit_and, if◌then◌else◌}
+use Rattle.std.specs.Prelude.{[], ◌∷◌, ◌==◌, Option, Some, None, IsSome, Result, Ok, Err, find, filter, map, take, bit_and, if◌then◌else◌}
 use Rattle.std.specs.Option.{option_map, option_map_or}
 use Rattle.std.proofs.lemmas.Bool.Decides.{nat_tests, Decides-eqb}
 use Rattle.rpc_record.specs.Identity.{Identity}
@@ -48,10 +48,9 @@ use Rattle.compound_run.specs.Asking.{sight_of}
 use Rattle.compound_run.specs.Questions.{all_granted, demand_lines}
 use Rattle.compound_run.specs.Runs.{spelled, waits}
 use Rattle.compound_run.specs.Views.{GivesSo, context_at, holding}
-use Rattle.compound_run.specs.Listed.{IsNext, PutsEntry, refused_of, written_entry}
-use Rattle.compound_run.specs.Says.{Says}
+use Rattle.compound_run.specs.Listed.{IsNext, IsNextOf, PutsEntry, refused_of, written_entry}
+use Rattle.compound_run.specs.Says.{Tells}
 use Rattle.compound_run.proofs.Behind.{row_refuses_always}
-use Rattle.compound_run.proofs.Saying.{same_values}
 
 -- ---- the next entry is the first of those above the cookie
 
@@ -213,6 +212,12 @@ module _ (lists : Lists) (caller : Identity) (child : Object) (asked : List ℕ)
   refused_so : (d : Demand) → r ≡ Some d → r ≡ first_refused lists caller (entry_demands asked (Some child)) → judgment lists caller asked child.number (Some d) ≡ judgment_of lists caller asked child.number (Some child)
   refused_so d some first = ap (judgment lists caller asked child.number) (sym some ∙ first)
 
+-- where both rights are granted no demand is refused, whatever is requested
+pub judged_free : (lists : Lists) (caller : Identity) (child : Object) (asked : List ℕ) (a l : Bool) → a ≡ (bit_and READ_ATTRIBUTES (granted_at lists caller child.number) == READ_ATTRIBUTES)
+    → l ≡ (bit_and READ_ACL (granted_at lists caller child.number) == READ_ACL) → a ≡ true → l ≡ true → Ok (statuses.Ok, asked) ≡ judgment_of lists caller asked child.number (Some child)
+judged_free lists caller child asked a l attributes list has_a has_l =
+    judged_all lists caller child asked true true (entry_demands asked (Some child)) None (sym has_a ∙ attributes) (sym has_l ∙ list) refl refl refl
+
 module _ (lists : Lists) (caller : Identity) (child : Object) (asked : List ℕ) (a l : Bool) (demands : Demands) (r : Option Demand) (d : Demand) where
   pub judged_refused : a ≡ (bit_and READ_ATTRIBUTES (granted_at lists caller child.number) == READ_ATTRIBUTES) → l ≡ (bit_and READ_ACL (granted_at lists caller child.number) == READ_ACL)
       → demands ≡ entry_demands asked (Some child) → r ≡ refused_of a l demands → r ≡ Some d → has_number asked 11 ≡ false
@@ -286,19 +291,40 @@ what_refuses c v directory s d h =
 
 -- ---- the bytes that the code writes
 
--- the facts of the entry's object are those of its attributes
-pub next_put : (c : Context) (s : Sight) (m n : Name) (number : ℕ) (error : Status) (set : List ℕ) (f : ObjectFacts) (old new : Buffer) (result : Result (Unit {0}) Full) → m ≡ n → number ≡ m.child
-    → Says s number error f → PutsEntry (written_entry c.book f m set) old new result → PutsEntry (entry_of c s n error set) old new result
-next_put c s m n number error set f old new result same child says puts =
+-- the facts of the entry's object are those of the attributes requested
+pub next_told : (c : Context) (s : Sight) (m n : Name) (number : ℕ) (error : Status) (set : List ℕ) (f : ObjectFacts) (old new : Buffer) (result : Result (Unit {0}) Full) → m ≡ n → number ≡ m.child
+    → Tells s number error set f → PutsEntry (written_entry c.book f m set) old new result → PutsEntry (entry_of c s n error set) old new result
+next_told c s m n number error set f old new result same child tells puts =
     subst (λ (x : Name). PutsEntry (entry_of c s x error set) old new result) same
-    (subst (λ (values : List ℕ). PutsEntry (m.cookie, (m.name, (given_set set, values))) old new result) (same_values c.book s m.child error f set (subst (λ (k : ℕ). Says s k error f) child says)) puts)
+    (subst (λ (values : List ℕ). PutsEntry (m.cookie, (m.name, (given_set set, values))) old new result) (subst (λ (k : ℕ). Tells s k error set f) child tells c.book) puts)
 
-numbered : (s : Sight) (n : ℕ) (o : Object) → object_of s (Some n) ≡ Some o → o.number ≡ n
+-- an object that is there, by its number
+pub object_there : (s : Sight) (number : ℕ) → IsSome (s.kinds number) → (child : Object) × (object_of s (Some number) ≡ Some child)
+object_there s number some = of (s.kinds number) refl some
+  where
+    of : (k : Option Kind) → s.kinds number ≡ k → IsSome k → (child : Object) × (object_of s (Some number) ≡ Some child)
+    of None is some = cc
+    of (Some kind) is some = (record { number = number; kind = kind }, ap (option_map (λ (kind : Kind). let o : Object = record { number = number; kind = kind } in o)) is)
+
+pub numbered : (s : Sight) (n : ℕ) (o : Object) → object_of s (Some n) ≡ Some o → o.number ≡ n
 numbered s n o is = of (s.kinds n) is
   where
     of : (k : Option Kind) → option_map (λ kind. record { number = n; kind = kind }) k ≡ Some o → o.number ≡ n
     of None is = cc
     of (Some kind) is = let same : record { number = n; kind = kind } ≡ o = cc in sym (ap (λ (x : Object). x.number) same)
+
+-- in a sound world the names above it are those that are left
+pub entry_is_next : {A : Type 0} (e : realms.Realm A) (directory cookie next number : ℕ) (n : IsNextOf (sight_of e) directory cookie (name_after e.tree.world directory cookie) next number) → IsSound e.tree.world
+    → IsNext (sight_of e) directory cookie (name_after e.tree.world directory cookie) next n.child
+entry_is_next e directory cookie next number n sound =
+    let s = sight_of e in
+    let w = e.tree.world in record {
+      name = n.name;
+      is = n.is;
+      by = n.by;
+      object = subst (λ (k : ℕ). object_of s (Some k) ≡ Some n.child) n.numbered n.there;
+      above = subst (λ (x : ℕ). names_above s directory cookie ≡ n.name ∷ names_above s directory x) (sym n.by) (next_above directory cookie 3 w.next_cookie w.names n.name sound.listed n.is);
+    }
 
 -- the next entry is the first of those that are left, as it is judged
 pub next_judged : (c : Context) (asked : List ℕ) (s : Sight) (directory cookie : ℕ) (found : Option Name) (next : ℕ) (child : Object) (j : Result (Status × List ℕ) Demand) (is : IsNext s directory cookie found next child)
@@ -308,6 +334,14 @@ next_judged c asked s directory cookie found next child j is judged =
     let so : j ≡ judgment_of s.lists c.caller asked is.name.child (object_of s (Some is.name.child)) =
     judged ∙ (λ i. judgment_of s.lists c.caller asked (number i) (sym is.object i)) in
     ap (map (judged_entry c asked s)) is.above ∙ ap (λ x. entry_by c s is.name x ∷ judged_above c asked directory next s) (sym so)
+
+-- the same of an entry by the number of its object, in a sound world
+pub next_entry_judged : {A : Type 0} (e : realms.Realm A) (c : code.Context) (asked : List ℕ) (directory cookie next number : ℕ) (n : IsNextOf (sight_of e) directory cookie (name_after e.tree.world directory cookie) next number)
+    (j : Result (Status × List ℕ) Demand) → IsSound e.tree.world → j ≡ judgment_of (sight_of e).lists (context_at e c).caller asked n.child.number (Some n.child)
+    → judged_above (context_at e c) asked directory cookie (sight_of e) ≡ entry_by (context_at e c) (sight_of e) n.name j ∷ judged_above (context_at e c) asked directory next (sight_of e)
+unfolding entry_is_next
+next_entry_judged e c asked directory cookie next number n j sound judged =
+    next_judged (context_at e c) asked (sight_of e) directory cookie (name_after e.tree.world directory cookie) next n.child j (entry_is_next e directory cookie next number n sound) judged
 
 -- judging doesn't change the attributes of an entry
 pub moved_entry : {A : Type 0} (c : code.Context) (old new : realms.Realm A) (n : Name) (error : Status) (set : List ℕ) (P : Value entry → Type 0) → new ≡ old

@@ -1,5 +1,5 @@
 -- The facts of an object are those of its attributes.
-use Rattle.std.proofs.Common.{◌≡◌, ℕ, ◌≤◌, List, false, cond, refl, sym, ap, ◌∙◌, length}
+use Rattle.std.proofs.Common.{◌≡◌, ℕ, ◌≤◌, List, Bool, true, false, cond, refl, sym, ap, ◌∙◌, length}
 use Rattle.std.specs.Prelude.{[], ◌∷◌, ◌++◌, map, take, unwrap_or, bit_or, Option, Some}
 use Rattle.std.specs.Option.{option_map, option_map_or}
 use Rattle.std.proofs.lemmas.List.{take_all}
@@ -30,7 +30,7 @@ use Rattle.node_tree.specs.Judged.{judged}
 use Rattle.compound_run.specs.Realm.{Realm}
 use Rattle.compound_run.specs.Sight.{Sight, whole, details_of}
 use Rattle.compound_run.specs.Values.{facts_at, links_at, unseen}
-use Rattle.compound_run.specs.Says.{Says}
+use Rattle.compound_run.specs.Says.{Says, Tells}
 
 same_list : (book : Content) (entries others : List Entry) (p : Part) → entries ≡ others → (0, map (ace_of book) (part_of p entries)) ≡ (let told : Value acl41 = (0, map (ace_of book) (part_of p others)) in told)
 same_list book entries others p same = λ i. (0, map (ace_of book) (part_of p (same i)))
@@ -98,3 +98,69 @@ says_of r n e o f there few kind number change size error entries mode links own
   metadata = metadata ∙ ap (λ (x : Option Object). (unwrap_or (option_map details_of x) unseen).time_metadata) (sym there);
   modify = modify ∙ ap (λ (x : Option Object). (unwrap_or (option_map details_of x) unseen).time_modify) (sym there);
 }
+
+-- ---- the facts for the attributes that are requested
+
+only_asked : (asked : List ℕ) (number : ℕ) (x y : List ℕ) → (has_number asked number ≡ true → x ≡ y) → cond (has_number asked number) x [] ≡ cond (has_number asked number) y []
+only_asked asked number x y same = of (has_number asked number) same
+  where
+    of : (b : Bool) → (b ≡ true → x ≡ y) → cond b x [] ≡ cond b y []
+    of true same = same refl
+    of false same = refl
+
+-- a mode and a number of links that aren't requested make no difference
+module _ (book : Content) (f : ObjectFacts) (mode links : ℕ) (asked : List ℕ) (modes : has_number asked 33 ≡ true → f.mode ≡ mode) (linked : has_number asked 35 ≡ true → f.links ≡ links) where
+  abbrev with_both : ObjectFacts
+  with_both = record f { mode = mode; links = links }
+
+  asked_part : (a : Attribute) → part book f asked a ≡ part book with_both asked a
+  asked_part SupportedAttrs = refl
+  asked_part ObjectType = refl
+  asked_part FhExpireType = refl
+  asked_part Change = refl
+  asked_part Size = refl
+  asked_part LinkSupport = refl
+  asked_part SymlinkSupport = refl
+  asked_part NamedAttr = refl
+  asked_part Fsid = refl
+  asked_part UniqueHandles = refl
+  asked_part LeaseTime = refl
+  asked_part RdattrError = refl
+  asked_part Acl = refl
+  asked_part AclSupport = refl
+  asked_part FileHandle = refl
+  asked_part FileId = refl
+  asked_part MaxFileSize = refl
+  asked_part MaxName = refl
+  asked_part MaxRead = refl
+  asked_part MaxWrite = refl
+  asked_part Mode = only_asked asked 33 _ _ (λ is. ap (spelling (form_of Mode)) (modes is))
+  asked_part NumLinks = only_asked asked 35 _ _ (λ is. ap (spelling (form_of NumLinks)) (linked is))
+  asked_part Owner = refl
+  asked_part OwnerGroup = refl
+  asked_part TimeMetadata = refl
+  asked_part TimeModify = refl
+  asked_part MountedOnFileId = refl
+  asked_part Dacl = refl
+  asked_part Sacl = refl
+  asked_part SuppattrExclcreat = refl
+
+  asked_parts : (some : List Attribute) → flat_map (part book f asked) some ≡ flat_map (part book with_both asked) some
+  asked_parts [] = refl
+  asked_parts (a ∷ some) = λ i. asked_part a i ++ asked_parts some i
+
+  asked_values : given_values book f asked ≡ given_values book with_both asked
+  unfolding given_values
+  asked_values = asked_parts all
+
+-- the facts that the code gives for these attributes of an object that is there
+pub tells_of : (r : Realm) (n : ℕ) (e : Status) (o : Object) (f : ObjectFacts) (asked : List ℕ) → object r.world n ≡ Some o → length o.list ≤ 64
+    → f.kind ≡ o.kind → f.number ≡ n → f.change ≡ o.change → f.size ≡ cond (is_directory o.kind) 0 (length o.bytes) → f.error ≡ e → f.entries.now ≡ o.list
+    → (has_number asked 33 ≡ true → f.mode ≡ bit_or o.high (mode_of o.list)) → (has_number asked 35 ≡ true → f.links ≡ links_at (whole r) n)
+    → f.owner ≡ o.owner → f.group ≡ o.group → f.metadata ≡ o.time_metadata → f.modify ≡ o.time_modify → Tells (whole r) n e asked f
+tells_of r n e o f asked there few kind number change size error entries modes linked owner group metadata modify book =
+    let mode = bit_or o.high (mode_of o.list) in
+    let links = links_at (whole r) n in
+    let all : ObjectFacts = record f { mode = mode; links = links } in
+    asked_values book f mode links asked modes linked
+    ∙ same_values book (whole r) n e all asked (says_of r n e o all there few kind number change size error entries refl refl owner group metadata modify)

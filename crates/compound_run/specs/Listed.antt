@@ -11,7 +11,7 @@ use Rattle.nfs_ops.specs.Forms.{entry}
 use Rattle.nfs_ops.specs.Listing.{linked_bytes, IsSendable}
 use Rattle.nfs_types.specs.declared.bitmap.Bitmap.{Bitmap}
 use Rattle.nfs_types.specs.declared.status.Status.{Status}
-use Rattle.node_tree.specs.World.{Name}
+use Rattle.node_tree.specs.World.{World, Name, name_after}
 use Rattle.access_rows.specs.Rows.{Demands}
 use Rattle.access_rows.specs.declared.demand.Demand.{Demand}
 use Rattle.access_rows.specs.declared.facts.Object.{Object}
@@ -37,6 +37,23 @@ pub record IsNext (s : Sight) (directory cookie : ℕ) (found : Option Name) (ne
   pub by : next ≡ name.cookie
   pub object : object_of s (Some name.child) ≡ Some child
   pub above : names_above s directory cookie ≡ name ∷ names_above s directory next
+
+-- the next entry of a directory above a cookie, if there is one: its own cookie, and the number of its object
+pub record IsNextOf (s : Sight) (directory cookie : ℕ) (found : Option Name) (next number : ℕ) : Type 0 where
+  pub name : Name
+  pub is : found ≡ Some name
+  pub by : next ≡ name.cookie
+  pub numbered : number ≡ name.child
+  pub child : Object
+  pub there : object_of s (Some number) ≡ Some child
+
+-- the cookie is that of a name in a directory
+pub record IsEntry (w : World) (cookie : ℕ) : Type 0 where
+  pub directory : ℕ
+  pub last : ℕ
+  pub name : Name
+  pub listed : name_after w directory last ≡ Some name
+  pub by : name.cookie ≡ cookie
 
 -- an entry that is written with the facts of its object
 abbrev pub written_entry : Content → ObjectFacts → Name → List ℕ → Value entry

@@ -1,6 +1,7 @@
 -- The facts of an object by its attributes, and the bytes that the code writes of them.
 use Rattle.std.specs.Prelude.{◌≡◌, ◌≤◌, ℕ, ◌+◌, true, false, nat_le, List, length, Result, Ok, Err}
 use Rattle.xdr_wire.specs.Buffer.{Buffer, Appends}
+use Rattle.who_book.specs.Content.{Content}
 use Rattle.nfs_types.specs.declared.facts.ObjectFacts.{ObjectFacts}
 use Rattle.nfs_types.specs.declared.given.GivenAttributes.{GivenAttributes}
 use Rattle.nfs_types.specs.declared.status.Status.{Status}
@@ -9,7 +10,7 @@ use Rattle.nfs_types.specs.Views.{bitmap_value}
 use Rattle.nfs_ops.specs.declared.op_kind.OpKind.TheVariants as kinds
 use Rattle.nfs_ops.specs.Results.{Outcome, Done, most}
 use Rattle.compound_run.specs.Sight.{Sight}
-use Rattle.compound_run.specs.Values.{facts_at}
+use Rattle.compound_run.specs.Values.{facts_at, values_at}
 use Rattle.compound_run.specs.Runs.{spelled}
 
 -- each of the facts is the object's, as it is seen
@@ -26,6 +27,10 @@ pub record Says (s : Sight) (n : ℕ) (e : Status) (f : ObjectFacts) : Type 0 wh
   pub group : f.group ≡ (facts_at s n e).group
   pub metadata : f.metadata ≡ (facts_at s n e).metadata
   pub modify : f.modify ≡ (facts_at s n e).modify
+
+-- the attributes requested have the values that they have by the object's facts
+abbrev pub Tells : Sight → ℕ → Status → List ℕ → ObjectFacts → Type 0
+Tells s n e asked f = (book : Content) → given_values book f asked ≡ values_at book s n e asked
 
 -- the values of the returned attributes
 abbrev pub values_given : GivenAttributes → List ℕ

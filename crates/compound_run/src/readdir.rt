@@ -1,15 +1,19 @@
 //! READDIR (RFC 8881, section 18.23).
-ghost use Rattle.std.specs.Prelude.{◌≡◌, ◌≤◌, ◌==◌, [], length, bit_and, Some, None, Err, IfErr, IfSome, IsSome, OnOk};
+ghost use Rattle.std.specs.Prelude.{◌≡◌, ◌≤◌, ◌==◌, ℕ, [], length, bit_and, Some, None, Err, IfErr, IfSome, IsSome, OnOk};
 ghost use Rattle.nfs_types.specs.Views.{bitmap_value};
 ghost use Rattle.nfs_ops.specs.ListingSteps.{Lists};
 ghost use Rattle.nfs_ops.specs.Views.{readdir_args_value};
 ghost use Rattle.node_tree.specs.World.{Name, name_after};
 ghost use Rattle.node_tree.specs.Judged.{judged_of};
+ghost use Rattle.node_tree.specs.Sound.{IsSound};
 ghost use Rattle.compound_run.specs.Asking.{sight_of};
 ghost use Rattle.compound_run.specs.Readdir as specs;
 ghost use Rattle.compound_run.specs.Readdir.{readdir, listing_of};
-ghost use Rattle.compound_run.specs.Rows.{MAX_FIRST_LINES};
-ghost use Rattle.compound_run.specs.Listed.{IsNext, PutsEntry, given_view, refused_of, written_entry};
+ghost use Rattle.compound_run.specs.Rows.{MAX_FIRST_LINES, object_of};
+ghost use Rattle.access_guard.specs.Lists as access;
+ghost use Rattle.acl_list.specs.declared.mask.TheConstants.{READ_ATTRIBUTES, READ_ACL};
+ghost use Rattle.rpc_record.specs.Identity.{Identity};
+ghost use Rattle.compound_run.specs.Listed.{IsEntry, IsNextOf, PutsEntry, given_view, refused_of, written_entry};
 ghost use Rattle.compound_run.specs.Views.{context_at, Gives, HasRoom};
 ghost use Rattle.who_book.specs.Members.{member};
 
@@ -56,6 +60,27 @@ fn first_refused(demands: &[Option<Demand>], attributes: bool, list: bool) -> Op
     None
 }
 
+/// The attributes of an entry's object, with rdattr_error, or the demand that refuses the entry,
+/// where READ_ATTRIBUTES and READ_ACL are granted, each or not.
+fn judge_by(
+    attributes: bool,
+    list: bool,
+    child: Object,
+    asked: &Bitmap,
+) -> Result<(Status, Bitmap), Demand>
+    ensures { (lists : access.Lists) (caller : Identity) → attributes ≡ (bit_and READ_ATTRIBUTES (access.granted_at lists caller child.number) == READ_ATTRIBUTES) → list ≡ (bit_and READ_ACL (access.granted_at lists caller child.number) == READ_ACL) → given_view result ≡ specs.judgment_of lists caller (bitmap_value asked.now) child.number (Some child) }
+{
+    let demands = entry_demands(asked, Some(child));
+    let Some(demand) = first_refused(&demands, attributes, list) else {
+        return Ok((Status::Ok, *asked));
+    };
+    if !asked.has(RDATTR_ERROR) {
+        return Err(demand);
+    }
+    let given = asked.common(&granted_attributes(attributes, list));
+    Ok((Status::Access, given))
+}
+
 /// Writes an entry after its link, with these attributes of its object. `Full` exactly where there
 /// is no room; then nothing is written.
 fn put_entry<'t, A: Allocator, B: Allocator>(
@@ -79,67 +104,62 @@ fn put_entry<'t, A: Allocator, B: Allocator>(
 }
 
 impl<A: Allocator + Copy> Realm<A> {
-    /// The next entry of a directory above a cookie: its cookie and its object. `None`: there is none.
-    fn next_child(&self, directory: u64, cookie: u64) -> Option<(u64, Object)>
+    /// The next entry of a directory above a cookie: its cookie, and the number of its object. `None`:
+    /// there is none. The object isn't looked up.
+    fn next_entry(&self, directory: u64, cookie: u64) -> Option<(u64, u64)>
         ensures none { result ≡ None → specs.names_above (sight_of self.now) directory cookie ≡ [] }
-        ensures some { IfSome result (λ next. IsNext (sight_of self.now) directory cookie (name_after self.now.tree.world directory cookie) next.0 next.1) }
+        ensures some { IfSome result (λ next. IsNextOf (sight_of self.now) directory cookie (name_after self.now.tree.world directory cookie) next.0 next.1) }
     {
         let name = self.tree.list_after(directory, cookie)?;
-        let number = name.child();
-        let Some(node) = self.tree.object(number) else {
-            unreachable!();
-        };
-        let object = Object {
-            number,
-            kind: node.kind(),
-        };
-        Some((name.cookie(), object))
+        Some((name.cookie(), name.child()))
     }
 
     /// The attributes of an entry's object, with rdattr_error, or the demand that refuses the
-    /// entry. The grants of its list are looked up once.
-    fn judge(
+    /// entry. The grants of its list are looked up once. Where they have both rights, that is all:
+    /// no demand is refused then, whatever is requested.
+    fn judge_child(
         &mut self,
         caller: &Caller,
-        child: Object,
+        number: u64,
         asked: &Bitmap,
     ) -> Result<(Status, Bitmap), Demand>
-        ensures judged { given_view result ≡ specs.judgment_of (judged_of self.old.tree.world) (member self.old.tree.book caller.now) (bitmap_value asked.now) child.number (Some child) }
+        requires there { IsSome (object_of (sight_of self.old) (Some number)) }
+        ensures judged { (child : Object) → object_of (sight_of self.old) (Some number) ≡ Some child → given_view result ≡ specs.judgment_of (judged_of self.old.tree.world) (member self.old.tree.book caller.now) (bitmap_value asked.now) child.number (Some child) }
         ensures state { self.new ≡ self.old }
+        ensures sound { IfErr result (λ refused. IsSound self.old.tree.world) }
     {
-        let granted = self.tree.grants(child.number, caller);
+        let granted = self.tree.grants(number, caller);
         let attributes = has_all(granted, mask::READ_ATTRIBUTES);
         let list = has_all(granted, mask::READ_ACL);
-        let demands = entry_demands(asked, Some(child));
-        let Some(demand) = first_refused(&demands, attributes, list) else {
+        if attributes && list {
             return Ok((Status::Ok, *asked));
-        };
-        if !asked.has(RDATTR_ERROR) {
-            return Err(demand);
         }
-        let given = asked.common(&granted_attributes(attributes, list));
-        Ok((Status::Access, given))
+        let Some(node) = self.tree.object(number) else {
+            unreachable!();
+        };
+        let kind = node.kind();
+        judge_by(attributes, list, Object { number, kind }, asked)
     }
 
-    /// Writes the next entry of a directory above a cookie after its link, with these attributes of
-    /// its object and this status as rdattr_error. `Full` exactly where there is no room; then
-    /// nothing is written.
-    fn put_next<B: Allocator>(
+    /// Writes an entry of a directory after its link, by its cookie, with these attributes of its
+    /// object and this status as rdattr_error. `Full` exactly where there is no room; then nothing
+    /// is written.
+    fn put_child<B: Allocator>(
         &self,
         context: Context<'_>,
-        directory: u64,
         cookie: u64,
         given: (Status, Bitmap),
         out: &mut Writer<B>,
     ) -> Result<(), Full>
-        requires there { IsSome (name_after self.now.tree.world directory cookie) }
-        ensures { (n : Name) → name_after self.now.tree.world directory cookie ≡ Some n → PutsEntry (specs.entry_of (context_at self.now context.entry) (sight_of self.now) n given.0 (bitmap_value given.1)) out.old out.new result }
+        requires there { IsEntry self.now.tree.world cookie }
+        ensures puts { (directory last : ℕ) (n : Name) → name_after self.now.tree.world directory last ≡ Some n → n.cookie ≡ cookie → PutsEntry (specs.entry_of (context_at self.now context.entry) (sight_of self.now) n given.0 (bitmap_value given.1)) out.old out.new result }
+        ensures sound { IsSound self.now.tree.world }
     {
-        let Some(name) = self.tree.list_after(directory, cookie) else {
+        let Some(name) = self.tree.name_of(cookie) else {
             unreachable!();
         };
         let (error, asked) = given;
-        let Some(facts) = self.facts(name.child(), error) else {
+        let Some(facts) = self.facts_for(name.child(), error, &asked) else {
             unreachable!();
         };
         put_entry(self.tree.book(), &facts, asked, name, out)
@@ -173,19 +193,16 @@ impl<A: Allocator + Copy> Entries for Children<'_, A> {
     ghost kept = { λ c. (c.realm.ghost_name, c.realm.now) };
 
     fn write_next<B: Allocator>(&mut self, writer: &mut Writer<B>) -> Next<Demand> {
-        let next = self.realm.next_child(self.directory, self.cookie);
+        let next = self.realm.next_entry(self.directory, self.cookie);
         let Some((cookie, child)) = next else {
             return Next::End;
         };
-        let given = match self.realm.judge(self.context.caller, child, &self.asked) {
+        let caller = self.context.caller;
+        let given = match self.realm.judge_child(caller, child, &self.asked) {
             Ok(given) => given,
             Err(demand) => return Next::Refused(demand),
         };
-        let (directory, last) = (self.directory, self.cookie);
-        match self
-            .realm
-            .put_next(self.context, directory, last, given, writer)
-        {
+        match self.realm.put_child(self.context, cookie, given, writer) {
             Ok(()) => {
                 self.cookie = cookie;
                 Next::Written

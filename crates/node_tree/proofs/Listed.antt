@@ -247,6 +247,22 @@ grouped_but read k q low high (m ∷ names) n rises is =
 
 -- ---- the list
 
+-- the next name of all, where it lies in the directory, is the next name of the directory
+pub next_beside : (directory c : ℕ) (names : List Name) (n : Name) → find (λ n. nat_lt c n.cookie) names ≡ Some n → n.directory ≡ directory
+    → find (λ n. (n.directory == directory) && nat_lt c n.cookie) names ≡ Some n
+next_beside directory c [] n found here = cc
+next_beside directory c (m ∷ names) n found here =
+    elim (nat_lt c m.cookie) as (λ b. cond b (Some m) (find (λ n. nat_lt c n.cookie) names) ≡ Some n → cond ((m.directory == directory) && b) (Some m) (find (λ n. (n.directory == directory) && nat_lt c n.cookie) names) ≡ Some n) [
+      | true ↦ λ h.
+          let same : m ≡ n = cc in
+          let at : (m.directory == directory) ≡ true = (Decides-eqb m.directory directory).1 (ap (λ (x : Name). x.directory) same ∙ here) in
+          ap (λ b. cond (b && true) (Some m) (find (λ n. (n.directory == directory) && nat_lt c n.cookie) names)) at ∙ h
+      | false ↦ λ h. elim (m.directory == directory) as (λ b. cond (b && false) (Some m) (find (λ n. (n.directory == directory) && nat_lt c n.cookie) names) ≡ Some n) [
+        | true ↦ next_beside directory c names n h here
+        | false ↦ next_beside directory c names n h here
+      ]
+    ] found
+
 pub none_sought : (p : Name → Bool) (names : List Name) → option_map (λ (n : Name). n.cookie) (find p names) ≡ None → find p names ≡ None
 none_sought p names = elim (find p names) as (λ o. option_map (λ (n : Name). n.cookie) o ≡ None → o ≡ None) [ None ↦ λ h. refl | Some n ↦ λ h. cc ]
 

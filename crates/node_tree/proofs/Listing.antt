@@ -1,5 +1,5 @@
 -- The look-ups of names in a sound world.
-use Rattle.std.proofs.Common.{◌≡◌, ℕ, ◌+◌, ◌≤◌, Bool, true, false, ◌&&◌, cond, List, [], ◌∷◌, refl, sym, ◌∙◌, subst, arith, Some, None, inl, inr}
+use Rattle.std.proofs.Common.{◌≡◌, ℕ, ◌+◌, ◌≤◌, Bool, true, false, ◌&&◌, cond, List, [], ◌∷◌, refl, ap, sym, ◌∙◌, subst, arith, Some, None, inl, inr}
 use Rattle.std.specs.Prelude.{Option, IfSome, find, ◌==◌, nat_lt}
 use Rattle.std.specs.Option.{option_map}
 use Rattle.std.proofs.Math.Logic.{⊎_elim}
@@ -8,6 +8,7 @@ use Rattle.acl_list.specs.declared.entry.Kind.TheVariants.{Directory}
 use Rattle.node_tree.specs.World.{World, Name, kind_of, is_directory_at, name_after, parent_of}
 use Rattle.node_tree.specs.Sound.{IsIn, IsSound, Rises, IsNextName}
 use Rattle.node_tree.proofs.Names.{found}
+use Rattle.node_tree.proofs.Listed.{found_by}
 
 -- the first name that passes
 record First (p : Name → Bool) (names : List Name) (n : Name) : Type 0 where
@@ -66,3 +67,9 @@ live_parent w sound number (Some parent) is =
     there false o found_it is = cc
     there true o found_it is = let n = found (λ n. n.directory) (λ n. n.child == number) w.names parent (found_it ∙ is) in
         subst (λ k. kind_of w k ≡ Some Directory) n.leads (sound.rooted.ends n.name n.stands).0
+
+-- the name of the cookie of a name that was listed is that name
+pub listed_again : (w : World) → IsSound w → (directory last : ℕ) (n : Name) → name_after w directory last ≡ Some n → find (λ (m : Name). m.cookie == n.cookie) w.names ≡ Some n
+listed_again w sound directory last n found =
+    let p = λ (n : Name). (n.directory == directory) && nat_lt last n.cookie in
+    found_by p 3 w.next_cookie w.names n.cookie sound.listed (ap (option_map (λ (n : Name). n.cookie)) found) ∙ found

@@ -94,6 +94,13 @@ impl<A: Allocator> NameList<A> {
     pub fn list_after(&self, directory: u64, cookie: u64) -> Option<&DirEntry<A>>
         ensures { option_copied result ≡ find (λ n. (n.directory == directory) && nat_lt cookie n.cookie) self.now }
     {
+        // Names of a directory that were made one after the other also stand so among all: then the
+        // next of all is the next of the directory, and one search finds it.
+        if let Some(next) = self.after(cookie) {
+            if next.directory() == directory {
+                return Some(next);
+            }
+        }
         let Some(next) = cookie_sets::next_after(&self.by_directory, directory, cookie) else {
             return None;
         };

@@ -60,6 +60,13 @@ impl<A: Allocator> NameTable<A> {
         self.list.list_after(directory, cookie)
     }
 
+    /// The name of a cookie.
+    pub fn get(&self, cookie: u64) -> Option<&DirEntry<A>>
+        ensures { option_copied result ≡ find (λ n. n.cookie == cookie) self.now }
+    {
+        self.list.get(cookie)
+    }
+
     /// The next name of all, by rising cookie.
     pub fn after(&self, cookie: u64) -> Option<&DirEntry<A>>
         ensures { option_copied result ≡ find (λ n. nat_lt cookie n.cookie) self.now }

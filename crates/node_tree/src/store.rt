@@ -1,6 +1,6 @@
 //! The storage of a tree: objects in a map by number, names by rising cookie. Its results and changes are right for any
 //! objects and names; [`crate::Tree`] keeps them a tree.
-ghost use Rattle.std.specs.Prelude.{◌≡◌, ◌∷◌, [], ◌+◌, ◌-◌, ◌<◌, ◌≤◌, ◌^◌, ◌&&◌, ◌++◌, ℕ, nat_le, nat_lt, if◌then◌else◌, slice_index, length, drop, filter, not, None, OnOk, OnErr, IfOk, MatchOption, Some, true, false, ◌≢◌};
+ghost use Rattle.std.specs.Prelude.{◌≡◌, ◌∷◌, [], ◌+◌, ◌-◌, ◌<◌, ◌≤◌, ◌^◌, ◌&&◌, ◌++◌, ℕ, nat_le, nat_lt, if◌then◌else◌, slice_index, length, drop, filter, not, None, OnOk, OnErr, IfOk, MatchOption, Some, true, false, ◌≢◌, ◌==◌, find};
 ghost use Rattle.std.specs.Option.{option_copied, option_map_or};
 ghost use Rattle.node_tree.specs.World.{object, kind_of, bytes_at, child_named, name_after, is_named, is_directory_at, has_name, has_entries, name_count, link_count, parent_of};
 ghost use Rattle.std.specs.List.{list_all};
@@ -95,6 +95,13 @@ impl<A: Allocator + Copy> Store<A> {
         ensures { option_copied result ≡ name_after self.now directory cookie }
     {
         self.names.list_after(directory, cookie)
+    }
+
+    /// The name of a cookie, in any directory.
+    pub fn name_of(&self, cookie: u64) -> Option<&DirEntry<A>>
+        ensures { option_copied result ≡ find (λ n. n.cookie == cookie) self.now.names }
+    {
+        self.names.get(cookie)
     }
 
     /// The least number above another one that has an object.

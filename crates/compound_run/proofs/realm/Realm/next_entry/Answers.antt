@@ -1,10 +1,10 @@
 use Rattle.std.proofs.Common.{rules, ◌≡◌, sym, subst, ℕ}
-use Rattle.std.specs.Prelude.{Some, None, ◌∷◌}
-use Rattle.node_tree.specs.World.{Name, name_after}
+use Rattle.std.specs.Prelude.{Some, None, IsSome}
+use Rattle.node_tree.specs.World.{Name, name_after, kind_of}
+use Rattle.node_tree.specs.Sound.{IsNextName}
 use Rattle.compound_run.specs.Asking.{sight_of}
-use Rattle.compound_run.specs.Readdir.{names_above}
-use Rattle.compound_run.proofs.Listing.{none_above, next_above}
-use Rattle.compound_run.proofs.realm.Realm.next_child.Goals as goal
+use Rattle.compound_run.proofs.Listing.{none_above, object_there}
+use Rattle.compound_run.proofs.realm.Realm.next_entry.Goals as goal
 
 pub returns-in_err-name-clause-none : goal.returns-in_err-name-clause-none
 returns-in_err-name-clause-none g c is =
@@ -18,12 +18,14 @@ returns-clause-some g c =
     let s = sight_of c.args.self.now in
     let name : Name = c.in_ok-name.name.now in
     let found : name_after w c.args.directory c.args.cookie ≡ Some name = search rules in
-    let by : c.cookie.result ≡ name.cookie = search rules in
+    let next : IsNextName w c.args.directory c.args.cookie name = c.in_ok-name.ensures.next in
+    let number : c.child.result ≡ name.child = search rules in
+    let child = object_there s c.child.result (subst (λ (k : ℕ). IsSome (kind_of w k)) (sym number) next.child) in
     record {
       name = name;
       is = found;
-      by = by;
-      object = search rules;
-      above = subst (λ (x : ℕ). names_above s c.args.directory c.args.cookie ≡ name ∷ names_above s c.args.directory x) (sym by)
-          (next_above c.args.directory c.args.cookie 3 w.next_cookie w.names name c.object.ensures.sound.listed found);
+      by = search rules;
+      numbered = number;
+      child = child.0;
+      there = child.1;
     }
