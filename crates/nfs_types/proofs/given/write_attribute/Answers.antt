@@ -89,16 +89,16 @@ pub returns-in-NumLinks-clause-puts : goal.returns-in-NumLinks-clause-puts
 returns-in-NumLinks-clause-puts g c = rw c.in-NumLinks.is (c.put_u32-in-NumLinks.ensures)
 
 pub returns-in-Owner-clause-puts : goal.returns-in-Owner-clause-puts
-returns-in-Owner-clause-puts g c = rw c.in-Owner.is (subst (λ (t : List ℕ). Puts c.args.writer.now c.write_text.new.writer (spelling text t) c.write_text.result) c.spell_principal.ensures.text c.write_text.ensures.puts)
+returns-in-Owner-clause-puts g c = rw c.in-Owner.is (c.write_principal.ensures.puts)
 
 pub returns-in-Owner-clause-short : goal.returns-in-Owner-clause-short
-returns-in-Owner-clause-short g c = rw c.in-Owner.is (subst (λ (t : List ℕ). OnOk c.write_text.result (length (spelling text t) ≤ 16384)) c.spell_principal.ensures.text (at_most c.write_text.result _ 200 16384 (omega arith) c.write_text.ensures.short))
+returns-in-Owner-clause-short g c = rw c.in-Owner.is (at_most c.write_principal.result _ 200 16384 (omega arith) c.write_principal.ensures.short)
 
 pub returns-in-OwnerGroup-clause-puts : goal.returns-in-OwnerGroup-clause-puts
-returns-in-OwnerGroup-clause-puts g c = rw c.in-OwnerGroup.is (subst (λ (t : List ℕ). Puts c.args.writer.now c.write_text-in-OwnerGroup.new.writer (spelling text t) c.write_text-in-OwnerGroup.result) c.spell_principal-in-OwnerGroup.ensures.text c.write_text-in-OwnerGroup.ensures.puts)
+returns-in-OwnerGroup-clause-puts g c = rw c.in-OwnerGroup.is (c.write_principal-in-OwnerGroup.ensures.puts)
 
 pub returns-in-OwnerGroup-clause-short : goal.returns-in-OwnerGroup-clause-short
-returns-in-OwnerGroup-clause-short g c = rw c.in-OwnerGroup.is (subst (λ (t : List ℕ). OnOk c.write_text-in-OwnerGroup.result (length (spelling text t) ≤ 16384)) c.spell_principal-in-OwnerGroup.ensures.text (at_most c.write_text-in-OwnerGroup.result _ 200 16384 (omega arith) c.write_text-in-OwnerGroup.ensures.short))
+returns-in-OwnerGroup-clause-short g c = rw c.in-OwnerGroup.is (at_most c.write_principal-in-OwnerGroup.result _ 200 16384 (omega arith) c.write_principal-in-OwnerGroup.ensures.short)
 
 pub returns-in-TimeMetadata-clause-puts : goal.returns-in-TimeMetadata-clause-puts
 returns-in-TimeMetadata-clause-puts g c = rw c.in-TimeMetadata.is (c.write-in-TimeMetadata.ensures.puts)
