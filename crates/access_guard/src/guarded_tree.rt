@@ -251,12 +251,12 @@ impl<A: Allocator + Copy> GuardedTree<A> {
         self.tree.list_after(directory, cookie)
     }
 
-    /// As [`Tree::name_of`].
-    pub fn name_of(&self, cookie: u64) -> Option<&DirEntry<A>>
+    /// As [`Tree::name_by_cookie`].
+    pub fn name_by_cookie(&self, cookie: u64) -> Option<&DirEntry<A>>
         ensures value { option_copied result ≡ find (λ n. n.cookie == cookie) self.now.world.names }
         ensures again { (directory last : ℕ) (n : Name) → name_after self.now.world directory last ≡ Some n → n.cookie ≡ cookie → option_copied result ≡ Some n }
     {
-        self.tree.name_of(cookie)
+        self.tree.name_by_cookie(cookie)
     }
 
     /// As [`Tree::is_below`].

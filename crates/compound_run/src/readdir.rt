@@ -155,7 +155,7 @@ impl<A: Allocator + Copy> Realm<A> {
         ensures puts { (directory last : ℕ) (n : Name) → name_after self.now.tree.world directory last ≡ Some n → n.cookie ≡ cookie → PutsEntry (specs.entry_of (context_at self.now context.entry) (sight_of self.now) n given.0 (bitmap_value given.1)) out.old out.new result }
         ensures sound { IsSound self.now.tree.world }
     {
-        let Some(name) = self.tree.name_of(cookie) else {
+        let Some(name) = self.tree.name_by_cookie(cookie) else {
             unreachable!();
         };
         let (error, asked) = given;

@@ -98,7 +98,7 @@ impl<A: Allocator + Copy> Store<A> {
     }
 
     /// The name of a cookie, in any directory.
-    pub fn name_of(&self, cookie: u64) -> Option<&DirEntry<A>>
+    pub fn name_by_cookie(&self, cookie: u64) -> Option<&DirEntry<A>>
         ensures { option_copied result ≡ find (λ n. n.cookie == cookie) self.now.names }
     {
         self.names.get(cookie)

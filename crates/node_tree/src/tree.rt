@@ -118,11 +118,11 @@ impl<A: Allocator + Copy> Tree<A> {
 
     /// The name of a cookie, in any directory: where [`Tree::list_after`] gave a name of this cookie,
     /// that name again, without a search of the directory. No two names ever have one cookie.
-    pub fn name_of(&self, cookie: u64) -> Option<&DirEntry<A>>
+    pub fn name_by_cookie(&self, cookie: u64) -> Option<&DirEntry<A>>
         ensures value { option_copied result ≡ find (λ n. n.cookie == cookie) self.now.names }
         ensures again { (directory last : ℕ) (n : Name) → name_after self.now directory last ≡ Some n → n.cookie ≡ cookie → option_copied result ≡ Some n }
     {
-        self.store.name_of(cookie)
+        self.store.name_by_cookie(cookie)
     }
 
     /// Whether a child is a directory that another directory is, or lies below. It walks up from that directory.
