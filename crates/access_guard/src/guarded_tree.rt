@@ -1,9 +1,9 @@
 //! A tree beside its guard, and the book.
-ghost use Rattle.std.specs.Prelude.{◌≡◌, ◌≢◌, ◌+◌, ◌<◌, ◌≤◌, ◌^◌, ◌==◌, ℕ, [], ◌++◌, find, length, drop, if◌then◌else◌, MatchOption, OnOk, OnErr, IfOk, IsOk, IsOkUnless, IfSome, IsSome, IsTrue, Some, true, false};
+ghost use Rattle.std.specs.Prelude.{◌≡◌, ◌≢◌, ◌+◌, ◌<◌, ◌≤◌, ◌^◌, ◌==◌, [], ◌++◌, find, length, drop, if◌then◌else◌, MatchOption, OnOk, OnErr, IfOk, IsOk, IsOkUnless, IfSome, IsSome, IsTrue, Some, true, false};
 ghost use Rattle.std.specs.Option.{option_copied};
 ghost use Rattle.std.specs.NonZero.{non_zero_usize_get};
 ghost use Rattle.acl_shape.specs.Bounds.{IsBounded};
-ghost use Rattle.node_tree.specs.World.{Name, object, kind_of, bytes_of, bytes_at, child_named, name_after, has_entries, link_count, name_count, parent_of, is_one};
+ghost use Rattle.node_tree.specs.World.{FindsAgain, object, kind_of, bytes_of, bytes_at, child_named, name_after, has_entries, link_count, name_count, parent_of, is_one};
 ghost use Rattle.node_tree.specs.Changes.{made, with_new, with_link, unlinked, renamed, with_write, with_size, with_list, with_owner};
 ghost use Rattle.node_tree.specs.Refusals.{add_refusal, link_refusal, unlink_refusal, is_below, may_replace, may_move, write_refusal, resize_refusal};
 ghost use Rattle.node_tree.specs.Sound.{IsSound, IsTick, IsNextName, most_bytes};
@@ -254,7 +254,7 @@ impl<A: Allocator + Copy> GuardedTree<A> {
     /// As [`Tree::name_by_cookie`].
     pub fn name_by_cookie(&self, cookie: u64) -> Option<&DirEntry<A>>
         ensures value { option_copied result ≡ find (λ n. n.cookie == cookie) self.now.world.names }
-        ensures again { (directory last : ℕ) (n : Name) → name_after self.now.world directory last ≡ Some n → n.cookie ≡ cookie → option_copied result ≡ Some n }
+        ensures again { FindsAgain self.now.world cookie (option_copied result) }
     {
         self.tree.name_by_cookie(cookie)
     }

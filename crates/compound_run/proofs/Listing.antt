@@ -49,7 +49,7 @@ use Rattle.compound_run.specs.Questions.{all_granted, demand_lines}
 use Rattle.compound_run.specs.Runs.{spelled, waits}
 use Rattle.compound_run.specs.Views.{GivesSo, context_at, holding}
 use Rattle.compound_run.specs.Listed.{IsNext, IsNextOf, PutsEntry, refused_of, written_entry}
-use Rattle.compound_run.specs.Says.{Tells}
+use Rattle.compound_run.specs.Says.{SaysAsked}
 use Rattle.compound_run.proofs.Behind.{row_refuses_always}
 
 -- ---- the next entry is the first of those above the cookie
@@ -293,10 +293,10 @@ what_refuses c v directory s d h =
 
 -- the facts of the entry's object are those of the attributes requested
 pub next_told : (c : Context) (s : Sight) (m n : Name) (number : ℕ) (error : Status) (set : List ℕ) (f : ObjectFacts) (old new : Buffer) (result : Result (Unit {0}) Full) → m ≡ n → number ≡ m.child
-    → Tells s number error set f → PutsEntry (written_entry c.book f m set) old new result → PutsEntry (entry_of c s n error set) old new result
+    → SaysAsked s number error set f → PutsEntry (written_entry c.book f m set) old new result → PutsEntry (entry_of c s n error set) old new result
 next_told c s m n number error set f old new result same child tells puts =
     subst (λ (x : Name). PutsEntry (entry_of c s x error set) old new result) same
-    (subst (λ (values : List ℕ). PutsEntry (m.cookie, (m.name, (given_set set, values))) old new result) (subst (λ (k : ℕ). Tells s k error set f) child tells c.book) puts)
+    (subst (λ (values : List ℕ). PutsEntry (m.cookie, (m.name, (given_set set, values))) old new result) (subst (λ (k : ℕ). SaysAsked s k error set f) child tells c.book) puts)
 
 -- an object that is there, by its number
 pub object_there : (s : Sight) (number : ℕ) → IsSome (s.kinds number) → (child : Object) × (object_of s (Some number) ≡ Some child)
@@ -306,8 +306,8 @@ object_there s number some = of (s.kinds number) refl some
     of None is some = cc
     of (Some kind) is some = (record { number = number; kind = kind }, ap (option_map (λ (kind : Kind). let o : Object = record { number = number; kind = kind } in o)) is)
 
-pub numbered : (s : Sight) (n : ℕ) (o : Object) → object_of s (Some n) ≡ Some o → o.number ≡ n
-numbered s n o is = of (s.kinds n) is
+pub object_is_numbered : (s : Sight) (n : ℕ) (o : Object) → object_of s (Some n) ≡ Some o → o.number ≡ n
+object_is_numbered s n o is = of (s.kinds n) is
   where
     of : (k : Option Kind) → option_map (λ kind. record { number = n; kind = kind }) k ≡ Some o → o.number ≡ n
     of None is = cc
@@ -330,7 +330,7 @@ entry_is_next e directory cookie next number n sound =
 pub next_judged : (c : Context) (asked : List ℕ) (s : Sight) (directory cookie : ℕ) (found : Option Name) (next : ℕ) (child : Object) (j : Result (Status × List ℕ) Demand) (is : IsNext s directory cookie found next child)
     → j ≡ judgment_of s.lists c.caller asked child.number (Some child) → judged_above c asked directory cookie s ≡ entry_by c s is.name j ∷ judged_above c asked directory next s
 next_judged c asked s directory cookie found next child j is judged =
-    let number : child.number ≡ is.name.child = numbered s is.name.child child is.object in
+    let number : child.number ≡ is.name.child = object_is_numbered s is.name.child child is.object in
     let so : j ≡ judgment_of s.lists c.caller asked is.name.child (object_of s (Some is.name.child)) =
     judged ∙ (λ i. judgment_of s.lists c.caller asked (number i) (sym is.object i)) in
     ap (map (judged_entry c asked s)) is.above ∙ ap (λ x. entry_by c s is.name x ∷ judged_above c asked directory next s) (sym so)

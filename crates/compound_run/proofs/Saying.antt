@@ -30,7 +30,7 @@ use Rattle.node_tree.specs.Judged.{judged}
 use Rattle.compound_run.specs.Realm.{Realm}
 use Rattle.compound_run.specs.Sight.{Sight, whole, details_of}
 use Rattle.compound_run.specs.Values.{facts_at, links_at, unseen}
-use Rattle.compound_run.specs.Says.{Says, Tells}
+use Rattle.compound_run.specs.Says.{Says, SaysAsked}
 
 same_list : (book : Content) (entries others : List Entry) (p : Part) → entries ≡ others → (0, map (ace_of book) (part_of p entries)) ≡ (let told : Value acl41 = (0, map (ace_of book) (part_of p others)) in told)
 same_list book entries others p same = λ i. (0, map (ace_of book) (part_of p (same i)))
@@ -157,7 +157,7 @@ module _ (book : Content) (f : ObjectFacts) (mode links : ℕ) (asked : List ℕ
 pub tells_of : (r : Realm) (n : ℕ) (e : Status) (o : Object) (f : ObjectFacts) (asked : List ℕ) → object r.world n ≡ Some o → length o.list ≤ 64
     → f.kind ≡ o.kind → f.number ≡ n → f.change ≡ o.change → f.size ≡ cond (is_directory o.kind) 0 (length o.bytes) → f.error ≡ e → f.entries.now ≡ o.list
     → (has_number asked 33 ≡ true → f.mode ≡ bit_or o.high (mode_of o.list)) → (has_number asked 35 ≡ true → f.links ≡ links_at (whole r) n)
-    → f.owner ≡ o.owner → f.group ≡ o.group → f.metadata ≡ o.time_metadata → f.modify ≡ o.time_modify → Tells (whole r) n e asked f
+    → f.owner ≡ o.owner → f.group ≡ o.group → f.metadata ≡ o.time_metadata → f.modify ≡ o.time_modify → SaysAsked (whole r) n e asked f
 tells_of r n e o f asked there few kind number change size error entries modes linked owner group metadata modify book =
     let mode = bit_or o.high (mode_of o.list) in
     let links = links_at (whole r) n in

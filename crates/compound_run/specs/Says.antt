@@ -29,8 +29,8 @@ pub record Says (s : Sight) (n : ℕ) (e : Status) (f : ObjectFacts) : Type 0 wh
   pub modify : f.modify ≡ (facts_at s n e).modify
 
 -- the attributes requested have the values that they have by the object's facts
-abbrev pub Tells : Sight → ℕ → Status → List ℕ → ObjectFacts → Type 0
-Tells s n e asked f = (book : Content) → given_values book f asked ≡ values_at book s n e asked
+abbrev pub SaysAsked : Sight → ℕ → Status → List ℕ → ObjectFacts → Type 0
+SaysAsked s n e asked f = (book : Content) → given_values book f asked ≡ values_at book s n e asked
 
 -- the values of the returned attributes
 abbrev pub values_given : GivenAttributes → List ℕ

@@ -2,7 +2,7 @@
 ghost use Rattle.std.specs.Prelude.{◌≡◌, IfSome, is_some, if◌then◌else◌, length, bit_or, true};
 ghost use Rattle.acl_shape.specs.Inherited.{is_directory};
 ghost use Rattle.compound_run.specs.Asking.{sight_of};
-ghost use Rattle.compound_run.specs.Says.{Says, Tells};
+ghost use Rattle.compound_run.specs.Says.{Says, SaysAsked};
 ghost use Rattle.compound_run.specs.Values.{links_at};
 ghost use Rattle.nfs_types.specs.Sets.{has_number};
 ghost use Rattle.nfs_types.specs.Views.{bitmap_value};
@@ -93,7 +93,7 @@ impl<A: Allocator + Copy> Realm<A> {
     /// mode and the number of links are looked at only where they are requested: a listing has many
     /// objects, and both cost a walk or a search. `None`: it isn't there.
     pub fn facts_for(&self, number: u64, status: Status, asked: &Bitmap) -> Option<ObjectFacts<'_>>
-        ensures tells { IfSome result (Tells (sight_of self.now) number status (bitmap_value asked.now)) }
+        ensures tells { IfSome result (SaysAsked (sight_of self.now) number status (bitmap_value asked.now)) }
         ensures there { is_some result ≡ is_some ((sight_of self.now).kinds number) }
         ensures sound { IsSound self.now.tree.world }
     {

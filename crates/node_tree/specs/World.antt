@@ -1,7 +1,7 @@
 -- The world of a file server: objects by number, names by cookie, and the counters (RFC 8881,
 -- sections 4.2, 5.8 and 18.23). An object has no path. A directory holds no names itself: they are
 -- kept beside the objects.
-use Rattle.std.specs.Prelude.{ℕ, Bool, false, ◌==◌, ◌&&◌, nat_lt, nat_eq, if◌then◌else◌, List, [], length, count_by, filter, find, take, drop, Option, Some, None}
+use Rattle.std.specs.Prelude.{◌≡◌, ℕ, Bool, false, ◌==◌, ◌&&◌, nat_lt, nat_eq, if◌then◌else◌, List, [], length, count_by, filter, find, take, drop, Option, Some, None}
 use Rattle.std.specs.List.{list_any}
 use Rattle.std.specs.Option.{option_map, option_map_or}
 use Rattle.std.specs.Map.{lookup}
@@ -99,6 +99,10 @@ is_one None target = false
 -- the next name of a directory, by rising cookie
 abbrev pub name_after : World → ℕ → ℕ → Option Name
 name_after w directory cookie = find (λ n. (n.directory == directory) && nat_lt cookie n.cookie) w.names
+
+-- a name that is found by its cookie is any that a directory lists with this cookie
+abbrev pub FindsAgain : World → ℕ → Option Name → Type 0
+FindsAgain w cookie found = (directory last : ℕ) (n : Name) → name_after w directory last ≡ Some n → n.cookie ≡ cookie → found ≡ Some n
 
 -- how many names a directory has
 abbrev pub name_count : List Name → ℕ → ℕ

@@ -61,7 +61,7 @@ impl<A: Allocator> NameTable<A> {
     }
 
     /// The name of a cookie.
-    pub fn get(&self, cookie: u64) -> Option<&DirEntry<A>>
+    pub fn name_by_cookie(&self, cookie: u64) -> Option<&DirEntry<A>>
         ensures { option_copied result ≡ find (λ n. n.cookie == cookie) self.now }
     {
         self.list.get(cookie)

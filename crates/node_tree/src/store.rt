@@ -101,7 +101,7 @@ impl<A: Allocator + Copy> Store<A> {
     pub fn name_by_cookie(&self, cookie: u64) -> Option<&DirEntry<A>>
         ensures { option_copied result ≡ find (λ n. n.cookie == cookie) self.now.names }
     {
-        self.names.get(cookie)
+        self.names.name_by_cookie(cookie)
     }
 
     /// The least number above another one that has an object.

@@ -1,9 +1,9 @@
 //! The tree: the changes that it refuses, and that it stays a tree.
-ghost use Rattle.std.specs.Prelude.{◌≡◌, ◌≢◌, ◌<◌, ◌≤◌, ◌^◌, ◌++◌, ◌==◌, ℕ, [], find, length, drop, MatchOption, OnOk, OnErr, IfOk, IsOk, IsOkUnless, IfSome, IsSome, Some, true, false};
+ghost use Rattle.std.specs.Prelude.{◌≡◌, ◌≢◌, ◌<◌, ◌≤◌, ◌^◌, ◌++◌, ◌==◌, [], find, length, drop, MatchOption, OnOk, OnErr, IfOk, IsOk, IsOkUnless, IfSome, IsSome, Some, true, false};
 ghost use Rattle.std.specs.Option.{option_copied};
 ghost use Rattle.acl_shape.specs.Bounds.{IsBounded};
 ghost use Rattle.node_tree.specs.Limits.{ROOT, MAX_NAME, MAX_LINKS};
-ghost use Rattle.node_tree.specs.World.{Name, object, kind_of, bytes_of, bytes_at, child_named, name_after, has_entries, link_count, name_count, parent_of, is_one};
+ghost use Rattle.node_tree.specs.World.{FindsAgain, object, kind_of, bytes_of, bytes_at, child_named, name_after, has_entries, link_count, name_count, parent_of, is_one};
 ghost use Rattle.node_tree.specs.Changes.{alone, root_of, made, with_new, with_link, unlinked, renamed, with_write, with_size, with_list, with_owner};
 ghost use Rattle.node_tree.specs.Refusals.{add_refusal, link_refusal, unlink_refusal, is_below, may_replace, may_move, write_refusal, resize_refusal};
 ghost use Rattle.node_tree.specs.Judged.{KeepsJudged};
@@ -120,7 +120,7 @@ impl<A: Allocator + Copy> Tree<A> {
     /// that name again, without a search of the directory. No two names ever have one cookie.
     pub fn name_by_cookie(&self, cookie: u64) -> Option<&DirEntry<A>>
         ensures value { option_copied result ≡ find (λ n. n.cookie == cookie) self.now.names }
-        ensures again { (directory last : ℕ) (n : Name) → name_after self.now directory last ≡ Some n → n.cookie ≡ cookie → option_copied result ≡ Some n }
+        ensures again { FindsAgain self.now cookie (option_copied result) }
     {
         self.store.name_by_cookie(cookie)
     }
