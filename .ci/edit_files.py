@@ -190,16 +190,20 @@ OWN_PROOF = re.compile(r"proofs/(?:[^/]+/)*[^/+][^/]*/(?:Answers|Invariants)\.an
 TEXT = r"""r(#*)"(?s:.*?)"\1|"(?:[^"\\]|\\(?s:.))*"|'(?:[^'\\\n]|\\[^\n]{1,8}?)'"""
 TEXT_OR_COMMENT = re.compile(TEXT + r"|[ \t]*//[^\n]*")
 TEXT_OR_BLANKS = re.compile(TEXT + r"|\s+")
+# a `use` line of several names, without another such list inside
+USE_OF_SOME = re.compile(r"((?:\b(?:ghost|pub) )*\buse [^;{}\"]*)\{([^;{}\"]*)\};")
 # a line of definitions or of a proof that is a comment
 COMMENT_LINE = re.compile(r"(?m)^[ \t]*--(?: .*)?\n")
 
 
 def code_of(path, text):
-    """A source without comments, and without line breaks and blanks that say nothing; or definitions without lines of comments, where lines say something."""
+    """A source without comments, and without line breaks and blanks that say nothing, each name of a `use` line in a line of its own; or definitions without lines
+    of comments, where lines say something."""
     if not path.endswith(".rt"):
         return text if "{-" in text else COMMENT_LINE.sub("", text)
     bare = TEXT_OR_COMMENT.sub(lambda it: " " if it[0].lstrip().startswith("//") else it[0], text)
-    return TEXT_OR_BLANKS.sub(lambda it: " " if it[0].isspace() else it[0], bare).strip()
+    code = TEXT_OR_BLANKS.sub(lambda it: " " if it[0].isspace() else it[0], bare).strip()
+    return USE_OF_SOME.sub(lambda it: " ".join(f"{it[1]}{name.strip()};" for name in it[2].split(",")), code)
 
 
 def without_bodies(text):
