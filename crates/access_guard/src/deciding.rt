@@ -48,7 +48,8 @@ pub(crate) fn removal<A: Allocator + Copy>(
     on_target: Mention,
     on_parent: Mention,
 ) -> Decision
-    ensures { result ≡ specs.removal parent target on_target on_parent (lists.verdict_of opened_parent.now caller.now ADD_FILE) }
+    ensures { result ≡ specs.removal parent target on_target on_parent
+        (lists.verdict_of opened_parent.now caller.now ADD_FILE) }
 {
     if matches!(on_target, Mention::AllowedBy(_)) {
         return Decision::Granted;

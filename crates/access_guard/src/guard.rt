@@ -54,7 +54,8 @@ impl<A: Allocator + Copy> Guard<A> {
     /// for it.
     pub fn new(alloc: A, capacity: NonZeroUsize, hasher: RandomState) -> Result<Self, AllocError>
         ensures value { IfOk result (λ guard. guard ≡ fresh (non_zero_usize_get capacity)) }
-        ensures agrees { IfOk result (λ guard. (book : Content) (epoch : ℕ) (w : World) → Agrees guard.memory.remembered book epoch w) }
+        ensures agrees { IfOk result (λ guard. (book : Content) (epoch : ℕ) (w : World) →
+            Agrees guard.memory.remembered book epoch w) }
     {
         Ok(Guard {
             memory: Summaries::new(alloc, capacity, hasher)?,
@@ -101,9 +102,12 @@ impl<A: Allocator + Copy> Guard<A> {
         requires agrees { Agrees self.old.memory.remembered book.now epoch tree.now }
         requires room { length self.old.log.held + most_lines demand ≤ MOST_HELD }
         ensures decision { result ≡ decision (judged_of tree.now) (member book.now caller.now) demand }
-        ensures lines { self.new.log ≡ held (lines (judged_of tree.now) (member book.now caller.now) op demand) self.old.log }
-        ensures few { IsTrue (is_granted result) → length self.new.log.held + 1 ≤ length self.old.log.held + most_lines demand }
-        ensures memory { Decides (judged_of tree.now) (asker book.now epoch caller.now) demand self.old.memory self.new.memory }
+        ensures lines { self.new.log ≡ held (lines (judged_of tree.now) (member book.now caller.now) op demand)
+            self.old.log }
+        ensures few { IsTrue (is_granted result) →
+            length self.new.log.held + 1 ≤ length self.old.log.held + most_lines demand }
+        ensures memory { Decides (judged_of tree.now) (asker book.now epoch caller.now) demand self.old.memory
+            self.new.memory }
         ensures agrees { Agrees self.new.memory.remembered book.now epoch tree.now }
     {
         let mut asker = Asker::new(book, epoch, caller);
@@ -124,7 +128,8 @@ impl<A: Allocator + Copy> Guard<A> {
         requires { length self.old.log.held + most_lines demand ≤ MOST_HELD }
         ensures decision { result ≡ decision (judged_of tree.now) caller.now demand }
         ensures lines { self.new.log ≡ held (lines (judged_of tree.now) caller.now op demand) self.old.log }
-        ensures few { IsTrue (is_granted result) → length self.new.log.held + 1 ≤ length self.old.log.held + most_lines demand }
+        ensures few { IsTrue (is_granted result) →
+            length self.new.log.held + 1 ≤ length self.old.log.held + most_lines demand }
         ensures counted { self.new.memory ≡ walked (judged_of tree.now) demand self.old.memory }
     {
         match demand {
@@ -145,8 +150,10 @@ impl<A: Allocator + Copy> Guard<A> {
     ) -> Decision
         requires { length self.old.log.held + most_lines (Demand.Bits object mask) ≤ MOST_HELD }
         ensures decision { result ≡ decision (judged_of tree.now) caller.now (Demand.Bits object mask) }
-        ensures lines { self.new.log ≡ held (lines (judged_of tree.now) caller.now op (Demand.Bits object mask)) self.old.log }
-        ensures few { IsTrue (is_granted result) → length self.new.log.held + 1 ≤ length self.old.log.held + most_lines (Demand.Bits object mask) }
+        ensures lines { self.new.log ≡ held (lines (judged_of tree.now) caller.now op (Demand.Bits object mask))
+            self.old.log }
+        ensures few { IsTrue (is_granted result) →
+            length self.new.log.held + 1 ≤ length self.old.log.held + most_lines (Demand.Bits object mask) }
         ensures counted { self.new.memory ≡ walked (judged_of tree.now) (Demand.Bits object mask) self.old.memory }
     {
         let opened = self.memory.open(object, tree);
@@ -173,8 +180,10 @@ impl<A: Allocator + Copy> Guard<A> {
     ) -> Decision
         requires { length self.old.log.held + most_lines (Demand.Removal parent target) ≤ MOST_HELD }
         ensures decision { result ≡ decision (judged_of tree.now) caller.now (Demand.Removal parent target) }
-        ensures lines { self.new.log ≡ held (lines (judged_of tree.now) caller.now op (Demand.Removal parent target)) self.old.log }
-        ensures few { IsTrue (is_granted result) → length self.new.log.held + 1 ≤ length self.old.log.held + most_lines (Demand.Removal parent target) }
+        ensures lines { self.new.log ≡ held (lines (judged_of tree.now) caller.now op (Demand.Removal parent target))
+            self.old.log }
+        ensures few { IsTrue (is_granted result) →
+            length self.new.log.held + 1 ≤ length self.old.log.held + most_lines (Demand.Removal parent target) }
         ensures counted { self.new.memory ≡ walked (judged_of tree.now) (Demand.Removal parent target) self.old.memory }
     {
         let opened_target = self.memory.open(target, tree);
@@ -213,7 +222,8 @@ impl<A: Allocator + Copy> Guard<A> {
     ) -> u32
         requires { Agrees self.old.memory.remembered book.now epoch tree.now }
         ensures mask { result ≡ granted_at (judged_of tree.now) (member book.now caller.now) object }
-        ensures memory { LooksUpAt (judged_of tree.now) (asker book.now epoch caller.now) object self.old.memory self.new.memory }
+        ensures memory { LooksUpAt (judged_of tree.now) (asker book.now epoch caller.now) object self.old.memory
+            self.new.memory }
         ensures agrees { Agrees self.new.memory.remembered book.now epoch tree.now }
         ensures log { self.new.log ≡ self.old.log }
     {

@@ -1,11 +1,16 @@
 //! A tree beside its guard, and the book.
-ghost use Rattle.std.specs.Prelude.{◌≡◌, ◌≢◌, ◌+◌, ◌<◌, ◌≤◌, ◌^◌, ◌==◌, [], ◌++◌, find, length, drop, if◌then◌else◌, MatchOption, OnOk, OnErr, IfOk, IsOk, IsOkUnless, IfSome, IsSome, IsTrue, Some, true, false};
+ghost use Rattle.std.specs.Prelude.{◌≡◌, ◌≢◌, ◌+◌, ◌<◌, ◌≤◌, ◌^◌, ◌==◌, [], ◌++◌, find, length, drop, if◌then◌else◌};
+ghost use Rattle.std.specs.Prelude.{MatchOption, OnOk, OnErr, IfOk, IsOk, IsOkUnless, IfSome, IsSome, IsTrue, Some};
+ghost use Rattle.std.specs.Prelude.{true, false};
 ghost use Rattle.std.specs.Option.{option_copied};
 ghost use Rattle.std.specs.NonZero.{non_zero_usize_get};
 ghost use Rattle.acl_shape.specs.Bounds.{IsBounded};
-ghost use Rattle.node_tree.specs.World.{FindsAgain, object, kind_of, bytes_of, bytes_at, child_named, name_after, has_entries, link_count, name_count, parent_of, is_one};
-ghost use Rattle.node_tree.specs.Changes.{made, with_new, with_link, unlinked, renamed, with_write, with_size, with_list, with_owner};
-ghost use Rattle.node_tree.specs.Refusals.{add_refusal, link_refusal, unlink_refusal, is_below, may_replace, may_move, write_refusal, resize_refusal};
+ghost use Rattle.node_tree.specs.World.{FindsAgain, object, kind_of, bytes_of, bytes_at, child_named, name_after};
+ghost use Rattle.node_tree.specs.World.{has_entries, link_count, name_count, parent_of, is_one};
+ghost use Rattle.node_tree.specs.Changes.{made, with_new, with_link, unlinked, renamed, with_write, with_size};
+ghost use Rattle.node_tree.specs.Changes.{with_list, with_owner};
+ghost use Rattle.node_tree.specs.Refusals.{add_refusal, link_refusal, unlink_refusal, is_below, may_replace, may_move};
+ghost use Rattle.node_tree.specs.Refusals.{write_refusal, resize_refusal};
 ghost use Rattle.node_tree.specs.Sound.{IsSound, IsTick, IsNextName, most_bytes};
 ghost use Rattle.node_tree.specs.Judged.{judged_of};
 ghost use Rattle.node_tree.specs.Notes.{begun_notes, cleared};
@@ -81,7 +86,8 @@ impl<A: Allocator + Copy> GuardedTree<A> {
         requires { length self.old.log.held + most_lines demand ≤ MOST_HELD }
         ensures decision { result ≡ decision (judged_of self.old.world) (member self.old.book caller.now) demand }
         ensures state { self.new ≡ record self.old { log = held (lines (judged_of self.old.world) (member self.old.book caller.now) op demand) self.old.log } }
-        ensures few { IsTrue (is_granted result) → length self.new.log.held + 1 ≤ length self.old.log.held + most_lines demand }
+        ensures few { IsTrue (is_granted result) →
+            length self.new.log.held + 1 ≤ length self.old.log.held + most_lines demand }
     {
         self.guard
             .decide(demand, &self.tree, &self.book, self.epoch, caller, op)
@@ -128,7 +134,8 @@ impl<A: Allocator + Copy> GuardedTree<A> {
     /// stay. `Err`: the epoch has none after it ([`next_epoch`]), the new book is handed back, and
     /// nothing changes.
     pub fn reload(&mut self, book: Book) -> Result<Book, Book>
-        ensures given { MatchOption (epochs.next_epoch self.old.epoch) (result ≡ Err book) (λ epoch. result ≡ Ok self.old.book) }
+        ensures given { MatchOption (epochs.next_epoch self.old.epoch) (result ≡ Err book)
+            (λ epoch. result ≡ Ok self.old.book) }
         ensures ok { OnOk result (self.new ≡ record self.old { book = book; epoch = self.old.epoch + 1 }) }
         ensures err { OnErr result (self.new ≡ self.old) }
     {
@@ -165,7 +172,8 @@ impl<A: Allocator + Copy> GuardedTree<A> {
 impl<A: Allocator + Copy> GuardedTree<A> {
     /// As [`Tree::begin_notes`].
     pub fn begin_notes(&mut self, room: usize) -> Result<(), AllocError>
-        ensures ok { OnOk result (self.new ≡ record self.old { world = record self.old.world { notes = begun_notes room } }) }
+        ensures ok { OnOk result (self.new ≡
+            record self.old { world = record self.old.world { notes = begun_notes room } }) }
         ensures err { OnErr result (self.new ≡ self.old) }
     {
         self.tree.begin_notes(room)
@@ -261,7 +269,8 @@ impl<A: Allocator + Copy> GuardedTree<A> {
 
     /// As [`Tree::is_below`].
     pub fn is_below(&self, child: u64, directory: u64) -> bool
-        ensures { result ≡ is_below (kind_of self.now.world) (parent_of self.now.world) self.now.world.next_number child directory }
+        ensures { result ≡ is_below (kind_of self.now.world) (parent_of self.now.world) self.now.world.next_number child
+            directory }
     {
         self.tree.is_below(child, directory)
     }
@@ -283,7 +292,8 @@ impl<A: Allocator + Copy> GuardedTree<A> {
     /// As [`Tree::read`].
     pub fn read(&self, number: u64, offset: u64, buffer: &mut [u8]) -> usize
         ensures count { result ≡ length (bytes_at self.now.world number offset (length buffer.old)) }
-        ensures copied { buffer.new ≡ bytes_at self.now.world number offset (length buffer.old) ++ drop result buffer.old }
+        ensures copied { buffer.new ≡ bytes_at self.now.world number offset (length buffer.old) ++
+            drop result buffer.old }
     {
         self.tree.read(number, offset, buffer)
     }
@@ -305,7 +315,8 @@ impl<A: Allocator + Copy> GuardedTree<A> {
         requires short { length name.now ≤ 255 }
         requires bounded { IsBounded new.list }
         requires bytes { length new.bytes.items ≤ most_bytes new.kind }
-        ensures refused { MatchOption (add_refusal self.old.world directory name.now) (IsOkUnless result TreeFault.Memory) (λ fault. result ≡ Err fault) }
+        ensures refused { MatchOption (add_refusal self.old.world directory name.now)
+            (IsOkUnless result TreeFault.Memory) (λ fault. result ≡ Err fault) }
         ensures number { IfOk result (λ number. number ≡ self.old.world.next_number) }
         ensures ok { OnOk result (self.new ≡ record self.old { world = with_new self.old.world directory name.now (made new self.old.world.next_stamp at) at }) }
         ensures err { OnErr result (self.new ≡ self.old) }
@@ -326,8 +337,10 @@ impl<A: Allocator + Copy> GuardedTree<A> {
         requires there { IsSome (object self.old.world number) }
         requires plain { kind_of self.old.world number ≢ Some Kind.Directory }
         requires short { length name.now ≤ 255 }
-        ensures refused { MatchOption (link_refusal self.old.world directory name.now number) (IsOkUnless result TreeFault.Memory) (λ fault. result ≡ Err fault) }
-        ensures ok { OnOk result (self.new ≡ record self.old { world = with_link self.old.world directory name.now number at }) }
+        ensures refused { MatchOption (link_refusal self.old.world directory name.now number)
+            (IsOkUnless result TreeFault.Memory) (λ fault. result ≡ Err fault) }
+        ensures ok { OnOk result (self.new ≡
+            record self.old { world = with_link self.old.world directory name.now number at }) }
         ensures err { OnErr result (self.new ≡ self.old) }
     {
         self.tree.link(directory, name, number, at)
@@ -336,8 +349,10 @@ impl<A: Allocator + Copy> GuardedTree<A> {
     /// As [`Tree::unlink`].
     pub fn unlink(&mut self, directory: u64, name: &[u8], at: At) -> Result<(), TreeFault>
         requires tick { IsTick self.old.world at.tick }
-        ensures refused { MatchOption (unlink_refusal self.old.world directory name.now) (IsOk result) (λ fault. result ≡ Err fault) }
-        ensures ok { OnOk result (self.new ≡ record self.old { world = unlinked self.old.world directory name.now at }) }
+        ensures refused { MatchOption (unlink_refusal self.old.world directory name.now) (IsOk result)
+            (λ fault. result ≡ Err fault) }
+        ensures ok { OnOk result (self.new ≡
+            record self.old { world = unlinked self.old.world directory name.now at }) }
         ensures err { OnErr result (self.new ≡ self.old) }
     {
         self.tree.unlink(directory, name, at)
@@ -351,9 +366,12 @@ impl<A: Allocator + Copy> GuardedTree<A> {
         requires child { child_named self.old.world moved.from moved.old.now ≡ Some moved.child }
         requires target { child_named self.old.world moved.to moved.new.now ≡ moved.target }
         requires other { is_one (Some moved.child) moved.target ≡ false }
-        requires above { is_below (kind_of self.old.world) (parent_of self.old.world) self.old.world.next_number moved.child moved.to ≡ false }
-        requires replaces { may_replace (kind_of self.old.world) (has_entries self.old.world.names) moved.child moved.target ≡ true }
-        requires space { may_move (name_count self.old.world.names moved.to) self.old.world.next_cookie moved.from moved.to moved.target ≡ true }
+        requires above { is_below (kind_of self.old.world) (parent_of self.old.world) self.old.world.next_number
+            moved.child moved.to ≡ false }
+        requires replaces { may_replace (kind_of self.old.world) (has_entries self.old.world.names) moved.child
+            moved.target ≡ true }
+        requires space { may_move (name_count self.old.world.names moved.to) self.old.world.next_cookie moved.from
+            moved.to moved.target ≡ true }
         ensures ok { OnOk result (self.new ≡ record self.old { world = renamed self.old.world moved.entry.from moved.entry.old.now moved.entry.to moved.entry.new.now at }) }
         ensures err { OnErr result (self.new ≡ self.old) }
     {
@@ -364,9 +382,11 @@ impl<A: Allocator + Copy> GuardedTree<A> {
     pub fn write(&mut self, file: u64, offset: u64, more: &[u8], at: At) -> Result<(), TreeFault>
         requires tick { IsTick self.old.world at.tick }
         requires file { kind_of self.old.world file ≡ Some Kind.File }
-        ensures refused { MatchOption (write_refusal offset more.now) (IsOkUnless result TreeFault.Memory) (λ fault. result ≡ Err fault) }
+        ensures refused { MatchOption (write_refusal offset more.now) (IsOkUnless result TreeFault.Memory)
+            (λ fault. result ≡ Err fault) }
         ensures nothing { more.now ≡ [] → IsOk result }
-        ensures ok { OnOk result (self.new ≡ record self.old { world = with_write self.old.world file offset more.now at }) }
+        ensures ok { OnOk result (self.new ≡
+            record self.old { world = with_write self.old.world file offset more.now at }) }
         ensures err { OnErr result (self.new ≡ self.old) }
     {
         self.tree.write(file, offset, more, at)
@@ -376,7 +396,8 @@ impl<A: Allocator + Copy> GuardedTree<A> {
     pub fn resize(&mut self, file: u64, size: u64, at: At) -> Result<(), TreeFault>
         requires tick { IsTick self.old.world at.tick }
         requires file { kind_of self.old.world file ≡ Some Kind.File }
-        ensures refused { MatchOption (resize_refusal size) (IsOkUnless result TreeFault.Memory) (λ fault. result ≡ Err fault) }
+        ensures refused { MatchOption (resize_refusal size) (IsOkUnless result TreeFault.Memory)
+            (λ fault. result ≡ Err fault) }
         ensures shrinks { size ≤ length (bytes_of self.old.world file) → IsOk result }
         ensures ok { OnOk result (self.new ≡ record self.old { world = with_size self.old.world file size at }) }
         ensures err { OnErr result (self.new ≡ self.old) }

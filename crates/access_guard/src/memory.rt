@@ -173,7 +173,8 @@ impl<A: Allocator + Copy> Summaries<A> {
 
     /// The summary of an object's list. It is computed where it isn't remembered.
     fn sum_of<B: Allocator + Copy>(&mut self, node: &Node<B>, asker: &mut Asker<'_>) -> Summary
-        requires { (sum : Summary) → lookup (is_key (key_of (judged node.now) asker.old)) self.old.remembered ≡ Some sum → sum ≡ sum_of (judged node.now) (member_of asker.old) }
+        requires { (sum : Summary) → lookup (is_key (key_of (judged node.now) asker.old)) self.old.remembered ≡
+            Some sum → sum ≡ sum_of (judged node.now) (member_of asker.old) }
         ensures sum { result ≡ sum_of (judged node.now) (member_of asker.old) }
         ensures looks_up { LooksUp (judged node.now) asker.old self.old self.new }
         ensures same { asker.new ≡ asker.old }

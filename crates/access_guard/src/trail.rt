@@ -109,7 +109,8 @@ impl<A: Allocator + Copy> Trail<A> {
     )
         requires room { length self.old.held + MAX_ENTRIES ≤ MOST_HELD }
         requires short { entries_of opened.now ≤ MAX_ENTRIES }
-        ensures lines { self.new ≡ held (lines_of opened.now caller.now asked.op asked.granted asked.object asked.mask) self.old }
+        ensures lines { self.new ≡ held (lines_of opened.now caller.now asked.op asked.granted asked.object asked.mask)
+            self.old }
         ensures few { length self.new.held ≤ length self.old.held + MAX_ENTRIES }
     {
         if let Some(node) = opened.node() {
@@ -119,7 +120,9 @@ impl<A: Allocator + Copy> Trail<A> {
 
     fn watch_list<B: Allocator + Copy>(&mut self, asked: Asked, node: &Node<B>, caller: &Caller)
         requires { length self.old.held + length node.now.list ≤ MOST_HELD }
-        ensures lines { self.new ≡ held (filter_map (watch_line caller.now asked.op asked.object asked.mask asked.granted (judged node.now)) (enumerate_from 0 node.now.list)) self.old }
+        ensures lines { self.new ≡ held (filter_map
+            (watch_line caller.now asked.op asked.object asked.mask asked.granted (judged node.now))
+            (enumerate_from 0 node.now.list)) self.old }
         ensures few { length self.new.held ≤ length self.old.held + length node.now.list }
     {
         for (index, entry) in node.list().as_slice().iter().enumerate() {
@@ -162,7 +165,8 @@ fn watch_line<B: Allocator + Copy>(
     index: usize,
     entry: &Entry,
 ) -> Option<Line>
-    ensures { result ≡ specs.watch_line caller.now asked.op asked.object asked.mask asked.granted (judged node.now) (index, entry.now) }
+    ensures { result ≡ specs.watch_line caller.now asked.op asked.object asked.mask asked.granted (judged node.now)
+        (index, entry.now) }
 {
     let kind = line_kind(entry.kind)?;
     let mask = watched_bits(

@@ -282,7 +282,8 @@ fn open_first(claim: &OpenClaim<'_>, current: Option<Object>) -> Option<Demand>
 
 /// The demand of OPEN on the file, or on the directory to create it.
 fn open_second(args: &OpenArgs<'_>, facts: &Second) -> Option<Demand>
-    ensures { result ≡ specs.open_second (parts.claim (open_claim_value args.now.claim)) args.now.access (parts.how (open_how_value args.now.how)) facts.now }
+    ensures { result ≡ specs.open_second (parts.claim (open_claim_value args.now.claim)) args.now.access
+        (parts.how (open_how_value args.now.how)) facts.now }
 {
     match args.claim {
         OpenClaim::ByName(_) => opening(facts.child, args.access, &args.how, facts),

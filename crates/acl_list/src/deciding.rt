@@ -53,7 +53,8 @@ pub fn mention<A: Allocator>(
     bit: u32,
 ) -> Mention
     ensures of_mask { result ≡ mentioned (mention_of_mask (is_true_for owner group caller.now) list.now bit) }
-    ensures of_bit { (place : ℕ) → bit ≡ 2 ^ place → result ≡ mentioned (specs.mention (is_true_for owner group caller.now) list.now place) }
+    ensures of_bit { (place : ℕ) → bit ≡ 2 ^ place →
+        result ≡ mentioned (specs.mention (is_true_for owner group caller.now) list.now place) }
 {
     mention_in(list.as_slice(), owner, group, caller, bit)
 }

@@ -43,7 +43,9 @@ fn first_denial(
     caller: &Caller,
     mask: u32,
 ) -> Option<usize>
-    ensures { result ≡ reduce min (filter_map (λ place. if has_bit mask place then denied_at (specs.mention (is_true_for owner group caller.now) entries.now place) else None) places) }
+    ensures { result ≡ reduce min (filter_map
+        (λ place. if has_bit mask place then denied_at
+        (specs.mention (is_true_for owner group caller.now) entries.now place) else None) places) }
 {
     (0..32u32)
         .filter_map(|place| denial_of(entries, owner, group, caller, mask, place))
@@ -58,7 +60,8 @@ fn lowest_unsaid(
     caller: &Caller,
     mask: u32,
 ) -> Option<u32>
-    ensures { result ≡ find (λ place. has_bit mask place && is_none (specs.mention (is_true_for owner group caller.now) entries.now place)) places }
+    ensures { result ≡ find (λ place. has_bit mask place &&
+        is_none (specs.mention (is_true_for owner group caller.now) entries.now place)) places }
 {
     (0..32u32).find(|place| is_unsaid(entries, owner, group, caller, mask, *place))
 }
@@ -72,7 +75,8 @@ fn denial_of(
     mask: u32,
     place: u32,
 ) -> Option<usize>
-    ensures { result ≡ (if has_bit mask place then denied_at (specs.mention (is_true_for owner group caller.now) entries.now place) else None) }
+    ensures { result ≡ (if has_bit mask place
+        then denied_at (specs.mention (is_true_for owner group caller.now) entries.now place) else None) }
 {
     if !has_place(mask, place) {
         return None;
@@ -92,7 +96,8 @@ fn is_unsaid(
     mask: u32,
     place: u32,
 ) -> bool
-    ensures { result ≡ (has_bit mask place && is_none (specs.mention (is_true_for owner group caller.now) entries.now place)) }
+    ensures { result ≡ (has_bit mask place &&
+        is_none (specs.mention (is_true_for owner group caller.now) entries.now place)) }
 {
     has_place(mask, place)
         && mention_at(entries, owner, group, caller, place) == Mention::Unmentioned

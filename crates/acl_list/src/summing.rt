@@ -15,7 +15,8 @@ use std::alloc::Allocator;
 
 /// The mask of an entry that has the flag, else no bits.
 fn mask_under(entry: &Entry, flag: u32) -> u32
-    ensures { (place : ℕ) → flag ≡ 2 ^ place → (bit : ℕ) → has_bit result bit ≡ has_bit entry.now.flags place && has_bit entry.now.mask bit }
+    ensures { (place : ℕ) → flag ≡ 2 ^ place → (bit : ℕ) →
+        has_bit result bit ≡ has_bit entry.now.flags place && has_bit entry.now.mask bit }
 {
     if entry.flags & flag == 0 {
         0

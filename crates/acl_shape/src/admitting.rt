@@ -75,7 +75,8 @@ fn entry(raw: &Raw, kind: Kind) -> Option<Entry>
 /// `Memory` is given only for a list that has no fault.
 pub fn admit<A: Allocator>(alloc: A, raws: &[Raw], kind: Kind) -> Result<AclList<A>, AdmitFault>
     ensures refused { (fault : AdmitFault) → first_fault raws.now ≡ Some fault → result ≡ Err fault }
-    ensures taken { first_fault raws.now ≡ None → MatchResult result (λ new. new ≡ admitted kind raws.now) (λ fault. fault ≡ Memory) }
+    ensures taken { first_fault raws.now ≡ None →
+        MatchResult result (λ new. new ≡ admitted kind raws.now) (λ fault. fault ≡ Memory) }
     ensures bounded { IfOk result IsBounded }
 {
     if let Some(fault) = refusal(raws) {
@@ -135,7 +136,8 @@ pub fn admit_part<A: Allocator>(
     part: Part,
 ) -> Result<AclList<A>, AdmitFault>
     ensures refused { (fault : AdmitFault) → part_fault part kind raws.now ≡ Some fault → result ≡ Err fault }
-    ensures taken { part_fault part kind raws.now ≡ None → MatchResult result (λ new. new ≡ admitted kind raws.now) (λ fault. fault ≡ Memory) }
+    ensures taken { part_fault part kind raws.now ≡ None →
+        MatchResult result (λ new. new ≡ admitted kind raws.now) (λ fault. fault ≡ Memory) }
     ensures bounded { IfOk result IsBounded }
 {
     if let Some(fault) = refusal(raws) {

@@ -1,5 +1,6 @@
 //! A list by its two parts: dacl and sacl.
-ghost use Rattle.std.specs.Prelude.{◌≡◌, ◌&&◌, ◌++◌, count_by, true, false, unwrap_or, IsNone, Err, IfOk, IsOk, MatchResult, OnOk};
+ghost use Rattle.std.specs.Prelude.{◌≡◌, ◌&&◌, ◌++◌, count_by, true, false, unwrap_or, IsNone, Err, IfOk, IsOk};
+ghost use Rattle.std.specs.Prelude.{MatchResult, OnOk};
 ghost use Rattle.acl_shape.specs.Bounds.{IsBounded, fits, keeps};
 ghost use Rattle.acl_shape.specs.Parts.{combined, is_of, lent, part_of, parts_fit};
 ghost use Rattle.acl_shape.specs.Parts as specs;
@@ -99,7 +100,9 @@ pub fn combine<A: Allocator, B: Allocator, C: Allocator>(
     sacl: Option<&AclList<C>>,
 ) -> Result<AclList<A>, CombineFault>
     ensures refused { fits (combined list.now (lent dacl.entry) (lent sacl.entry)) ≡ false → result ≡ Err NoSpc }
-    ensures taken { fits (combined list.now (lent dacl.entry) (lent sacl.entry)) ≡ true → MatchResult result (λ new. new ≡ combined list.now (lent dacl.entry) (lent sacl.entry)) (λ fault. fault ≡ Memory) }
+    ensures taken { fits (combined list.now (lent dacl.entry) (lent sacl.entry)) ≡ true →
+        MatchResult result (λ new. new ≡ combined list.now (lent dacl.entry) (lent sacl.entry))
+        (λ fault. fault ≡ Memory) }
     ensures bounded { IfOk result IsBounded }
 {
     let dacl = source(dacl, list);
@@ -122,7 +125,8 @@ pub fn with_parts<A: Allocator>(
     sacl: Option<AclList<A>>,
 ) -> Result<AclList<A>, CombineFault>
     ensures refused { parts_fit list dacl sacl ≡ false → result ≡ Err NoSpc }
-    ensures taken { parts_fit list dacl sacl ≡ true → MatchResult result (λ new. new ≡ specs.with_parts list dacl sacl) (λ fault. fault ≡ Memory) }
+    ensures taken { parts_fit list dacl sacl ≡ true →
+        MatchResult result (λ new. new ≡ specs.with_parts list dacl sacl) (λ fault. fault ≡ Memory) }
     ensures bounded { IsBounded list → IfOk result IsBounded }
     ensures whole { IsNone dacl → IsNone sacl → IsOk result }
 {

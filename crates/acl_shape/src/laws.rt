@@ -1,5 +1,6 @@
 //! Laws that follow from the definitions alone.
-ghost use Rattle.std.specs.Prelude.{◌≡◌, ◌≤◌, ℕ, true, false, Option, None, List, All, length, is_some, unwrap_or, IfSome, bit_and};
+ghost use Rattle.std.specs.Prelude.{◌≡◌, ◌≤◌, ℕ, true, false, Option, None, List, All, length, is_some, unwrap_or};
+ghost use Rattle.std.specs.Prelude.{IfSome, bit_and};
 ghost use Rattle.acl_list.specs.Deciding.{allows, is_true_for};
 ghost use Rattle.rpc_record.specs.Identity.{Identity};
 ghost use Rattle.acl_list.specs.Mask.{has_bit};
@@ -16,12 +17,14 @@ ghost use Rattle.acl_shape.specs.declared.request.Raw.{Raw};
 
 /// A list made for a mode stands for the lowest nine bits of that mode.
 pub fn mode_is_read_back()
-    ensures { (entries : List Entry) (kind : Kind) (mode : ℕ) → mode_of (set_mode entries kind mode) ≡ bit_and mode 0x1ff }
+    ensures { (entries : List Entry) (kind : Kind) (mode : ℕ) →
+        mode_of (set_mode entries kind mode) ≡ bit_and mode 0x1ff }
 {}
 
 /// To set a mode again changes nothing.
 pub fn mode_again_is_same()
-    ensures { (entries : List Entry) (kind : Kind) (mode : ℕ) → set_mode (set_mode entries kind mode) kind mode ≡ set_mode entries kind mode }
+    ensures { (entries : List Entry) (kind : Kind) (mode : ℕ) →
+        set_mode (set_mode entries kind mode) kind mode ≡ set_mode entries kind mode }
 {}
 
 /// Where no user or group of its own has an ALLOW or DENY entry for the object itself, a mode
@@ -37,7 +40,8 @@ pub fn mode_gives_class_bits()
 /// Lists within the bounds stay within them when they are changed, and a list that is admitted is
 /// within them. The bounds count the entries that a new mode keeps.
 pub fn bounds_are_kept()
-    ensures mode { (entries : List Entry) (kind : Kind) (mode : ℕ) → IsBounded entries → IsBounded (set_mode entries kind mode) }
+    ensures mode { (entries : List Entry) (kind : Kind) (mode : ℕ) → IsBounded entries →
+        IsBounded (set_mode entries kind mode) }
     ensures inherited { (entries : List Entry) (kind : Kind) → IsBounded entries → IsBounded (inherit entries kind) }
     ensures admitted { (kind : Kind) (raws : List Raw) → length raws ≤ 59 → IsBounded (admitted kind raws) }
     ensures created { (parent : List Entry) (kind : Kind) (mode : Option ℕ) (list : Option (List Entry)) →
@@ -45,12 +49,15 @@ pub fn bounds_are_kept()
     ensures changed { (old : List Entry) (kind : Kind) (mode : Option ℕ) (list : Option (List Entry)) →
         IsBounded old → IfSome list IsBounded → IsBounded (changed_list old kind mode list) }
     ensures sorted { (entries : List Entry) → IsBounded entries → IsBounded (combined entries None None) }
-    ensures parts { (entries : List Entry) (dacl sacl : Option (List Entry)) → IsBounded entries → parts_fit entries dacl sacl ≡ true → IsBounded (with_parts entries dacl sacl) }
+    ensures parts { (entries : List Entry) (dacl sacl : Option (List Entry)) → IsBounded entries →
+        parts_fit entries dacl sacl ≡ true → IsBounded (with_parts entries dacl sacl) }
     ensures counted { (lacking : ℕ) (e : Entry) → is_some (kept lacking e) ≡ keeps e }
 {}
 
 /// The list of two parts has the entries of each part that is given, and of the other part those that the list had.
 pub fn parts_are_read_back()
-    ensures dacl { (entries : List Entry) (dacl sacl : Option (List Entry)) → part_of Dacl (combined entries dacl sacl) ≡ part_of Dacl (unwrap_or dacl entries) }
-    ensures sacl { (entries : List Entry) (dacl sacl : Option (List Entry)) → part_of Sacl (combined entries dacl sacl) ≡ part_of Sacl (unwrap_or sacl entries) }
+    ensures dacl { (entries : List Entry) (dacl sacl : Option (List Entry)) →
+        part_of Dacl (combined entries dacl sacl) ≡ part_of Dacl (unwrap_or dacl entries) }
+    ensures sacl { (entries : List Entry) (dacl sacl : Option (List Entry)) →
+        part_of Sacl (combined entries dacl sacl) ≡ part_of Sacl (unwrap_or sacl entries) }
 {}

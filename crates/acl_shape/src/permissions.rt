@@ -1,7 +1,8 @@
 //! The list of an object with the high bits of its mode: as it is created, and as they are set.
 ghost use Rattle.std.specs.Prelude.{◌≡◌, IfOk, IfSome, IsOk, IsSome};
 ghost use Rattle.acl_shape.specs.Bounds.{IsBounded};
-ghost use Rattle.acl_shape.specs.Permissions.{changed_high, changed_list, created_high, created_list, default_list, high_bits};
+ghost use Rattle.acl_shape.specs.Permissions.{changed_high, changed_list, created_high, created_list, default_list};
+ghost use Rattle.acl_shape.specs.Permissions.{high_bits};
 ghost use Rattle.acl_shape.specs.Permissions as specs;
 
 use crate::inheriting::inherit;

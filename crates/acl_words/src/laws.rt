@@ -15,5 +15,6 @@ pub fn words_are_read_again()
 /// The words of an entry that can stand in a list are read as that entry, by each book and for each kind of object.
 #[tactic(auto, using(crate::proofs::ByBook::entry_again))]
 pub fn entries_are_read_again()
-    ensures { (book : Content) (object : Kind) (e : Entry) → IsBook book → CanStand e → entry_in object book (entry_text book e) ≡ Ok e }
+    ensures { (book : Content) (object : Kind) (e : Entry) → IsBook book → CanStand e →
+        entry_in object book (entry_text book e) ≡ Ok e }
 {}

@@ -134,7 +134,8 @@ impl<'a> Words<'a> {
     /// `Err` has the first field that can't be read; the principal is taken as it is.
     #[tactic(auto, unfolding(crate::specs::Words::said_in))]
     pub fn read(object: Kind, text: &'a [u8]) -> Result<Self, Field>
-        ensures { MatchResult result (λ w. specs.said_in object text.now ≡ Ok (said w)) (λ fault. specs.said_in object text.now ≡ Err fault) }
+        ensures { MatchResult result (λ w. specs.said_in object text.now ≡ Ok (said w))
+            (λ fault. specs.said_in object text.now ≡ Err fault) }
     {
         let Some((kind, rest)) = split_at(text, b':') else {
             return Err(Field::Form);

@@ -91,7 +91,8 @@ fn give_numbers<A: Allocator + Copy>(
     next_session: u64,
 ) -> Result<(), ChangeFault>
     ensures ok { OnOk result (Applies known.old (said_value (SaidChange.Numbers next_client next_session)) known.new) }
-    ensures unfit { result ≡ Err Unfit → (new : KnownSo) → Applies known.old (said_value (SaidChange.Numbers next_client next_session)) new → ⊥ }
+    ensures unfit { result ≡ Err Unfit → (new : KnownSo) →
+        Applies known.old (said_value (SaidChange.Numbers next_client next_session)) new → ⊥ }
 {
     if !known.clients.restore_numbers(next_client, next_session) {
         return Err(ChangeFault::Unfit);
@@ -102,7 +103,8 @@ fn give_numbers<A: Allocator + Copy>(
 /// A client is gone, with its sessions.
 fn let_go<A: Allocator + Copy>(known: &mut Known<A>, client: u64) -> Result<(), ChangeFault>
     ensures ok { OnOk result (Applies known.old (said_value (SaidChange.Gone client)) known.new) }
-    ensures unfit { result ≡ Err Unfit → (new : KnownSo) → Applies known.old (said_value (SaidChange.Gone client)) new → ⊥ }
+    ensures unfit { result ≡ Err Unfit → (new : KnownSo) → Applies known.old (said_value (SaidChange.Gone client)) new →
+        ⊥ }
 {
     if !known.clients.let_go(client) {
         return Err(ChangeFault::Unfit);
@@ -123,7 +125,8 @@ fn add_record<A: Allocator + Copy>(
     form: RecordForm<'_>,
 ) -> Result<(), ChangeFault>
     ensures ok { OnOk result (AppliesRecord known.old (client_value (form_client form.entry)) known.new) }
-    ensures unfit { result ≡ Err Unfit → (new : KnownSo) → AppliesRecord known.old (client_value (form_client form.entry)) new → ⊥ }
+    ensures unfit { result ≡ Err Unfit → (new : KnownSo) →
+        AppliesRecord known.old (client_value (form_client form.entry)) new → ⊥ }
 {
     let mut record = form.record();
     record.created = kept_created(record.created);
@@ -139,7 +142,8 @@ fn add_session<A: Allocator + Copy>(
     form: SessionForm,
 ) -> Result<(), ChangeFault>
     ensures ok { OnOk result (AppliesSession known.old (session_value form.number form.held) known.new) }
-    ensures unfit { result ≡ Err Unfit → (new : KnownSo) → AppliesSession known.old (session_value form.number form.held) new → ⊥ }
+    ensures unfit { result ≡ Err Unfit → (new : KnownSo) →
+        AppliesSession known.old (session_value form.number form.held) new → ⊥ }
 {
     match known.clients.restore_session(form.number, form.held) {
         Ok(()) => Ok(()),

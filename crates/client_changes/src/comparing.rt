@@ -198,7 +198,8 @@ fn are_slots_close<A: Allocator + Copy>(
     session: u64,
     slots: u32,
 ) -> bool
-    ensures { IsTrue result ↔ ((slot : ℕ) → slot < slots → IsClose how (kept_at a.now session slot) (kept_at b.now session slot)) }
+    ensures { IsTrue result ↔ ((slot : ℕ) → slot < slots →
+        IsClose how (kept_at a.now session slot) (kept_at b.now session slot)) }
 {
     for slot in 0..slots {
         if !is_close(how, a.kept(session, slot), b.kept(session, slot)) {

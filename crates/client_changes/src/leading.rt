@@ -36,7 +36,8 @@ fn lead_all<A: Allocator + Copy>(
     count: u32,
 ) -> Result<(), ChangeFault>
     ensures ok { OnOk result (LeadsAll count known.old reader.old known.new reader.new) }
-    ensures unfit { result ≡ Err Unfit → (new : KnownSo) (rest : List ℕ) → LeadsAll count known.old reader.old new rest → ⊥ }
+    ensures unfit { result ≡ Err Unfit → (new : KnownSo) (rest : List ℕ) →
+        LeadsAll count known.old reader.old new rest → ⊥ }
 {
     let mut left = count;
     while left > 0 {

@@ -1,5 +1,6 @@
 //! When an operation is OK, when it is refused access, and when it may be delayed.
-ghost use Rattle.std.specs.Prelude.{◌≡◌, ◌≢◌, ◌↔◌, ◌⊎◌, if◌then◌else◌, true, false, List, ◌∷◌, ◌++◌, Option, Some, None, Result, Ok, Err, unwrap_or};
+ghost use Rattle.std.specs.Prelude.{◌≡◌, ◌≢◌, ◌↔◌, ◌⊎◌, if◌then◌else◌, true, false, List, ◌∷◌, ◌++◌, Option, Some};
+ghost use Rattle.std.specs.Prelude.{None, Result, Ok, Err, unwrap_or};
 ghost use Rattle.rpc_record.specs.Identity.{Identity};
 ghost use Rattle.nfs_types.specs.declared.status.Status.{Status};
 ghost use Rattle.nfs_types.specs.declared.status.Status.TheVariants as statuses;
@@ -21,7 +22,8 @@ ghost use Rattle.compound_run.specs.Operations.{meaning, may_delay};
 ghost use Rattle.compound_run.specs.Runs.{Point, Steps, outcome, traced};
 ghost use Rattle.compound_run.specs.Exact.{ArePassed, ArePassedOrSuffice, IsRefusedByRow, EndsInRefusal};
 ghost use Rattle.compound_laws.specs.EntriesExact.{GivesExactly, IsUnlisted, MeetsRefused};
-ghost use Rattle.compound_laws.specs.RowsAsked.{first_of, second_of, HasNoFirst, HasNoSecond, IsAmong, IsOntoItself, SomeSuffices};
+ghost use Rattle.compound_laws.specs.RowsAsked.{first_of, second_of, HasNoFirst, HasNoSecond, IsAmong, IsOntoItself};
+ghost use Rattle.compound_laws.specs.RowsAsked.{SomeSuffices};
 
 /// An outcome after a row of demands comes only where the lists grant each of them; else the
 /// outcome is ACCESS.
@@ -32,7 +34,8 @@ pub fn rows_decide()
 
 /// An operation is OK exactly where each of its questions is passed, up to a question that suffices.
 pub fn ok_is_exact()
-    ensures { (caller : Identity) (s : Sight) (questions : List Question) → (failure caller s questions ≡ None) ↔ ArePassedOrSuffice caller s questions }
+    ensures { (caller : Identity) (s : Sight) (questions : List Question) →
+        (failure caller s questions ≡ None) ↔ ArePassedOrSuffice caller s questions }
 {}
 
 /// An operation answers ACCESS exactly where a row of demands is its first question that fails
@@ -40,7 +43,8 @@ pub fn ok_is_exact()
 /// granted. It names the first denying entry, else the lowest bit that none allows (`told`). By a
 /// step's definition nothing changes where the outcome isn't OK.
 pub fn access_is_exact()
-    ensures exact { (m : Meaning) (r : Realm) → (outcome m r ≡ Err statuses.Access) ↔ IsRefusedByRow m.caller (whole r) m.questions }
+    ensures exact { (m : Meaning) (r : Realm) →
+        (outcome m r ≡ Err statuses.Access) ↔ IsRefusedByRow m.caller (whole r) m.questions }
     ensures told { (m : Meaning) (r : Realm) → outcome m r ≡ Err statuses.Access →
         (row : IsRefusedByRow m.caller (whole r) m.questions) × EndsInRefusal m.caller m.number (judged_of r.world) (row.demands (whole r)) (traced m r) }
 {}
@@ -78,14 +82,16 @@ pub fn refused_is_access()
 /// An operation that takes no memory never answers DELAY. These are all but CREATE, LINK, NVERIFY,
 /// OPEN, RENAME, SETATTR, VERIFY and WRITE. Nor does an operation without place or room.
 pub fn others_never_delay()
-    ensures { (c : Context) (op : Operation) (old new : Point) (result : Result Outcome Status) → may_delay c op ≡ false → Steps c op old result new → result ≢ Err statuses.Delay }
+    ensures { (c : Context) (op : Operation) (old new : Point) (result : Result Outcome Status) →
+        may_delay c op ≡ false → Steps c op old result new → result ≢ Err statuses.Delay }
 {}
 
 /// In each entry that READDIR returns an attribute that a bit governs is there exactly where it is
 /// requested, and the list of the entry's object grants that bit. Every other supported attribute
 /// is there exactly where it is requested.
 pub fn readdir_gives_exactly()
-    ensures { (c : Context) (h : Handles) (v : Value readdir_args) (r : Realm) (o : Outcome) → IsSound r.world → outcome (meaning c h (Known kinds.ReadDir v)) r ≡ Ok o → GivesExactly c h v (whole r) o }
+    ensures { (c : Context) (h : Handles) (v : Value readdir_args) (r : Realm) (o : Outcome) → IsSound r.world →
+        outcome (meaning c h (Known kinds.ReadDir v)) r ≡ Ok o → GivesExactly c h v (whole r) o }
 {}
 
 /// READDIR answers ACCESS exactly where LIST_DIRECTORY is demanded and isn't granted, or where a

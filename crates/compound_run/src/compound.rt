@@ -46,7 +46,8 @@ impl<A: Allocator + Copy> Realm<A> {
         requires settled { self.old.tree.log.held ≡ [] }
         requires place { context.position ≤ context.count }
         requires room { context.room + limits.REFUSAL_ROOM ≤ results.old.room }
-        ensures gives { RunGives (context_at self.old context.entry) operations.now self.old results.old result self.new results.new }
+        ensures gives { RunGives (context_at self.old context.entry) operations.now self.old results.old result self.new
+            results.new }
         ensures settled { self.new.tree.log.held ≡ [] }
     {
         let end = results.capacity() - (results.room() - context.room);
@@ -123,7 +124,10 @@ impl<'a> CompoundArgs<'a> {
         requires count { context.count ≡ self.now.count }
         requires least { context.room ≡ first_room limits.MAX_REPLY self.now.tag.now }
         requires room { context.room + limits.REFUSAL_ROOM ≤ out.old.room }
-        ensures answers { OpensBehind (opening_fault limits.MAX_OPERATIONS self.now.minor_version self.now.count) self.now.tag.now (record (context_at realm.old context.entry) { room = first_room limits.MAX_REPLY self.now.tag.now }) self.now.operations.now realm.old out.old result realm.new out.new }
+        ensures answers { OpensBehind (opening_fault limits.MAX_OPERATIONS self.now.minor_version self.now.count)
+            self.now.tag.now (record (context_at realm.old
+            context.entry) { room = first_room limits.MAX_REPLY self.now.tag.now }) self.now.operations.now realm.old
+            out.old result realm.new out.new }
         ensures settled { realm.new.tree.log.held ≡ [] }
     {
         if let Some(status) = self.fault() {
@@ -147,7 +151,10 @@ impl<'a> CompoundArgs<'a> {
         requires count { context.count ≡ self.now.count }
         requires whole { context.room + limits.REFUSAL_ROOM ≡ limits.MAX_RESULTS }
         requires room { limits.MAX_RESULTS ≤ out.old.room }
-        ensures answers { WritesAnswer (λ bytes. OpensTo (opening_fault limits.MAX_OPERATIONS self.now.minor_version self.now.count) self.now.tag.now (record (context_at realm.old context.entry) { room = first_room limits.MAX_REPLY self.now.tag.now }) self.now.operations.now realm.old bytes realm.new) out.old out.new }
+        ensures answers { WritesAnswer (λ bytes. OpensTo
+            (opening_fault limits.MAX_OPERATIONS self.now.minor_version self.now.count) self.now.tag.now
+            (record (context_at realm.old context.entry) { room = first_room limits.MAX_REPLY self.now.tag.now })
+            self.now.operations.now realm.old bytes realm.new) out.old out.new }
         ensures settled { realm.new.tree.log.held ≡ [] }
     {
         let end = out.capacity() - (out.room() - context.room);

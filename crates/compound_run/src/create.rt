@@ -1,5 +1,6 @@
 //! CREATE (RFC 8881, section 18.4).
-ghost use Rattle.std.specs.Prelude.{◌≡◌, ◌+◌, ◌<◌, ◌≤◌, [], ◌∷◌, length, Some, None, option_map, unwrap_or, IfOk, IfSome, IsOkUnless, IsSome, MatchResult};
+ghost use Rattle.std.specs.Prelude.{◌≡◌, ◌+◌, ◌<◌, ◌≤◌, [], ◌∷◌, length, Some, None, option_map, unwrap_or, IfOk};
+ghost use Rattle.std.specs.Prelude.{IfSome, IsOkUnless, IsSome, MatchResult};
 ghost use Rattle.acl_shape.specs.Bounds.{IsBounded};
 ghost use Rattle.acl_shape.specs.Permissions.{created_list, created_high};
 ghost use Rattle.nfs_types.specs.Sent.{wanted_of};
@@ -12,7 +13,8 @@ ghost use Rattle.compound_run.specs.Sight.{whole, child, directory_change};
 ghost use Rattle.compound_run.specs.Create.{create, list_at, making};
 ghost use Rattle.compound_run.specs.Create as specs;
 ghost use Rattle.compound_run.specs.Lists.{IsFit, base_of, new_fits, new_list};
-ghost use Rattle.compound_run.specs.Views.{context_at, GivesOrDelays, HasRoom, realm_of, draft_view, wanted_view, IsWanted};
+ghost use Rattle.compound_run.specs.Views.{context_at, GivesOrDelays, HasRoom, realm_of, draft_view, wanted_view};
+ghost use Rattle.compound_run.specs.Views.{IsWanted};
 
 use crate::directory::Directory;
 use crate::filehandles::FileHandles;
@@ -55,7 +57,8 @@ fn draft_of<'a>(kind: &CreateType<'a>) -> Option<Draft<'a>>
 
 /// A link's text is neither empty nor too long.
 fn check_text(draft: Draft<'_>) -> Result<(), Status>
-    ensures fault { MatchResult result (λ done. specs.text_fault (draft_view draft.entry) ≡ None) (λ status. specs.text_fault (draft_view draft.entry) ≡ Some status) }
+    ensures fault { MatchResult result (λ done. specs.text_fault (draft_view draft.entry) ≡ None)
+        (λ status. specs.text_fault (draft_view draft.entry) ≡ Some status) }
 {
     if draft.kind != Kind::Link {
         return Ok(());
@@ -114,7 +117,8 @@ fn copied<A: Allocator>(alloc: A, bytes: &[u8]) -> Result<Vec<u8, A>, AllocError
 impl<A: Allocator + Copy> Realm<A> {
     /// The values that the attributes set. `Delay`: there is no memory for the list.
     pub fn wanted(&self, kind: Kind, sent: &Attributes<'_>) -> Result<Attrs<A>, Status>
-        ensures wanted { IsWanted (wanted_of self.now.tree.book kind (bitmap_value sent.now.set) sent.now.values.bytes.now) result }
+        ensures wanted { IsWanted (wanted_of self.now.tree.book kind (bitmap_value sent.now.set)
+            sent.now.values.bytes.now) result }
         ensures bounded { IfOk result (λ wanted. IfSome wanted.list IsBounded) }
     {
         read_attrs(self.alloc, self.tree.book(), kind, sent).map_err(|fault| match fault {
@@ -133,7 +137,8 @@ impl<A: Allocator + Copy> Realm<A> {
         requires there { IsSome (object self.now.tree.world directory) }
         requires bounded { IfSome given.list IsBounded }
         ensures space { IsOkUnless result Status.Delay }
-        ensures list { IfOk result (λ made. made.list ≡ created_list (list_at self.now.tree.world directory) kind given.mode given.list) }
+        ensures list { IfOk result (λ made. made.list ≡
+            created_list (list_at self.now.tree.world directory) kind given.mode given.list) }
         ensures high { IfOk result (λ made. made.high ≡ created_high given.mode) }
         ensures bounded { IfOk result (λ made. IsBounded made.list) }
     {
@@ -157,7 +162,8 @@ impl<A: Allocator + Copy> Realm<A> {
         requires there { IsSome (object self.now.tree.world directory) }
         requires bounded { IfSome wanted.list IsBounded }
         ensures fits { IsFit (new_fits (wanted_view wanted) kind (list_at self.now.tree.world directory)) result }
-        ensures list { IfOk result (λ made. made.list ≡ new_list (wanted_view wanted) kind (list_at self.now.tree.world directory)) }
+        ensures list { IfOk result (λ made. made.list ≡
+            new_list (wanted_view wanted) kind (list_at self.now.tree.world directory)) }
         ensures high { IfOk result (λ made. made.high ≡ created_high wanted.mode) }
         ensures bounded { IfOk result (λ made. IsBounded made.list) }
     {
@@ -190,12 +196,14 @@ impl<A: Allocator + Copy> Realm<A> {
         requires there { IsSome (object self.now.tree.world directory) }
         requires bounded { IfSome wanted.list IsBounded }
         requires short { length draft.text.now ≤ most_bytes draft.kind }
-        ensures fits { IsFit (new_fits (wanted_view wanted) draft.entry.kind (list_at self.now.tree.world directory)) result }
+        ensures fits { IsFit (new_fits (wanted_view wanted) draft.entry.kind (list_at self.now.tree.world directory))
+            result }
         ensures kind { IfOk result (λ new. new.kind ≡ draft.entry.kind) }
         ensures bytes { IfOk result (λ new. new.bytes.items ≡ draft.entry.text.now) }
         ensures owner { IfOk result (λ new. new.owner ≡ caller.now.uid) }
         ensures group { IfOk result (λ new. new.group ≡ unwrap_or wanted.group caller.now.gid) }
-        ensures list { IfOk result (λ new. new.list ≡ new_list (wanted_view wanted) draft.entry.kind (list_at self.now.tree.world directory)) }
+        ensures list { IfOk result (λ new. new.list ≡
+            new_list (wanted_view wanted) draft.entry.kind (list_at self.now.tree.world directory)) }
         ensures high { IfOk result (λ new. new.high ≡ created_high wanted.mode) }
         ensures bounded { IfOk result (λ new. IsBounded new.list) }
     {
@@ -227,13 +235,15 @@ impl<A: Allocator + Copy> Realm<A> {
         requires live { kind_of self.old.tree.world directory.number ≡ Some Kind.Directory }
         requires change { directory_change self.old.tree.world directory.number ≡ directory.change }
         requires draft { specs.draft (create_args_value args.now) ≡ draft_view wanted.0 }
-        requires wanted { specs.wanted (context_at self.old step.context) (create_args_value args.now) ≡ wanted_view wanted.1 }
+        requires wanted { specs.wanted (context_at self.old step.context) (create_args_value args.now) ≡
+            wanted_view wanted.1 }
         requires bounded { IfSome wanted.1.list IsBounded }
         requires short { length args.now.name.bytes.now ≤ 255 }
         requires fits { length wanted.0.text.now ≤ most_bytes wanted.0.kind }
         requires free { child (whole (realm_of self.old)) directory.number args.now.name.bytes.now ≡ None }
         requires room { HasRoom step.context out.old }
-        ensures { GivesOrDelays step.entry (making (create_args_value args.now) directory.number) self.old out.old result self.new out.new }
+        ensures { GivesOrDelays step.entry (making (create_args_value args.now) directory.number) self.old out.old
+            result self.new out.new }
     {
         let (draft, wanted) = wanted;
         let at = self.tick(step.context.now).ok_or(Status::NoSpc)?;
@@ -262,7 +272,8 @@ impl<A: Allocator + Copy> Realm<A> {
     ) -> Result<FileHandles, Status>
         requires settled { self.old.tree.log.held ≡ [] }
         requires room { HasRoom step.context out.old }
-        ensures { GivesOrDelays step.entry (create (create_args_value args.now)) self.old out.old result self.new out.new }
+        ensures { GivesOrDelays step.entry (create (create_args_value args.now)) self.old out.old result self.new
+            out.new }
     {
         let directory = step.handles.current.ok_or(Status::NoFileHandle)?;
         let node = self.tree.object(directory).ok_or(Status::Stale)?;

@@ -76,7 +76,8 @@ impl<A: Allocator + Copy> Realm<A> {
     /// Asks for a session; the client counts as heard at this moment. The opens of a client whose
     /// record goes are closed.
     fn make_session(&mut self, caller: &Caller, now: Moment, args: &CreateSessionArgs<'_>) -> Made
-        ensures creates { Creates self.old.clients (create_of self.old.lasting caller.now (create_session_args_value args.now)) result self.new.clients }
+        ensures creates { Creates self.old.clients
+            (create_of self.old.lasting caller.now (create_session_args_value args.now)) result self.new.clients }
         ensures opens { opens_view self.new.opens.items ≡ opens_without result.gone (opens_view self.old.opens.items) }
         ensures others { IsOfClients self.old self.new }
     {
@@ -104,7 +105,8 @@ impl<A: Allocator + Copy> Realm<A> {
         out: &mut Writer<A>,
     ) -> Result<(), Status>
         requires room { limits.MIN_ROOM ≤ out.old.room }
-        ensures gives { ActGives caller.now (Known kinds.CreateSession (create_session_args_value args.now)) (realm_of self.old) out.old result (realm_of self.new) out.new }
+        ensures gives { ActGives caller.now (Known kinds.CreateSession (create_session_args_value args.now))
+            (realm_of self.old) out.old result (realm_of self.new) out.new }
         ensures others { IsOfClients self.old self.new }
     {
         let created = self.make_session(caller, now, args).result?;

@@ -3,7 +3,8 @@ ghost use Rattle.std.specs.Prelude.{◌≡◌, ◌+◌, ◌*◌, ◌<◌, ◌≤
 ghost use Rattle.acl_shape.specs.declared.bounds.TheConstants.{MAX_ENTRIES};
 ghost use Rattle.node_tree.specs.World.{bytes_of};
 ghost use Rattle.access_rows.specs.Rows.{lists_in};
-ghost use Rattle.compound_run.specs.Asking.{grants_all, asked, op_number, first_of, opening_of, sized_of, second_of, sight_of};
+ghost use Rattle.compound_run.specs.Asking.{grants_all, asked, op_number, first_of, opening_of, sized_of, second_of};
+ghost use Rattle.compound_run.specs.Asking.{sight_of};
 ghost use Rattle.compound_run.specs.Rows as specs;
 
 use crate::realm::Realm;
@@ -40,8 +41,10 @@ impl<A: Allocator + Copy> Realm<A> {
     /// Whether the lists grant the first demands of an operation, before it looks up a name. Its lines are held.
     pub fn grants_first(&mut self, step: Step<'_>, op: &Op<'_>) -> bool
         requires { self.old.tree.log.held ≡ [] }
-        ensures answer { result ≡ grants_all self.old step.entry.context.caller.now (first_of self.old op.now step.entry.handles) }
-        ensures state { self.new ≡ asked self.old step.entry.context.caller.now (op_number op.now) (first_of self.old op.now step.entry.handles) }
+        ensures answer { result ≡ grants_all self.old step.entry.context.caller.now
+            (first_of self.old op.now step.entry.handles) }
+        ensures state { self.new ≡ asked self.old step.entry.context.caller.now (op_number op.now)
+            (first_of self.old op.now step.entry.handles) }
         ensures few { result ≡ true → length self.new.tree.log.held ≤ specs.MAX_FIRST_LINES }
     {
         let handles = step.handles;
@@ -53,8 +56,10 @@ impl<A: Allocator + Copy> Realm<A> {
     /// the new size. Its lines are held.
     pub fn grants_sized(&mut self, step: Step<'_>, op: &Op<'_>, new_size: Option<u64>) -> bool
         requires { self.old.tree.log.held ≡ [] }
-        ensures answer { result ≡ grants_all self.old step.entry.context.caller.now (sized_of self.old op.now step.entry.handles new_size) }
-        ensures state { self.new ≡ asked self.old step.entry.context.caller.now (op_number op.now) (sized_of self.old op.now step.entry.handles new_size) }
+        ensures answer { result ≡ grants_all self.old step.entry.context.caller.now
+            (sized_of self.old op.now step.entry.handles new_size) }
+        ensures state { self.new ≡ asked self.old step.entry.context.caller.now (op_number op.now)
+            (sized_of self.old op.now step.entry.handles new_size) }
         ensures few { result ≡ true → length self.new.tree.log.held ≤ specs.MAX_FIRST_LINES }
     {
         let handles = step.handles;
@@ -81,8 +86,10 @@ impl<A: Allocator + Copy> Realm<A> {
         replaced: Option<u64>,
     ) -> bool
         requires { length self.old.tree.log.held ≤ specs.MAX_FIRST_LINES }
-        ensures answer { result ≡ grants_all self.old step.entry.context.caller.now (second_of self.old op.now step.entry.handles child replaced) }
-        ensures state { self.new ≡ asked self.old step.entry.context.caller.now (op_number op.now) (second_of self.old op.now step.entry.handles child replaced) }
+        ensures answer { result ≡ grants_all self.old step.entry.context.caller.now
+            (second_of self.old op.now step.entry.handles child replaced) }
+        ensures state { self.new ≡ asked self.old step.entry.context.caller.now (op_number op.now)
+            (second_of self.old op.now step.entry.handles child replaced) }
     {
         let handles = step.handles;
         let facts = Second {
@@ -109,8 +116,10 @@ impl<A: Allocator + Copy> Realm<A> {
         new_size: Option<u64>,
     ) -> bool
         requires { length self.old.tree.log.held ≤ specs.MAX_FIRST_LINES }
-        ensures answer { result ≡ grants_all self.old step.entry.context.caller.now (opening_of self.old op.now step.entry.handles file new_size) }
-        ensures state { self.new ≡ asked self.old step.entry.context.caller.now (op_number op.now) (opening_of self.old op.now step.entry.handles file new_size) }
+        ensures answer { result ≡ grants_all self.old step.entry.context.caller.now
+            (opening_of self.old op.now step.entry.handles file new_size) }
+        ensures state { self.new ≡ asked self.old step.entry.context.caller.now (op_number op.now)
+            (opening_of self.old op.now step.entry.handles file new_size) }
     {
         let handles = step.handles;
         let facts = Second {
@@ -133,7 +142,8 @@ impl<A: Allocator + Copy> Realm<A> {
         requires { length self.old.tree.log.held + MAX_ENTRIES * lists_in demands.now < MOST_HELD }
         ensures answer { result ≡ grants_all self.old caller.now demands.now }
         ensures state { self.new ≡ asked self.old caller.now op demands.now }
-        ensures few { result ≡ true → length self.new.tree.log.held ≤ length self.old.tree.log.held + MAX_ENTRIES * lists_in demands.now }
+        ensures few { result ≡ true → length self.new.tree.log.held ≤
+            length self.old.tree.log.held + MAX_ENTRIES * lists_in demands.now }
     {
         for demand in demands {
             let Some(demand) = *demand else {

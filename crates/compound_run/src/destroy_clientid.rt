@@ -24,7 +24,8 @@ impl<A: Allocator + Copy> Realm<A> {
         out: &mut Writer<A>,
     ) -> Result<(), Status>
         requires room { limits.MIN_ROOM ≤ out.old.room }
-        ensures gives { ActGives caller.now (Known kinds.DestroyClientId (destroy_clientid_args_value args.now)) (realm_of self.old) out.old result (realm_of self.new) out.new }
+        ensures gives { ActGives caller.now (Known kinds.DestroyClientId (destroy_clientid_args_value args.now))
+            (realm_of self.old) out.old result (realm_of self.new) out.new }
         ensures others { IsOfClients self.old self.new }
     {
         let _caller = caller;

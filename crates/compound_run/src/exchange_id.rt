@@ -50,7 +50,8 @@ impl<A: Allocator + Copy> Realm<A> {
         now: Moment,
         args: &ExchangeIdArgs<'_>,
     ) -> Result<Exchanged, Status>
-        ensures exchanges { Exchanges self.old.clients (exchanging caller.now (exchange_id_args_value args.now) (realm_of self.old)) result self.new.clients }
+        ensures exchanges { Exchanges self.old.clients
+            (exchanging caller.now (exchange_id_args_value args.now) (realm_of self.old)) result self.new.clients }
         ensures others { self.new ≡ record self.old { clients = self.new.clients } }
     {
         let has_opens = self.owner_has_opens(args.owner.bytes);
@@ -74,7 +75,8 @@ impl<A: Allocator + Copy> Realm<A> {
         out: &mut Writer<A>,
     ) -> Result<(), Status>
         requires room { limits.MIN_ROOM ≤ out.old.room }
-        ensures gives { ActGives caller.now (Known kinds.ExchangeId (exchange_id_args_value args.now)) (realm_of self.old) out.old result (realm_of self.new) out.new }
+        ensures gives { ActGives caller.now (Known kinds.ExchangeId (exchange_id_args_value args.now))
+            (realm_of self.old) out.old result (realm_of self.new) out.new }
         ensures others { IsOfClients self.old self.new }
     {
         let told = self.exchange(caller, now, args)?;

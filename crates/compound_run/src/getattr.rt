@@ -44,7 +44,9 @@ impl<A: Allocator + Copy> Realm<A> {
     ) -> Result<(), Full>
         requires there { IsSome (object self.now.tree.world number) }
         requires room { HasRoom context out.old }
-        ensures { PutsWithin context.entry.room (Done kinds.GetAttr (told (context_at self.now context.entry) number (bitmap_value asked) (sight_of self.now))) out.old result out.new }
+        ensures { PutsWithin context.entry.room
+            (Done kinds.GetAttr (told (context_at self.now context.entry) number (bitmap_value asked)
+            (sight_of self.now))) out.old result out.new }
     {
         let Some(facts) = self.facts(number, Status::Ok) else {
             unreachable!();

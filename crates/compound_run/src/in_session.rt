@@ -10,7 +10,8 @@ ghost use Rattle.compound_run.specs.Limits as limits;
 ghost use Rattle.compound_run.specs.Sequence as specs;
 ghost use Rattle.compound_run.specs.Sequence.{keeping, sequence_done};
 ghost use Rattle.compound_run.specs.Sessions.{session_of};
-ghost use Rattle.compound_run.specs.SessionViews.{AnswersComing, AnswersSequence, SequencedKept, WritesWithin, coming_behind, sequence_told};
+ghost use Rattle.compound_run.specs.SessionViews.{AnswersComing, AnswersSequence, SequencedKept, WritesWithin};
+ghost use Rattle.compound_run.specs.SessionViews.{coming_behind, sequence_told};
 
 use crate::compound::CompoundArgs;
 use crate::context::{Calling, Context};
@@ -73,8 +74,10 @@ impl<A: Allocator + Copy> Realm<A> {
     /// Keeps the bytes after the first ones as the results of a call.
     fn keep_from(&mut self, args: &SequenceArgs, out: &Writer<A>, start: usize)
         requires start { start ≤ length out.now.bytes }
-        requires slot { IfSome (session_at self.old.clients (session_of args.now.session)) (λ s. args.now.slot < s.granted.slots) }
-        requires few { IfSome (session_at self.old.clients (session_of args.now.session)) (λ s. length (drop start out.now.bytes) ≤ kept_size s.granted) }
+        requires slot { IfSome (session_at self.old.clients (session_of args.now.session))
+            (λ s. args.now.slot < s.granted.slots) }
+        requires few { IfSome (session_at self.old.clients (session_of args.now.session))
+            (λ s. length (drop start out.now.bytes) ≤ kept_size s.granted) }
         ensures { self.new ≡ record self.old { clients = keeping (sequence_args_value args.now) (drop start out.now.bytes) self.old.clients } }
     {
         let results = &out.bytes()[start..];
@@ -96,7 +99,11 @@ impl<A: Allocator + Copy> Realm<A> {
         requires some { 1 ≤ call.compound.count }
         requires stands { StandsIn self.old.clients (session_of args.now.session) args.now.slot (begins.New new) }
         requires room { limits.MAX_RESULTS ≤ out.old.room }
-        ensures answers { WritesWithin (new.reply_size - limits.REPLY_HEADER) (λ bytes. SequencedKept (coming_behind self.old.tree.book call.entry (sequence_args_value args.now) new) call.entry.compound.tag.now (sequence_args_value args.now) (sequence_done (sequence_args_value args.now) new.highest_slot) operations.now self.old bytes self.new) out.old out.new }
+        ensures answers { WritesWithin (new.reply_size - limits.REPLY_HEADER)
+            (λ bytes. SequencedKept (coming_behind self.old.tree.book call.entry (sequence_args_value args.now) new)
+            call.entry.compound.tag.now (sequence_args_value args.now)
+            (sequence_done (sequence_args_value args.now) new.highest_slot) operations.now self.old bytes self.new)
+            out.old out.new }
         ensures settled { self.new.tree.log.held ≡ [] }
     {
         let start = out.len();
@@ -132,7 +139,9 @@ impl<A: Allocator + Copy> Realm<A> {
         requires settled { self.old.tree.log.held ≡ [] }
         requires some { 1 ≤ call.compound.count }
         requires room { limits.MAX_RESULTS ≤ out.old.room }
-        ensures answers { WritesWithin limits.MAX_RESULTS (λ bytes. AnswersSequence call.entry (sequence_args_value args.now) operations.now (state_of self.old) bytes (state_of self.new)) out.old out.new }
+        ensures answers { WritesWithin limits.MAX_RESULTS
+            (λ bytes. AnswersSequence call.entry (sequence_args_value args.now) operations.now (state_of self.old) bytes
+            (state_of self.new)) out.old out.new }
         ensures settled { self.new.tree.log.held ≡ [] }
     {
         let session = session_of(&args.session);
@@ -160,7 +169,8 @@ impl<A: Allocator + Copy> Realm<A> {
         requires whole { length call.args.bytes.now ≤ call.args.record_len }
         requires settled { self.old.tree.log.held ≡ [] }
         requires room { limits.MAX_RESULTS ≤ out.old.room }
-        ensures answers { WritesWithin limits.MAX_RESULTS (λ bytes. AnswersComing call.entry (state_of self.old) bytes (state_of self.new)) out.old out.new }
+        ensures answers { WritesWithin limits.MAX_RESULTS
+            (λ bytes. AnswersComing call.entry (state_of self.old) bytes (state_of self.new)) out.old out.new }
         ensures settled { self.new.tree.log.held ≡ [] }
     {
         let compound = call.compound;

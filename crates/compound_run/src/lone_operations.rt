@@ -40,7 +40,8 @@ impl<A: Allocator + Copy> Realm<A> {
         out: &mut Writer<A>,
     ) -> Result<(), Status>
         requires room { limits.MIN_ROOM ≤ out.old.room }
-        ensures gives { ActGives caller.now (lone_view lone.now) (realm_of self.old) out.old result (realm_of self.new) out.new }
+        ensures gives { ActGives caller.now (lone_view lone.now) (realm_of self.old) out.old result (realm_of self.new)
+            out.new }
         ensures others { IsOfClients self.old self.new }
     {
         match lone {
@@ -60,7 +61,8 @@ impl<A: Allocator + Copy> Realm<A> {
         out: &mut Writer<A>,
     ) -> Status
         requires room { limits.MIN_ROOM ≤ out.old.room }
-        ensures gives { ActedSo caller.now (lone_view lone.now) (realm_of self.old) out.old result (realm_of self.new) out.new }
+        ensures gives { ActedSo caller.now (lone_view lone.now) (realm_of self.old) out.old result (realm_of self.new)
+            out.new }
         ensures others { IsOfClients self.old self.new }
     {
         match self.act(caller, now, lone, out) {
@@ -83,7 +85,9 @@ impl<A: Allocator + Copy> Realm<A> {
     )
         requires short { length tag.now ≤ limits.MAX_TAG }
         requires room { limits.MAX_RESULTS ≤ out.old.room }
-        ensures answers { WritesWithin limits.MAX_RESULTS (λ bytes. ActsTo caller.now (lone_view lone.now) tag.now (realm_of self.old) bytes (realm_of self.new)) out.old out.new }
+        ensures answers { WritesWithin limits.MAX_RESULTS
+            (λ bytes. ActsTo caller.now (lone_view lone.now) tag.now (realm_of self.old) bytes (realm_of self.new))
+            out.old out.new }
         ensures others { IsOfClients self.old self.new }
     {
         let status_at = out.len();

@@ -25,7 +25,8 @@ impl<A: Allocator + Copy> Realm<A> {
     ) -> Result<FileHandles, Status>
         requires settled { self.old.tree.log.held ≡ [] }
         requires room { HasRoom step.context out.old }
-        ensures { GivesOrDelays step.entry (nverify (nverify_args_value args.now)) self.old out.old result self.new out.new }
+        ensures { GivesOrDelays step.entry (nverify (nverify_args_value args.now)) self.old out.old result self.new
+            out.new }
     {
         let number = step.handles.current.ok_or(Status::NoFileHandle)?;
         if self.tree.object(number).is_none() {

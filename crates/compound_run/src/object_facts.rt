@@ -31,7 +31,8 @@ fn size_told<A: Allocator>(node: &Node<A>) -> u64
 
 /// The mode of an object, if it is requested, else 0.
 fn mode_if_asked<A: Allocator>(node: &Node<A>, asked: &Bitmap) -> u32
-    ensures { has_number (bitmap_value asked.now) 33 ≡ true → result ≡ bit_or node.now.high (specs.mode_of node.now.list) }
+    ensures { has_number (bitmap_value asked.now) 33 ≡ true →
+        result ≡ bit_or node.now.high (specs.mode_of node.now.list) }
 {
     if asked.has(MODE) {
         node.high() | mode_of(node.list())

@@ -1,5 +1,6 @@
 //! OPEN (RFC 8881, section 18.16).
-ghost use Rattle.std.specs.Prelude.{◌≡◌, ◌≤◌, [], ◌∷◌, if◌then◌else◌, length, true, false, Some, None, Err, IfOk, IfSome, IsOkUnless, IsSome, MatchResult, OnErr, OnOk, vec_len, vec_capacity};
+ghost use Rattle.std.specs.Prelude.{◌≡◌, ◌≤◌, [], ◌∷◌, if◌then◌else◌, length, true, false, Some, None, Err, IfOk};
+ghost use Rattle.std.specs.Prelude.{IfSome, IsOkUnless, IsSome, MatchResult, OnErr, OnOk, vec_len, vec_capacity};
 ghost use Rattle.std.specs.Option.{option_map};
 ghost use Rattle.acl_shape.specs.Bounds.{IsBounded};
 ghost use Rattle.nfs_types.specs.Views.{bitmap_value};
@@ -16,7 +17,8 @@ ghost use Rattle.compound_run.specs.Open.{open_file, opening};
 ghost use Rattle.compound_run.specs.Opening.{HasPlace, IfByName, IsBefore, IsPlace, MakesFile};
 ghost use Rattle.compound_run.specs.Setattr as setting;
 ghost use Rattle.compound_run.specs.Sight.{child, directory_change, kind_at};
-ghost use Rattle.compound_run.specs.Views.{context_at, GivesOrDelays, HasRoom, realm_of, wanted_view, IsWanted, settings_of};
+ghost use Rattle.compound_run.specs.Views.{context_at, GivesOrDelays, HasRoom, realm_of, wanted_view, IsWanted};
+ghost use Rattle.compound_run.specs.Views.{settings_of};
 
 use crate::context::Context;
 use crate::create::{Draft, is_own};
@@ -54,7 +56,8 @@ fn is_truncating(how: &OpenHow<'_>, size: Option<u64>) -> bool
 /// The access is neither missing nor unknown, the share deny is 0, and the name is valid; a file
 /// that has a filehandle exists already.
 fn check_arguments(args: &OpenArgs<'_>) -> Result<(), Status>
-    ensures fault { MatchResult result (λ done. specs.arguments_fault (open_args_value args.now) ≡ None) (λ status. specs.arguments_fault (open_args_value args.now) ≡ Some status) }
+    ensures fault { MatchResult result (λ done. specs.arguments_fault (open_args_value args.now) ≡ None)
+        (λ status. specs.arguments_fault (open_args_value args.now) ≡ Some status) }
     ensures short { OnOk result (length (specs.name_in (parts.claim (open_claim_value args.now.claim))) ≤ 255) }
 {
     let access = args.access % 256;
@@ -76,7 +79,8 @@ fn check_arguments(args: &OpenArgs<'_>) -> Result<(), Status>
 
 /// By name the current object is a directory, by filehandle a file.
 fn check_current(claim: &OpenClaim<'_>, kind: Kind) -> Result<(), Status>
-    ensures { MatchResult result (λ done. specs.current_fault (parts.claim (open_claim_value claim.now)) kind ≡ None) (λ status. specs.current_fault (parts.claim (open_claim_value claim.now)) kind ≡ Some status) }
+    ensures { MatchResult result (λ done. specs.current_fault (parts.claim (open_claim_value claim.now)) kind ≡ None)
+        (λ status. specs.current_fault (parts.claim (open_claim_value claim.now)) kind ≡ Some status) }
 {
     match (claim, kind) {
         (OpenClaim::ByName(_), Kind::Directory) | (OpenClaim::ByHandle, Kind::File) => Ok(()),
@@ -88,7 +92,8 @@ fn check_current(claim: &OpenClaim<'_>, kind: Kind) -> Result<(), Status>
 
 /// An absent file is created where it may be; an existing object must be a file, and is refused by GUARDED4.
 fn check_found(how: &OpenHow<'_>, kind: Option<Kind>) -> Result<(), Status>
-    ensures { MatchResult result (λ done. specs.found_fault (parts.how (open_how_value how.now)) kind ≡ None) (λ status. specs.found_fault (parts.how (open_how_value how.now)) kind ≡ Some status) }
+    ensures { MatchResult result (λ done. specs.found_fault (parts.how (open_how_value how.now)) kind ≡ None)
+        (λ status. specs.found_fault (parts.how (open_how_value how.now)) kind ≡ Some status) }
 {
     let Some(kind) = kind else {
         return if is_creating(how) {
@@ -211,10 +216,12 @@ impl<A: Allocator + Copy> Realm<A> {
         requires claim { parts.claim (open_claim_value args.now.claim) ≡ ByName name.now }
         requires short { length name.now ≤ 255 }
         requires free { child (sight_of self.old) directory.number name.now ≡ None }
-        requires wanted { specs.wanted (context_at self.old step.context) (open_args_value args.now) ≡ wanted_view wanted }
+        requires wanted { specs.wanted (context_at self.old step.context) (open_args_value args.now) ≡
+            wanted_view wanted }
         requires bounded { IfSome wanted.list IsBounded }
         requires room { HasRoom step.context out.old }
-        ensures { GivesOrDelays step.entry (opening (open_args_value args.now)) self.old out.old result self.new out.new }
+        ensures { GivesOrDelays step.entry (opening (open_args_value args.now)) self.old out.old result self.new
+            out.new }
     {
         let caller = self.tree.member(step.context.caller);
         if !is_own(&caller, &wanted) {
@@ -255,10 +262,15 @@ impl<A: Allocator + Copy> Realm<A> {
     ) -> Result<Place<A>, Status>
         requires file { kind_of self.old.tree.world file ≡ Some Kind.File }
         requires truncates { specs.truncates (context_at self.old context) (open_args_value args.now) ≡ truncates }
-        ensures full { specs.has_space_for (context_at self.old context.entry) (open_args_value args.now) 0 (Some file) (sight_of self.old) ≡ false → result ≡ Err Status.NoSpc }
-        ensures space { specs.has_space_for (context_at self.old context.entry) (open_args_value args.now) 0 (Some file) (sight_of self.old) ≡ true → IsOkUnless result Status.Delay }
-        ensures place { IfOk result (IsPlace args.now.owner.bytes.now (specs.joined (context_at self.old context.entry) (open_args_value args.now) (Some file) (sight_of self.old).opens)) }
-        ensures room { IfOk result (HasPlace self.new.next_open (vec_len self.new.opens) (vec_capacity self.new.opens)) }
+        ensures full { specs.has_space_for (context_at self.old context.entry) (open_args_value args.now) 0 (Some file)
+            (sight_of self.old) ≡ false → result ≡ Err Status.NoSpc }
+        ensures space { specs.has_space_for (context_at self.old context.entry) (open_args_value args.now) 0 (Some file)
+            (sight_of self.old) ≡ true → IsOkUnless result Status.Delay }
+        ensures place { IfOk result (IsPlace args.now.owner.bytes.now
+            (specs.joined (context_at self.old context.entry) (open_args_value args.now) (Some file)
+            (sight_of self.old).opens)) }
+        ensures room { IfOk result (HasPlace self.new.next_open (vec_len self.new.opens)
+            (vec_capacity self.new.opens)) }
         ensures ok { OnOk result (realm_of self.new ≡ record (realm_of self.old) { world = specs.file_in (context_at self.old context.entry) (open_args_value args.now) 0 (Some file) self.old.tree.world }) }
         ensures err { OnErr result (realm_of self.new ≡ realm_of self.old) }
         ensures log { self.new.tree.log ≡ self.old.tree.log }
@@ -287,10 +299,12 @@ impl<A: Allocator + Copy> Realm<A> {
     ) -> Result<FileHandles, Status>
         requires found { specs.found (open_args_value args.now) step.handles (sight_of self.old) ≡ Some file }
         requires file { kind_of self.old.tree.world file ≡ Some Kind.File }
-        requires change { IsBefore (parts.claim (open_claim_value args.now.claim)) (sight_of self.old) step.handles before }
+        requires change { IsBefore (parts.claim (open_claim_value args.now.claim)) (sight_of self.old) step.handles
+            before }
         requires truncates { specs.truncates (context_at self.old step.context) (open_args_value args.now) ≡ truncates }
         requires room { HasRoom step.context out.old }
-        ensures { GivesOrDelays step.entry (opening (open_args_value args.now)) self.old out.old result self.new out.new }
+        ensures { GivesOrDelays step.entry (opening (open_args_value args.now)) self.old out.old result self.new
+            out.new }
     {
         let place = self.place_found(step.context, args, file, truncates)?;
         let stateid = self.put_open(step.context, args.access % 256, place, file);
@@ -326,14 +340,18 @@ impl<A: Allocator + Copy> Realm<A> {
         out: &mut Writer<A>,
     ) -> Result<FileHandles, Status>
         requires here { step.handles.current ≡ Some current.number }
-        requires change { IfByName (parts.claim (open_claim_value args.now.claim)) ((kind_of self.old.tree.world current.number ≡ Some Kind.Directory) × (directory_change self.old.tree.world current.number ≡ current.change)) }
+        requires change { IfByName (parts.claim (open_claim_value args.now.claim))
+            ((kind_of self.old.tree.world current.number ≡ Some Kind.Directory) ×
+            (directory_change self.old.tree.world current.number ≡ current.change)) }
         requires found { specs.found (open_args_value args.now) step.handles (sight_of self.old) ≡ found }
         requires file { IfSome found (λ file. kind_of self.old.tree.world file ≡ Some Kind.File) }
         requires short { length (specs.name_in (parts.claim (open_claim_value args.now.claim))) ≤ 255 }
-        requires wanted { specs.wanted (context_at self.old step.context) (open_args_value args.now) ≡ wanted_view wanted }
+        requires wanted { specs.wanted (context_at self.old step.context) (open_args_value args.now) ≡
+            wanted_view wanted }
         requires bounded { IfSome wanted.list IsBounded }
         requires room { HasRoom step.context out.old }
-        ensures { GivesOrDelays step.entry (opening (open_args_value args.now)) self.old out.old result self.new out.new }
+        ensures { GivesOrDelays step.entry (opening (open_args_value args.now)) self.old out.old result self.new
+            out.new }
     {
         let truncates = is_truncating(&args.how, wanted.size);
         match (found, &args.claim) {
@@ -361,7 +379,8 @@ impl<A: Allocator + Copy> Realm<A> {
     ) -> Result<FileHandles, Status>
         requires settled { self.old.tree.log.held ≡ [] }
         requires room { HasRoom step.context out.old }
-        ensures { GivesOrDelays step.entry (open_file (open_args_value args.now)) self.old out.old result self.new out.new }
+        ensures { GivesOrDelays step.entry (open_file (open_args_value args.now)) self.old out.old result self.new
+            out.new }
     {
         let current = step.handles.current.ok_or(Status::NoFileHandle)?;
         let node = self.tree.object(current).ok_or(Status::Stale)?;

@@ -1,5 +1,6 @@
 //! Open files (RFC 8881, sections 9.1 and 18.16).
-ghost use Rattle.std.specs.Prelude.{◌≡◌, ◌≤◌, ◌+◌, ◌==◌, ◌&&◌, filter, find, map, nat_eq, not, true, false, option_map, vec_len, vec_capacity, Some, Err, IfOk, IsOkUnless};
+ghost use Rattle.std.specs.Prelude.{◌≡◌, ◌≤◌, ◌+◌, ◌==◌, ◌&&◌, filter, find, map, nat_eq, not, true, false, option_map};
+ghost use Rattle.std.specs.Prelude.{vec_len, vec_capacity, Some, Err, IfOk, IsOkUnless};
 ghost use Rattle.std.specs.Option.{option_copied};
 ghost use Rattle.std.specs.Cmp.Lexicographic.{pointwise};
 ghost use Rattle.nfs_types.specs.Views.{stateid_value};
@@ -88,7 +89,8 @@ fn find_owned<'o, A: Allocator>(
     owner: &[u8],
     file: u64,
 ) -> Option<&'o Open<A>>
-    ensures { option_copied result ≡ find (λ o. (o.client == client) && pointwise nat_eq o.owner.items owner.now && (o.object == file)) opens.now }
+    ensures { option_copied result ≡ find (λ o. (o.client == client) && pointwise nat_eq o.owner.items owner.now &&
+        (o.object == file)) opens.now }
 {
     opens.iter().find(|open| open.client == client
         && open.owner.as_slice() == owner
@@ -103,7 +105,8 @@ impl<A: Allocator + Copy> Realm<A> {
         args: &OpenArgs<'_>,
         file: Option<u64>,
     ) -> Option<&Open<A>>
-        ensures { option_map open_view (option_copied result) ≡ specs.joined (context_at self.now context.entry) (open_args_value args.now) file (sight_of self.now).opens }
+        ensures { option_map open_view (option_copied result) ≡
+            specs.joined (context_at self.now context.entry) (open_args_value args.now) file (sight_of self.now).opens }
     {
         let file = file?;
         find_owned(&self.opens, context.client(), args.owner.bytes, file)
@@ -111,7 +114,8 @@ impl<A: Allocator + Copy> Realm<A> {
 
     /// Closes the opens of an object that has lost a name, if it is gone. It takes no memory.
     pub fn end_opens(&mut self, object: u64)
-        ensures opens { opens_view self.new.opens.items ≡ opens_left self.old.tree.world (Some object) (opens_view self.old.opens.items) }
+        ensures opens { opens_view self.new.opens.items ≡
+            opens_left self.old.tree.world (Some object) (opens_view self.old.opens.items) }
         ensures others { self.new ≡ record self.old { opens = self.new.opens } }
     {
         if self.tree.object(object).is_none() {
@@ -141,10 +145,17 @@ impl<A: Allocator + Copy> Realm<A> {
         args: &OpenArgs<'_>,
         file: Option<u64>,
     ) -> Result<Place<A>, Status>
-        ensures full { specs.has_open_space (specs.joined (context_at self.old context.entry) (open_args_value args.now) file (sight_of self.old).opens) (sight_of self.old) ≡ false → result ≡ Err Status.NoSpc }
-        ensures space { specs.has_open_space (specs.joined (context_at self.old context.entry) (open_args_value args.now) file (sight_of self.old).opens) (sight_of self.old) ≡ true → IsOkUnless result Status.Delay }
-        ensures place { IfOk result (IsPlace args.now.owner.bytes.now (specs.joined (context_at self.old context.entry) (open_args_value args.now) file (sight_of self.old).opens)) }
-        ensures room { IfOk result (HasPlace self.old.next_open (vec_len self.new.opens) (vec_capacity self.new.opens)) }
+        ensures full { specs.has_open_space
+            (specs.joined (context_at self.old context.entry) (open_args_value args.now) file (sight_of self.old).opens)
+            (sight_of self.old) ≡ false → result ≡ Err Status.NoSpc }
+        ensures space { specs.has_open_space
+            (specs.joined (context_at self.old context.entry) (open_args_value args.now) file (sight_of self.old).opens)
+            (sight_of self.old) ≡ true → IsOkUnless result Status.Delay }
+        ensures place { IfOk result (IsPlace args.now.owner.bytes.now
+            (specs.joined (context_at self.old context.entry) (open_args_value args.now) file
+            (sight_of self.old).opens)) }
+        ensures room { IfOk result (HasPlace self.old.next_open (vec_len self.new.opens)
+            (vec_capacity self.new.opens)) }
         ensures opens { self.new.opens.items ≡ self.old.opens.items }
         ensures others { self.new ≡ record self.old { opens = self.new.opens } }
     {
@@ -173,7 +184,8 @@ impl<A: Allocator + Copy> Realm<A> {
     ) -> StateId
         requires room { HasPlace self.old.next_open (vec_len self.old.opens) (vec_capacity self.old.opens) place }
         ensures stateid { stateid_value result ≡ placed_stateid place self.old.next_open }
-        ensures realm { realm_of self.new ≡ placed (context_at self.old context.entry) access file place (realm_of self.old) }
+        ensures realm { realm_of self.new ≡
+            placed (context_at self.old context.entry) access file place (realm_of self.old) }
         ensures tree { self.new.tree ≡ self.old.tree }
     {
         match place {

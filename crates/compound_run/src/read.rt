@@ -53,7 +53,9 @@ impl<A: Allocator + Copy> Realm<A> {
     /// Writes the bytes of a file, in the room of the operation, straight from the tree.
     fn put_data(&self, context: Context<'_>, file: u64, args: &ReadArgs, out: &mut Writer<A>)
         requires room { HasRoom context out.old }
-        ensures written { Appends out.old out.new (spelled (Done kinds.Read (gives (context_at self.now context.entry) (read_args_value args.now) file (sight_of self.now)))) }
+        ensures written { Appends out.old out.new
+            (spelled (Done kinds.Read (gives (context_at self.now context.entry) (read_args_value args.now) file
+            (sight_of self.now)))) }
         ensures within { length out.new.bytes ≤ length out.old.bytes + context.entry.room }
     {
         let most = most_of(args.count, context.room);

@@ -1,5 +1,6 @@
 //! READDIR (RFC 8881, section 18.23).
-ghost use Rattle.std.specs.Prelude.{◌≡◌, ◌≤◌, ◌==◌, ℕ, [], length, bit_and, Some, None, Err, IfErr, IfSome, IsSome, OnOk};
+ghost use Rattle.std.specs.Prelude.{◌≡◌, ◌≤◌, ◌==◌, ℕ, [], length, bit_and, Some, None, Err, IfErr, IfSome, IsSome};
+ghost use Rattle.std.specs.Prelude.{OnOk};
 ghost use Rattle.nfs_types.specs.Views.{bitmap_value};
 ghost use Rattle.nfs_ops.specs.ListingSteps.{Lists};
 ghost use Rattle.nfs_ops.specs.Views.{readdir_args_value};
@@ -68,7 +69,10 @@ fn judge_by(
     child: Object,
     asked: &Bitmap,
 ) -> Result<(Status, Bitmap), Demand>
-    ensures { (lists : access.Lists) (caller : Identity) → attributes ≡ (bit_and READ_ATTRIBUTES (access.granted_at lists caller child.number) == READ_ATTRIBUTES) → list ≡ (bit_and READ_ACL (access.granted_at lists caller child.number) == READ_ACL) → given_view result ≡ specs.judgment_of lists caller (bitmap_value asked.now) child.number (Some child) }
+    ensures { (lists : access.Lists) (caller : Identity) →
+        attributes ≡ (bit_and READ_ATTRIBUTES (access.granted_at lists caller child.number) == READ_ATTRIBUTES) →
+        list ≡ (bit_and READ_ACL (access.granted_at lists caller child.number) == READ_ACL) →
+        given_view result ≡ specs.judgment_of lists caller (bitmap_value asked.now) child.number (Some child) }
 {
     let demands = entry_demands(asked, Some(child));
     let Some(demand) = first_refused(&demands, attributes, list) else {
@@ -108,7 +112,8 @@ impl<A: Allocator + Copy> Realm<A> {
     /// there is none. The object isn't looked up.
     fn next_entry(&self, directory: u64, cookie: u64) -> Option<(u64, u64)>
         ensures none { result ≡ None → specs.names_above (sight_of self.now) directory cookie ≡ [] }
-        ensures some { IfSome result (λ next. IsNextOf (sight_of self.now) directory cookie (name_after self.now.tree.world directory cookie) next.0 next.1) }
+        ensures some { IfSome result (λ next. IsNextOf (sight_of self.now) directory cookie
+            (name_after self.now.tree.world directory cookie) next.0 next.1) }
     {
         let name = self.tree.list_after(directory, cookie)?;
         Some((name.cookie(), name.child()))
@@ -124,7 +129,9 @@ impl<A: Allocator + Copy> Realm<A> {
         asked: &Bitmap,
     ) -> Result<(Status, Bitmap), Demand>
         requires there { IsSome (object_of (sight_of self.old) (Some number)) }
-        ensures judged { (child : Object) → object_of (sight_of self.old) (Some number) ≡ Some child → given_view result ≡ specs.judgment_of (judged_of self.old.tree.world) (member self.old.tree.book caller.now) (bitmap_value asked.now) child.number (Some child) }
+        ensures judged { (child : Object) → object_of (sight_of self.old) (Some number) ≡ Some child →
+            given_view result ≡ specs.judgment_of (judged_of self.old.tree.world) (member self.old.tree.book caller.now)
+            (bitmap_value asked.now) child.number (Some child) }
         ensures state { self.new ≡ self.old }
         ensures sound { IfErr result (λ refused. IsSound self.old.tree.world) }
     {
@@ -152,7 +159,9 @@ impl<A: Allocator + Copy> Realm<A> {
         out: &mut Writer<B>,
     ) -> Result<(), Full>
         requires there { IsEntry self.now.tree.world cookie }
-        ensures puts { (directory last : ℕ) (n : Name) → name_after self.now.tree.world directory last ≡ Some n → n.cookie ≡ cookie → PutsEntry (specs.entry_of (context_at self.now context.entry) (sight_of self.now) n given.0 (bitmap_value given.1)) out.old out.new result }
+        ensures puts { (directory last : ℕ) (n : Name) → name_after self.now.tree.world directory last ≡ Some n →
+            n.cookie ≡ cookie → PutsEntry (specs.entry_of (context_at self.now context.entry) (sight_of self.now) n
+            given.0 (bitmap_value given.1)) out.old out.new result }
         ensures sound { IsSound self.now.tree.world }
     {
         let Some(name) = self.tree.name_by_cookie(cookie) else {
@@ -222,8 +231,11 @@ impl<A: Allocator + Copy> Realm<A> {
         out: &mut Writer<A>,
     ) -> Result<(), ListFault<Demand>>
         requires room { HasRoom context out.old }
-        ensures ok { OnOk result (Lists (specs.listed (context_at self.old context.entry) (readdir_args_value args.now) directory (sight_of self.old)) context.entry.room out.old out.new) }
-        ensures err { IfErr result (λ fault. (specs.listed (context_at self.old context.entry) (readdir_args_value args.now) directory (sight_of self.old) ≡ Err fault) × (out.new ≡ out.old)) }
+        ensures ok { OnOk result (Lists (specs.listed (context_at self.old context.entry) (readdir_args_value args.now)
+            directory (sight_of self.old)) context.entry.room out.old out.new) }
+        ensures err { IfErr result (λ fault.
+            (specs.listed (context_at self.old context.entry) (readdir_args_value args.now) directory
+            (sight_of self.old) ≡ Err fault) × (out.new ≡ out.old)) }
         ensures state { self.new ≡ self.old }
     {
         let mut children = Children {
@@ -247,7 +259,8 @@ impl<A: Allocator + Copy> Realm<A> {
     ) -> Result<FileHandles, Status>
         requires few { length self.old.tree.log.held ≤ MAX_FIRST_LINES }
         requires room { HasRoom step.context out.old }
-        ensures { Gives step.entry (listing_of (readdir_args_value args.now) directory) self.old out.old result self.new out.new }
+        ensures { Gives step.entry (listing_of (readdir_args_value args.now) directory) self.old out.old result self.new
+            out.new }
     {
         match self.put_listing(step.context, directory, args, out) {
             Ok(()) => Ok(step.handles),

@@ -1,5 +1,6 @@
 //! The realm that is served, with the calls that operations need.
-ghost use Rattle.std.specs.Prelude.{◌≡◌, ◌≢◌, ◌<◌, ◌≤◌, ◌^◌, if◌then◌else◌, length, true, false, Ok, Err, Some, None, IfOk, IfSome, IsSome, IsOkUnless, MatchResult, OnOk, OnErr};
+ghost use Rattle.std.specs.Prelude.{◌≡◌, ◌≢◌, ◌<◌, ◌≤◌, ◌^◌, if◌then◌else◌, length, true, false, Ok, Err, Some, None};
+ghost use Rattle.std.specs.Prelude.{IfOk, IfSome, IsSome, IsOkUnless, MatchResult, OnOk, OnErr};
 ghost use Rattle.acl_shape.specs.Bounds.{IsBounded};
 ghost use Rattle.nfs_types.specs.Name.{name_fault};
 ghost use Rattle.node_tree.specs.World.{object, kind_of, has_entries, link_count, is_one};
@@ -39,7 +40,8 @@ pub(crate) struct Realm<A: Allocator + Copy = Global> {
 
 /// The fault of a name, if any.
 pub(crate) fn check(name: &[u8]) -> Result<(), Status>
-    ensures fault { MatchResult result (λ done. name_fault name.now ≡ None) (λ status. name_fault name.now ≡ Some status) }
+    ensures fault { MatchResult result (λ done. name_fault name.now ≡ None)
+        (λ status. name_fault name.now ≡ Some status) }
     ensures short { OnOk result (length name.now ≤ 255) }
 {
     match check_name(name) {
@@ -109,7 +111,8 @@ impl<A: Allocator + Copy> Realm<A> {
         requires file { kind_of self.old.tree.world file ≡ Some Kind.File }
         requires fits { fits offset more.now ≡ true }
         ensures space { IsOkUnless result Status.Delay }
-        ensures ok { OnOk result (self.new ≡ with_world (with_write self.old.tree.world file offset more.now at) self.old) }
+        ensures ok { OnOk result (self.new ≡
+            with_world (with_write self.old.tree.world file offset more.now at) self.old) }
         ensures err { OnErr result (self.new ≡ self.old) }
     {
         self.tree.write(file, offset, more, at).map_err(status_of)
@@ -130,8 +133,10 @@ impl<A: Allocator + Copy> Realm<A> {
         requires short { length name.now ≤ 255 }
         requires free { child (whole (realm_of self.old)) directory name.now ≡ None }
         requires few { link_count self.old.tree.world.names number < MAX_LINKS }
-        ensures full { may_name (names_at (whole (realm_of self.old)) directory) self.old.tree.world.next_cookie ≡ false → result ≡ Err Status.NoSpc }
-        ensures space { may_name (names_at (whole (realm_of self.old)) directory) self.old.tree.world.next_cookie ≡ true → IsOkUnless result Status.Delay }
+        ensures full { may_name (names_at (whole (realm_of self.old)) directory) self.old.tree.world.next_cookie ≡
+            false → result ≡ Err Status.NoSpc }
+        ensures space { may_name (names_at (whole (realm_of self.old)) directory) self.old.tree.world.next_cookie ≡
+            true → IsOkUnless result Status.Delay }
         ensures ok { OnOk result (self.new ≡ record self.old { tree = record self.old.tree { world = with_link self.old.tree.world directory name.now number at } }) }
         ensures err { OnErr result (self.new ≡ self.old) }
     {
@@ -145,7 +150,8 @@ impl<A: Allocator + Copy> Realm<A> {
         requires tick { IsTick self.old.tree.world at.tick }
         requires child { child (whole (realm_of self.old)) directory name.now ≡ Some target }
         requires empty { has_entries self.old.tree.world.names target ≡ false }
-        ensures realm { realm_of self.new ≡ with_loss (unlinked self.old.tree.world directory name.now at) (Some target) (realm_of self.old) }
+        ensures realm { realm_of self.new ≡
+            with_loss (unlinked self.old.tree.world directory name.now at) (Some target) (realm_of self.old) }
         ensures log { self.new.tree.log ≡ self.old.tree.log }
         ensures settings { settings_of self.new ≡ settings_of self.old }
     {
@@ -167,7 +173,9 @@ impl<A: Allocator + Copy> Realm<A> {
         requires may { can_replace (whole (realm_of self.old)) moved.child moved.target ≡ true }
         requires space { can_move (whole (realm_of self.old)) moved.from moved.to moved.target ≡ true }
         ensures space { IsOkUnless result Status.Delay }
-        ensures ok { OnOk result (self.new ≡ with_world (renamed self.old.tree.world moved.entry.from moved.entry.old.now moved.entry.to moved.entry.new.now at) self.old) }
+        ensures ok { OnOk result (self.new ≡
+            with_world (renamed self.old.tree.world moved.entry.from moved.entry.old.now moved.entry.to
+            moved.entry.new.now at) self.old) }
         ensures err { OnErr result (self.new ≡ self.old) }
     {
         match self.tree.rename(moved, at) {
@@ -189,7 +197,9 @@ impl<A: Allocator + Copy> Realm<A> {
         requires may { can_replace (whole (realm_of self.old)) moved.child moved.target ≡ true }
         requires space { can_move (whole (realm_of self.old)) moved.from moved.to moved.target ≡ true }
         ensures space { IsOkUnless result Status.Delay }
-        ensures ok { OnOk result (realm_of self.new ≡ with_loss (renamed self.old.tree.world moved.entry.from moved.entry.old.now moved.entry.to moved.entry.new.now at) moved.entry.target (realm_of self.old)) }
+        ensures ok { OnOk result (realm_of self.new ≡
+            with_loss (renamed self.old.tree.world moved.entry.from moved.entry.old.now moved.entry.to
+            moved.entry.new.now at) moved.entry.target (realm_of self.old)) }
         ensures err { OnErr result (self.new ≡ self.old) }
         ensures log { self.new.tree.log ≡ self.old.tree.log }
         ensures settings { settings_of self.new ≡ settings_of self.old }

@@ -22,7 +22,8 @@ impl<A: Allocator + Copy> Realm<A> {
         out: &mut Writer<A>,
     ) -> Result<FileHandles, Status>
         requires room { HasRoom step.context out.old }
-        ensures { Gives step.entry (reclaim_complete (reclaim_complete_args_value args.now)) self.old out.old result self.new out.new }
+        ensures { Gives step.entry (reclaim_complete (reclaim_complete_args_value args.now)) self.old out.old result
+            self.new out.new }
     {
         if args.one_fs {
             let number = step.handles.current.ok_or(Status::NoFileHandle)?;

@@ -48,7 +48,8 @@ impl<A: Allocator + Copy> Realm<A> {
         requires above { goes_below (whole (realm_of self.old)) found.child target.number ≡ false }
         requires may { can_replace (whole (realm_of self.old)) found.child found.target ≡ true }
         requires room { HasRoom step.context out.old }
-        ensures { GivesOrDelays step.entry (moving (rename_args_value args.now) source.number target.number) self.old out.old result self.new out.new }
+        ensures { GivesOrDelays step.entry (moving (rename_args_value args.now) source.number target.number) self.old
+            out.old result self.new out.new }
     {
         let at = self.tick(step.context.now).ok_or(Status::NoSpc)?;
         if !self
@@ -80,7 +81,8 @@ impl<A: Allocator + Copy> Realm<A> {
     ) -> Result<FileHandles, Status>
         requires settled { self.old.tree.log.held ≡ [] }
         requires room { HasRoom step.context out.old }
-        ensures { GivesOrDelays step.entry (rename (rename_args_value args.now)) self.old out.old result self.new out.new }
+        ensures { GivesOrDelays step.entry (rename (rename_args_value args.now)) self.old out.old result self.new
+            out.new }
     {
         let to = step.handles.current.ok_or(Status::NoFileHandle)?;
         let node = self.tree.object(to).ok_or(Status::Stale)?;

@@ -141,7 +141,8 @@ impl<A: Allocator + Copy> Realm<A> {
     ) -> Result<FileHandles, Status>
         requires settled { self.old.tree.log.held ≡ [] }
         requires room { step.context.room + limits.REFUSAL_ROOM ≤ out.old.room }
-        ensures gives { GivesBy may_delay meaning (settled true) step.entry op.now self.old out.old result self.new out.new }
+        ensures gives { GivesBy may_delay meaning (settled true) step.entry op.now self.old out.old result self.new
+            out.new }
         ensures settled { self.new.tree.log.held ≡ [] }
     {
         let result = self.answer(step, op, out);
@@ -158,7 +159,9 @@ impl<A: Allocator + Copy> Realm<A> {
     ) -> Result<FileHandles, Status>
         requires settled { self.old.tree.log.held ≡ [] }
         requires room { step.context.room + limits.REFUSAL_ROOM ≤ out.old.room }
-        ensures gives { StepGives (context_at self.old step.entry.context) (op_view op.now) (point_at self.old step.entry.handles) out.old result (point_at self.new (handles_after step.entry.handles result)) out.new }
+        ensures gives { StepGives (context_at self.old step.entry.context) (op_view op.now)
+            (point_at self.old step.entry.handles) out.old result
+            (point_at self.new (handles_after step.entry.handles result)) out.new }
         ensures settled { self.new.tree.log.held ≡ [] }
     {
         match self.run(step, op, out) {

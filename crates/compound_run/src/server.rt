@@ -1,5 +1,6 @@
 //! The server: a tree of objects, with its guard and a book of names, and the COMPOUNDs over it.
-ghost use Rattle.std.specs.Prelude.{◌≡◌, ◌≤◌, [], length, true, false, if◌then◌else◌, is_some, Err, IfOk, IfSome, IsSome, MatchOption, Ok, OnErr, OnOk};
+ghost use Rattle.std.specs.Prelude.{◌≡◌, ◌≤◌, [], length, true, false, if◌then◌else◌, is_some, Err, IfOk, IfSome};
+ghost use Rattle.std.specs.Prelude.{IsSome, MatchOption, Ok, OnErr, OnOk};
 ghost use Rattle.std.specs.NonZero.{non_zero_usize_get};
 ghost use Rattle.node_tree.specs.Notes.{begun_notes, cleared};
 ghost use Rattle.session_slots.specs.Registry.{client_at};
@@ -8,7 +9,8 @@ ghost use Rattle.access_guard.specs.Memory.{Agrees};
 ghost use Rattle.compound_run.specs.InSession.{AnswersInSession};
 ghost use Rattle.compound_run.specs.Known.{opens_fit};
 ghost use Rattle.compound_run.specs.Limits as limits;
-ghost use Rattle.compound_run.specs.State.{fresh, next_numbers, restored, with_book, with_notes, without_client, Answers, RunsBare};
+ghost use Rattle.compound_run.specs.State.{fresh, next_numbers, restored, with_book, with_notes, without_client};
+ghost use Rattle.compound_run.specs.State.{Answers, RunsBare};
 ghost use Rattle.compound_run.specs.Views.{called, opens_view};
 
 use crate::compound::CompoundArgs;
@@ -173,7 +175,8 @@ impl<A: Allocator + Copy> Server<A> {
         out: &mut Writer<A>,
     ) -> RunEnd
         requires room { limits.MAX_RESULTS ≤ out.old.room }
-        ensures answers { RunsBare (Answers self.old (called args.entry caller.now now)) result out.old out.new self.new }
+        ensures answers { RunsBare (Answers self.old (called args.entry caller.now now)) result out.old out.new
+            self.new }
     {
         let Some(compound) = CompoundArgs::read(args.bytes) else {
             return RunEnd::Garbage;
@@ -210,7 +213,8 @@ impl<A: Allocator + Copy> Server<A> {
     ) -> RunEnd
         requires whole { length args.bytes.now ≤ args.record_len }
         requires room { limits.MAX_RESULTS ≤ out.old.room }
-        ensures answers { RunsBare (AnswersInSession self.old (called args.entry caller.now now)) result out.old out.new self.new }
+        ensures answers { RunsBare (AnswersInSession self.old (called args.entry caller.now now)) result out.old out.new
+            self.new }
     {
         let Some(compound) = CompoundArgs::read(args.bytes) else {
             return RunEnd::Garbage;
@@ -265,7 +269,8 @@ impl<A: Allocator + Copy> Server<A> {
     /// `Err`: the epoch of the book has none after it ([`next_epoch`]); the new book is given back,
     /// and nothing changes.
     pub fn reload(&mut self, book: Book) -> Result<Book, Book>
-        ensures given { MatchOption (next_epoch self.old.settings.epoch) (result ≡ Err book) (λ epoch. result ≡ Ok self.old.settings.book) }
+        ensures given { MatchOption (next_epoch self.old.settings.epoch) (result ≡ Err book)
+            (λ epoch. result ≡ Ok self.old.settings.book) }
         ensures ok { OnOk result (self.new ≡ with_book book self.old) }
         ensures err { OnErr result (self.new ≡ self.old) }
     {
@@ -310,7 +315,8 @@ impl<A: Allocator + Copy> Server<A> {
     pub fn guard(&self) -> &Guard<A>
         ensures log { result.now.log ≡ record { held = []; trail = self.now.trail; total = self.now.total } }
         ensures capacity { result.now.memory.capacity ≡ self.now.settings.capacity }
-        ensures agrees { Agrees result.now.memory.remembered self.now.settings.book self.now.settings.epoch self.now.realm.world }
+        ensures agrees { Agrees result.now.memory.remembered self.now.settings.book self.now.settings.epoch
+            self.now.realm.world }
     {
         self.realm.tree.guard()
     }

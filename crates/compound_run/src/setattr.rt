@@ -1,5 +1,6 @@
 //! SETATTR (RFC 8881, section 18.30).
-ghost use Rattle.std.specs.Prelude.{◌≡◌, ◌<◌, ◌≤◌, ◌+◌, ◌^◌, ◌||◌, [], true, is_some, Some, None, if◌then◌else◌, IfOk, IfSome, IsSome, IsOkUnless, MatchResult, OnOk, OnErr};
+ghost use Rattle.std.specs.Prelude.{◌≡◌, ◌<◌, ◌≤◌, ◌+◌, ◌^◌, ◌||◌, [], true, is_some, Some, None, if◌then◌else◌, IfOk};
+ghost use Rattle.std.specs.Prelude.{IfSome, IsSome, IsOkUnless, MatchResult, OnOk, OnErr};
 ghost use Rattle.acl_shape.specs.Bounds.{IsBounded};
 ghost use Rattle.acl_shape.specs.Permissions.{changed_high, changed_list};
 ghost use Rattle.nfs_types.specs.Sent.{has_list};
@@ -11,7 +12,8 @@ ghost use Rattle.compound_run.specs.Asking.{sight_of};
 ghost use Rattle.compound_run.specs.Sight.{kind_at};
 ghost use Rattle.compound_run.specs.Create.{list_at};
 ghost use Rattle.compound_run.specs.Lists.{IsFit, set_fits};
-ghost use Rattle.compound_run.specs.Setattr.{setattr, sent_by, size_fault, size_fits, has_counts, sets_list, sets_owner, sets_any, stamps, sized, setting};
+ghost use Rattle.compound_run.specs.Setattr.{setattr, sent_by, size_fault, size_fits, has_counts, sets_list};
+ghost use Rattle.compound_run.specs.Setattr.{sets_owner, sets_any, stamps, sized, setting};
 ghost use Rattle.compound_run.specs.Permits.{Permits, permitted, entitled};
 ghost use Rattle.compound_run.specs.Views.{context_at, GivesOrDelays, HasRoom, wanted_view, with_world, IsWanted};
 
@@ -95,7 +97,10 @@ impl<A: Allocator + Copy> Realm<A> {
         stateid: &StateId,
     ) -> Result<(), Status>
         requires there { IsSome (object self.now.tree.world number) }
-        ensures fault { MatchResult result (λ done. size_fault size (context_at self.now context.entry) number (stateid_value stateid.now) (sight_of self.now) ≡ None) (λ status. size_fault size (context_at self.now context.entry) number (stateid_value stateid.now) (sight_of self.now) ≡ Some status) }
+        ensures fault { MatchResult result
+            (λ done. size_fault size (context_at self.now context.entry) number (stateid_value stateid.now)
+            (sight_of self.now) ≡ None) (λ status. size_fault size (context_at self.now context.entry) number
+            (stateid_value stateid.now) (sight_of self.now) ≡ Some status) }
         ensures file { OnOk result (IfSome size (λ size. kind_of self.now.tree.world number ≡ Some Kind.File)) }
     {
         if size.is_none() {
@@ -113,7 +118,8 @@ impl<A: Allocator + Copy> Realm<A> {
     /// The values that the attributes set on an object. `Delay`: there is no memory for the list.
     fn wanted_on(&self, number: u64, args: &SetAttrArgs<'_>) -> Result<Attrs<A>, Status>
         requires there { IsSome (object self.now.tree.world number) }
-        ensures wanted { IsWanted (sent_by self.now.tree.book (setattr_args_value args.now) (kind_at (sight_of self.now) number)) result }
+        ensures wanted { IsWanted (sent_by self.now.tree.book (setattr_args_value args.now)
+            (kind_at (sight_of self.now) number)) result }
         ensures bounded { IfOk result (λ wanted. IfSome wanted.list IsBounded) }
     {
         let Some(node) = self.tree.object(number) else {
@@ -139,8 +145,10 @@ impl<A: Allocator + Copy> Realm<A> {
         requires there { IsSome (object self.now.tree.world number) }
         requires bounded { IfSome given.list IsBounded }
         ensures space { IsOkUnless result Status.Delay }
-        ensures list { IfOk result (λ made. IfSome (object self.now.tree.world number) (λ o. made.list ≡ changed_list o.list o.kind given.mode given.list)) }
-        ensures high { IfOk result (λ made. IfSome (object self.now.tree.world number) (λ o. made.high ≡ changed_high o.high given.mode)) }
+        ensures list { IfOk result (λ made. IfSome (object self.now.tree.world number)
+            (λ o. made.list ≡ changed_list o.list o.kind given.mode given.list)) }
+        ensures high { IfOk result (λ made. IfSome (object self.now.tree.world number)
+            (λ o. made.high ≡ changed_high o.high given.mode)) }
         ensures bounded { IfOk result (λ made. IsBounded made.list) }
     {
         let Some(node) = self.tree.object(number) else {
@@ -158,7 +166,8 @@ impl<A: Allocator + Copy> Realm<A> {
     fn permissions(&self, number: u64, wanted: Attrs<A>) -> Result<Option<Permissions<A>>, Status>
         requires there { IsSome (object self.now.tree.world number) }
         requires bounded { IfSome wanted.list IsBounded }
-        ensures fits { IsFit (set_fits (wanted_view wanted) (kind_at (sight_of self.now) number) (list_at self.now.tree.world number)) result }
+        ensures fits { IsFit (set_fits (wanted_view wanted) (kind_at (sight_of self.now) number)
+            (list_at self.now.tree.world number)) result }
         ensures some { IfOk result (λ made. is_some made ≡ sets_list (wanted_view wanted)) }
         ensures value { IfOk result (λ made. IfSome made (Permits self.now.tree.world number (wanted_view wanted))) }
     {
@@ -201,7 +210,8 @@ impl<A: Allocator + Copy> Realm<A> {
         requires bounded { IfSome made (λ p. IsBounded p.list) }
         ensures set { self.new ≡ with_world (permitted number made at self.old.tree.world) self.old }
         ensures tick { IsTick self.new.tree.world at.tick }
-        ensures stamps { self.new.tree.world.next_stamp ≡ self.old.tree.world.next_stamp + (if is_some made then 1 else 0) }
+        ensures stamps { self.new.tree.world.next_stamp ≡
+            self.old.tree.world.next_stamp + (if is_some made then 1 else 0) }
     {
         if let Some(made) = made {
             self.tree.set_list(number, made.list, made.high, at);
@@ -239,8 +249,10 @@ impl<A: Allocator + Copy> Realm<A> {
         requires fits { size_fits wanted.size ≡ true }
         requires bounded { IfSome wanted.list IsBounded }
         requires stamps { self.old.tree.world.next_stamp + stamps (wanted_view wanted) ≤ 2 ^ 63 }
-        ensures fits { IsFit (set_fits (wanted_view wanted) (kind_at (sight_of self.old) number) (list_at self.old.tree.world number)) result }
-        ensures ok { OnOk result (self.new ≡ with_world (setting number (wanted_view wanted) at self.old.tree.world) self.old) }
+        ensures fits { IsFit (set_fits (wanted_view wanted) (kind_at (sight_of self.old) number)
+            (list_at self.old.tree.world number)) result }
+        ensures ok { OnOk result (self.new ≡
+            with_world (setting number (wanted_view wanted) at self.old.tree.world) self.old) }
         ensures err { OnErr result (self.new ≡ self.old) }
     {
         let Some(node) = self.tree.object(number) else {
@@ -264,7 +276,8 @@ impl<A: Allocator + Copy> Realm<A> {
         requires fits { size_fits wanted.size ≡ true }
         requires bounded { IfSome wanted.list IsBounded }
         requires counts { has_counts (wanted_view wanted) (sight_of self.old) ≡ true }
-        ensures fits { IsFit (set_fits (wanted_view wanted) (kind_at (sight_of self.old) number) (list_at self.old.tree.world number)) result }
+        ensures fits { IsFit (set_fits (wanted_view wanted) (kind_at (sight_of self.old) number)
+            (list_at self.old.tree.world number)) result }
         ensures ok { OnOk result (self.new ≡ with_world (setting number (wanted_view wanted) (record { tick = self.old.tree.world.next_tick; moment = now }) self.old.tree.world) self.old) }
         ensures err { OnErr result (self.new ≡ self.old) }
     {
@@ -286,7 +299,8 @@ impl<A: Allocator + Copy> Realm<A> {
     ) -> Result<FileHandles, Status>
         requires settled { self.old.tree.log.held ≡ [] }
         requires room { HasRoom step.context out.old }
-        ensures { GivesOrDelays step.entry (setattr (setattr_args_value args.now)) self.old out.old result self.new out.new }
+        ensures { GivesOrDelays step.entry (setattr (setattr_args_value args.now)) self.old out.old result self.new
+            out.new }
     {
         let number = step.handles.current.ok_or(Status::NoFileHandle)?;
         if self.tree.object(number).is_none() {

@@ -38,7 +38,8 @@ impl Purpose {
 
     /// A special stateid is no open's; it serves every other purpose.
     fn check_special(self) -> Result<(), Status>
-        ensures { MatchResult result (λ done. specs.special_fault self ≡ None) (λ status. specs.special_fault self ≡ Some status) }
+        ensures { MatchResult result (λ done. specs.special_fault self ≡ None)
+            (λ status. specs.special_fault self ≡ Some status) }
     {
         match self {
             Purpose::ToRead | Purpose::ToWrite => Ok(()),
@@ -62,7 +63,8 @@ impl Context<'_> {
 impl<A: Allocator + Copy> Open<A> {
     /// The fault of a seqid, if any.
     fn check_seqid(&self, seqid: u32) -> Result<(), Status>
-        ensures { MatchResult result (λ done. specs.seqid_fault seqid (open_view self.now) ≡ None) (λ status. specs.seqid_fault seqid (open_view self.now) ≡ Some status) }
+        ensures { MatchResult result (λ done. specs.seqid_fault seqid (open_view self.now) ≡ None)
+            (λ status. specs.seqid_fault seqid (open_view self.now) ≡ Some status) }
     {
         if seqid == 0 {
             return Ok(());
@@ -84,7 +86,8 @@ fn find_open<A: Allocator>(
     client: u64,
     object: u64,
 ) -> Option<&Open<A>>
-    ensures { option_copied result ≡ find (λ o. (o.number == number) && (o.client == client) && (o.object == object)) opens.now }
+    ensures { option_copied result ≡ find (λ o. (o.number == number) && (o.client == client) && (o.object == object))
+        opens.now }
 {
     opens.iter().find(|open| open.number == number
         && open.client == client
@@ -94,7 +97,8 @@ fn find_open<A: Allocator>(
 impl<A: Allocator + Copy> Realm<A> {
     /// The open of this number, client and object.
     fn open_named(&self, number: u64, client: u64, object: u64) -> Option<&Open<A>>
-        ensures { option_map open_view (option_copied result) ≡ find (specs.is_open number client object) (sight_of self.now).opens }
+        ensures { option_map open_view (option_copied result) ≡
+            find (specs.is_open number client object) (sight_of self.now).opens }
     {
         find_open(&self.opens, number, client, object)
     }
@@ -107,7 +111,10 @@ impl<A: Allocator + Copy> Realm<A> {
         stateid: &StateId,
         purpose: Purpose,
     ) -> Result<(), Status>
-        ensures { MatchResult result (λ done. specs.opened_fault (specs.serves_for purpose) (context_at self.now context.entry) object (stateid_value stateid.now) (sight_of self.now) ≡ None) (λ status. specs.opened_fault (specs.serves_for purpose) (context_at self.now context.entry) object (stateid_value stateid.now) (sight_of self.now) ≡ Some status) }
+        ensures { MatchResult result (λ done. specs.opened_fault (specs.serves_for purpose)
+            (context_at self.now context.entry) object (stateid_value stateid.now) (sight_of self.now) ≡ None)
+            (λ status. specs.opened_fault (specs.serves_for purpose) (context_at self.now context.entry) object
+            (stateid_value stateid.now) (sight_of self.now) ≡ Some status) }
     {
         let number = stateid.open_number().ok_or(Status::BadStateId)?;
         let found = self.open_named(number, context.client(), object);
@@ -127,7 +134,10 @@ impl<A: Allocator + Copy> Realm<A> {
         stateid: &StateId,
         purpose: Purpose,
     ) -> Result<(), Status>
-        ensures { MatchResult result (λ done. specs.stateid_fault purpose (context_at self.now context.entry) object (stateid_value stateid.now) (sight_of self.now) ≡ None) (λ status. specs.stateid_fault purpose (context_at self.now context.entry) object (stateid_value stateid.now) (sight_of self.now) ≡ Some status) }
+        ensures { MatchResult result (λ done. specs.stateid_fault purpose (context_at self.now context.entry) object
+            (stateid_value stateid.now) (sight_of self.now) ≡ None)
+            (λ status. specs.stateid_fault purpose (context_at self.now context.entry) object
+            (stateid_value stateid.now) (sight_of self.now) ≡ Some status) }
     {
         if stateid.is_special() {
             return purpose.check_special();

@@ -29,7 +29,8 @@ const MOST_BEFORE: usize = 32;
 
 /// An attribute that isn't supported can't be compared, nor rdattr_error.
 pub(crate) fn check_set(set: &Bitmap) -> Result<(), Status>
-    ensures { MatchResult result (λ done. set_fault (bitmap_value set.now) ≡ None) (λ status. set_fault (bitmap_value set.now) ≡ Some status) }
+    ensures { MatchResult result (λ done. set_fault (bitmap_value set.now) ≡ None)
+        (λ status. set_fault (bitmap_value set.now) ≡ Some status) }
 {
     if !set.is_within(&Bitmap::supported()) {
         return Err(Status::AttrNotSupp);
@@ -69,7 +70,8 @@ impl<A: Allocator + Copy> Realm<A> {
         sent: &Attributes<'_>,
     ) -> Result<bool, Status>
         requires there { IsSome (object self.now.tree.world number) }
-        ensures same { IfOk result (λ same. same ≡ is_same (context_at self.now context.entry) number (attributes_value sent.now) (sight_of self.now)) }
+        ensures same { IfOk result (λ same. same ≡
+            is_same (context_at self.now context.entry) number (attributes_value sent.now) (sight_of self.now)) }
         ensures delay { MatchResult result (λ same. Unit {0}) (λ status. status ≡ Status.Delay) }
     {
         let Some(facts) = self.facts(number, Status::Ok) else {
@@ -95,7 +97,8 @@ impl<A: Allocator + Copy> Realm<A> {
     ) -> Result<FileHandles, Status>
         requires settled { self.old.tree.log.held ≡ [] }
         requires room { HasRoom step.context out.old }
-        ensures { GivesOrDelays step.entry (verify (verify_args_value args.now)) self.old out.old result self.new out.new }
+        ensures { GivesOrDelays step.entry (verify (verify_args_value args.now)) self.old out.old result self.new
+            out.new }
     {
         let number = step.handles.current.ok_or(Status::NoFileHandle)?;
         if self.tree.object(number).is_none() {

@@ -34,7 +34,8 @@ impl<A: Allocator + Copy> Realm<A> {
     ) -> Result<FileHandles, Status>
         requires settled { self.old.tree.log.held ≡ [] }
         requires room { HasRoom step.context out.old }
-        ensures { GivesOrDelays step.entry (write (write_args_value args.now)) self.old out.old result self.new out.new }
+        ensures { GivesOrDelays step.entry (write (write_args_value args.now)) self.old out.old result self.new
+            out.new }
     {
         let number = step.handles.current.ok_or(Status::NoFileHandle)?;
         match self.tree.object(number).ok_or(Status::Stale)?.kind() {

@@ -70,7 +70,8 @@ impl Bitmap {
 
     /// Reads a set of at most eight words. `TooLong` above eight.
     pub fn read(reader: &mut Reader<'_>) -> Result<Bitmap, XdrFault>
-        ensures { Gives (λ b. b) reader.old reader.new result (in_normal_form (Some trimmed) (read_at bitmap reader.old)) }
+        ensures { Gives (λ b. b) reader.old reader.new result
+            (in_normal_form (Some trimmed) (read_at bitmap reader.old)) }
     {
         let mut words = Bitmap::read_words(reader)?;
         words.trim();

@@ -9,7 +9,8 @@ ghost use Rattle.hub_laws.specs.Notes.{notes_go_on, world_of};
 /// world after it from the same base, unless a change was lost. This holds whatever comes, but that
 /// notes begin anew. So nothing of the world changes without a note.
 pub fn steps_are_noted()
-    ensures { (base : World) (event : Event) (old new : State) → notes_go_on event → Noted base (world_of old) → Step event old new → Noted base (world_of new) }
+    ensures { (base : World) (event : Event) (old new : State) → notes_go_on event → Noted base (world_of old) →
+        Step event old new → Noted base (world_of new) }
 {}
 
 /// No step of the machine changes whether sessions outlive a restart (RFC 8881, section 2.10.6.5):

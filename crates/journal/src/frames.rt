@@ -103,7 +103,8 @@ impl<'a> Frames<'a> {
     #[tactic(auto, unfolding(crate::specs::Frames::frame_at))]
     pub fn next(&mut self) -> Option<Frame<'a>>
         requires { self.old.number + length self.old.rest.now < 2 ^ 64 }
-        ensures takes { Takes lent self.old.key self.old.generation self.old.number result self.old.rest.now self.new.rest.now }
+        ensures takes { Takes lent self.old.key self.old.generation self.old.number result self.old.rest.now
+            self.new.rest.now }
         ensures number { OnSome result (self.new.number ≡ self.old.number + 1) }
         ensures stays { IfNone result (self.new.number ≡ self.old.number) }
         ensures shorter { OnSome result (length self.new.rest.now < length self.old.rest.now) }

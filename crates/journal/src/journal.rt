@@ -80,7 +80,8 @@ fn append_frame<D: Disk, A: Allocator>(
     body: &[u8],
     has_failed: &mut bool,
 ) -> Result<(), JournalFault>
-    ensures { FrameGives D.adds slot key generation number.old (frame_with kind safe body.now) has_failed.old number.new has_failed.new result disk.old disk.new }
+    ensures { FrameGives D.adds slot key generation number.old (frame_with kind safe body.now) has_failed.old number.new
+        has_failed.new result disk.old disk.new }
 {
     if *has_failed {
         return Err(JournalFault::Failed);
@@ -139,7 +140,9 @@ impl Checkpoint {
         alloc: A,
         bytes: &[u8],
     ) -> Result<(), JournalFault>
-        ensures gives { FrameGives D.adds self.old.slot self.old.key self.old.generation self.old.number (frame_with PART 0 bytes.now) self.old.has_failed self.new.number self.new.has_failed result disk.old disk.new }
+        ensures gives { FrameGives D.adds self.old.slot self.old.key self.old.generation self.old.number
+            (frame_with PART 0 bytes.now) self.old.has_failed self.new.number self.new.has_failed result disk.old
+            disk.new }
         ensures key { self.new.key ≡ self.old.key }
         ensures slot { self.new.slot ≡ self.old.slot }
         ensures generation { self.new.generation ≡ self.old.generation }
@@ -203,7 +206,9 @@ impl Journal {
         alloc: A,
         bytes: &[u8],
     ) -> Result<(), JournalFault>
-        ensures gives { FrameGives D.adds self.old.slot self.old.key self.old.generation self.old.number (frame_with RECORD self.old.safe bytes.now) self.old.has_failed self.new.number self.new.has_failed result disk.old disk.new }
+        ensures gives { FrameGives D.adds self.old.slot self.old.key self.old.generation self.old.number
+            (frame_with RECORD self.old.safe bytes.now) self.old.has_failed self.new.number self.new.has_failed result
+            disk.old disk.new }
         ensures key { self.new.key ≡ self.old.key }
         ensures slot { self.new.slot ≡ self.old.slot }
         ensures generation { self.new.generation ≡ self.old.generation }
@@ -226,7 +231,8 @@ impl Journal {
     /// Keeps all records that were appended: each crash from now on leaves them. `false`: the disk has failed, now or
     /// before.
     pub fn sync<D: Disk>(&mut self, disk: &mut D) -> bool
-        ensures gives { SyncGives D.adds self.old.slot self.old.has_failed self.new.has_failed result disk.old disk.new }
+        ensures gives { SyncGives D.adds self.old.slot self.old.has_failed self.new.has_failed result disk.old
+            disk.new }
         ensures key { self.new.key ≡ self.old.key }
         ensures slot { self.new.slot ≡ self.old.slot }
         ensures generation { self.new.generation ≡ self.old.generation }

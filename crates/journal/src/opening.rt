@@ -47,7 +47,8 @@ pub fn load<D: Disk, A: Allocator + Copy>(
     disk: &mut D,
     alloc: A,
 ) -> Result<(Vec<u8, A>, Vec<u8, A>), OpenFault>
-    ensures { MatchResult result (λ files. BothFound D.adds files.0.items files.1.items disk.old disk.new) (λ e. UnloadedSo D.adds e disk.old disk.new) }
+    ensures { MatchResult result (λ files. BothFound D.adds files.0.items files.1.items disk.old disk.new)
+        (λ e. UnloadedSo D.adds e disk.old disk.new) }
 {
     let a = match disk.load(alloc, Slot::A) {
         Ok(a) => a,
@@ -93,7 +94,8 @@ fn examine<A: Allocator>(
     second: &FileRead<A>,
     b: &[u8],
 ) -> Result<(), OpenFault>
-    ensures { ExaminesSo key least first.now.number first.now.rest.now second.now.number second.now.rest.now b.now result }
+    ensures { ExaminesSo key least first.now.number first.now.rest.now second.now.number second.now.rest.now b.now
+        result }
 {
     look(key, least, first.number, first.rest)?;
     look(key, least, second.number, second.rest)?;
@@ -118,7 +120,10 @@ fn counting<'a, A: Allocator>(slot: Slot, file: FileRead<'a, A>) -> Chosen<'a, A
     ensures slot { result.slot ≡ slot }
     ensures whole { result.is_whole ≡ file.entry.bodies.is_whole }
     ensures generation { result.generation ≡ (if file.entry.bodies.is_whole then file.entry.generation else 0) }
-    ensures content { if_whole result.is_whole (map (λ b. b.now) result.parts.items) (map (λ b. b.now) result.records.items) ≡ if_whole file.entry.bodies.is_whole (map (λ b. b.now) file.entry.bodies.parts.items) (map (λ b. b.now) file.entry.bodies.records.items) }
+    ensures content { if_whole result.is_whole (map (λ b. b.now) result.parts.items)
+        (map (λ b. b.now) result.records.items) ≡
+        if_whole file.entry.bodies.is_whole (map (λ b. b.now) file.entry.bodies.parts.items)
+        (map (λ b. b.now) file.entry.bodies.records.items) }
     ensures parts { result.is_whole ≡ false → result.parts.items ≡ [] }
     ensures records { result.is_whole ≡ false → result.records.items ≡ [] }
 {
@@ -157,7 +162,9 @@ pub fn choose<'a, A: Allocator + Copy>(
     a: &'a [u8],
     b: &'a [u8],
 ) -> Result<Chosen<'a, A>, OpenFault>
-    ensures { MatchResult result (λ c. Chooses key a.now b.now c.slot c.generation (if_whole c.is_whole (map (λ b. b.now) c.parts.items) (map (λ b. b.now) c.records.items))) (λ e. RefusesSo key a.now b.now e) }
+    ensures { MatchResult result (λ c. Chooses key a.now b.now c.slot c.generation
+        (if_whole c.is_whole (map (λ b. b.now) c.parts.items) (map (λ b. b.now) c.records.items)))
+        (λ e. RefusesSo key a.now b.now e) }
 {
     let Ok(first) = read_file(alloc, key, a) else {
         return Err(OpenFault::Memory);

@@ -21,7 +21,11 @@ pub(crate) struct Bodies<'a, A: Allocator> {
 impl<'a, A: Allocator> Bodies<'a, A> {
     /// Takes the body of the next frame.
     fn add(&mut self, frame: Frame<'a>) -> Result<(), AllocError>
-        ensures { OnOk result ((frames : List FrameSpec) → joined_to self.new.is_whole (map (λ b. b.now) self.new.parts.items) (map (λ b. b.now) self.new.records.items) frames ≡ joined_to self.old.is_whole (map (λ b. b.now) self.old.parts.items) (map (λ b. b.now) self.old.records.items) (lent frame.entry ∷ frames)) }
+        ensures { OnOk result ((frames : List FrameSpec) →
+            joined_to self.new.is_whole (map (λ b. b.now) self.new.parts.items)
+            (map (λ b. b.now) self.new.records.items) frames ≡
+            joined_to self.old.is_whole (map (λ b. b.now) self.old.parts.items)
+            (map (λ b. b.now) self.old.records.items) (lent frame.entry ∷ frames)) }
     {
         if self.is_whole {
             self.records.push(frame.body)?;
@@ -64,7 +68,8 @@ pub(crate) fn read_file<'a, A: Allocator + Copy>(
     key: u64,
     file: &'a [u8],
 ) -> Result<FileRead<'a, A>, AllocError>
-    ensures { IfOk result (λ r. IsRead key file.now r.generation r.number r.rest.now r.bodies.is_whole (map (λ b. b.now) r.bodies.parts.items) (map (λ b. b.now) r.bodies.records.items)) }
+    ensures { IfOk result (λ r. IsRead key file.now r.generation r.number r.rest.now r.bodies.is_whole
+        (map (λ b. b.now) r.bodies.parts.items) (map (λ b. b.now) r.bodies.records.items)) }
 {
     let generation = generation_of(key, file);
     let mut frames = Frames {

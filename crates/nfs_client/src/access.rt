@@ -46,7 +46,8 @@ fn rights_told<A: Allocator>(results: Vec<OpResult<'_>, A>) -> Result<AccessResu
 impl<A: Allocator + Copy> Reply<A> {
     /// The rights at the end of the results.
     fn rights(&self, alloc: A) -> Result<AccessResult, ToolFault>
-        ensures { SaidGives rights_value rights_in (said self.now.xid self.now.asked.items self.now.content.items) result }
+        ensures { SaidGives rights_value rights_in (said self.now.xid self.now.asked.items self.now.content.items)
+            result }
     {
         match self.results(alloc) {
             Ok(results) => rights_told(results),
@@ -60,7 +61,8 @@ impl<S: Read + Write, A: Allocator + Copy> Client<S, A> {
     ghost use Rattle.nfs_ops.specs.Operations.{Operation};
 
     fn ask_rights(&mut self, request: Request<A>) -> Result<AccessResult, ToolFault>
-        ensures { (ops : List Operation) → Asks request ops → AskGives S.contents S.remaining rights_in rights_value true ops self.old self.new result }
+        ensures { (ops : List Operation) → Asks request ops →
+            AskGives S.contents S.remaining rights_in rights_value true ops self.old self.new result }
     {
         let reply = match self.exchange(request) {
             Ok(reply) => reply,
@@ -74,7 +76,8 @@ impl<S: Read + Write, A: Allocator + Copy> Client<S, A> {
     /// The rights of ACCESS that are supported for an object, of six, and those of them that the caller has.
     pub fn access(&mut self, path: &[u8]) -> Result<AccessResult, ToolFault>
         ensures failed { self.old.usable ≡ false → result ≡ Err Failed }
-        ensures gives { CommandTells S.contents S.remaining rights_in rights_value (AccessAsks path.now) (NoPath path.now) self.old self.new result }
+        ensures gives { CommandTells S.contents S.remaining rights_in rights_value (AccessAsks path.now)
+            (NoPath path.now) self.old self.new result }
     {
         self.start()?;
         let path = match Path::read(self.alloc, path) {

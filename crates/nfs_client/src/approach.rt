@@ -66,7 +66,8 @@ fn reached<A: Allocator>(alloc: A, found: Option<OpResult<'_>>) -> Result<Vec<u8
 impl<A: Allocator + Copy> Reply<A> {
     /// The filehandle at the end of the results.
     fn reached(&self, alloc: A) -> Result<Vec<u8, A>, ToolFault>
-        ensures { SaidGives (λ v. v.items) handle_in (said self.now.xid self.now.asked.items self.now.content.items) result }
+        ensures { SaidGives (λ v. v.items) handle_in (said self.now.xid self.now.asked.items self.now.content.items)
+            result }
     {
         match self.results(alloc) {
             Ok(results) => reached(alloc, last(results)),
@@ -90,7 +91,8 @@ impl<S: Read + Write, A: Allocator + Copy> Client<S, A> {
 
     /// Walks these names by a COMPOUND of their own. The filehandle at their end.
     fn approach(&mut self, start: &Start<A>, names: &[&[u8]]) -> Result<Vec<u8, A>, ToolFault>
-        ensures { AskGives S.contents S.remaining handle_in (λ v. v.items) true (approach self.old (route_from start.now names.now)) self.old self.new result }
+        ensures { AskGives S.contents S.remaining handle_in (λ v. v.items) true
+            (approach self.old (route_from start.now names.now)) self.old self.new result }
     {
         let request = self.prepare_approach(start, names)?;
         let reply = match self.exchange(request) {
@@ -109,7 +111,8 @@ impl<S: Read + Write, A: Allocator + Copy> Client<S, A> {
         names: &'a [&'a [u8]],
         most: usize,
     ) -> Result<Route<'a, A>, ToolFault>
-        ensures { WalkGives S.contents S.remaining route_value most (map (λ n. n.now) names.entry.now) self.old self.new result }
+        ensures { WalkGives S.contents S.remaining route_value most (map (λ n. n.now) names.entry.now) self.old self.new
+            result }
     {
         let mut start = Start::Root;
         let mut done = 0;
@@ -145,7 +148,8 @@ impl<S: Read + Write, A: Allocator + Copy> Client<S, A> {
 
     /// Approaches the end of a path. The request of an operation there, which walks the names left.
     pub(crate) fn ready(&mut self, names: &[&[u8]], op: Op<'_>) -> Result<Request<A>, ToolFault>
-        ensures { ReadyGives S.contents S.remaining (map (λ n. n.now) names.now) (op_view op.entry) self.old self.new result }
+        ensures { ReadyGives S.contents S.remaining (map (λ n. n.now) names.now) (op_view op.entry) self.old self.new
+            result }
     {
         match self.reach(names, MOST_NAMES) {
             Ok(route) => self.request_along(&route, op),
@@ -161,7 +165,8 @@ impl<S: Read + Write, A: Allocator + Copy> Client<S, A> {
         second: &Route<'_, A>,
         op: Op<'_>,
     ) -> Result<Request<A>, ToolFault>
-        ensures asks { IfOk result (λ r. Asks r (along_both self.now (route_value first.now) (route_value second.now) (op_view op.entry))) }
+        ensures asks { IfOk result (λ r. Asks r
+            (along_both self.now (route_value first.now) (route_value second.now) (op_view op.entry))) }
         ensures memory { PutGives result }
     {
         let mut request = self.request()?;
@@ -180,7 +185,8 @@ impl<S: Read + Write, A: Allocator + Copy> Client<S, A> {
         others: &[&[u8]],
         op: Op<'_>,
     ) -> Result<Request<A>, ToolFault>
-        ensures { BothReady S.contents S.remaining (map (λ n. n.now) names.now) (map (λ n. n.now) others.now) (op_view op.entry) self.old self.new result }
+        ensures { BothReady S.contents S.remaining (map (λ n. n.now) names.now) (map (λ n. n.now) others.now)
+            (op_view op.entry) self.old self.new result }
     {
         let first = match self.reach(names, left_of_first(names.len(), others.len())) {
             Ok(first) => first,

@@ -49,7 +49,8 @@ fn given_in<A: Allocator>(alloc: A, found: Option<OpResult<'_>>) -> Result<Given
 impl<A: Allocator + Copy> Reply<A> {
     /// The attributes at the end of the results.
     fn given(&self, alloc: A) -> Result<Given<A>, ToolFault>
-        ensures { SaidGives given_value attributes_in (said self.now.xid self.now.asked.items self.now.content.items) result }
+        ensures { SaidGives given_value attributes_in (said self.now.xid self.now.asked.items self.now.content.items)
+            result }
     {
         match self.results(alloc) {
             Ok(results) => given_in(alloc, last(results)),
@@ -63,7 +64,8 @@ impl<S: Read + Write, A: Allocator + Copy> Client<S, A> {
     ghost use Rattle.nfs_ops.specs.Operations.{Operation};
 
     fn ask_attributes(&mut self, request: Request<A>) -> Result<Given<A>, ToolFault>
-        ensures { (ops : List Operation) → Asks request ops → AskGives S.contents S.remaining attributes_in given_value true ops self.old self.new result }
+        ensures { (ops : List Operation) → Asks request ops →
+            AskGives S.contents S.remaining attributes_in given_value true ops self.old self.new result }
     {
         let reply = match self.exchange(request) {
             Ok(reply) => reply,
@@ -78,7 +80,8 @@ impl<S: Read + Write, A: Allocator + Copy> Client<S, A> {
     /// `Stat::read` reads some of them.
     pub fn attributes(&mut self, path: &[u8], asked: Bitmap) -> Result<Given<A>, ToolFault>
         ensures failed { self.old.usable ≡ false → result ≡ Err Failed }
-        ensures gives { CommandTells S.contents S.remaining attributes_in given_value (GetAttrAsks path.now (bitmap_value asked)) (NoPath path.now) self.old self.new result }
+        ensures gives { CommandTells S.contents S.remaining attributes_in given_value
+            (GetAttrAsks path.now (bitmap_value asked)) (NoPath path.now) self.old self.new result }
     {
         self.start()?;
         let path = match Path::read(self.alloc, path) {

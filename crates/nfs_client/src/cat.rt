@@ -1,7 +1,8 @@
 //! The bytes of a file.
 ghost use Rattle.std.specs.Prelude.{◌≡◌, false, Err, option_map, option_and_then};
 ghost use Rattle.nfs_ops.specs.ResultViews.{read_view};
-ghost use Rattle.nfs_client.specs.Cat.{read_from, bytes_of, piece_of, piece_in, piece_value, by_pieces, PieceTaken, ReadGives, CatGives};
+ghost use Rattle.nfs_client.specs.Cat.{read_from, bytes_of, piece_of, piece_in, piece_value, by_pieces, PieceTaken};
+ghost use Rattle.nfs_client.specs.Cat.{ReadGives, CatGives};
 ghost use Rattle.nfs_client.specs.Compound.{said};
 ghost use Rattle.nfs_client.specs.Paging.{PagesGive};
 ghost use Rattle.nfs_client.specs.Requests.{Asks, PutGives};
@@ -36,7 +37,8 @@ fn piece(found: Option<OpResult<'_>>) -> Option<ReadResult<'_>>
 impl<A: Allocator + Copy> Reply<A> {
     /// The bytes at the end of results.
     fn piece(&self, alloc: A) -> Result<ReadResult<'_>, ToolFault>
-        ensures { SaidGives piece_value piece_in (said self.now.xid self.now.asked.items self.now.content.items) result }
+        ensures { SaidGives piece_value piece_in (said self.now.xid self.now.asked.items self.now.content.items)
+            result }
     {
         match self.results(alloc) {
             Ok(results) => match piece(last(results)) {
@@ -49,7 +51,8 @@ impl<A: Allocator + Copy> Reply<A> {
 
     /// Puts the bytes at the end of the results after the bytes read so far. Whether the file ends there.
     fn put_piece(&self, alloc: A, bytes: &mut Vec<u8, A>) -> Result<bool, ToolFault>
-        ensures { PieceTaken (said self.now.xid self.now.asked.items self.now.content.items) bytes.old.items bytes.new.items result }
+        ensures { PieceTaken (said self.now.xid self.now.asked.items self.now.content.items) bytes.old.items
+            bytes.new.items result }
     {
         match self.piece(alloc) {
             Ok(piece) => {
@@ -84,7 +87,8 @@ impl<S: Read + Write, A: Allocator + Copy> Client<S, A> {
         route: &Route<'_, A>,
         bytes: &mut Vec<u8, A>,
     ) -> Result<bool, ToolFault>
-        ensures { ReadGives S.contents S.remaining (route_value route.now) bytes.old.items bytes.new.items self.old self.new result }
+        ensures { ReadGives S.contents S.remaining (route_value route.now) bytes.old.items bytes.new.items self.old
+            self.new result }
     {
         let request = self.prepare_read(route, bytes.len())?;
         let reply = match self.exchange(request) {
@@ -98,7 +102,8 @@ impl<S: Read + Write, A: Allocator + Copy> Client<S, A> {
 
     /// Reads piece after piece.
     fn read_all(&mut self, route: &Route<'_, A>) -> Result<Vec<u8, A>, ToolFault>
-        ensures { PagesGive (by_pieces S.contents S.remaining (route_value route.now)) (λ v. v.items) bytes_of self.old self.new result }
+        ensures { PagesGive (by_pieces S.contents S.remaining (route_value route.now)) (λ v. v.items) bytes_of self.old
+            self.new result }
     {
         let mut bytes = Vec::new(self.alloc);
         for _call in 0..MOST_CALLS {

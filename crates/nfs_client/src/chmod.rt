@@ -37,7 +37,8 @@ impl<S: Read + Write, A: Allocator + Copy> Client<S, A> {
     /// list with the mode. `Entry`: the word is no mode.
     pub fn chmod(&mut self, word: &[u8], path: &[u8]) -> Result<(), ToolFault>
         ensures failed { self.old.usable ≡ false → result ≡ Err Failed }
-        ensures gives { CommandGives S.contents S.remaining (ChModAsks word.now path.now) (WrongMode word.now path.now) self.old self.new result }
+        ensures gives { CommandGives S.contents S.remaining (ChModAsks word.now path.now) (WrongMode word.now path.now)
+            self.old self.new result }
     {
         self.start()?;
         let Some(mode) = read_mode(word) else {

@@ -53,7 +53,8 @@ impl<A: Allocator + Copy> Reply<A> {
 
     /// No value: each operation is OK.
     fn done(&self, alloc: A) -> Result<(), ToolFault>
-        ensures { SaidGives nothing takes_nothing (said self.now.xid self.now.asked.items self.now.content.items) result }
+        ensures { SaidGives nothing takes_nothing (said self.now.xid self.now.asked.items self.now.content.items)
+            result }
     {
         match self.results(alloc) {
             Ok(_) => Ok(()),
@@ -106,7 +107,8 @@ impl<S: Read + Write, A: Allocator + Copy> Client<S, A> {
 
     /// Writes the call of a request's operations, and reads the record after it.
     pub(crate) fn exchange(&mut self, request: Request<A>) -> Result<Reply<A>, ToolFault>
-        ensures { (ops : List Operation) → Asks request ops → ExchangeGives S.contents S.remaining ops self.old self.new result }
+        ensures { (ops : List Operation) → Asks request ops →
+            ExchangeGives S.contents S.remaining ops self.old self.new result }
     {
         let xid = self.xid;
         let caller = Caller::new(self.uid, self.gid, &[]);
@@ -130,7 +132,8 @@ impl<S: Read + Write, A: Allocator + Copy> Client<S, A> {
 
     /// A client on whose stream an exchange is left open runs no command.
     pub(crate) fn start(&self) -> Result<(), ToolFault>
-        ensures { MatchResult result (λ _. self.now.usable ≡ true) (λ fault. (fault ≡ Failed) × (self.now.usable ≡ false)) }
+        ensures { MatchResult result (λ _. self.now.usable ≡ true)
+            (λ fault. (fault ≡ Failed) × (self.now.usable ≡ false)) }
     {
         if self.usable {
             Ok(())
@@ -178,7 +181,8 @@ impl<S: Read + Write, A: Allocator + Copy> Client<S, A> {
 
     /// Asks a request's operations, where it is enough that they are OK.
     pub(crate) fn run(&mut self, request: Request<A>, in_session: bool) -> Result<(), ToolFault>
-        ensures { (ops : List Operation) → Asks request ops → AskGives S.contents S.remaining takes_nothing nothing in_session ops self.old self.new result }
+        ensures { (ops : List Operation) → Asks request ops →
+            AskGives S.contents S.remaining takes_nothing nothing in_session ops self.old self.new result }
     {
         let reply = match self.exchange(request) {
             Ok(reply) => reply,

@@ -1,7 +1,8 @@
 //! Entries of access control lists as text.
 ghost use Rattle.std.specs.Prelude.{◌≡◌, ◌<◌, ◌^◌, ◌≤◌, ◌++◌, ◌∷◌, [], List, ℕ, Some, None, option_map, IfSome, OnOk};
 ghost use Rattle.nfs_client.specs.Digits.{hex_digit, digit_in, hex_byte, byte_in, hex_word};
-ghost use Rattle.nfs_client.specs.Entries.{EntryLine, letter, kind_in, kind_at, byte_at, word_at, behind_colon, entry_in, entry_head, entry_text};
+ghost use Rattle.nfs_client.specs.Entries.{EntryLine, letter, kind_in, kind_at, byte_at, word_at, behind_colon};
+ghost use Rattle.nfs_client.specs.Entries.{entry_in, entry_head, entry_text};
 
 use acl_list::EntryKind;
 use std::alloc::{AllocError, Allocator};

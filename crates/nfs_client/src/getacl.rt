@@ -9,7 +9,8 @@ ghost use Rattle.nfs_types.specs.Views.{bitmap_value};
 ghost use Rattle.nfs_ops.specs.Operations.{Operation};
 ghost use Rattle.nfs_ops.specs.ResultViews.{read_view};
 ghost use Rattle.nfs_client.specs.Access.{NoPath};
-ghost use Rattle.nfs_client.specs.Acls.{IsAlone, kind_numbered, line_of, list_text, entries_of, list_in, acl_of, acl_in, GetAclAsks, PutsList};
+ghost use Rattle.nfs_client.specs.Acls.{IsAlone, kind_numbered, line_of, list_text, entries_of, list_in, acl_of};
+ghost use Rattle.nfs_client.specs.Acls.{acl_in, GetAclAsks, PutsList};
 ghost use Rattle.nfs_client.specs.Commands.{AskGives};
 ghost use Rattle.nfs_client.specs.Compound.{said};
 ghost use Rattle.nfs_client.specs.CompoundViews.{outcomes};
@@ -74,7 +75,8 @@ fn entry_told<'a>(ace: Ace<'a>) -> Option<EntryText<'a>>
 
 /// Puts a line for each entry. `Reply`: an entry can't be written as text.
 fn put_list<A: Allocator>(out: &mut Vec<u8, A>, aces: GivenAces<'_>) -> Result<(), ToolFault>
-    ensures { PutsList out.old.items out.new.items (array_values attributes.ace None aces.entry.count aces.entry.bytes.now) result }
+    ensures { PutsList out.old.items out.new.items
+        (array_values attributes.ace None aces.entry.count aces.entry.bytes.now) result }
 {
     let mut left = aces;
     while let Some(ace) = left.next() {
@@ -89,7 +91,8 @@ fn put_list<A: Allocator>(out: &mut Vec<u8, A>, aces: GivenAces<'_>) -> Result<(
 
 /// The entries of the list or of the part, among attributes that were read.
 fn entries_of<'a>(part: ListPart, seen: SeenAttributes<'a>) -> Option<GivenAces<'a>>
-    ensures { option_map (λ a. array_values attributes.ace None a.count a.bytes.now) result ≡ entries_of part (seen_value seen.entry) }
+    ensures { option_map (λ a. array_values attributes.ace None a.count a.bytes.now) result ≡
+        entries_of part (seen_value seen.entry) }
 {
     let part = match part {
         ListPart::Acl => return seen.entries,
@@ -101,7 +104,8 @@ fn entries_of<'a>(part: ListPart, seen: SeenAttributes<'a>) -> Option<GivenAces<
 
 /// The list among given attributes.
 fn list_given(part: ListPart, given: Attributes<'_>) -> Option<GivenAces<'_>>
-    ensures { option_map (λ a. array_values attributes.ace None a.count a.bytes.now) result ≡ list_in part (seen_of (bitmap_value given.entry.set) given.entry.values.bytes.now) }
+    ensures { option_map (λ a. array_values attributes.ace None a.count a.bytes.now) result ≡
+        list_in part (seen_of (bitmap_value given.entry.set) given.entry.values.bytes.now) }
 {
     match read_given(&given) {
         Ok(seen) => entries_of(part, seen),
@@ -133,7 +137,8 @@ fn text_told<A: Allocator>(
 impl<A: Allocator + Copy> Reply<A> {
     /// The list at the end of the results, as text.
     fn list(&self, alloc: A, part: ListPart) -> Result<Vec<u8, A>, ToolFault>
-        ensures { SaidGives (λ v. v.items) (acl_in part) (said self.now.xid self.now.asked.items self.now.content.items) result }
+        ensures { SaidGives (λ v. v.items) (acl_in part) (said self.now.xid self.now.asked.items self.now.content.items)
+            result }
     {
         match self.results(alloc) {
             Ok(results) => text_told(alloc, part, last(results)),
@@ -144,7 +149,8 @@ impl<A: Allocator + Copy> Reply<A> {
 
 impl<S: Read + Write, A: Allocator + Copy> Client<S, A> {
     fn ask_list(&mut self, part: ListPart, request: Request<A>) -> Result<Vec<u8, A>, ToolFault>
-        ensures { (ops : List Operation) → Asks request ops → AskGives S.contents S.remaining (acl_in part) (λ v. v.items) true ops self.old self.new result }
+        ensures { (ops : List Operation) → Asks request ops →
+            AskGives S.contents S.remaining (acl_in part) (λ v. v.items) true ops self.old self.new result }
     {
         let reply = match self.exchange(request) {
             Ok(reply) => reply,
@@ -158,7 +164,8 @@ impl<S: Read + Write, A: Allocator + Copy> Client<S, A> {
     /// The access control list of an object, or a part of it: a line for each entry, with a newline after it.
     pub(crate) fn get_list(&mut self, part: ListPart, path: &[u8]) -> Result<Vec<u8, A>, ToolFault>
         ensures failed { self.old.usable ≡ false → result ≡ Err Failed }
-        ensures gives { CommandTells S.contents S.remaining (acl_in part) (λ v. v.items) (GetAclAsks part path.now) (NoPath path.now) self.old self.new result }
+        ensures gives { CommandTells S.contents S.remaining (acl_in part) (λ v. v.items) (GetAclAsks part path.now)
+            (NoPath path.now) self.old self.new result }
     {
         self.start()?;
         let path = match Path::read(self.alloc, path) {
@@ -175,7 +182,8 @@ impl<S: Read + Write, A: Allocator + Copy> Client<S, A> {
     /// The access control list of an object: a line for each entry, with a newline after it.
     pub fn getacl(&mut self, path: &[u8]) -> Result<Vec<u8, A>, ToolFault>
         ensures failed { self.old.usable ≡ false → result ≡ Err Failed }
-        ensures gives { CommandTells S.contents S.remaining (acl_in ListPart.Acl) (λ v. v.items) (GetAclAsks ListPart.Acl path.now) (NoPath path.now) self.old self.new result }
+        ensures gives { CommandTells S.contents S.remaining (acl_in ListPart.Acl) (λ v. v.items)
+            (GetAclAsks ListPart.Acl path.now) (NoPath path.now) self.old self.new result }
     {
         self.get_list(ListPart::Acl, path)
     }
@@ -184,7 +192,8 @@ impl<S: Read + Write, A: Allocator + Copy> Client<S, A> {
     /// each entry, with a newline after it.
     pub fn getdacl(&mut self, path: &[u8]) -> Result<Vec<u8, A>, ToolFault>
         ensures failed { self.old.usable ≡ false → result ≡ Err Failed }
-        ensures gives { CommandTells S.contents S.remaining (acl_in ListPart.Dacl) (λ v. v.items) (GetAclAsks ListPart.Dacl path.now) (NoPath path.now) self.old self.new result }
+        ensures gives { CommandTells S.contents S.remaining (acl_in ListPart.Dacl) (λ v. v.items)
+            (GetAclAsks ListPart.Dacl path.now) (NoPath path.now) self.old self.new result }
     {
         self.get_list(ListPart::Dacl, path)
     }
@@ -193,7 +202,8 @@ impl<S: Read + Write, A: Allocator + Copy> Client<S, A> {
     /// entry, with a newline after it.
     pub fn getsacl(&mut self, path: &[u8]) -> Result<Vec<u8, A>, ToolFault>
         ensures failed { self.old.usable ≡ false → result ≡ Err Failed }
-        ensures gives { CommandTells S.contents S.remaining (acl_in ListPart.Sacl) (λ v. v.items) (GetAclAsks ListPart.Sacl path.now) (NoPath path.now) self.old self.new result }
+        ensures gives { CommandTells S.contents S.remaining (acl_in ListPart.Sacl) (λ v. v.items)
+            (GetAclAsks ListPart.Sacl path.now) (NoPath path.now) self.old self.new result }
     {
         self.get_list(ListPart::Sacl, path)
     }

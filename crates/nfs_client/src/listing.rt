@@ -1,7 +1,8 @@
 //! Lines of a listing.
 ghost use Rattle.std.specs.Prelude.{◌≡◌, ◌++◌, ◌∷◌, [], ℕ, List, Some, All, OnOk, option_map};
 ghost use Rattle.std.specs.List.{flat_map};
-ghost use Rattle.nfs_client.specs.Lines.{kind_text, text_column, mode_column, size_column, columns, line, column_end, line_end, has_zero, is_torn, line_with, lines_of, columns_of, parts, IsSize};
+ghost use Rattle.nfs_client.specs.Lines.{kind_text, text_column, mode_column, size_column, columns, line, column_end};
+ghost use Rattle.nfs_client.specs.Lines.{line_end, has_zero, is_torn, line_with, lines_of, columns_of, parts, IsSize};
 ghost use Rattle.nfs_client.specs.Lines as lines;
 ghost use Rattle.nfs_client.specs.declared.listing.Ends.TheVariants as ends;
 
@@ -94,7 +95,8 @@ fn put_text<A: Allocator>(
     text: Option<&[u8]>,
     end: u8,
 ) -> Result<(), AllocError>
-    ensures { OnOk result (out.new.items ≡ out.old.items ++ (text_column (option_map (λ t. t.now) text.entry) ++ end ∷ [])) }
+    ensures { OnOk result (out.new.items ≡ out.old.items ++
+        (text_column (option_map (λ t. t.now) text.entry) ++ end ∷ [])) }
 {
     match text {
         Some(text) => put_column(out, text, end),
@@ -168,5 +170,6 @@ impl Listed<'_> {
 
 /// The columns of entries are told apart by the zero byte after each, whatever bytes names and owners have.
 pub fn columns_are_told_apart()
-    ensures { (ls : List lines.Listed) (text : List ℕ) → All (λ l. IsSize l.size) ls → lines_of 0 (line_with ends.Zeros) ls ≡ Some text → parts text ≡ flat_map columns_of ls }
+    ensures { (ls : List lines.Listed) (text : List ℕ) → All (λ l. IsSize l.size) ls →
+        lines_of 0 (line_with ends.Zeros) ls ≡ Some text → parts text ≡ flat_map columns_of ls }
 {}

@@ -16,7 +16,8 @@ impl<S: Read + Write, A: Allocator + Copy> Client<S, A> {
     /// Gives the object at the old path the new name.
     pub fn ln(&mut self, old: &[u8], new: &[u8]) -> Result<(), ToolFault>
         ensures failed { self.old.usable ≡ false → result ≡ Err Failed }
-        ensures gives { BothGive S.contents S.remaining (LnAsks old.now new.now) (WrongPaths old.now new.now) self.old self.new result }
+        ensures gives { BothGive S.contents S.remaining (LnAsks old.now new.now) (WrongPaths old.now new.now) self.old
+            self.new result }
     {
         self.start()?;
         let path = match Path::read(self.alloc, old) {

@@ -6,7 +6,8 @@ ghost use Rattle.nfs_ops.specs.Forms as forms;
 ghost use Rattle.nfs_ops.specs.ItemViews.{entry_value};
 ghost use Rattle.nfs_ops.specs.ResultViews.{read_view};
 ghost use Rattle.nfs_client.specs.Compound.{said};
-ghost use Rattle.nfs_client.specs.Ls.{AreListed, list_from, page_of, text_of, by_listings, PutsEntry, PutsEntries, PutsPage, PageTaken, ListGives, LinesGive, LsGives, LsZeroGives};
+ghost use Rattle.nfs_client.specs.Ls.{AreListed, list_from, page_of, text_of, by_listings, PutsEntry, PutsEntries};
+ghost use Rattle.nfs_client.specs.Ls.{PutsPage, PageTaken, ListGives, LinesGive, LsGives, LsZeroGives};
 ghost use Rattle.nfs_client.specs.Paging.{PagesGive};
 ghost use Rattle.nfs_client.specs.Requests.{Asks, PutGives};
 ghost use Rattle.nfs_client.specs.RouteViews.{route_value};
@@ -90,7 +91,8 @@ impl<A: Allocator> Listing<A> {
 
     /// Puts the line of each entry. `Reply`: an entry has none.
     fn put_all<'a>(&mut self, entries: Chain<'a, Entry<'a>>) -> Result<(), ToolFault>
-        ensures { PutsEntries self.old self.new (chain_values forms.entry (Some forms.entry_normal) entries.entry.bytes.now) result }
+        ensures { PutsEntries self.old self.new
+            (chain_values forms.entry (Some forms.entry_normal) entries.entry.bytes.now) result }
     {
         let mut left = entries;
         while let Some(entry) = left.next() {
@@ -104,7 +106,8 @@ impl<A: Allocator> Listing<A> {
 
     /// Puts the lines of the page in a result. Whether the directory ends after it.
     fn put_page(&mut self, found: Option<OpResult<'_>>) -> Result<bool, ToolFault>
-        ensures { PutsPage self.old self.new (option_and_then (page_of self.old.ends) (option_map read_view found.entry)) result }
+        ensures { PutsPage self.old self.new
+            (option_and_then (page_of self.old.ends) (option_map read_view found.entry)) result }
     {
         let Some(OpResult::ReadDir(told)) = found else {
             return Err(ToolFault::Reply);
@@ -120,7 +123,8 @@ impl<A: Allocator> Listing<A> {
 impl<A: Allocator + Copy> Reply<A> {
     /// Puts the lines of the page at the end of the results. Whether the directory ends after it.
     fn put_page(&self, alloc: A, listing: &mut Listing<A>) -> Result<bool, ToolFault>
-        ensures { PageTaken (said self.now.xid self.now.asked.items self.now.content.items) listing.old listing.new result }
+        ensures { PageTaken (said self.now.xid self.now.asked.items self.now.content.items) listing.old listing.new
+            result }
     {
         match self.results(alloc) {
             Ok(results) => listing.put_page(last(results)),
@@ -139,7 +143,8 @@ impl<S: Read + Write, A: Allocator + Copy> Client<S, A> {
         asked: Bitmap,
         cookie: u64,
     ) -> Result<Request<A>, ToolFault>
-        ensures asks { IfOk result (λ r. Asks r (list_from (route_value route.now) (bitmap_value asked) self.now cookie)) }
+        ensures asks { IfOk result (λ r. Asks r
+            (list_from (route_value route.now) (bitmap_value asked) self.now cookie)) }
         ensures memory { PutGives result }
     {
         let op = Op::ReadDir(ReadDirArgs {
@@ -159,7 +164,8 @@ impl<S: Read + Write, A: Allocator + Copy> Client<S, A> {
         asked: Bitmap,
         listing: &mut Listing<A>,
     ) -> Result<bool, ToolFault>
-        ensures { ListGives S.contents S.remaining (route_value route.now) (bitmap_value asked) listing.old listing.new self.old self.new result }
+        ensures { ListGives S.contents S.remaining (route_value route.now) (bitmap_value asked) listing.old listing.new
+            self.old self.new result }
     {
         let request = self.prepare_list(route, asked, listing.cookie)?;
         let reply = match self.exchange(request) {
@@ -178,7 +184,8 @@ impl<S: Read + Write, A: Allocator + Copy> Client<S, A> {
         asked: Bitmap,
         ends: Ends,
     ) -> Result<Vec<u8, A>, ToolFault>
-        ensures { PagesGive (by_listings S.contents S.remaining ends (route_value route.now) (bitmap_value asked)) (λ v. v.items) text_of self.old self.new result }
+        ensures { PagesGive (by_listings S.contents S.remaining ends (route_value route.now) (bitmap_value asked))
+            (λ v. v.items) text_of self.old self.new result }
     {
         let mut listing = Listing {
             text: Vec::new(self.alloc),

@@ -18,7 +18,8 @@ impl<S: Read + Write, A: Allocator + Copy> Client<S, A> {
     /// Creates a directory, which inherits its access control list.
     pub fn mkdir(&mut self, path: &[u8]) -> Result<(), ToolFault>
         ensures failed { self.old.usable ≡ false → result ≡ Err Failed }
-        ensures gives { CommandGives S.contents S.remaining (MkDirAsks path.now) (WrongPath path.now) self.old self.new result }
+        ensures gives { CommandGives S.contents S.remaining (MkDirAsks path.now) (WrongPath path.now) self.old self.new
+            result }
     {
         self.start()?;
         let place = match Place::read(self.alloc, path) {

@@ -16,7 +16,8 @@ impl<S: Read + Write, A: Allocator + Copy> Client<S, A> {
     /// Moves the old name to the new one.
     pub fn mv(&mut self, old: &[u8], new: &[u8]) -> Result<(), ToolFault>
         ensures failed { self.old.usable ≡ false → result ≡ Err Failed }
-        ensures gives { BothGive S.contents S.remaining (MvAsks old.now new.now) (WrongNames old.now new.now) self.old self.new result }
+        ensures gives { BothGive S.contents S.remaining (MvAsks old.now new.now) (WrongNames old.now new.now) self.old
+            self.new result }
     {
         self.start()?;
         let source = match Place::read(self.alloc, old) {

@@ -1,5 +1,6 @@
 //! Making a text the bytes of a file.
-ghost use Rattle.std.specs.Prelude.{◌≡◌, ◌≤◌, ◌<◌, ◌+◌, ◌^◌, ℕ, false, true, Err, List, IfOk, length, map, option_map, option_and_then};
+ghost use Rattle.std.specs.Prelude.{◌≡◌, ◌≤◌, ◌<◌, ◌+◌, ◌^◌, ℕ, false, true, Err, List, IfOk, length, map, option_map};
+ghost use Rattle.std.specs.Prelude.{option_and_then};
 ghost use Rattle.nfs_types.specs.ShownViews.{shown_value};
 ghost use Rattle.nfs_types.specs.Views.{stateid_value, handle_value};
 ghost use Rattle.nfs_ops.specs.Operations.{Operation};
@@ -9,7 +10,9 @@ ghost use Rattle.nfs_client.specs.Commands.{AskGives};
 ghost use Rattle.nfs_client.specs.Compound.{said};
 ghost use Rattle.nfs_client.specs.CompoundViews.{outcomes};
 ghost use Rattle.nfs_client.specs.Paging.{itself};
-ghost use Rattle.nfs_client.specs.Put.{size_at_open, stateid_of, open_by, open_in, written_of, written_in, write_to, close_it, piece, WriteGives, CloseGives, TextGives, ClosesBehind, FileGives, open_along, PutAlong, PutCommandGives};
+ghost use Rattle.nfs_client.specs.Put.{size_at_open, stateid_of, open_by, open_in, written_of, written_in, write_to};
+ghost use Rattle.nfs_client.specs.Put.{close_it, piece, WriteGives, CloseGives, TextGives, ClosesBehind, FileGives};
+ghost use Rattle.nfs_client.specs.Put.{open_along, PutAlong, PutCommandGives};
 ghost use Rattle.nfs_client.specs.PutViews.{open_value};
 ghost use Rattle.nfs_client.specs.RouteViews.{route_value};
 ghost use Rattle.nfs_client.specs.Requests.{Asks, PutGives};
@@ -137,7 +140,8 @@ impl<A: Allocator + Copy> Reply<A> {
 
     /// The count of a WRITE, of this many bytes that were sent.
     fn written(&self, alloc: A, sent: usize) -> Result<usize, ToolFault>
-        ensures { SaidGives itself (written_in sent) (said self.now.xid self.now.asked.items self.now.content.items) result }
+        ensures { SaidGives itself (written_in sent) (said self.now.xid self.now.asked.items self.now.content.items)
+            result }
     {
         match self.results(alloc) {
             Ok(results) => match written(before_last(results), sent) {
@@ -157,7 +161,8 @@ fn opening<'a>(
     shown: &ShownAttributes<'_>,
     values: &'a [u8],
 ) -> Result<Op<'a>, ToolFault>
-    ensures asks { IfOk result (λ op. op_view op ≡ open_by (shown_value shown.now) values.entry.now client name.entry.now) }
+    ensures asks { IfOk result (λ op. op_view op ≡
+        open_by (shown_value shown.now) values.entry.now client name.entry.now) }
     ensures memory { PutGives result }
 {
     let name = sendable(name)?;
@@ -179,7 +184,8 @@ fn opening<'a>(
 
 impl<S: Read + Write, A: Allocator + Copy> Client<S, A> {
     fn open_file(&mut self, request: Request<A>) -> Result<Opened<A>, ToolFault>
-        ensures { (ops : List Operation) → Asks request ops → AskGives S.contents S.remaining open_in open_value true ops self.old self.new result }
+        ensures { (ops : List Operation) → Asks request ops →
+            AskGives S.contents S.remaining open_in open_value true ops self.old self.new result }
     {
         let reply = match self.exchange(request) {
             Ok(reply) => reply,
@@ -315,7 +321,8 @@ impl<S: Read + Write, A: Allocator + Copy> Client<S, A> {
 
     /// Opens a file of a directory, writes a text to it, and closes it.
     fn put_in(&mut self, names: &[&[u8]], op: Op<'_>, text: &[u8]) -> Result<(), ToolFault>
-        ensures { PutAlong S.contents S.remaining (map (λ n. n.now) names.now) (op_view op.entry) text.now self.old self.new result }
+        ensures { PutAlong S.contents S.remaining (map (λ n. n.now) names.now) (op_view op.entry) text.now self.old
+            self.new result }
     {
         let route = match self.reach(names, MOST_BEFORE_TWO) {
             Ok(route) => route,

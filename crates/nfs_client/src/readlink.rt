@@ -35,7 +35,8 @@ fn text_in<A: Allocator>(alloc: A, found: Option<OpResult<'_>>) -> Result<Vec<u8
 impl<A: Allocator + Copy> Reply<A> {
     /// The text of a link at the end of the results.
     fn link_text(&self, alloc: A) -> Result<Vec<u8, A>, ToolFault>
-        ensures { SaidGives (λ v. v.items) text_in (said self.now.xid self.now.asked.items self.now.content.items) result }
+        ensures { SaidGives (λ v. v.items) text_in (said self.now.xid self.now.asked.items self.now.content.items)
+            result }
     {
         match self.results(alloc) {
             Ok(results) => text_in(alloc, last(results)),
@@ -49,7 +50,8 @@ impl<S: Read + Write, A: Allocator + Copy> Client<S, A> {
     ghost use Rattle.nfs_ops.specs.Operations.{Operation};
 
     fn ask_link(&mut self, request: Request<A>) -> Result<Vec<u8, A>, ToolFault>
-        ensures { (ops : List Operation) → Asks request ops → AskGives S.contents S.remaining text_in (λ v. v.items) true ops self.old self.new result }
+        ensures { (ops : List Operation) → Asks request ops →
+            AskGives S.contents S.remaining text_in (λ v. v.items) true ops self.old self.new result }
     {
         let reply = match self.exchange(request) {
             Ok(reply) => reply,
@@ -63,7 +65,8 @@ impl<S: Read + Write, A: Allocator + Copy> Client<S, A> {
     /// The text of a symbolic link.
     pub fn readlink(&mut self, path: &[u8]) -> Result<Vec<u8, A>, ToolFault>
         ensures failed { self.old.usable ≡ false → result ≡ Err Failed }
-        ensures gives { CommandTells S.contents S.remaining text_in (λ v. v.items) (ReadLinkAsks path.now) (NoPath path.now) self.old self.new result }
+        ensures gives { CommandTells S.contents S.remaining text_in (λ v. v.items) (ReadLinkAsks path.now)
+            (NoPath path.now) self.old self.new result }
     {
         self.start()?;
         let path = match Path::read(self.alloc, path) {

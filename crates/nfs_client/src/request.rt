@@ -95,7 +95,8 @@ impl<A: Allocator + Copy> Request<A> {
 
     /// One operation more.
     pub(crate) fn put(&mut self, op: Op<'_>) -> Result<(), ToolFault>
-        ensures asks { OnOk result ((ops : List Operation) → Asks self.old ops → Asks self.new (ops ++ op_view op.entry ∷ [])) }
+        ensures asks { OnOk result ((ops : List Operation) → Asks self.old ops →
+            Asks self.new (ops ++ op_view op.entry ∷ [])) }
         ensures memory { PutGives result }
     {
         let number = op.number();
@@ -106,7 +107,8 @@ impl<A: Allocator + Copy> Request<A> {
 
     /// LOOKUP of each of these names, from the current directory on.
     pub(crate) fn lookups(&mut self, names: &[&[u8]]) -> Result<(), ToolFault>
-        ensures asks { OnOk result ((ops : List Operation) → Asks self.old ops → Asks self.new (ops ++ lookups (map (λ n. n.now) names.now))) }
+        ensures asks { OnOk result ((ops : List Operation) → Asks self.old ops →
+            Asks self.new (ops ++ lookups (map (λ n. n.now) names.now))) }
         ensures memory { PutGives result }
     {
         for name in names {

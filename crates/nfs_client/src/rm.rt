@@ -16,7 +16,8 @@ impl<S: Read + Write, A: Allocator + Copy> Client<S, A> {
     /// Removes a name.
     pub fn rm(&mut self, path: &[u8]) -> Result<(), ToolFault>
         ensures failed { self.old.usable ≡ false → result ≡ Err Failed }
-        ensures gives { CommandGives S.contents S.remaining (RmAsks path.now) (WrongPath path.now) self.old self.new result }
+        ensures gives { CommandGives S.contents S.remaining (RmAsks path.now) (WrongPath path.now) self.old self.new
+            result }
     {
         self.start()?;
         let place = match Place::read(self.alloc, path) {

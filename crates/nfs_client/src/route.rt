@@ -72,7 +72,8 @@ pub(crate) fn handle_sent(bytes: &[u8]) -> Result<Handle<'_>, ToolFault>
 impl<A: Allocator + Copy> Request<A> {
     /// The start of a walk: PUTROOTFH, or PUTFH (RFC 8881, section 18.19).
     pub(crate) fn begin(&mut self, start: &Start<A>) -> Result<(), ToolFault>
-        ensures asks { OnOk result ((ops : List Operation) → Asks self.old ops → Asks self.new (ops ++ begins (start_value start.now) ∷ [])) }
+        ensures asks { OnOk result ((ops : List Operation) → Asks self.old ops →
+            Asks self.new (ops ++ begins (start_value start.now) ∷ [])) }
         ensures memory { PutGives result }
     {
         match start {
@@ -86,7 +87,8 @@ impl<A: Allocator + Copy> Request<A> {
 
     /// LOOKUP of the names of a route.
     pub(crate) fn walk(&mut self, route: &Route<'_, A>) -> Result<(), ToolFault>
-        ensures asks { OnOk result ((ops : List Operation) → Asks self.old ops → Asks self.new (ops ++ walk (route_value route.now))) }
+        ensures asks { OnOk result ((ops : List Operation) → Asks self.old ops →
+            Asks self.new (ops ++ walk (route_value route.now))) }
         ensures memory { PutGives result }
     {
         self.begin(&route.start)?;

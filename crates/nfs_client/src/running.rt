@@ -1,6 +1,7 @@
 //! Running a command, and the text of its answer.
 ghost use Rattle.std.specs.Prelude.{◌≡◌, false, Err};
-ghost use Rattle.nfs_client.specs.AnswerTexts.{answer_text, rights_line, says_ok, says_rights, says_text, SaysAs, NewlineGives};
+ghost use Rattle.nfs_client.specs.AnswerTexts.{answer_text, rights_line, says_ok, says_rights, says_text, SaysAs};
+ghost use Rattle.nfs_client.specs.AnswerTexts.{NewlineGives};
 ghost use Rattle.nfs_client.specs.declared.fault.ToolFault.TheVariants.{Failed};
 
 use crate::client::Client;

@@ -5,7 +5,9 @@ ghost use Rattle.nfs_ops.specs.Forms.{callback_security};
 ghost use Rattle.nfs_ops.specs.ResultViews.{read_view};
 ghost use Rattle.nfs_client.specs.Compound.{said};
 ghost use Rattle.nfs_client.specs.Requests.{Asks, PutGives};
-ghost use Rattle.nfs_client.specs.Sessions.{exchange_id, create_session, destroy_session, destroy_client, record_of, record_in, record_value, session_of, session_in, session_value, OpenGives, EndGives, MadeKnown, SessionMade, Ends};
+ghost use Rattle.nfs_client.specs.Sessions.{exchange_id, create_session, destroy_session, destroy_client, record_of};
+ghost use Rattle.nfs_client.specs.Sessions.{record_in, record_value, session_of, session_in, session_value, OpenGives};
+ghost use Rattle.nfs_client.specs.Sessions.{EndGives, MadeKnown, SessionMade, Ends};
 ghost use Rattle.nfs_client.specs.Taking.{SaidGives};
 ghost use Rattle.nfs_client.specs.declared.fault.ToolFault.TheVariants.{Failed};
 
@@ -78,7 +80,8 @@ fn session_told(found: Option<OpResult<'_>>) -> Option<[u8; 16]>
 impl<A: Allocator + Copy> Reply<A> {
     /// The client's record.
     fn registration(&self, alloc: A) -> Result<Registration, ToolFault>
-        ensures { SaidGives record_value record_in (said self.now.xid self.now.asked.items self.now.content.items) result }
+        ensures { SaidGives record_value record_in (said self.now.xid self.now.asked.items self.now.content.items)
+            result }
     {
         match self.results(alloc) {
             Ok(results) => match registered(last(results)) {
@@ -91,7 +94,8 @@ impl<A: Allocator + Copy> Reply<A> {
 
     /// The session's id.
     fn session(&self, alloc: A) -> Result<[u8; 16], ToolFault>
-        ensures { SaidGives session_value session_in (said self.now.xid self.now.asked.items self.now.content.items) result }
+        ensures { SaidGives session_value session_in (said self.now.xid self.now.asked.items self.now.content.items)
+            result }
     {
         match self.results(alloc) {
             Ok(results) => match session_told(last(results)) {

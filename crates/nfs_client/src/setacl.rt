@@ -117,7 +117,8 @@ impl<S: Read + Write, A: Allocator + Copy> Client<S, A> {
         texts: &[&[u8]],
     ) -> Result<(), ToolFault>
         ensures failed { self.old.usable ≡ false → result ≡ Err Failed }
-        ensures gives { CommandGives S.contents S.remaining (SetAclAsks part path.now (map (λ t. t.now) texts.now)) (WrongList path.now (map (λ t. t.now) texts.now)) self.old self.new result }
+        ensures gives { CommandGives S.contents S.remaining (SetAclAsks part path.now (map (λ t. t.now) texts.now))
+            (WrongList path.now (map (λ t. t.now) texts.now)) self.old self.new result }
     {
         self.start()?;
         let path = match Path::read(self.alloc, path) {
@@ -142,7 +143,9 @@ impl<S: Read + Write, A: Allocator + Copy> Client<S, A> {
     /// can't be read, or there is none.
     pub fn setacl(&mut self, path: &[u8], texts: &[&[u8]]) -> Result<(), ToolFault>
         ensures failed { self.old.usable ≡ false → result ≡ Err Failed }
-        ensures gives { CommandGives S.contents S.remaining (SetAclAsks ListPart.Acl path.now (map (λ t. t.now) texts.now)) (WrongList path.now (map (λ t. t.now) texts.now)) self.old self.new result }
+        ensures gives { CommandGives S.contents S.remaining
+            (SetAclAsks ListPart.Acl path.now (map (λ t. t.now) texts.now))
+            (WrongList path.now (map (λ t. t.now) texts.now)) self.old self.new result }
     {
         self.set_list(ListPart::Acl, path, texts)
     }
@@ -151,7 +154,9 @@ impl<S: Read + Write, A: Allocator + Copy> Client<S, A> {
     /// entries, each as text. `Entry`: an entry can't be read, or there is none.
     pub fn setdacl(&mut self, path: &[u8], texts: &[&[u8]]) -> Result<(), ToolFault>
         ensures failed { self.old.usable ≡ false → result ≡ Err Failed }
-        ensures gives { CommandGives S.contents S.remaining (SetAclAsks ListPart.Dacl path.now (map (λ t. t.now) texts.now)) (WrongList path.now (map (λ t. t.now) texts.now)) self.old self.new result }
+        ensures gives { CommandGives S.contents S.remaining
+            (SetAclAsks ListPart.Dacl path.now (map (λ t. t.now) texts.now))
+            (WrongList path.now (map (λ t. t.now) texts.now)) self.old self.new result }
     {
         self.set_list(ListPart::Dacl, path, texts)
     }
@@ -160,7 +165,9 @@ impl<S: Read + Write, A: Allocator + Copy> Client<S, A> {
     /// each as text. `Entry`: an entry can't be read, or there is none.
     pub fn setsacl(&mut self, path: &[u8], texts: &[&[u8]]) -> Result<(), ToolFault>
         ensures failed { self.old.usable ≡ false → result ≡ Err Failed }
-        ensures gives { CommandGives S.contents S.remaining (SetAclAsks ListPart.Sacl path.now (map (λ t. t.now) texts.now)) (WrongList path.now (map (λ t. t.now) texts.now)) self.old self.new result }
+        ensures gives { CommandGives S.contents S.remaining
+            (SetAclAsks ListPart.Sacl path.now (map (λ t. t.now) texts.now))
+            (WrongList path.now (map (λ t. t.now) texts.now)) self.old self.new result }
     {
         self.set_list(ListPart::Sacl, path, texts)
     }

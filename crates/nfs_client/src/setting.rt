@@ -35,7 +35,8 @@ fn setting_under<'a>(
     shown: &ShownAttributes<'_>,
     values: &'a [u8],
 ) -> Result<Op<'a>, ToolFault>
-    ensures asks { IfOk result (λ op. op_view op ≡ set_under (stateid_value stateid) (shown_value shown.now) values.entry.now) }
+    ensures asks { IfOk result (λ op. op_view op ≡
+        set_under (stateid_value stateid) (shown_value shown.now) values.entry.now) }
     ensures memory { PutGives result }
 {
     let values = sendable(values)?;
@@ -83,7 +84,8 @@ impl<A: Allocator + Copy> Request<A> {
         stateid: StateId,
         size: u64,
     ) -> Result<(), ToolFault>
-        ensures asks { OnOk result ((ops : List Operation) → Asks self.old ops → Asks self.new (ops ++ set_size (stateid_value stateid) size ∷ [])) }
+        ensures asks { OnOk result ((ops : List Operation) → Asks self.old ops →
+            Asks self.new (ops ++ set_size (stateid_value stateid) size ∷ [])) }
         ensures memory { PutGives result }
     {
         let shown = with_size(Some(size));

@@ -49,7 +49,8 @@ fn taken<'a, T: Wire<'a>>(
     number: u32,
     reader: &mut Reader<'a>,
 ) -> Result<Option<T>, XdrFault>
-    ensures { Gives (λ o. option_map T.view o) reader.old reader.new result (in_normal_form (within T.normal) (chosen_at (has_number (bitmap_value set.now) number) T.form reader.old)) }
+    ensures { Gives (λ o. option_map T.view o) reader.old reader.new result
+        (in_normal_form (within T.normal) (chosen_at (has_number (bitmap_value set.now) number) T.form reader.old)) }
 {
     if set.has(number) {
         Ok(Some(T::read(reader)?))

@@ -39,7 +39,8 @@ fn take_piece<A: Allocator>(
     content: &mut Vec<u8, A>,
     piece: &[u8],
 ) -> Result<bool, ToolFault>
-    ensures { (bytes : List ℕ) → Stands framer.old content.old.items bytes → PieceGives framer.new content.new.items (bytes ++ piece.now) result }
+    ensures { (bytes : List ℕ) → Stands framer.old content.old.items bytes →
+        PieceGives framer.new content.new.items (bytes ++ piece.now) result }
 {
     let mut at = 0;
     loop {

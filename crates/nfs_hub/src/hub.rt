@@ -1,5 +1,7 @@
 //! The server and its connections.
-ghost use Rattle.std.specs.Prelude.{◌≡◌, ◌≢◌, ◌↔◌, ◌≤◌, ◌<◌, ◌^◌, ℕ, List, [], ◌∷◌, ◌++◌, min, length, take, drop, true, false, Some, None, Ok, Err, IfOk, IsErrOf, IsNone, IsOkUnless, MatchOption, IfSome, IsTrue, OnOk, OnErr, option_map, is_err};
+ghost use Rattle.std.specs.Prelude.{◌≡◌, ◌≢◌, ◌↔◌, ◌≤◌, ◌<◌, ◌^◌, ℕ, List, [], ◌∷◌, ◌++◌, min, length, take, drop};
+ghost use Rattle.std.specs.Prelude.{true, false, Some, None, Ok, Err, IfOk, IsErrOf, IsNone, IsOkUnless, MatchOption};
+ghost use Rattle.std.specs.Prelude.{IfSome, IsTrue, OnOk, OnErr, option_map, is_err};
 ghost use Rattle.node_tree.specs.Notes.{begun_notes, cleared};
 ghost use Rattle.compound_run.specs.Known.{opens_fit};
 ghost use Rattle.nfs_hub.specs.Answer.{Served, restored, with_lasting_sessions, with_sessions, without_sessions};
@@ -52,7 +54,8 @@ pub struct Hub<A: Allocator + Copy = Global> {
 impl<A: Allocator + Copy> Hub<A> {
     ghost use Rattle.nfs_hub.specs.Machine.{State};
     ghost use Rattle.nfs_hub.specs.Connection.{taken_of};
-    ghost use Rattle.nfs_hub.specs.Hub.{IsHub, IsUnchanged, LeadsTo, Goes, notes_of, FrontGives, ConnectGives, ReloadGives, TakeGives, ConsumeGives, BreaksSo, broken_at, pending_at};
+    ghost use Rattle.nfs_hub.specs.Hub.{IsHub, IsUnchanged, LeadsTo, Goes, notes_of, FrontGives, ConnectGives};
+    ghost use Rattle.nfs_hub.specs.Hub.{ReloadGives, TakeGives, ConsumeGives, BreaksSo, broken_at, pending_at};
 
     /// A hub of this server, with no connection open.
     fn over(alloc: A, service: Service<A>) -> Self
@@ -117,7 +120,10 @@ impl<A: Allocator + Copy> Hub<A> {
     /// record goes with its sessions, and its open files are closed; all else stays. Which one is
     /// [`Server::silent`]'s to say. `None`: none is to go, and nothing changes.
     pub fn let_go(&mut self, now: Moment) -> Option<u64>
-        ensures leads { MatchOption result ((first : Served) (events : List Event) → LeadsTo first events self.old → LeadsTo first events self.new) (λ client. (first : Served) (events : List Event) → LeadsTo first events self.old → LeadsTo first (LetGo client ∷ events) self.new) }
+        ensures leads { MatchOption result
+            ((first : Served) (events : List Event) → LeadsTo first events self.old → LeadsTo first events self.new)
+            (λ client. (first : Served) (events : List Event) → LeadsTo first events self.old →
+            LeadsTo first (LetGo client ∷ events) self.new) }
         ensures goes { IfSome result (λ client. Goes (LetGo client) self.old self.new) }
         ensures nothing { IsNone result → IsUnchanged self.old self.new }
     {
@@ -131,7 +137,8 @@ impl<A: Allocator + Copy> Hub<A> {
     /// Begins notes of the tree's changes, for a store: from now on each is noted, in this many
     /// bytes, where there is room for it. `Err`: there is no memory for them, and nothing changes.
     pub fn begin_notes(&mut self, room: usize) -> Result<(), AllocError>
-        ensures leads { OnOk result ((first : Served) (events : List Event) → LeadsTo first events self.old → LeadsTo first (Note (begun_notes room) ∷ events) self.new) }
+        ensures leads { OnOk result ((first : Served) (events : List Event) → LeadsTo first events self.old →
+            LeadsTo first (Note (begun_notes room) ∷ events) self.new) }
         ensures goes { OnOk result (Goes (Note (begun_notes room)) self.old self.new) }
         ensures err { OnErr result (IsUnchanged self.old self.new) }
     {
@@ -140,7 +147,8 @@ impl<A: Allocator + Copy> Hub<A> {
 
     /// Forgets what was noted of the tree's changes, once it is stored.
     pub fn clear_notes(&mut self)
-        ensures leads { (first : Served) (events : List Event) → LeadsTo first events self.old → LeadsTo first (Note (cleared (notes_of self.old)) ∷ events) self.new }
+        ensures leads { (first : Served) (events : List Event) → LeadsTo first events self.old →
+            LeadsTo first (Note (cleared (notes_of self.old)) ∷ events) self.new }
         ensures goes { Goes (Note (cleared (notes_of self.old))) self.old self.new }
     {
         self.service.clear_notes();
@@ -163,7 +171,8 @@ impl<A: Allocator + Copy> Hub<A> {
     /// book, has none after it ([`next_epoch`]). The new book is given back then, and nothing
     /// changes.
     pub fn reload(&mut self, book: Book) -> Result<Book, Unloaded>
-        ensures leads { (first : Served) (events : List Event) → LeadsTo first events self.old → LeadsTo first (Reload book ∷ events) self.new }
+        ensures leads { (first : Served) (events : List Event) → LeadsTo first events self.old →
+            LeadsTo first (Reload book ∷ events) self.new }
         ensures goes { Goes (Reload book) self.old self.new }
         ensures gives { ReloadGives book result self.old self.new }
     {
@@ -180,7 +189,8 @@ impl<A: Allocator + Copy> Hub<A> {
     /// `Exhausted` exactly where no number below 2^63 is left, else `Memory` where memory is
     /// refused. A refusal changes nothing.
     pub fn connect(&mut self) -> Result<ConnId, HubFault>
-        ensures leads { (first : Served) (events : List Event) → LeadsTo first events self.old → LeadsTo first (Connect ∷ events) self.new }
+        ensures leads { (first : Served) (events : List Event) → LeadsTo first events self.old →
+            LeadsTo first (Connect ∷ events) self.new }
         ensures goes { Goes Connect self.old self.new }
         ensures gives { ConnectGives result self.old self.new }
     {
@@ -202,9 +212,11 @@ impl<A: Allocator + Copy> Hub<A> {
     /// says how many. `NoSuch` exactly where the number is no open connection's, and nothing
     /// happened. A broken connection gives its bytes until it is closed.
     pub fn take_out(&mut self, conn: ConnId, buf: &mut [u8]) -> Result<usize, HubFault>
-        ensures leads { IfOk result (λ n. (first : Served) (events : List Event) → LeadsTo first events self.old → LeadsTo first (Take conn n ∷ events) self.new) }
+        ensures leads { IfOk result (λ n. (first : Served) (events : List Event) → LeadsTo first events self.old →
+            LeadsTo first (Take conn n ∷ events) self.new) }
         ensures goes { IfOk result (λ n. Goes (Take conn n) self.old self.new) }
-        ensures nothing { OnErr result ((first : Served) (events : List Event) → LeadsTo first events self.old → LeadsTo first events self.new) }
+        ensures nothing { OnErr result ((first : Served) (events : List Event) → LeadsTo first events self.old →
+            LeadsTo first events self.new) }
         ensures gives { TakeGives conn result self.old self.new buf.old buf.new }
     {
         let Some(bytes) = self.pending(conn) else {
@@ -227,9 +239,11 @@ impl<A: Allocator + Copy> Hub<A> {
     /// how many. `NoSuch` exactly where the number is no open connection's. The memory of the bytes
     /// stays with the connection, for other replies.
     pub fn consume(&mut self, conn: ConnId, most: usize) -> Result<usize, HubFault>
-        ensures leads { IfOk result (λ n. (first : Served) (events : List Event) → LeadsTo first events self.old → LeadsTo first (Take conn n ∷ events) self.new) }
+        ensures leads { IfOk result (λ n. (first : Served) (events : List Event) → LeadsTo first events self.old →
+            LeadsTo first (Take conn n ∷ events) self.new) }
         ensures goes { IfOk result (λ n. Goes (Take conn n) self.old self.new) }
-        ensures nothing { OnErr result ((first : Served) (events : List Event) → LeadsTo first events self.old → LeadsTo first events self.new) }
+        ensures nothing { OnErr result ((first : Served) (events : List Event) → LeadsTo first events self.old →
+            LeadsTo first events self.new) }
         ensures gives { ConsumeGives conn most result self.old self.new }
     {
         match self.connections.get_mut(&conn.number) {
@@ -248,7 +262,8 @@ impl<A: Allocator + Copy> Hub<A> {
 
     /// Whether a connection that isn't broken is inside a record; of any other nothing is said.
     pub fn is_inside(&self, conn: ConnId) -> bool
-        ensures { (s : State) → IsHub self.now s → broken_at self.now conn ≡ Some false → IfSome (s.connection conn) (λ c. IsTrue result ↔ (c.rest ≢ [])) }
+        ensures { (s : State) → IsHub self.now s → broken_at self.now conn ≡ Some false →
+            IfSome (s.connection conn) (λ c. IsTrue result ↔ (c.rest ≢ [])) }
     {
         match self.connections.get(&conn.number) {
             Some(connection) => connection.framer.is_inside(),
@@ -259,7 +274,8 @@ impl<A: Allocator + Copy> Hub<A> {
     /// Closes a connection, and drops the rest of its stream and its pending bytes. `NoSuch` exactly
     /// where the number is no open connection's.
     pub fn close(&mut self, conn: ConnId) -> Result<(), HubFault>
-        ensures leads { (first : Served) (events : List Event) → LeadsTo first events self.old → LeadsTo first (Close conn ∷ events) self.new }
+        ensures leads { (first : Served) (events : List Event) → LeadsTo first events self.old →
+            LeadsTo first (Close conn ∷ events) self.new }
         ensures goes { Goes (Close conn) self.old self.new }
         ensures gives { MatchOption (broken_at self.old conn) (result ≡ Err HubFault.NoSuch) (λ was. result ≡ Ok tt) }
         ensures closed { IsNone (broken_at self.new conn) }
@@ -276,12 +292,14 @@ impl<A: Allocator + Copy> Hub<A> {
     /// afterwards. It is `Broken` where its stream or a record of it breaks it, or it was broken
     /// before. It is `Memory` where memory is refused, and the next record is not answered.
     pub fn feed(&mut self, conn: ConnId, piece: &[u8], now: Moment) -> Result<(), HubFault>
-        ensures leads { (first : Served) (events : List Event) → LeadsTo first events self.old → LeadsTo first (Piece conn piece.now now ∷ events) self.new }
+        ensures leads { (first : Served) (events : List Event) → LeadsTo first events self.old →
+            LeadsTo first (Piece conn piece.now now ∷ events) self.new }
         ensures goes { Goes (Piece conn piece.now now) self.old self.new }
         ensures no_such { IsErrOf result HubFault.NoSuch ↔ IsNone (broken_at self.old conn) }
         ensures broken { broken_at self.new conn ≡ option_map (λ was. is_err result) (broken_at self.old conn) }
         ensures stays { broken_at self.old conn ≡ Some true → result ≡ Err HubFault.Broken }
-        ensures breaks { result ≡ Err HubFault.Broken → broken_at self.old conn ≡ Some false → BreaksSo conn piece.now now self.old self.new }
+        ensures breaks { result ≡ Err HubFault.Broken → broken_at self.old conn ≡ Some false →
+            BreaksSo conn piece.now now self.old self.new }
         ensures faults { (result ≢ Err HubFault.TooMany) × (result ≢ Err HubFault.Exhausted) }
     {
         let Some(connection) = self.connections.get_mut(&conn.number) else {
@@ -307,7 +325,8 @@ impl<A: Allocator + Copy> Hub<A> {
         piece: &[u8],
         now: Moment,
     ) -> Result<usize, HubFault>
-        ensures leads { (first : Served) (events : List Event) → LeadsTo first events self.old → LeadsTo first (Piece conn (take (taken_of result piece.now) piece.now) now ∷ events) self.new }
+        ensures leads { (first : Served) (events : List Event) → LeadsTo first events self.old →
+            LeadsTo first (Piece conn (take (taken_of result piece.now) piece.now) now ∷ events) self.new }
         ensures goes { Goes (Piece conn (take (taken_of result piece.now) piece.now) now) self.old self.new }
         ensures front { FrontGives conn piece.now result self.old self.new }
         ensures within { IfOk result (λ n. n ≤ length piece.now) }
@@ -315,7 +334,8 @@ impl<A: Allocator + Copy> Hub<A> {
         ensures no_such { IsErrOf result HubFault.NoSuch ↔ IsNone (broken_at self.old conn) }
         ensures broken { broken_at self.new conn ≡ option_map (λ was. is_err result) (broken_at self.old conn) }
         ensures stays { broken_at self.old conn ≡ Some true → result ≡ Err HubFault.Broken }
-        ensures breaks { result ≡ Err HubFault.Broken → broken_at self.old conn ≡ Some false → BreaksSo conn piece.now now self.old self.new }
+        ensures breaks { result ≡ Err HubFault.Broken → broken_at self.old conn ≡ Some false →
+            BreaksSo conn piece.now now self.old self.new }
         ensures faults { (result ≢ Err HubFault.TooMany) × (result ≢ Err HubFault.Exhausted) }
     {
         let Some(connection) = self.connections.get_mut(&conn.number) else {

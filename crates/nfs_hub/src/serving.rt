@@ -109,7 +109,9 @@ fn turn_by_turn<A: Allocator + Copy, R: Read, W: Write, C: Clock>(
     turns: u64,
 ) -> ServeEnd
     requires open { broken_at hub.old conn ≡ Some false }
-    ensures { (s : State) → IsHub hub.old s → TurnsEnd conn turns result s hub.new (R.remaining reader.old) (R.remaining reader.new) (W.contents writer.old) (W.contents writer.new) }
+    ensures { (s : State) → IsHub hub.old s →
+        TurnsEnd conn turns result s hub.new (R.remaining reader.old) (R.remaining reader.new) (W.contents writer.old)
+        (W.contents writer.new) }
 {
     for turn in 0..turns {
         let mut buf = [0u8; PIECE];
@@ -153,7 +155,9 @@ pub fn serve<A: Allocator + Copy, R: Read, W: Write, C: Clock>(
     clock: &C,
     turns: u64,
 ) -> ServeEnd
-    ensures { (first : Served) (events : List Event) → LeadsTo first events hub.old → Serves first result turns events hub.old hub.new (R.remaining reader.old) (R.remaining reader.new) (W.contents writer.old) (W.contents writer.new) }
+    ensures { (first : Served) (events : List Event) → LeadsTo first events hub.old →
+        Serves first result turns events hub.old hub.new (R.remaining reader.old) (R.remaining reader.new)
+        (W.contents writer.old) (W.contents writer.new) }
 {
     let conn = match hub.connect() {
         Ok(conn) => conn,

@@ -84,7 +84,8 @@ pub fn write_getattr<A: Allocator>(
     requires { room ≤ writer.old.room }
     ensures has_spelling { OnOk result (ItemHasSpelling (outcome_item (getattr_outcome (given_value given.entry)))) }
     ensures in_normal_form { OnOk result (ItemIsNormal (outcome_item (getattr_outcome (given_value given.entry)))) }
-    ensures puts { PutsWithin room writer.old writer.new (outcome_item (getattr_outcome (given_value given.entry))) result }
+    ensures puts { PutsWithin room writer.old writer.new (outcome_item (getattr_outcome (given_value given.entry)))
+        result }
 {
     let start = writer.len();
     (OP_GETATTR, (0u32, given)).write(writer)?;

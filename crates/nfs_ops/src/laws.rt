@@ -10,37 +10,44 @@ ghost use Rattle.nfs_ops.specs.Listing.{Judged, IsListing, listing};
 
 /// An operation is read exactly where a spelling of it is at the front, whatever is after it.
 pub fn reading_is_spelling()
-    ensures { (o : Operation) (bytes rest : List ℕ) → is_built o ≡ true → (next_at bytes ≡ (o, rest)) ↔ Stands (op_item o) bytes rest }
+    ensures { (o : Operation) (bytes rest : List ℕ) → is_built o ≡ true →
+        (next_at bytes ≡ (o, rest)) ↔ Stands (op_item o) bytes rest }
 {}
 
 /// An operation that is written is read again, whatever is after it.
 pub fn what_is_written_is_read()
-    ensures { (o : Operation) (rest : List ℕ) → is_built o ≡ true → ItemHasSpelling (op_item o) → ItemIsNormal (op_item o) → next_at (item_spelling (op_item o) ++ rest) ≡ (o, rest) }
+    ensures { (o : Operation) (rest : List ℕ) → is_built o ≡ true → ItemHasSpelling (op_item o) →
+        ItemIsNormal (op_item o) → next_at (item_spelling (op_item o) ++ rest) ≡ (o, rest) }
 {}
 
 /// No reading depends on what is after the operation.
 pub fn reading_looks_no_further()
-    ensures { (o : Operation) (front rest other : List ℕ) → is_built o ≡ true → next_at (front ++ rest) ≡ (o, rest) → next_at (front ++ other) ≡ (o, other) }
+    ensures { (o : Operation) (front rest other : List ℕ) → is_built o ≡ true → next_at (front ++ rest) ≡ (o, rest) →
+        next_at (front ++ other) ≡ (o, other) }
 {}
 
 /// A result at the front is read, whatever is after it.
 pub fn a_result_that_stands_is_read()
-    ensures { (o : Outcome) (bytes rest : List ℕ) → IsResult o → Stands (outcome_item o) bytes rest → result_at bytes ≡ Ok (o, rest) }
+    ensures { (o : Outcome) (bytes rest : List ℕ) → IsResult o → Stands (outcome_item o) bytes rest →
+        result_at bytes ≡ Ok (o, rest) }
 {}
 
 /// A result that is read has the number of a status, and is at the front.
 pub fn a_result_that_is_read_stands()
-    ensures { (o : Outcome) (bytes rest : List ℕ) → result_at bytes ≡ Ok (o, rest) → IsResult o × Stands (outcome_item o) bytes rest }
+    ensures { (o : Outcome) (bytes rest : List ℕ) → result_at bytes ≡ Ok (o, rest) → IsResult o ×
+        Stands (outcome_item o) bytes rest }
 {}
 
 /// No reading depends on what is after the result.
 pub fn reading_a_result_looks_no_further()
-    ensures { (o : Outcome) (front rest other : List ℕ) → result_at (front ++ rest) ≡ Ok (o, rest) → result_at (front ++ other) ≡ Ok (o, other) }
+    ensures { (o : Outcome) (front rest other : List ℕ) → result_at (front ++ rest) ≡ Ok (o, rest) →
+        result_at (front ++ other) ≡ Ok (o, other) }
 {}
 
 /// A result that is written is read again, whatever is after it.
 pub fn a_written_result_is_read()
-    ensures { (o : Outcome) (rest : List ℕ) → IsResult o → ItemHasSpelling (outcome_item o) → ItemIsNormal (outcome_item o) → result_at (item_spelling (outcome_item o) ++ rest) ≡ Ok (o, rest) }
+    ensures { (o : Outcome) (rest : List ℕ) → IsResult o → ItemHasSpelling (outcome_item o) →
+        ItemIsNormal (outcome_item o) → result_at (item_spelling (outcome_item o) ++ rest) ≡ Ok (o, rest) }
 {}
 
 /// A written result has at most the bytes that `most` gives it. They are a constant beside its

@@ -140,8 +140,10 @@ pub fn write_readdir<E: Entries, A: Allocator>(
 ) -> Result<(), ListFault<E::Refusal>>
     requires least { 24 ≤ room }
     requires room { room ≤ writer.old.room }
-    ensures ok { OnOk result (Lists (listing (readdir_limit maxcount room) (E.left entries.old)) room writer.old writer.new) }
-    ensures err { IfErr result (λ fault. (listing (readdir_limit maxcount room) (E.left entries.old) ≡ Err fault) × (writer.new ≡ writer.old)) }
+    ensures ok { OnOk result (Lists (listing (readdir_limit maxcount room) (E.left entries.old)) room writer.old
+        writer.new) }
+    ensures err { IfErr result (λ fault. (listing (readdir_limit maxcount room) (E.left entries.old) ≡ Err fault) ×
+        (writer.new ≡ writer.old)) }
     ensures kept { E.kept entries.new ≡ E.kept entries.old }
 {
     let start = writer.len();

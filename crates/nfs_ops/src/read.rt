@@ -92,7 +92,8 @@ impl<'a> Wire<'a> for ReadResult<'a> {
 /// Writes number, status OK and eof, for which there is room.
 fn put_head<A: Allocator>(eof: bool, writer: &mut Writer<A>)
     requires { 12 ≤ writer.old.room }
-    ensures { Appends writer.old writer.new (to_be_bytes w32 OP_READ ++ to_be_bytes w32 0 ++ to_be_bytes w32 (number_of_bool eof)) }
+    ensures { Appends writer.old writer.new
+        (to_be_bytes w32 OP_READ ++ to_be_bytes w32 0 ++ to_be_bytes w32 (number_of_bool eof)) }
 {
     (OP_READ, (0u32, eof)).write(writer).unwrap();
 }
@@ -111,7 +112,8 @@ pub fn write_read<S: Source, A: Allocator>(
     requires room { read_size most ≤ writer.old.room }
     ensures has_spelling { ItemHasSpelling (outcome_item (read_outcome eof (S.gives source most))) }
     ensures in_normal_form { ItemIsNormal (outcome_item (read_outcome eof (S.gives source most))) }
-    ensures written { Appends writer.old writer.new (item_spelling (outcome_item (read_outcome eof (S.gives source most)))) }
+    ensures written { Appends writer.old writer.new
+        (item_spelling (outcome_item (read_outcome eof (S.gives source most)))) }
     ensures within { length writer.new.bytes ≤ length writer.old.bytes + read_size most }
 {
     put_head(eof, writer);

@@ -2,7 +2,8 @@
 ghost use Rattle.std.specs.Prelude.{◌≡◌, option_map, Some};
 ghost use Rattle.xdr_wire.specs.Reading.{Gives};
 ghost use Rattle.nfs_types.specs.Status.{number_of};
-ghost use Rattle.nfs_ops.specs.ResultReading.{result_at, done_at, done_of, refused_from, refused_at, refusal_at, behind_status};
+ghost use Rattle.nfs_ops.specs.ResultReading.{result_at, done_at, done_of, refused_from, refused_at, refusal_at};
+ghost use Rattle.nfs_ops.specs.ResultReading.{behind_status};
 ghost use Rattle.nfs_ops.specs.ResultReading as specs;
 ghost use Rattle.nfs_ops.specs.Views.{read_view};
 

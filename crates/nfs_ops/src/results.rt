@@ -61,7 +61,8 @@ pub fn write_refusal<A: Allocator>(
     ensures has_spelling { OnOk result (ItemHasSpelling (outcome_item (refused number (specs.refusal status)))) }
     ensures in_normal_form { OnOk result (ItemIsNormal (outcome_item (refused number (specs.refusal status)))) }
     ensures fits { most (refused number (specs.refusal status)) ≤ writer.old.room → IsTrue (is_ok result) }
-    ensures puts { Puts writer.old writer.new (item_spelling (outcome_item (refused number (specs.refusal status)))) result }
+    ensures puts { Puts writer.old writer.new (item_spelling (outcome_item (refused number (specs.refusal status))))
+        result }
 {
     write_refused(number, refusal(status), writer)
 }

@@ -6,7 +6,8 @@ ghost use Rattle.nfs_hub.specs.Hub.{Goes};
 ghost use Rattle.nfs_streams.specs.declared.serving.Limits.{Limits};
 ghost use Rattle.nfs_streams.specs.Acts.{Act, Adds, Closed};
 ghost use Rattle.nfs_streams.specs.Seats.{AreWaiting, FewAreWaiting};
-ghost use Rattle.nfs_streams.specs.Standing.{Listening, Giving, Piecing, Unkept, Answering, Changes, StreamEnds, broken_end, given_stage, kept_stage, stays};
+ghost use Rattle.nfs_streams.specs.Standing.{Listening, Giving, Piecing, Unkept, Answering, Changes, StreamEnds};
+ghost use Rattle.nfs_streams.specs.Standing.{broken_end, given_stage, kept_stage, stays};
 
 use crate::ahead::Ahead;
 use crate::streams::{Moved, StreamEnd, Streams};
@@ -110,7 +111,9 @@ pub(crate) fn listen<A: Allocator + Copy, S: Streams<A>, C: Clock>(
     peer: &mut Peer<A>,
     most: u64,
 ) -> Turned
-    ensures { (n : ℕ) (limits : Limits) → limits.reads ≡ most → Changes (Listening n) (Listening n) limits place hub.old (Some peer.old) hub.new (stays result peer.new) (S.acts streams.old) (S.acts streams.new) }
+    ensures { (n : ℕ) (limits : Limits) → limits.reads ≡ most →
+        Changes (Listening n) (Listening n) limits place hub.old (Some peer.old) hub.new (stays result peer.new)
+        (S.acts streams.old) (S.acts streams.new) }
 {
     if is_waiting(hub, peer.conn) {
         return Turned::Idle;
@@ -167,7 +170,9 @@ fn feed_front<A: Allocator + Copy, C: Clock>(
     most: usize,
 ) -> usize
     requires whole { peer.old.fault ≡ None }
-    ensures gives { (n place : ℕ) (limits : Limits) (now : Option (List Act)) → Changes (Piecing n place most) (Unkept n place (most - result)) limits place hub.old (Some peer.old) hub.new (Some peer.new) now now }
+    ensures gives { (n place : ℕ) (limits : Limits) (now : Option (List Act)) →
+        Changes (Piecing n place most) (Unkept n place (most - result)) limits place hub.old (Some peer.old) hub.new
+        (Some peer.new) now now }
     ensures within { result ≤ most }
     ensures further { peer.old.ahead ≢ [] → 0 < most → length peer.new.ahead < length peer.old.ahead }
 {
@@ -197,7 +202,9 @@ fn give_front<A: Allocator + Copy, S: Streams<A>, C: Clock>(
     most: usize,
 ) -> Option<usize>
     requires whole { peer.old.fault ≡ None }
-    ensures moves { (n : ℕ) (limits : Limits) → Changes (Piecing n place most) (given_stage result n place) limits place hub.old (Some peer.old) hub.new (Some peer.new) (S.acts streams.old) (S.acts streams.new) }
+    ensures moves { (n : ℕ) (limits : Limits) →
+        Changes (Piecing n place most) (given_stage result n place) limits place hub.old (Some peer.old) hub.new
+        (Some peer.new) (S.acts streams.old) (S.acts streams.new) }
     ensures further { peer.old.ahead ≢ [] → 0 < most → length peer.new.ahead < length peer.old.ahead }
 {
     let n = feed_front(hub, clock, peer, most);
@@ -218,7 +225,8 @@ pub(crate) fn give<A: Allocator + Copy, S: Streams<A>, C: Clock>(
     place: usize,
     peer: &mut Peer<A>,
 ) -> bool
-    ensures { (n : ℕ) (limits : Limits) → Changes (Giving n) (kept_stage result n) limits place hub.old (Some peer.old) hub.new (Some peer.new) (S.acts streams.old) (S.acts streams.new) }
+    ensures { (n : ℕ) (limits : Limits) → Changes (Giving n) (kept_stage result n) limits place hub.old (Some peer.old)
+        hub.new (Some peer.new) (S.acts streams.old) (S.acts streams.new) }
 {
     let mut left = 0;
     while !peer.ahead.is_empty() {
@@ -246,7 +254,8 @@ pub(crate) fn answer<A: Allocator + Copy, S: Streams<A>, C: Clock>(
     place: usize,
     peer: &mut Peer<A>,
 ) -> Turned
-    ensures { (n : ℕ) (limits : Limits) → Changes (Answering n) (Answering n) limits place hub.old (Some peer.old) hub.new (stays result peer.new) (S.acts streams.old) (S.acts streams.new) }
+    ensures { (n : ℕ) (limits : Limits) → Changes (Answering n) (Answering n) limits place hub.old (Some peer.old)
+        hub.new (stays result peer.new) (S.acts streams.old) (S.acts streams.new) }
 {
     let bytes = waiting(hub, peer.conn);
     if bytes.is_empty() {

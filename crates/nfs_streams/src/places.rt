@@ -8,7 +8,8 @@ ghost use Rattle.nfs_streams.specs.declared.serving.Limits.{Limits};
 ghost use Rattle.nfs_streams.specs.declared.streams.StreamEnd.{StreamEnd};
 ghost use Rattle.nfs_streams.specs.declared.streams.StreamEnd.TheVariants as end;
 ghost use Rattle.nfs_streams.specs.Runs.{most_open};
-ghost use Rattle.nfs_streams.specs.Standing.{Stage, Left, left_of, Listening, Knocking, Giving, Full, Answering, Ending, IsClosing, closed_stage, kept_stage, Moves};
+ghost use Rattle.nfs_streams.specs.Standing.{Stage, Left, left_of, Listening, Knocking, Giving, Full, Answering};
+ghost use Rattle.nfs_streams.specs.Standing.{Ending, IsClosing, closed_stage, kept_stage, Moves};
 
 use crate::ahead::Ahead;
 use crate::peer::{Peer, Turned, answer, give, listen, shut};
@@ -70,7 +71,8 @@ fn admit<A: Allocator + Copy, S: Streams<A>, C: Clock>(
     requires free { place_at places.old index ≡ None }
     requires some { 0 < door.old.left }
     requires few { taken places.old < most_open door.old.limits }
-    ensures moves { (n : ℕ) → Moves (Knocking n) (Listening n) door.old.limits hub.old places.old (left_of door.old) hub.new places.new (left_of door.new) (S.acts streams.old) (S.acts streams.new) }
+    ensures moves { (n : ℕ) → Moves (Knocking n) (Listening n) door.old.limits hub.old places.old (left_of door.old)
+        hub.new places.new (left_of door.new) (S.acts streams.old) (S.acts streams.new) }
     ensures len { length places.new ≡ length places.old }
     ensures most { door.new.limits ≡ door.old.limits }
 {
@@ -107,7 +109,8 @@ fn let_in<A: Allocator + Copy, S: Streams<A>, C: Clock>(
     requires within { index < length places.old }
     requires sixteen { length places.old ≤ 16 }
     requires free { place_at places.old index ≡ None }
-    ensures moves { (n : ℕ) → Moves (Listening n) (Listening n) door.old.limits hub.old places.old (left_of door.old) hub.new places.new (left_of door.new) (S.acts streams.old) (S.acts streams.new) }
+    ensures moves { (n : ℕ) → Moves (Listening n) (Listening n) door.old.limits hub.old places.old (left_of door.old)
+        hub.new places.new (left_of door.new) (S.acts streams.old) (S.acts streams.new) }
     ensures len { length places.new ≡ length places.old }
     ensures most { door.new.limits ≡ door.old.limits }
 {
@@ -141,7 +144,8 @@ fn listen_at<A: Allocator + Copy, S: Streams<A>, C: Clock>(
 ) -> bool
     requires within { index < length places.old }
     requires sixteen { length places.old ≤ 16 }
-    ensures moves { (n : ℕ) → Moves (Listening n) (Listening n) door.old.limits hub.old places.old (left_of door.old) hub.new places.new (left_of door.new) (S.acts streams.old) (S.acts streams.new) }
+    ensures moves { (n : ℕ) → Moves (Listening n) (Listening n) door.old.limits hub.old places.old (left_of door.old)
+        hub.new places.new (left_of door.new) (S.acts streams.old) (S.acts streams.new) }
     ensures len { length places.new ≡ length places.old }
     ensures most { door.new.limits ≡ door.old.limits }
 {
@@ -167,7 +171,8 @@ pub(crate) fn listen_all<A: Allocator + Copy, S: Streams<A>, C: Clock>(
     door: &mut Door<A>,
 ) -> bool
     requires { length places.old ≤ 16 }
-    ensures moves { (n : ℕ) → Moves (Listening n) (Listening n) door.old.limits hub.old places.old (left_of door.old) hub.new places.new (left_of door.new) (S.acts streams.old) (S.acts streams.new) }
+    ensures moves { (n : ℕ) → Moves (Listening n) (Listening n) door.old.limits hub.old places.old (left_of door.old)
+        hub.new places.new (left_of door.new) (S.acts streams.old) (S.acts streams.new) }
     ensures most { door.new.limits ≡ door.old.limits }
 {
     let mut busy = false;
@@ -187,7 +192,9 @@ fn give_at<A: Allocator + Copy, S: Streams<A>, C: Clock>(
     index: usize,
 ) -> bool
     requires within { index < length places.old }
-    ensures moves { (n : ℕ) (left : Left) (limits : Limits) → Moves (Giving n) (kept_stage result n) limits hub.old places.old left hub.new places.new left (S.acts streams.old) (S.acts streams.new) }
+    ensures moves { (n : ℕ) (left : Left) (limits : Limits) →
+        Moves (Giving n) (kept_stage result n) limits hub.old places.old left hub.new places.new left
+        (S.acts streams.old) (S.acts streams.new) }
     ensures len { length places.new ≡ length places.old }
 {
     let Some(peer) = &mut places[index] else {
@@ -203,7 +210,9 @@ pub(crate) fn give_all<A: Allocator + Copy, S: Streams<A>, C: Clock>(
     clock: &C,
     places: &mut [Option<Peer<A>>],
 ) -> bool
-    ensures moves { (n : ℕ) (left : Left) (limits : Limits) → Moves (Giving n) (kept_stage result n) limits hub.old places.old left hub.new places.new left (S.acts streams.old) (S.acts streams.new) }
+    ensures moves { (n : ℕ) (left : Left) (limits : Limits) →
+        Moves (Giving n) (kept_stage result n) limits hub.old places.old left hub.new places.new left
+        (S.acts streams.old) (S.acts streams.new) }
     ensures len { length places.new ≡ length places.old }
 {
     for index in 0..places.len() {
@@ -223,7 +232,9 @@ fn answer_at<A: Allocator + Copy, S: Streams<A>, C: Clock>(
     index: usize,
 ) -> bool
     requires within { index < length places.old }
-    ensures moves { (n : ℕ) (left : Left) (limits : Limits) → Moves (Answering n) (Answering n) limits hub.old places.old left hub.new places.new left (S.acts streams.old) (S.acts streams.new) }
+    ensures moves { (n : ℕ) (left : Left) (limits : Limits) →
+        Moves (Answering n) (Answering n) limits hub.old places.old left hub.new places.new left (S.acts streams.old)
+        (S.acts streams.new) }
     ensures len { length places.new ≡ length places.old }
 {
     let Some(peer) = &mut places[index] else {
@@ -246,7 +257,9 @@ pub(crate) fn answer_all<A: Allocator + Copy, S: Streams<A>, C: Clock>(
     clock: &C,
     places: &mut [Option<Peer<A>>],
 ) -> bool
-    ensures { (n : ℕ) (left : Left) (limits : Limits) → Moves (Answering n) (Answering n) limits hub.old places.old left hub.new places.new left (S.acts streams.old) (S.acts streams.new) }
+    ensures { (n : ℕ) (left : Left) (limits : Limits) →
+        Moves (Answering n) (Answering n) limits hub.old places.old left hub.new places.new left (S.acts streams.old)
+        (S.acts streams.new) }
 {
     let mut busy = false;
     for index in 0..places.len() {
@@ -265,7 +278,9 @@ fn shut_at<A: Allocator + Copy, S: Streams<A>>(
     end: StreamEnd,
 )
     requires within { index < length places.old }
-    ensures moves { (stage : Stage) → IsClosing stage end → (left : Left) (limits : Limits) → Moves stage (closed_stage stage) limits hub.old places.old left hub.new places.new left (S.acts streams.old) (S.acts streams.new) }
+    ensures moves { (stage : Stage) → IsClosing stage end → (left : Left) (limits : Limits) →
+        Moves stage (closed_stage stage) limits hub.old places.old left hub.new places.new left (S.acts streams.old)
+        (S.acts streams.new) }
     ensures free { places.new ≡ set places.old index None }
 {
     let Some(peer) = &places[index] else {
@@ -281,7 +296,9 @@ pub(crate) fn shut_all<A: Allocator + Copy, S: Streams<A>>(
     streams: &mut S,
     places: &mut [Option<Peer<A>>],
 )
-    ensures moves { (acts : List Act) (s : State) (left : Left) (limits : Limits) → Moves (Ending acts s) (Ending acts s) limits hub.old places.old left hub.new places.new left (S.acts streams.old) (S.acts streams.new) }
+    ensures moves { (acts : List Act) (s : State) (left : Left) (limits : Limits) →
+        Moves (Ending acts s) (Ending acts s) limits hub.old places.old left hub.new places.new left
+        (S.acts streams.old) (S.acts streams.new) }
     ensures free { (index : ℕ) → place_at places.new index ≡ None }
 {
     for index in 0..places.len() {
@@ -315,7 +332,9 @@ fn let_go<A: Allocator + Copy, S: Streams<A>, C: Clock>(
     clock: &C,
     places: &mut [Option<Peer<A>>],
 ) -> Wait
-    ensures { (n : ℕ) (left : Left) (limits : Limits) → Moves (Full n) (Listening n) limits hub.old places.old left hub.new places.new left (S.acts streams.old) (S.acts streams.new) }
+    ensures { (n : ℕ) (left : Left) (limits : Limits) →
+        Moves (Full n) (Listening n) limits hub.old places.old left hub.new places.new left (S.acts streams.old)
+        (S.acts streams.new) }
 {
     let Some(index) = quietest(places, clock.now().seconds) else {
         return Wait::Second;
@@ -334,7 +353,8 @@ pub(crate) fn make_room<A: Allocator + Copy, S: Streams<A>, C: Clock>(
     places: &mut [Option<Peer<A>>],
     door: &Door<A>,
 ) -> Wait
-    ensures { (n : ℕ) (left : Left) → Moves (Listening n) (Listening n) door.now.limits hub.old places.old left hub.new places.new left (S.acts streams.old) (S.acts streams.new) }
+    ensures { (n : ℕ) (left : Left) → Moves (Listening n) (Listening n) door.now.limits hub.old places.old left hub.new
+        places.new left (S.acts streams.old) (S.acts streams.new) }
 {
     if door.left == 0 {
         return Wait::Event;

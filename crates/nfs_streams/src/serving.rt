@@ -8,7 +8,8 @@ ghost use Rattle.nfs_hub.specs.Hub.{LeadsTo};
 ghost use Rattle.nfs_streams.specs.Acts.{Act};
 ghost use Rattle.nfs_streams.specs.Seats.{taken};
 ghost use Rattle.nfs_streams.specs.Keeping.{IsOpen, KeepsTree};
-ghost use Rattle.nfs_streams.specs.Standing.{Left, left_of, Listening, Giving, Loads, Moves, RunGives, Stores, turned_stage};
+ghost use Rattle.nfs_streams.specs.Standing.{Left, left_of, Listening, Giving, Loads, Moves, RunGives, Stores};
+ghost use Rattle.nfs_streams.specs.Standing.{turned_stage};
 ghost use Rattle.nfs_streams.specs.All.{ServesAll};
 
 use crate::peer::Peer;
@@ -79,7 +80,8 @@ fn load_book<A: Allocator + Copy, S: Streams<A>>(hub: &mut Hub<A>, streams: &mut
 
 /// Lets the most silent client go, if leases end and one is to go.
 fn expire<A: Allocator + Copy, C: Clock>(hub: &mut Hub<A>, clock: &C, limits: Limits)
-    ensures { (n : ℕ) (left : Left) (places : List (Option (Peer A))) (now : Option (List Act)) → Moves (Giving n) (Giving n) limits hub.old places left hub.new places left now now }
+    ensures { (n : ℕ) (left : Left) (places : List (Option (Peer A))) (now : Option (List Act)) →
+        Moves (Giving n) (Giving n) limits hub.old places left hub.new places left now now }
 {
     if !limits.leases {
         return;
@@ -110,7 +112,8 @@ fn store<A: Allocator + Copy, S: Streams<A>>(
     streams: &mut S,
     door: &mut Door<A>,
 ) -> bool
-    ensures stores { Stores result hub.old (left_of door.old) hub.new (left_of door.new) (S.acts streams.old) (S.acts streams.new) }
+    ensures stores { Stores result hub.old (left_of door.old) hub.new (left_of door.new) (S.acts streams.old)
+        (S.acts streams.new) }
     ensures most { door.new.limits ≡ door.old.limits }
 {
     if !keep_tree(hub, streams, door.alloc, &mut door.store) {
@@ -134,7 +137,8 @@ fn turn<A: Allocator + Copy, S: Streams<A>, C: Clock>(
     door: &mut Door<A>,
 ) -> Result<Wait, Halt>
     requires { length places.old ≤ 16 }
-    ensures moves { (n : ℕ) → Moves (Listening n) (turned_stage result n) door.old.limits hub.old places.old (left_of door.old) hub.new places.new (left_of door.new) (S.acts streams.old) (S.acts streams.new) }
+    ensures moves { (n : ℕ) → Moves (Listening n) (turned_stage result n) door.old.limits hub.old places.old
+        (left_of door.old) hub.new places.new (left_of door.new) (S.acts streams.old) (S.acts streams.new) }
     ensures most { door.new.limits ≡ door.old.limits }
 {
     let heard = listen_all(hub, streams, clock, places, door);
@@ -163,7 +167,8 @@ fn run<A: Allocator + Copy, S: Streams<A>, C: Clock>(
     door: &mut Door<A>,
 ) -> AllEnd
     requires { length places.old ≤ 16 }
-    ensures { RunGives result door.old.limits hub.old places.old (left_of door.old) hub.new places.new (left_of door.new) (S.acts streams.old) (S.acts streams.new) }
+    ensures { RunGives result door.old.limits hub.old places.old (left_of door.old) hub.new places.new
+        (left_of door.new) (S.acts streams.old) (S.acts streams.new) }
 {
     let mut how = Wait::No;
     for _turn in 0..door.limits.turns {
@@ -193,7 +198,9 @@ fn serve_at<A: Allocator + Copy, S: Streams<A>, C: Clock>(
     requires sixteen { length places.old ≤ 16 }
     requires free { taken places.old ≡ 0 }
     requires all { door.left ≡ door.limits.connections }
-    ensures { (first : ServedState) (events : List Event) → LeadsTo first events hub.old → (history : List DiskAct) (kept : Kept) → IsOpen door.store history kept hub.old → ServesAll first events door.store history result door.limits hub.new (S.acts streams.old) (S.acts streams.new) }
+    ensures { (first : ServedState) (events : List Event) → LeadsTo first events hub.old →
+        (history : List DiskAct) (kept : Kept) → IsOpen door.store history kept hub.old →
+        ServesAll first events door.store history result door.limits hub.new (S.acts streams.old) (S.acts streams.new) }
 {
     let end = run(hub, streams, clock, places, &mut door);
     shut_all(hub, streams, places);
@@ -248,7 +255,9 @@ pub fn serve_all<A: Allocator + Copy, S: Streams<A>, C: Clock>(
     store: Option<Store<A>>,
     limits: Limits,
 ) -> AllEnd
-    ensures { (first : ServedState) (events : List Event) → LeadsTo first events hub.old → (history : List DiskAct) (kept : Kept) → IsOpen store history kept hub.old → ServesAll first events store history result limits hub.new (S.acts streams.old) (S.acts streams.new) }
+    ensures { (first : ServedState) (events : List Event) → LeadsTo first events hub.old →
+        (history : List DiskAct) (kept : Kept) → IsOpen store history kept hub.old →
+        ServesAll first events store history result limits hub.new (S.acts streams.old) (S.acts streams.new) }
 {
     let Ok(mut places) = free_places(alloc) else {
         return AllEnd::Memory;

@@ -1,7 +1,8 @@
 //! The streams of connections, as serving sees them.
 ghost use Rattle.std.specs.Prelude.{◌≡◌, List, [], ◌∷◌, Option, None, length};
 ghost use Rattle.journal.specs.Disk.{Act as DiskAct};
-ghost use Rattle.nfs_streams.specs.Acts.{Act, Adds, OnDisk, Waited, Admitted, Closed, knocked, kept, looked, came, went, IsWithin};
+ghost use Rattle.nfs_streams.specs.Acts.{Act, Adds, OnDisk, Waited, Admitted, Closed, knocked, kept, looked, came};
+ghost use Rattle.nfs_streams.specs.Acts.{went, IsWithin};
 
 use compound_run::Server;
 use journal::Disk;

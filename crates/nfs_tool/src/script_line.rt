@@ -2,7 +2,8 @@
 ghost use Rattle.std.specs.Prelude.{◌≡◌, map, option_map, IfOk};
 ghost use Rattle.std.specs.List.{list_all};
 ghost use Rattle.std.specs.Str.{is_utf8};
-ghost use Rattle.nfs_tool.specs.ScriptLines.{number_in, is_space, is_comment, is_skipped, words_in, said_in, text_in, reload_in, wish_in};
+ghost use Rattle.nfs_tool.specs.ScriptLines.{number_in, is_space, is_comment, is_skipped, words_in, said_in, text_in};
+ghost use Rattle.nfs_tool.specs.ScriptLines.{reload_in, wish_in};
 ghost use Rattle.nfs_tool.specs.ScriptViews.{said_line, wish_line};
 
 use nfs_client::Command;

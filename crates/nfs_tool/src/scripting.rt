@@ -3,7 +3,10 @@
 ghost use Rattle.std.specs.Prelude.{◌≡◌, ◌∷◌, [], ◌&&◌, ◌++◌, false, true, Ok, map, option_map, length, codes, decimal};
 ghost use Rattle.std.specs.List.{flat_map};
 ghost use Rattle.nfs_tool.specs.Reloading.{lent};
-ghost use Rattle.nfs_tool.specs.Script.{RunsOver, unconnected, is_refusal, is_answered, is_loaded, fault_line, bad_line, book_number, book_text, told_text, load_text, trail_line, Puts, WritesLine, Tells, LineWrites, Begins, Answers, GoesOn, WritesTrail, Finishes, ScriptGives};
+ghost use Rattle.nfs_tool.specs.Script.{RunsOver, unconnected, is_refusal, is_answered, is_loaded, fault_line};
+ghost use Rattle.nfs_tool.specs.Script.{bad_line, book_number, book_text, told_text, load_text, trail_line, Puts};
+ghost use Rattle.nfs_tool.specs.Script.{WritesLine, Tells, LineWrites, Begins, Answers, GoesOn, WritesTrail, Finishes};
+ghost use Rattle.nfs_tool.specs.Script.{ScriptGives};
 ghost use Rattle.nfs_tool.specs.ScriptLines.{is_skipped, words_in, line_in};
 ghost use Rattle.nfs_tool.specs.ScriptViews.{said_line, wish_line};
 
@@ -214,7 +217,8 @@ fn answer_words<A: Allocator + Copy, T: Texts, W: Write>(
     writer: &mut W,
 ) -> Result<bool, ToolFault>
     requires { is_skipped line.now ≡ false }
-    ensures { LineWrites T.text_gives (lent hub.old texts.old) (lent hub.new texts.new) line.now (W.contents writer.old) (W.contents writer.new) result }
+    ensures { LineWrites T.text_gives (lent hub.old texts.old) (lent hub.new texts.new) line.now (W.contents writer.old)
+        (W.contents writer.new) result }
 {
     let words = words_in(alloc, line)?;
     match wished(line, &words) {
@@ -234,7 +238,8 @@ fn answer_line<A: Allocator + Copy, T: Texts, W: Write>(
     number: u32,
     writer: &mut W,
 ) -> Result<bool, ToolFault>
-    ensures { LineWrites T.text_gives (lent hub.old texts.old) (lent hub.new texts.new) line.now (W.contents writer.old) (W.contents writer.new) result }
+    ensures { LineWrites T.text_gives (lent hub.old texts.old) (lent hub.new texts.new) line.now (W.contents writer.old)
+        (W.contents writer.new) result }
 {
     if is_skipped(line) {
         Ok(true)
@@ -270,7 +275,8 @@ impl<A: Allocator + Copy> Progress<A> {
         texts: &mut T,
         writer: &mut W,
     ) -> Result<(), ToolFault>
-        ensures { Answers T.text_gives (lent hub.old texts.old) (lent hub.new texts.new) self.old self.new (W.contents writer.old) (W.contents writer.new) result }
+        ensures { Answers T.text_gives (lent hub.old texts.old) (lent hub.new texts.new) self.old self.new
+            (W.contents writer.old) (W.contents writer.new) result }
     {
         let Some(number) = self.lines.checked_add(1) else {
             return Err(ToolFault::Read);
@@ -295,7 +301,8 @@ impl<A: Allocator + Copy> Progress<A> {
         byte: u8,
         writer: &mut W,
     ) -> Result<(), ToolFault>
-        ensures { GoesOn T.text_gives (lent hub.old texts.old) (lent hub.new texts.new) self.old self.new (byte ∷ []) (W.contents writer.old) (W.contents writer.new) result }
+        ensures { GoesOn T.text_gives (lent hub.old texts.old) (lent hub.new texts.new) self.old self.new (byte ∷ [])
+            (W.contents writer.old) (W.contents writer.new) result }
     {
         if byte != b'\n' {
             self.line.push(byte)?;
@@ -320,7 +327,8 @@ impl<A: Allocator + Copy> Progress<A> {
         piece: &[u8],
         writer: &mut W,
     ) -> Result<(), ToolFault>
-        ensures { GoesOn T.text_gives (lent hub.old texts.old) (lent hub.new texts.new) self.old self.new piece.now (W.contents writer.old) (W.contents writer.new) result }
+        ensures { GoesOn T.text_gives (lent hub.old texts.old) (lent hub.new texts.new) self.old self.new piece.now
+            (W.contents writer.old) (W.contents writer.new) result }
     {
         for byte in piece {
             match self.take_byte(alloc, global, hub, texts, *byte, writer) {
@@ -378,7 +386,8 @@ fn finish<A: Allocator + Copy, T: Texts, W: Write>(
     progress: Progress<A>,
     writer: &mut W,
 ) -> Result<bool, ToolFault>
-    ensures { Finishes T.text_gives (lent hub.old texts.old) (lent hub.new texts.new) progress (W.contents writer.old) (W.contents writer.new) result }
+    ensures { Finishes T.text_gives (lent hub.old texts.old) (lent hub.new texts.new) progress (W.contents writer.old)
+        (W.contents writer.new) result }
 {
     let mut progress = progress;
     match progress.answer(alloc, global, hub, texts, writer) {
@@ -413,7 +422,8 @@ pub fn script<A: Allocator + Copy, T: Texts, R: Read, W: Write>(
     reader: &mut R,
     writer: &mut W,
 ) -> Result<bool, ToolFault>
-    ensures { ScriptGives T.text_gives (lent hub.old texts.old) (lent hub.new texts.new) (R.remaining reader.old) (R.remaining reader.new) (W.contents writer.old) (W.contents writer.new) result }
+    ensures { ScriptGives T.text_gives (lent hub.old texts.old) (lent hub.new texts.new) (R.remaining reader.old)
+        (R.remaining reader.new) (W.contents writer.old) (W.contents writer.new) result }
 {
     let mut progress = Progress::new(alloc);
     for _read in 0..MOST_READS {

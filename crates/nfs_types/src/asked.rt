@@ -35,7 +35,8 @@ fn raw_of(book: &Book, ace: &Ace<'_>) -> Raw
 fn fill<'a>(book: &Book, entries: Array<'a, Ace<'a>, 0xffff_ffff>, raws: &mut [Raw]) -> usize
     requires { length (array_values ace None entries.count entries.bytes.now) ≤ length raws.old }
     ensures count { result ≤ length raws.new }
-    ensures raws { take result raws.new ≡ map (specs.raw_of book.now) (array_values ace None entries.entry.count entries.entry.bytes.now) }
+    ensures raws { take result raws.new ≡ map (specs.raw_of book.now)
+        (array_values ace None entries.entry.count entries.entry.bytes.now) }
 {
     let mut left = entries;
     let mut count = 0;
@@ -49,8 +50,10 @@ fn fill<'a>(book: &Book, entries: Array<'a, Ace<'a>, 0xffff_ffff>, raws: &mut [R
 impl Asked {
     /// The entries that were sent, looked up. `None`: there are more than may be set, and none is looked at.
     pub fn of<'a>(book: &Book, entries: Array<'a, Ace<'a>, 0xffff_ffff>) -> Option<Self>
-        ensures some { IfSome result (λ asked. take asked.count asked.raws ≡ map (specs.raw_of book.now) (array_values ace None entries.entry.count entries.entry.bytes.now)) }
-        ensures none { result ≡ None → 59 < length (map (specs.raw_of book.now) (array_values ace None entries.entry.count entries.entry.bytes.now)) }
+        ensures some { IfSome result (λ asked. take asked.count asked.raws ≡
+            map (specs.raw_of book.now) (array_values ace None entries.entry.count entries.entry.bytes.now)) }
+        ensures none { result ≡ None → 59 <
+            length (map (specs.raw_of book.now) (array_values ace None entries.entry.count entries.entry.bytes.now)) }
     {
         if entries.len() > MAX_KEPT {
             return None;

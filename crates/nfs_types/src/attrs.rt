@@ -7,7 +7,8 @@ ghost use Rattle.acl_shape.specs.declared.request.AdmitFault.TheVariants as faul
 ghost use Rattle.xdr_wire.specs.Wire.{array_values};
 ghost use Rattle.nfs_types.specs.Attributes.{ace};
 ghost use Rattle.nfs_types.specs.Sent as specs;
-ghost use Rattle.nfs_types.specs.Sent.{has_list, made, taken, taken_each, taken_list, taken_mode, taken_name, taken_plain, wanted_of};
+ghost use Rattle.nfs_types.specs.Sent.{has_list, made, taken, taken_each, taken_list, taken_mode, taken_name};
+ghost use Rattle.nfs_types.specs.Sent.{taken_plain, wanted_of};
 ghost use Rattle.nfs_types.specs.SentFaults.{Answers};
 ghost use Rattle.nfs_types.specs.SentViews.{sent_value};
 ghost use Rattle.nfs_types.specs.Views.{bitmap_value};
@@ -110,7 +111,9 @@ fn admit_all<'a, A: Allocator>(
     kind: Kind,
     entries: Array<'a, Ace<'a>, 0xffff_ffff>,
 ) -> Result<AclList<A>, AdmitFault>
-    ensures refused { (fault : AdmitFault) → first_fault (map (specs.raw_of book.now) (array_values ace None entries.entry.count entries.entry.bytes.now)) ≡ Some fault → result ≡ Err fault }
+    ensures refused { (fault : AdmitFault) →
+        first_fault (map (specs.raw_of book.now) (array_values ace None entries.entry.count entries.entry.bytes.now)) ≡
+        Some fault → result ≡ Err fault }
     ensures taken { first_fault (map (specs.raw_of book.now) (array_values ace None entries.entry.count entries.entry.bytes.now)) ≡ None →
         MatchResult result (λ new. new ≡ admitted kind (map (specs.raw_of book.now) (array_values ace None entries.entry.count entries.entry.bytes.now))) (λ fault. fault ≡ faults.Memory) }
     ensures bounded { IfOk result IsBounded }
@@ -128,7 +131,8 @@ fn list_of<'a, A: Allocator>(
     kind: Kind,
     entries: Option<Array<'a, Ace<'a>, 0xffff_ffff>>,
 ) -> Result<Option<AclList<A>>, AttrsFault>
-    ensures list { Answers (λ list. list) is_some (taken_list book.now kind (option_map (λ a. array_values ace None a.count a.bytes.now) entries.entry)) result }
+    ensures list { Answers (λ list. list) is_some
+        (taken_list book.now kind (option_map (λ a. array_values ace None a.count a.bytes.now) entries.entry)) result }
     ensures bounded { IfOk result (λ list. IfSome list IsBounded) }
 {
     let Some(entries) = entries else {
@@ -180,7 +184,8 @@ fn plain_of(
     owner: Option<Opaque<'_, 0xffff_ffff>>,
     group: Option<Opaque<'_, 0xffff_ffff>>,
 ) -> Result<Plain, Status>
-    ensures { result ≡ taken_plain book.now mode (option_map (λ t. t.bytes.now) owner.entry) (option_map (λ t. t.bytes.now) group.entry) }
+    ensures { result ≡ taken_plain book.now mode (option_map (λ t. t.bytes.now) owner.entry)
+        (option_map (λ t. t.bytes.now) group.entry) }
 {
     let mode = mode_of(mode)?;
     let owner = number_of(book, NameKind::User, owner)?;
@@ -195,7 +200,8 @@ fn each_of<'a, A: Allocator + Copy>(
     kind: Kind,
     sent: Sent<'a>,
 ) -> Result<Attrs<A>, AttrsFault>
-    ensures attrs { Answers (λ new. made new.size new.list new.mode new.owner new.group new.dacl new.sacl) has_list (taken_each book.now kind (sent_value sent.entry)) result }
+    ensures attrs { Answers (λ new. made new.size new.list new.mode new.owner new.group new.dacl new.sacl) has_list
+        (taken_each book.now kind (sent_value sent.entry)) result }
     ensures bounded { IfOk result (λ new. IfSome new.list IsBounded) }
 {
     let Sent {
@@ -237,7 +243,8 @@ fn attrs_of<'a, A: Allocator + Copy>(
     kind: Kind,
     sent: Sent<'a>,
 ) -> Result<Attrs<A>, AttrsFault>
-    ensures attrs { Answers (λ new. made new.size new.list new.mode new.owner new.group new.dacl new.sacl) has_list (taken book.now kind (sent_value sent.entry)) result }
+    ensures attrs { Answers (λ new. made new.size new.list new.mode new.owner new.group new.dacl new.sacl) has_list
+        (taken book.now kind (sent_value sent.entry)) result }
     ensures bounded { IfOk result (λ new. IfSome new.list IsBounded) }
 {
     if sent.sets_twice() {
@@ -263,7 +270,8 @@ pub fn read_attrs<A: Allocator + Copy>(
     kind: Kind,
     sent: &Attributes<'_>,
 ) -> Result<Attrs<A>, AttrsFault>
-    ensures attrs { Answers (λ new. made new.size new.list new.mode new.owner new.group new.dacl new.sacl) has_list (wanted_of book.now kind (bitmap_value sent.now.set) sent.now.values.bytes.now) result }
+    ensures attrs { Answers (λ new. made new.size new.list new.mode new.owner new.group new.dacl new.sacl) has_list
+        (wanted_of book.now kind (bitmap_value sent.now.set) sent.now.values.bytes.now) result }
     ensures bounded { IfOk result (λ new. IfSome new.list IsBounded) }
 {
     if !sent.set.is_within(&Bitmap::supported()) {

@@ -13,12 +13,14 @@ ghost use Rattle.nfs_types.specs.Sets.{has_number};
 pub fn sets_are_the_table()
     ensures supported { (n : ℕ) → has_number supported_words n ≡ list_any (λ a. number_of a == n) all }
     ensures rising { rises (map number_of all) ≡ true }
-    ensures settable { (n : ℕ) → has_number settable_words n ≡ list_any (λ a. (row a).settable && (number_of a == n)) all }
+    ensures settable { (n : ℕ) → has_number settable_words n ≡
+        list_any (λ a. (row a).settable && (number_of a == n)) all }
 {}
 
 /// The attributes returned of an object are those requested and supported.
 pub fn given_is_asked_and_supported()
-    ensures { (asked : List ℕ) (n : ℕ) → has_number (given_set asked) n ≡ has_number asked n && has_number supported_words n }
+    ensures { (asked : List ℕ) (n : ℕ) → has_number (given_set asked) n ≡ has_number asked n &&
+        has_number supported_words n }
 {}
 
 /// The values that a client writes are read as these values.

@@ -29,7 +29,9 @@ fn admit_part_of<'a, A: Allocator>(
     part: Part,
     entries: Array<'a, Ace<'a>, 0xffff_ffff>,
 ) -> Result<AclList<A>, AdmitFault>
-    ensures refused { (fault : AdmitFault) → part_fault part kind (map (specs.raw_of book.now) (array_values ace None entries.entry.count entries.entry.bytes.now)) ≡ Some fault → result ≡ Err fault }
+    ensures refused { (fault : AdmitFault) →
+        part_fault part kind (map (specs.raw_of book.now)
+        (array_values ace None entries.entry.count entries.entry.bytes.now)) ≡ Some fault → result ≡ Err fault }
     ensures taken { part_fault part kind (map (specs.raw_of book.now) (array_values ace None entries.entry.count entries.entry.bytes.now)) ≡ None →
         MatchResult result (λ new. new ≡ admitted kind (map (specs.raw_of book.now) (array_values ace None entries.entry.count entries.entry.bytes.now))) (λ fault. fault ≡ faults.Memory) }
 {
@@ -47,7 +49,9 @@ fn part_of<'a, A: Allocator>(
     part: Part,
     sent: Option<Acl41<Array<'a, Ace<'a>, 0xffff_ffff>>>,
 ) -> Result<Option<AclList<A>>, AttrsFault>
-    ensures { Answers (λ list. list) is_some (taken_part part book.now kind (option_map (λ a. (a.flags, array_values ace None a.entries.count a.entries.bytes.now)) sent.entry)) result }
+    ensures { Answers (λ list. list) is_some
+        (taken_part part book.now kind (option_map
+        (λ a. (a.flags, array_values ace None a.entries.count a.entries.bytes.now)) sent.entry)) result }
 {
     let Some(Acl41 { flags, entries }) = sent else {
         return Ok(None);
@@ -70,7 +74,10 @@ pub(crate) fn parts_of<'a, A: Allocator + Copy>(
     dacl: Option<Acl41<Array<'a, Ace<'a>, 0xffff_ffff>>>,
     sacl: Option<Acl41<Array<'a, Ace<'a>, 0xffff_ffff>>>,
 ) -> Result<Parts<A>, AttrsFault>
-    ensures { Answers (λ parts. parts) (λ parts. is_some parts.0 || is_some parts.1) (taken_parts book.now kind (option_map (λ a. (a.flags, array_values ace None a.entries.count a.entries.bytes.now)) dacl.entry) (option_map (λ a. (a.flags, array_values ace None a.entries.count a.entries.bytes.now)) sacl.entry)) result }
+    ensures { Answers (λ parts. parts) (λ parts. is_some parts.0 || is_some parts.1)
+        (taken_parts book.now kind (option_map (λ a.
+        (a.flags, array_values ace None a.entries.count a.entries.bytes.now)) dacl.entry)
+        (option_map (λ a. (a.flags, array_values ace None a.entries.count a.entries.bytes.now)) sacl.entry)) result }
 {
     match part_of(alloc, book, kind, Part::Dacl, dacl) {
         Err(AttrsFault::Refused(status)) => Err(AttrsFault::Refused(status)),

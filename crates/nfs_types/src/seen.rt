@@ -69,7 +69,8 @@ fn values<'a>(set: &Bitmap, reader: &mut Reader<'a>) -> Result<SeenAttributes<'a
 /// attribute is there. Else the first fault of a value; `TooLong`: there are more bytes than the
 /// values take.
 pub fn read_given<'a>(given: &Attributes<'a>) -> Result<SeenAttributes<'a>, XdrFault>
-    ensures { MatchResult result (λ seen. seen_of (bitmap_value given.now.set) given.now.values.bytes.now ≡ Ok (seen_value seen)) (λ fault. seen_of (bitmap_value given.now.set) given.now.values.bytes.now ≡ Err fault) }
+    ensures { MatchResult result (λ seen. seen_of (bitmap_value given.now.set) given.now.values.bytes.now ≡
+        Ok (seen_value seen)) (λ fault. seen_of (bitmap_value given.now.set) given.now.values.bytes.now ≡ Err fault) }
 {
     if !given.set.is_within(&Bitmap::seen()) {
         return Err(XdrFault::BadChoice);

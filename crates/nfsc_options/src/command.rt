@@ -1,7 +1,8 @@
 //! The command of `nfsc`, with its help.
 ghost use Rattle.std.specs.Prelude.{◌≡◌, IfOk, false};
 ghost use Rattle.clap.specs.Words.{app_of, rule_of};
-ghost use Rattle.nfsc_options.specs.Simple.{as_rule, book_rule, command_rule, gid_rule, groups_rule, nfsc, port_rule, text_rule, timeout_rule, uid_rule};
+ghost use Rattle.nfsc_options.specs.Simple.{as_rule, book_rule, command_rule, gid_rule, groups_rule, nfsc, port_rule};
+ghost use Rattle.nfsc_options.specs.Simple.{text_rule, timeout_rule, uid_rule};
 
 use crate::commands::COMMANDS;
 use clap::{Arg, ArgAction, Command, value_parser};

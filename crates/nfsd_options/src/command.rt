@@ -1,7 +1,9 @@
 //! The command of `nfsd`, with its help.
 ghost use Rattle.std.specs.Prelude.{◌≡◌, IfOk, false};
 ghost use Rattle.clap.specs.Words.{app_of, rule_of};
-ghost use Rattle.nfsd_options.specs.Simple.{bare_rule, book_rule, concurrent_rule, connections_rule, file_rule, flag_rule, home_rule, leases_rule, nfsd, port_rule, privileged_rule, stamped_rule, store_rule, trail_rule};
+ghost use Rattle.nfsd_options.specs.Simple.{bare_rule, book_rule, concurrent_rule, connections_rule, file_rule};
+ghost use Rattle.nfsd_options.specs.Simple.{flag_rule, home_rule, leases_rule, nfsd, port_rule, privileged_rule};
+ghost use Rattle.nfsd_options.specs.Simple.{stamped_rule, store_rule, trail_rule};
 
 use clap::{Arg, ArgAction, Command, value_parser};
 use std::alloc::{AllocError, Global};

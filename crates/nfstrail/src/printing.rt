@@ -32,7 +32,8 @@ fn write_ended<W: Write>(out: &mut W, text: &[u8]) -> io::Result<()>
 
 /// Writes a line that isn't understood, after these words; as it stands, without them.
 fn write_marked<W: Write>(out: &mut W, raw: bool, words: &str, text: &[u8]) -> io::Result<()>
-    ensures { OnOk result (Appends (W.contents out.old) (W.contents out.new) (marked raw words.now text.now ++ 10 ∷ [])) }
+    ensures { OnOk result (Appends (W.contents out.old) (W.contents out.new)
+        (marked raw words.now text.now ++ 10 ∷ [])) }
 {
     if !raw {
         out.write_all(words.as_bytes())?;
@@ -53,7 +54,8 @@ fn write_torn<W: Write>(out: &mut W, raw: bool, text: &[u8]) -> io::Result<()>
 impl<'a> Printing<'a> {
     /// Writes a line that is asked for: as it stands, or what it says in words.
     fn write_chosen<W: Write>(&self, out: &mut W, text: &[u8], stamped: &Stamped) -> io::Result<()>
-        ensures { OnTrue self.now.raw (OnOk result (Appends (W.contents out.old) (W.contents out.new) (text.now ++ 10 ∷ []))) }
+        ensures { OnTrue self.now.raw (OnOk result
+            (Appends (W.contents out.old) (W.contents out.new) (text.now ++ 10 ∷ []))) }
     {
         if self.raw {
             write_ended(out, text)
@@ -64,7 +66,8 @@ impl<'a> Printing<'a> {
 
     /// Writes a line that is ended, given without its newline, if it is to be printed.
     fn print_ended<W: Write>(&self, out: &mut W, text: &[u8]) -> io::Result<()>
-        ensures { OnOk result (IsPrinted self.now.raw self.now.choice.now text.now (W.contents out.old) (W.contents out.new)) }
+        ensures { OnOk result (IsPrinted self.now.raw self.now.choice.now text.now (W.contents out.old)
+            (W.contents out.new)) }
     {
         let fate = fate_of(self.choice, text);
         match &fate {

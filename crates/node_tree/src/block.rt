@@ -1,5 +1,6 @@
 //! A block of a file: 4,096 of its bytes.
-ghost use Rattle.std.specs.Prelude.{◌≡◌, ◌+◌, ◌-◌, ◌<◌, ◌≤◌, ◌^◌, ◌&&◌, ◌++◌, ℕ, nat_le, nat_lt, if◌then◌else◌, slice_index, length, take, drop, IfOk};
+ghost use Rattle.std.specs.Prelude.{◌≡◌, ◌+◌, ◌-◌, ◌<◌, ◌≤◌, ◌^◌, ◌&&◌, ◌++◌, ℕ, nat_le, nat_lt, if◌then◌else◌};
+ghost use Rattle.std.specs.Prelude.{slice_index, length, take, drop, IfOk};
 
 use std::alloc::{AllocError, Allocator, Global};
 use std::marker::Model;
@@ -38,7 +39,9 @@ impl<A: Allocator> Block<A> {
         requires few { offset + length more.now < 2 ^ 32 }
         requires behind { first < offset + length more.now }
         requires before { offset < first + 4096 }
-        ensures { (k : ℕ) → k < 4096 → slice_index self.new k ≡ (if nat_le offset (first + k) && nat_lt (first + k) (offset + length more.now) then slice_index more.now (first + k - offset) else slice_index self.old k) }
+        ensures { (k : ℕ) → k < 4096 → slice_index self.new k ≡
+            (if nat_le offset (first + k) && nat_lt (first + k) (offset + length more.now)
+            then slice_index more.now (first + k - offset) else slice_index self.old k) }
     {
         write_part(&mut self.bytes, first, offset, more);
     }
@@ -58,7 +61,9 @@ impl<A: Allocator> Block<A> {
         requires behind { first < offset + length buffer.old }
         requires before { offset < first + 4096 }
         ensures len { length buffer.new ≡ length buffer.old }
-        ensures bytes { (k : ℕ) → slice_index buffer.new k ≡ (if (nat_le first (offset + k) && nat_lt (offset + k) (first + 4096)) && nat_lt k (length buffer.old) then slice_index self.now (offset + k - first) else slice_index buffer.old k) }
+        ensures bytes { (k : ℕ) → slice_index buffer.new k ≡
+            (if (nat_le first (offset + k) && nat_lt (offset + k) (first + 4096)) && nat_lt k (length buffer.old)
+            then slice_index self.now (offset + k - first) else slice_index buffer.old k) }
     {
         let from = first.saturating_sub(offset);
         let start = offset.saturating_sub(first);
@@ -73,7 +78,9 @@ pub fn read_absent(first: usize, offset: usize, buffer: &mut [u8])
     requires behind { first < offset + length buffer.old }
     requires before { offset < first + 4096 }
     ensures len { length buffer.new ≡ length buffer.old }
-    ensures bytes { (k : ℕ) → slice_index buffer.new k ≡ (if (nat_le first (offset + k) && nat_lt (offset + k) (first + 4096)) && nat_lt k (length buffer.old) then 0 else slice_index buffer.old k) }
+    ensures bytes { (k : ℕ) → slice_index buffer.new k ≡
+        (if (nat_le first (offset + k) && nat_lt (offset + k) (first + 4096)) && nat_lt k (length buffer.old) then 0
+        else slice_index buffer.old k) }
 {
     let from = first.saturating_sub(offset);
     let start = offset.saturating_sub(first);
@@ -85,7 +92,9 @@ pub fn read_absent(first: usize, offset: usize, buffer: &mut [u8])
 fn overwrite(bytes: &mut [u8], offset: usize, more: &[u8])
     requires { offset + length more.now ≤ length bytes.old }
     ensures len { length bytes.new ≡ length bytes.old }
-    ensures bytes { (k : ℕ) → slice_index bytes.new k ≡ (if nat_le offset k && nat_lt k (offset + length more.now) then slice_index more.now (k - offset) else slice_index bytes.old k) }
+    ensures bytes { (k : ℕ) → slice_index bytes.new k ≡
+        (if nat_le offset k && nat_lt k (offset + length more.now) then slice_index more.now (k - offset)
+        else slice_index bytes.old k) }
 {
     bytes[offset..offset + more.len()].copy_from_slice(more);
 }
@@ -95,7 +104,8 @@ fn clear(bytes: &mut [u8], start: usize, end: usize)
     requires order { start ≤ end }
     requires inside { end ≤ length bytes.old }
     ensures len { length bytes.new ≡ length bytes.old }
-    ensures bytes { (k : ℕ) → slice_index bytes.new k ≡ (if nat_le start k && nat_lt k end then 0 else slice_index bytes.old k) }
+    ensures bytes { (k : ℕ) → slice_index bytes.new k ≡
+        (if nat_le start k && nat_lt k end then 0 else slice_index bytes.old k) }
 {
     bytes[start..end].fill(0);
 }
@@ -118,7 +128,9 @@ fn write_part(bytes: &mut [u8], first: usize, offset: usize, more: &[u8])
     requires behind { first < offset + length more.now }
     requires before { offset < first + 4096 }
     ensures len { length bytes.new ≡ length bytes.old }
-    ensures bytes { (k : ℕ) → k < 4096 → slice_index bytes.new k ≡ (if nat_le offset (first + k) && nat_lt (first + k) (offset + length more.now) then slice_index more.now (first + k - offset) else slice_index bytes.old k) }
+    ensures bytes { (k : ℕ) → k < 4096 → slice_index bytes.new k ≡
+        (if nat_le offset (first + k) && nat_lt (first + k) (offset + length more.now)
+        then slice_index more.now (first + k - offset) else slice_index bytes.old k) }
 {
     let start = offset.max(first);
     let end = (offset + more.len()).min(first + BLOCK);

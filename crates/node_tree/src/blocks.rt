@@ -1,5 +1,7 @@
 //! The bytes of a file, in blocks by their number. A block that was never written is absent, and reads as zeros.
-ghost use Rattle.std.specs.Prelude.{◌≡◌, ◌+◌, ◌-◌, ◌*◌, ◌/◌, ◌%◌, ◌<◌, ◌≤◌, ◌^◌, ◌&&◌, ◌++◌, ◌==◌, ℕ, [], true, map, nat_le, nat_lt, if◌then◌else◌, slice_index, length, take, drop, IfOk, OnOk, OnErr, IsOk};
+ghost use Rattle.std.specs.Prelude.{◌≡◌, ◌+◌, ◌-◌, ◌*◌, ◌/◌, ◌%◌, ◌<◌, ◌≤◌, ◌^◌, ◌&&◌, ◌++◌, ◌==◌, ℕ, [], true, map};
+ghost use Rattle.std.specs.Prelude.{nat_le, nat_lt, if◌then◌else◌, slice_index, length, take, drop, IfOk, OnOk, OnErr};
+ghost use Rattle.std.specs.Prelude.{IsOk};
 ghost use Rattle.std.specs.List.{range_with_len};
 ghost use Rattle.node_tree.specs.Changes.{written, resized};
 ghost use Rattle.node_tree.specs.Blocks.{byte_at, is_held};
@@ -64,7 +66,8 @@ fn put_all_zeros<A: Allocator + Copy>(
 /// Takes blocks away: their bytes are zeros then.
 fn remove_all<A: Allocator>(blocks: &mut BTreeMap<usize, Block<A>, A>, from: usize, to: usize)
     requires { from ≤ to }
-    ensures { (i : ℕ) → byte_at blocks.new.entries i ≡ (if nat_le from (i / 4096) && nat_lt (i / 4096) to then 0 else byte_at blocks.old.entries i) }
+    ensures { (i : ℕ) → byte_at blocks.new.entries i ≡
+        (if nat_le from (i / 4096) && nat_lt (i / 4096) to then 0 else byte_at blocks.old.entries i) }
 {
     for number in from..to {
         blocks.remove(&number);
@@ -73,7 +76,8 @@ fn remove_all<A: Allocator>(blocks: &mut BTreeMap<usize, Block<A>, A>, from: usi
 
 /// Sets the bytes of a block from a place of the file on to zeros.
 fn clear_behind<A: Allocator>(blocks: &mut BTreeMap<usize, Block<A>, A>, at: usize)
-    ensures { (i : ℕ) → byte_at blocks.new.entries i ≡ (if (i / 4096 == at / 4096) && nat_le at i then 0 else byte_at blocks.old.entries i) }
+    ensures { (i : ℕ) → byte_at blocks.new.entries i ≡
+        (if (i / 4096 == at / 4096) && nat_le at i then 0 else byte_at blocks.old.entries i) }
 {
     if let Some(block) = blocks.get_mut(&(at / BLOCK)) {
         block.clear_from(at % BLOCK);
@@ -104,7 +108,9 @@ fn write_block<A: Allocator>(
     requires behind { number * 4096 < offset + length more.now }
     requires before { offset < number * 4096 + 4096 }
     requires there { is_held blocks.old.entries number ≡ true }
-    ensures bytes { (i : ℕ) → byte_at blocks.new.entries i ≡ (if (i / 4096 == number) && (nat_le offset i && nat_lt i (offset + length more.now)) then slice_index more.now (i - offset) else byte_at blocks.old.entries i) }
+    ensures bytes { (i : ℕ) → byte_at blocks.new.entries i ≡
+        (if (i / 4096 == number) && (nat_le offset i && nat_lt i (offset + length more.now))
+        then slice_index more.now (i - offset) else byte_at blocks.old.entries i) }
     ensures kept { (k : ℕ) → is_held blocks.old.entries k ≡ true → is_held blocks.new.entries k ≡ true }
 {
     if let Some(block) = blocks.get_mut(&number) {
@@ -125,7 +131,9 @@ fn write_blocks<A: Allocator>(
     requires to { to ≡ (offset + length more.now - 1) / 4096 + 1 }
     requires some { 0 < length more.now }
     requires there { (k : ℕ) → from ≤ k → k < to → is_held blocks.old.entries k ≡ true }
-    ensures { (i : ℕ) → byte_at blocks.new.entries i ≡ (if nat_le offset i && nat_lt i (offset + length more.now) then slice_index more.now (i - offset) else byte_at blocks.old.entries i) }
+    ensures { (i : ℕ) → byte_at blocks.new.entries i ≡
+        (if nat_le offset i && nat_lt i (offset + length more.now) then slice_index more.now (i - offset)
+        else byte_at blocks.old.entries i) }
 {
     for number in from..to {
         write_block(blocks, number, offset, more);
@@ -143,7 +151,9 @@ fn read_block<A: Allocator>(
     requires behind { number * 4096 < offset + length buffer.old }
     requires before { offset < number * 4096 + 4096 }
     ensures len { length buffer.new ≡ length buffer.old }
-    ensures bytes { (k : ℕ) → slice_index buffer.new k ≡ (if ((offset + k) / 4096 == number) && nat_lt k (length buffer.old) then byte_at blocks.now.entries (offset + k) else slice_index buffer.old k) }
+    ensures bytes { (k : ℕ) → slice_index buffer.new k ≡
+        (if ((offset + k) / 4096 == number) && nat_lt k (length buffer.old) then byte_at blocks.now.entries (offset + k)
+        else slice_index buffer.old k) }
 {
     match blocks.get(&number) {
         Some(block) => block.read(number * BLOCK, offset, buffer),

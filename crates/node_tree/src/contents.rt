@@ -59,7 +59,8 @@ impl<A: Allocator> Contents<A> {
     /// Copies the bytes at an offset into a buffer, as far as both go, and answers how many.
     pub fn read(&self, offset: usize, buffer: &mut [u8]) -> usize
         ensures count { result ≡ length (take (length buffer.old) (drop offset (bytes_held self.now))) }
-        ensures copied { buffer.new ≡ take (length buffer.old) (drop offset (bytes_held self.now)) ++ drop result buffer.old }
+        ensures copied { buffer.new ≡ take (length buffer.old) (drop offset (bytes_held self.now)) ++
+            drop result buffer.old }
     {
         match self {
             Contents::File(blocks) => blocks.read(offset, buffer),

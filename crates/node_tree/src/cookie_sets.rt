@@ -80,7 +80,8 @@ pub fn put<A: Allocator + Copy>(
     number: u64,
     cookie: u64,
 ) -> Result<(), AllocError>
-    ensures ok { OnOk result ((q : ℕ) → cookies_at groups.new q ≡ (if q == number then insert_key nat_cmp (cookies_at groups.old q) cookie else cookies_at groups.old q)) }
+    ensures ok { OnOk result ((q : ℕ) → cookies_at groups.new q ≡
+        (if q == number then insert_key nat_cmp (cookies_at groups.old q) cookie else cookies_at groups.old q)) }
     ensures err { OnErr result ((q : ℕ) → cookies_at groups.new q ≡ cookies_at groups.old q) }
 {
     if let Some(cookies) = groups.get_mut(&number) {
@@ -94,7 +95,9 @@ pub fn put<A: Allocator + Copy>(
 
 /// One cookie less for a number. The set of the number goes with its last cookie.
 pub fn take<A: Allocator>(groups: &mut BTreeMap<u64, BTreeSet<u64, A>, A>, number: u64, cookie: u64)
-    ensures { (q : ℕ) → cookies_at groups.new q ≡ (if q == number then remove_key (is_at (nat_cmp cookie)) (cookies_at groups.old q) else cookies_at groups.old q) }
+    ensures { (q : ℕ) → cookies_at groups.new q ≡
+        (if q == number then remove_key (is_at (nat_cmp cookie)) (cookies_at groups.old q)
+        else cookies_at groups.old q) }
 {
     let Some(cookies) = groups.get_mut(&number) else {
         return;

@@ -54,7 +54,10 @@ pub fn move_child<A: Allocator>(
     stays: bool,
     at: At,
 )
-    ensures { objects.new ≡ changed to (touched at) (changed from (touched at) (changed child (retold at) (option_map_or (λ t. if stays then changed t (retold at) objects.old else without t objects.old) target objects.old))) }
+    ensures { objects.new ≡ changed to (touched at)
+        (changed from (touched at) (changed child (retold at)
+        (option_map_or (λ t. if stays then changed t (retold at) objects.old else without t objects.old) target
+        objects.old))) }
 {
     if let Some(target) = target {
         release(objects, target, stays, at);
@@ -76,7 +79,8 @@ pub fn write<A: Allocator + Copy>(
 ) -> Result<(), AllocError>
     requires few { offset + length more.now < 2 ^ 32 }
     requires file { option_map (λ o. o.kind) (lookup (is_at (nat_cmp number)) objects.old) ≡ Some Kind.File }
-    ensures ok { OnOk result (objects.new ≡ changed number (λ o. touched at (record o { bytes = written o.bytes offset more.now })) objects.old) }
+    ensures ok { OnOk result (objects.new ≡
+        changed number (λ o. touched at (record o { bytes = written o.bytes offset more.now })) objects.old) }
     ensures err { OnErr result (objects.new ≡ objects.old) }
 {
     if let Some(node) = objects.get_mut(number) {
@@ -104,7 +108,8 @@ pub fn set_list<A: Allocator>(
     stamp: u64,
     at: At,
 )
-    ensures { objects.new ≡ changed number (λ o. retold at (record o { list = list; high = high; stamp = stamp })) objects.old }
+    ensures { objects.new ≡ changed number (λ o. retold at (record o { list = list; high = high; stamp = stamp }))
+        objects.old }
 {
     if let Some(node) = objects.get_mut(number) {
         node.set_list(list, high, stamp, at);
@@ -120,7 +125,8 @@ pub fn set_owner<A: Allocator>(
     stamp: u64,
     at: At,
 )
-    ensures { objects.new ≡ changed number (λ o. retold at (record o { owner = owner; group = group; stamp = stamp })) objects.old }
+    ensures { objects.new ≡ changed number (λ o. retold at (record o { owner = owner; group = group; stamp = stamp }))
+        objects.old }
 {
     if let Some(node) = objects.get_mut(number) {
         node.set_owner(owner, group, stamp, at);

@@ -1,5 +1,6 @@
 //! The cookies of names, by directory and name.
-ghost use Rattle.std.specs.Prelude.{◌≡◌, ℕ, List, Option, OnOk, OnErr, IfOk, if◌then◌else◌, ◌==◌, ◌&&◌, nat_eq, not, None, Some};
+ghost use Rattle.std.specs.Prelude.{◌≡◌, ℕ, List, Option, OnOk, OnErr, IfOk, if◌then◌else◌, ◌==◌, ◌&&◌, nat_eq, not};
+ghost use Rattle.std.specs.Prelude.{None, Some};
 ghost use Rattle.std.specs.Cmp.Lexicographic.{pointwise};
 ghost use Rattle.node_tree.specs.Indexes.{cookie_of, cookie_at};
 
@@ -23,7 +24,8 @@ fn put_name<A: Allocator + Copy>(
     cookie: u64,
 ) -> Result<Option<u64>, AllocError>
     ensures was { IfOk result (λ was. was ≡ cookie_of names.old name.items) }
-    ensures ok { OnOk result ((t : List ℕ) → cookie_of names.new t ≡ (if pointwise nat_eq t name.items then Some cookie else cookie_of names.old t)) }
+    ensures ok { OnOk result ((t : List ℕ) →
+        cookie_of names.new t ≡ (if pointwise nat_eq t name.items then Some cookie else cookie_of names.old t)) }
     ensures err { OnErr result (names.new.entries ≡ names.old.entries) }
 {
     Ok(names.insert(name, cookie)?)
@@ -31,7 +33,8 @@ fn put_name<A: Allocator + Copy>(
 
 fn take_name<A: Allocator>(names: &mut BTreeMap<Vec<u8, A>, u64, A>, name: &[u8]) -> Option<u64>
     ensures was { result ≡ cookie_of names.old name.now }
-    ensures taken { (t : List ℕ) → cookie_of names.new t ≡ (if pointwise nat_eq t name.now then None else cookie_of names.old t) }
+    ensures taken { (t : List ℕ) → cookie_of names.new t ≡
+        (if pointwise nat_eq t name.now then None else cookie_of names.old t) }
 {
     names.remove(name)
 }
@@ -46,7 +49,9 @@ pub fn put<A: Allocator + Copy>(
     cookie: u64,
 ) -> Result<Option<u64>, AllocError>
     ensures was { IfOk result (λ was. was ≡ cookie_at index.old directory name.items) }
-    ensures ok { OnOk result ((d : ℕ) (t : List ℕ) → cookie_at index.new d t ≡ (if (d == directory) && pointwise nat_eq t name.items then Some cookie else cookie_at index.old d t)) }
+    ensures ok { OnOk result ((d : ℕ) (t : List ℕ) →
+        cookie_at index.new d t ≡ (if (d == directory) && pointwise nat_eq t name.items then Some cookie
+        else cookie_at index.old d t)) }
     ensures err { OnErr result ((d : ℕ) (t : List ℕ) → cookie_at index.new d t ≡ cookie_at index.old d t) }
 {
     if let Some(names) = index.get_mut(&directory) {
@@ -66,7 +71,9 @@ pub fn take<A: Allocator>(
     name: &[u8],
 ) -> Option<u64>
     ensures was { result ≡ cookie_at index.old directory name.now }
-    ensures taken { (d : ℕ) (t : List ℕ) → cookie_at index.new d t ≡ (if (d == directory) && pointwise nat_eq t name.now then None else cookie_at index.old d t) }
+    ensures taken { (d : ℕ) (t : List ℕ) →
+        cookie_at index.new d t ≡ (if (d == directory) && pointwise nat_eq t name.now then None
+        else cookie_at index.old d t) }
 {
     let Some(names) = index.get_mut(&directory) else {
         return None;
@@ -86,8 +93,11 @@ pub fn take_other<A: Allocator>(
     to: u64,
     new: &[u8],
 ) -> Option<u64>
-    ensures was { result ≡ (if (from == to) && pointwise nat_eq old.now new.now then None else cookie_at index.old from old.now) }
-    ensures taken { (d : ℕ) (t : List ℕ) → cookie_at index.new d t ≡ (if ((d == from) && pointwise nat_eq t old.now) && not ((d == to) && pointwise nat_eq t new.now) then None else cookie_at index.old d t) }
+    ensures was { result ≡ (if (from == to) && pointwise nat_eq old.now new.now then None
+        else cookie_at index.old from old.now) }
+    ensures taken { (d : ℕ) (t : List ℕ) →
+        cookie_at index.new d t ≡ (if ((d == from) && pointwise nat_eq t old.now) &&
+        not ((d == to) && pointwise nat_eq t new.now) then None else cookie_at index.old d t) }
 {
     if from == to && old == new {
         return None;

@@ -1,5 +1,6 @@
 //! The names of all directories by cookie, with the cookies of each directory and of each child.
-ghost use Rattle.std.specs.Prelude.{◌≡◌, ◌++◌, ◌∷◌, [], ◌==◌, ◌&&◌, nat_lt, not, find, filter, if◌then◌else◌, ℕ, OnOk, OnErr};
+ghost use Rattle.std.specs.Prelude.{◌≡◌, ◌++◌, ◌∷◌, [], ◌==◌, ◌&&◌, nat_lt, not, find, filter, if◌then◌else◌, ℕ, OnOk};
+ghost use Rattle.std.specs.Prelude.{OnErr};
 ghost use Rattle.std.specs.Option.{option_copied, option_map};
 ghost use Rattle.std.specs.Ordering.{nat_cmp};
 ghost use Rattle.std.specs.BTreeMap.{insert_entry, is_at};
@@ -74,8 +75,12 @@ fn take_both<A: Allocator>(
     child: u64,
     cookie: u64,
 )
-    ensures directories { (q : ℕ) → cookies_at by_directory.new q ≡ (if q == directory then remove_key (is_at (nat_cmp cookie)) (cookies_at by_directory.old q) else cookies_at by_directory.old q) }
-    ensures children { (q : ℕ) → cookies_at by_child.new q ≡ (if q == child then remove_key (is_at (nat_cmp cookie)) (cookies_at by_child.old q) else cookies_at by_child.old q) }
+    ensures directories { (q : ℕ) → cookies_at by_directory.new q ≡
+        (if q == directory then remove_key (is_at (nat_cmp cookie)) (cookies_at by_directory.old q)
+        else cookies_at by_directory.old q) }
+    ensures children { (q : ℕ) → cookies_at by_child.new q ≡
+        (if q == child then remove_key (is_at (nat_cmp cookie)) (cookies_at by_child.old q)
+        else cookies_at by_child.old q) }
 {
     cookie_sets::take(by_directory, directory, cookie);
     cookie_sets::take(by_child, child, cookie);

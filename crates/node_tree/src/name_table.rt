@@ -1,5 +1,6 @@
 //! The names of all directories, by rising cookie, with an index by directory and name.
-ghost use Rattle.std.specs.Prelude.{◌≡◌, ◌++◌, ◌∷◌, [], find, filter, not, nat_lt, nat_eq, ◌==◌, ◌&&◌, OnOk, OnErr, None};
+ghost use Rattle.std.specs.Prelude.{◌≡◌, ◌++◌, ◌∷◌, [], find, filter, not, nat_lt, nat_eq, ◌==◌, ◌&&◌, OnOk, OnErr};
+ghost use Rattle.std.specs.Prelude.{None};
 ghost use Rattle.std.specs.Option.{option_map, option_map_or, option_copied};
 ghost use Rattle.node_tree.specs.World.{is_named, link_count, has_name, name_count, has_entries};
 ghost use Rattle.node_tree.specs.Changes.{other_names};

@@ -258,7 +258,8 @@ impl<A: Allocator + Copy> Node<A> {
     ) -> Result<(), AllocError>
         requires few { offset + length more.now < 2 ^ 32 }
         requires file { self.old.kind ≡ kinds.File }
-        ensures ok { OnOk result (self.new ≡ touched at (record self.old { bytes = written self.old.bytes offset more.now })) }
+        ensures ok { OnOk result (self.new ≡
+            touched at (record self.old { bytes = written self.old.bytes offset more.now })) }
         ensures err { OnErr result (self.new ≡ self.old) }
     {
         self.contents.write(alloc, offset, more)?;

@@ -1,5 +1,6 @@
 //! The changes that were made, noted as bytes. Noting takes no memory and is never refused: what has no room is lost.
-ghost use Rattle.std.specs.Prelude.{◌≡◌, ◌≤◌, ◌+◌, [], length, take, Some, None, if◌then◌else◌, OnOk, OnErr, MatchOption, true, false, IsTrue, IfOk};
+ghost use Rattle.std.specs.Prelude.{◌≡◌, ◌≤◌, ◌+◌, [], length, take, Some, None, if◌then◌else◌, OnOk, OnErr};
+ghost use Rattle.std.specs.Prelude.{MatchOption, true, false, IsTrue, IfOk};
 ghost use Rattle.xdr_wire.specs.Xdr.{HasSpelling, spelling};
 ghost use Rattle.node_tree.specs.Notes as specs;
 ghost use Rattle.node_tree.specs.Steps.{Add, Link, Unlink, Rename, Write, Resize, SetList, SetOwner};
@@ -66,7 +67,8 @@ impl<A: Allocator> Notes<A> {
 
     /// The changes, one after the other. `None`: one was lost, or none are kept.
     pub fn bytes(&self) -> Option<&[u8]>
-        ensures { MatchOption result (self.now.is_lost ≡ true) (λ bytes. (self.now.is_lost ≡ false) × (bytes.now ≡ self.now.bytes)) }
+        ensures { MatchOption result (self.now.is_lost ≡ true)
+            (λ bytes. (self.now.is_lost ≡ false) × (bytes.now ≡ self.now.bytes)) }
     {
         if self.is_lost {
             return None;
@@ -122,7 +124,10 @@ impl<A: Allocator> Notes<A> {
         requires name { length name.now ≤ 255 }
         requires bytes { length new.now.bytes.items ≤ 1048576 }
         requires list { length new.now.list ≤ 64 }
-        ensures { self.new ≡ specs.note self.old (in_range (Add directory name.now new.now.kind new.now.bytes.items new.now.owner new.now.group new.now.list new.now.high at)) (spelled (Add directory name.now new.now.kind new.now.bytes.items new.now.owner new.now.group new.now.list new.now.high at)) }
+        ensures { self.new ≡ specs.note self.old
+            (in_range (Add directory name.now new.now.kind new.now.bytes.items new.now.owner new.now.group new.now.list
+            new.now.high at)) (spelled (Add directory name.now new.now.kind new.now.bytes.items new.now.owner
+            new.now.group new.now.list new.now.high at)) }
     {
         if let (Some(name), Some(bytes), Some(list)) = (
             Opaque::<255>::new(name),
@@ -138,7 +143,8 @@ impl<A: Allocator> Notes<A> {
     /// Notes that an object got a further name.
     pub fn link(&mut self, directory: u64, name: &[u8], number: u64, at: At)
         requires { length name.now ≤ 255 }
-        ensures { self.new ≡ specs.note self.old (in_range (Link directory name.now number at)) (spelled (Link directory name.now number at)) }
+        ensures { self.new ≡ specs.note self.old (in_range (Link directory name.now number at))
+            (spelled (Link directory name.now number at)) }
     {
         if let Some(name) = Opaque::<255>::new(name) {
             self.put((1u32, (directory, (name, (number, at)))));
@@ -148,7 +154,8 @@ impl<A: Allocator> Notes<A> {
     /// Notes that a name was taken away.
     pub fn unlink(&mut self, directory: u64, name: &[u8], at: At)
         requires { length name.now ≤ 255 }
-        ensures { self.new ≡ specs.note self.old (in_range (Unlink directory name.now at)) (spelled (Unlink directory name.now at)) }
+        ensures { self.new ≡ specs.note self.old (in_range (Unlink directory name.now at))
+            (spelled (Unlink directory name.now at)) }
     {
         if let Some(name) = Opaque::<255>::new(name) {
             self.put((2u32, (directory, (name, at))));
@@ -159,7 +166,8 @@ impl<A: Allocator> Notes<A> {
     pub fn rename(&mut self, from: u64, old: &[u8], to: u64, new: &[u8], at: At)
         requires old { length old.now ≤ 255 }
         requires new { length new.now ≤ 255 }
-        ensures { self.new ≡ specs.note self.old (in_range (Rename from old.now to new.now at)) (spelled (Rename from old.now to new.now at)) }
+        ensures { self.new ≡ specs.note self.old (in_range (Rename from old.now to new.now at))
+            (spelled (Rename from old.now to new.now at)) }
     {
         if let (Some(old), Some(new)) = (Opaque::<255>::new(old), Opaque::<255>::new(new)) {
             self.put((3u32, (from, (old, (to, (new, at))))));
@@ -169,7 +177,8 @@ impl<A: Allocator> Notes<A> {
     /// Notes that data were written.
     pub fn write(&mut self, file: u64, offset: u64, more: &[u8], at: At)
         requires { length more.now ≤ 1048576 }
-        ensures { self.new ≡ specs.note self.old (in_range (Write file offset more.now at)) (spelled (Write file offset more.now at)) }
+        ensures { self.new ≡ specs.note self.old (in_range (Write file offset more.now at))
+            (spelled (Write file offset more.now at)) }
     {
         if let Some(more) = Opaque::<1_048_576>::new(more) {
             self.put((4u32, (file, (offset, (more, at)))));
@@ -186,7 +195,8 @@ impl<A: Allocator> Notes<A> {
     /// Notes that a list was set.
     pub fn set_list(&mut self, number: u64, list: &[Entry], high: u32, at: At)
         requires { length list.now ≤ 64 }
-        ensures { self.new ≡ specs.note self.old (in_range (SetList number list.now high at)) (spelled (SetList number list.now high at)) }
+        ensures { self.new ≡ specs.note self.old (in_range (SetList number list.now high at))
+            (spelled (SetList number list.now high at)) }
     {
         if let Some(list) = ListForm::new(list) {
             self.put((6u32, (number, (list, (high, at)))));
@@ -195,7 +205,8 @@ impl<A: Allocator> Notes<A> {
 
     /// Notes that an owner and a group were set.
     pub fn set_owner(&mut self, number: u64, owner: u32, group: u32, at: At)
-        ensures { self.new ≡ specs.note self.old (in_range (SetOwner number owner group at)) (spelled (SetOwner number owner group at)) }
+        ensures { self.new ≡ specs.note self.old (in_range (SetOwner number owner group at))
+            (spelled (SetOwner number owner group at)) }
     {
         self.put((7u32, (number, (owner, (group, at)))));
     }

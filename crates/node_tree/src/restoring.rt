@@ -5,7 +5,8 @@ ghost use Rattle.std.specs.BTreeMap.{is_at};
 ghost use Rattle.std.specs.BTreeSet.{insert_key};
 ghost use Rattle.std.specs.Ordering.{nat_cmp};
 ghost use Rattle.acl_shape.specs.Bounds.{fits};
-ghost use Rattle.node_tree.specs.Restored.{Begun, begun, kept_object, with_object, with_name, counters_fit, is_fit, object_fits, name_fits, is_whole};
+ghost use Rattle.node_tree.specs.Restored.{Begun, begun, kept_object, with_object, with_name, counters_fit, is_fit};
+ghost use Rattle.node_tree.specs.Restored.{object_fits, name_fits, is_whole};
 ghost use Rattle.node_tree.specs.declared.restoring.RestoreFault.TheVariants.{Memory};
 
 use crate::limits::{MAX_NAME, MAX_OBJECTS, ROOT, most_bytes};

@@ -1,8 +1,11 @@
 //! The storage of a tree: objects in a map by number, names by rising cookie. Its results and changes are right for any
 //! objects and names; [`crate::Tree`] keeps them a tree.
-ghost use Rattle.std.specs.Prelude.{◌≡◌, ◌∷◌, [], ◌+◌, ◌-◌, ◌<◌, ◌≤◌, ◌^◌, ◌&&◌, ◌++◌, ℕ, nat_le, nat_lt, if◌then◌else◌, slice_index, length, drop, filter, not, None, OnOk, OnErr, IfOk, MatchOption, Some, true, false, ◌≢◌, ◌==◌, find};
+ghost use Rattle.std.specs.Prelude.{◌≡◌, ◌∷◌, [], ◌+◌, ◌-◌, ◌<◌, ◌≤◌, ◌^◌, ◌&&◌, ◌++◌, ℕ, nat_le, nat_lt};
+ghost use Rattle.std.specs.Prelude.{if◌then◌else◌, slice_index, length, drop, filter, not, None, OnOk, OnErr, IfOk};
+ghost use Rattle.std.specs.Prelude.{MatchOption, Some, true, false, ◌≢◌, ◌==◌, find};
 ghost use Rattle.std.specs.Option.{option_copied, option_map_or};
-ghost use Rattle.node_tree.specs.World.{object, kind_of, bytes_at, child_named, name_after, is_named, is_directory_at, has_name, has_entries, name_count, link_count, parent_of};
+ghost use Rattle.node_tree.specs.World.{object, kind_of, bytes_at, child_named, name_after, is_named, is_directory_at};
+ghost use Rattle.node_tree.specs.World.{has_name, has_entries, name_count, link_count, parent_of};
 ghost use Rattle.std.specs.List.{list_all};
 ghost use Rattle.node_tree.specs.Restored.{kept_object, put_object, put_name, child_fits, leads_up, is_placed};
 ghost use Rattle.node_tree.specs.Parts.{number_after, any_after};
@@ -12,9 +15,12 @@ ghost use Rattle.node_tree.specs.Noted.{quietly, CutsTo};
 ghost use Rattle.node_tree.specs.Steps.{Add, Link, Unlink, Rename, Write, Resize, SetList, SetOwner};
 ghost use Rattle.node_tree.specs.Forms.{spelled};
 ghost use Rattle.node_tree.specs.Ranges.{in_range};
-ghost use Rattle.node_tree.specs.Changes.{alone, made, changed, touched, retold, without, released, other_names, written, resized, with_new, with_link, without_name, with_move, with_bytes, with_size, with_list, with_owner};
+ghost use Rattle.node_tree.specs.Changes.{alone, made, changed, touched, retold, without, released, other_names};
+ghost use Rattle.node_tree.specs.Changes.{written, resized, with_new, with_link, without_name, with_move, with_bytes};
+ghost use Rattle.node_tree.specs.Changes.{with_size, with_list, with_owner};
 ghost use Rattle.node_tree.specs.Sound.{most_bytes, Rises};
-ghost use Rattle.node_tree.specs.Refusals.{add_refusal, link_refusal, has_left, has_room, has_object_room, may_link, may_name, may_add, is_below, may_replace, may_move};
+ghost use Rattle.node_tree.specs.Refusals.{add_refusal, link_refusal, has_left, has_room, has_object_room, may_link};
+ghost use Rattle.node_tree.specs.Refusals.{may_name, may_add, is_below, may_replace, may_move};
 
 use crate::at::At;
 use crate::edits;
@@ -192,7 +198,8 @@ impl<A: Allocator + Copy> Store<A> {
 
     /// Whether the counters have a number, a stamp and a cookie left for one more object.
     pub fn has_counters(&self) -> bool
-        ensures { result ≡ (has_left self.now.next_number && has_left self.now.next_stamp && has_left self.now.next_cookie) }
+        ensures { result ≡ (has_left self.now.next_number && has_left self.now.next_stamp &&
+            has_left self.now.next_cookie) }
     {
         self.next_number < END && self.next_stamp < END && self.next_cookie < END
     }
@@ -213,7 +220,8 @@ impl<A: Allocator + Copy> Store<A> {
 
     /// Whether a directory may have a new object under one more name.
     pub fn may_add(&self, directory: u64) -> bool
-        ensures { result ≡ may_add (name_count self.now.names directory) (length self.now.objects) self.now.next_number self.now.next_stamp self.now.next_cookie }
+        ensures { result ≡ may_add (name_count self.now.names directory) (length self.now.objects) self.now.next_number
+            self.now.next_stamp self.now.next_cookie }
     {
         self.has_room(directory) && self.has_object_room() && self.has_counters()
     }
@@ -346,7 +354,8 @@ impl<A: Allocator + Copy> Store<A> {
         requires listed { Rises (λ n. n.cookie) 3 self.old.names self.old.next_cookie }
         requires numbered { Rises (λ e. e.0) 1 self.old.objects self.old.next_number }
         ensures number { IfOk result (λ number. number ≡ self.old.next_number) }
-        ensures ok { OnOk result (self.new ≡ quietly self.old (with_new self.old directory name.now (made new self.old.next_stamp at) at)) }
+        ensures ok { OnOk result (self.new ≡
+            quietly self.old (with_new self.old directory name.now (made new self.old.next_stamp at) at)) }
         ensures err { OnErr result (self.new ≡ self.old) }
     {
         let node = Node::made(self.alloc, new, self.next_stamp, at)?;
@@ -416,7 +425,8 @@ impl<A: Allocator + Copy> Store<A> {
         requires cookies { self.old.next_cookie < 2 ^ 63 }
         requires listed { Rises (λ n. n.cookie) 3 self.old.names self.old.next_cookie }
         requires other { target ≢ Some child }
-        ensures ok { OnOk result (self.new ≡ quietly self.old (with_move self.old from old.now to new.now child target at)) }
+        ensures ok { OnOk result (self.new ≡
+            quietly self.old (with_move self.old from old.now to new.now child target at)) }
         ensures err { OnErr result (self.new ≡ self.old) }
     {
         self.names
@@ -629,7 +639,8 @@ impl<A: Allocator + Copy> Store<A> {
 
     /// The changes that were noted, one after the other. `None`: one was lost, or none are kept.
     pub fn notes(&self) -> Option<&[u8]>
-        ensures { MatchOption result (self.now.notes.is_lost ≡ true) (λ bytes. (self.now.notes.is_lost ≡ false) × (bytes.now ≡ self.now.notes.bytes)) }
+        ensures { MatchOption result (self.now.notes.is_lost ≡ true)
+            (λ bytes. (self.now.notes.is_lost ≡ false) × (bytes.now ≡ self.now.notes.bytes)) }
     {
         self.notes.bytes()
     }

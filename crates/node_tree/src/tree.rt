@@ -1,11 +1,15 @@
 //! The tree: the changes that it refuses, and that it stays a tree.
-ghost use Rattle.std.specs.Prelude.{◌≡◌, ◌≢◌, ◌<◌, ◌≤◌, ◌^◌, ◌++◌, ◌==◌, [], find, length, drop, MatchOption, OnOk, OnErr, IfOk, IsOk, IsOkUnless, IfSome, IsSome, Some, true, false};
+ghost use Rattle.std.specs.Prelude.{◌≡◌, ◌≢◌, ◌<◌, ◌≤◌, ◌^◌, ◌++◌, ◌==◌, [], find, length, drop, MatchOption, OnOk};
+ghost use Rattle.std.specs.Prelude.{OnErr, IfOk, IsOk, IsOkUnless, IfSome, IsSome, Some, true, false};
 ghost use Rattle.std.specs.Option.{option_copied};
 ghost use Rattle.acl_shape.specs.Bounds.{IsBounded};
 ghost use Rattle.node_tree.specs.Limits.{ROOT, MAX_NAME, MAX_LINKS};
-ghost use Rattle.node_tree.specs.World.{FindsAgain, object, kind_of, bytes_of, bytes_at, child_named, name_after, has_entries, link_count, name_count, parent_of, is_one};
-ghost use Rattle.node_tree.specs.Changes.{alone, root_of, made, with_new, with_link, unlinked, renamed, with_write, with_size, with_list, with_owner};
-ghost use Rattle.node_tree.specs.Refusals.{add_refusal, link_refusal, unlink_refusal, is_below, may_replace, may_move, write_refusal, resize_refusal};
+ghost use Rattle.node_tree.specs.World.{FindsAgain, object, kind_of, bytes_of, bytes_at, child_named, name_after};
+ghost use Rattle.node_tree.specs.World.{has_entries, link_count, name_count, parent_of, is_one};
+ghost use Rattle.node_tree.specs.Changes.{alone, root_of, made, with_new, with_link, unlinked, renamed, with_write};
+ghost use Rattle.node_tree.specs.Changes.{with_size, with_list, with_owner};
+ghost use Rattle.node_tree.specs.Refusals.{add_refusal, link_refusal, unlink_refusal, is_below, may_replace, may_move};
+ghost use Rattle.node_tree.specs.Refusals.{write_refusal, resize_refusal};
 ghost use Rattle.node_tree.specs.Judged.{KeepsJudged};
 ghost use Rattle.node_tree.specs.Notes.{begun_notes, cleared};
 ghost use Rattle.node_tree.specs.Parts.{number_after, any_after};
@@ -205,7 +209,8 @@ impl<A: Allocator + Copy> Tree<A> {
 
     /// The changes that were noted, one after the other. `None`: one of them had no room, or none are kept.
     pub fn notes(&self) -> Option<&[u8]>
-        ensures { MatchOption result (self.now.notes.is_lost ≡ true) (λ bytes. (self.now.notes.is_lost ≡ false) × (bytes.now ≡ self.now.notes.bytes)) }
+        ensures { MatchOption result (self.now.notes.is_lost ≡ true)
+            (λ bytes. (self.now.notes.is_lost ≡ false) × (bytes.now ≡ self.now.notes.bytes)) }
     {
         self.store.notes()
     }
@@ -285,9 +290,11 @@ impl<A: Allocator + Copy> Tree<A> {
         requires short { length name.now ≤ MAX_NAME }
         requires bounded { IsBounded new.list }
         requires bytes { length new.bytes.items ≤ most_bytes new.kind }
-        ensures refused { MatchOption (add_refusal self.old directory name.now) (IsOkUnless result TreeFault.Memory) (λ fault. result ≡ Err fault) }
+        ensures refused { MatchOption (add_refusal self.old directory name.now) (IsOkUnless result TreeFault.Memory)
+            (λ fault. result ≡ Err fault) }
         ensures number { IfOk result (λ number. number ≡ self.old.next_number) }
-        ensures ok { OnOk result (self.new ≡ with_new self.old directory name.now (made new self.old.next_stamp at) at) }
+        ensures ok { OnOk result (self.new ≡
+            with_new self.old directory name.now (made new self.old.next_stamp at) at) }
         ensures err { OnErr result (self.new ≡ self.old) }
         ensures judged { KeepsJudged self.old self.new }
     {
@@ -324,7 +331,8 @@ impl<A: Allocator + Copy> Tree<A> {
         requires there { IsSome (object self.old number) }
         requires plain { kind_of self.old number ≢ Some Kind.Directory }
         requires short { length name.now ≤ MAX_NAME }
-        ensures refused { MatchOption (link_refusal self.old directory name.now number) (IsOkUnless result TreeFault.Memory) (λ fault. result ≡ Err fault) }
+        ensures refused { MatchOption (link_refusal self.old directory name.now number)
+            (IsOkUnless result TreeFault.Memory) (λ fault. result ≡ Err fault) }
         ensures ok { OnOk result (self.new ≡ with_link self.old directory name.now number at) }
         ensures err { OnErr result (self.new ≡ self.old) }
         ensures judged { KeepsJudged self.old self.new }
@@ -345,7 +353,8 @@ impl<A: Allocator + Copy> Tree<A> {
     /// names, [`TreeFault::NotEmpty`].
     pub fn unlink(&mut self, directory: u64, name: &[u8], at: At) -> Result<(), TreeFault>
         requires tick { IsTick self.old at.tick }
-        ensures refused { MatchOption (unlink_refusal self.old directory name.now) (IsOk result) (λ fault. result ≡ Err fault) }
+        ensures refused { MatchOption (unlink_refusal self.old directory name.now) (IsOk result)
+            (λ fault. result ≡ Err fault) }
         ensures ok { OnOk result (self.new ≡ unlinked self.old directory name.now at) }
         ensures err { OnErr result (self.new ≡ self.old) }
         ensures judged { KeepsJudged self.old self.new }
@@ -378,10 +387,14 @@ impl<A: Allocator + Copy> Tree<A> {
         requires child { child_named self.old moved.from moved.old.now ≡ Some moved.child }
         requires target { child_named self.old moved.to moved.new.now ≡ moved.target }
         requires other { is_one (Some moved.child) moved.target ≡ false }
-        requires above { is_below (kind_of self.old) (parent_of self.old) self.old.next_number moved.child moved.to ≡ false }
-        requires replaces { may_replace (kind_of self.old) (has_entries self.old.names) moved.child moved.target ≡ true }
-        requires space { may_move (name_count self.old.names moved.to) self.old.next_cookie moved.from moved.to moved.target ≡ true }
-        ensures ok { OnOk result (self.new ≡ renamed self.old moved.entry.from moved.entry.old.now moved.entry.to moved.entry.new.now at) }
+        requires above { is_below (kind_of self.old) (parent_of self.old) self.old.next_number moved.child moved.to ≡
+            false }
+        requires replaces { may_replace (kind_of self.old) (has_entries self.old.names) moved.child moved.target ≡
+            true }
+        requires space { may_move (name_count self.old.names moved.to) self.old.next_cookie moved.from moved.to
+            moved.target ≡ true }
+        ensures ok { OnOk result (self.new ≡
+            renamed self.old moved.entry.from moved.entry.old.now moved.entry.to moved.entry.new.now at) }
         ensures err { OnErr result (self.new ≡ self.old) }
         ensures judged { KeepsJudged self.old self.new }
     {
@@ -405,7 +418,8 @@ impl<A: Allocator + Copy> Tree<A> {
     pub fn write(&mut self, file: u64, offset: u64, more: &[u8], at: At) -> Result<(), TreeFault>
         requires tick { IsTick self.old at.tick }
         requires file { kind_of self.old file ≡ Some Kind.File }
-        ensures refused { MatchOption (write_refusal offset more.now) (IsOkUnless result TreeFault.Memory) (λ fault. result ≡ Err fault) }
+        ensures refused { MatchOption (write_refusal offset more.now) (IsOkUnless result TreeFault.Memory)
+            (λ fault. result ≡ Err fault) }
         ensures nothing { more.now ≡ [] → IsOk result }
         ensures ok { OnOk result (self.new ≡ with_write self.old file offset more.now at) }
         ensures err { OnErr result (self.new ≡ self.old) }
@@ -429,7 +443,8 @@ impl<A: Allocator + Copy> Tree<A> {
     pub fn resize(&mut self, file: u64, size: u64, at: At) -> Result<(), TreeFault>
         requires tick { IsTick self.old at.tick }
         requires file { kind_of self.old file ≡ Some Kind.File }
-        ensures refused { MatchOption (resize_refusal size) (IsOkUnless result TreeFault.Memory) (λ fault. result ≡ Err fault) }
+        ensures refused { MatchOption (resize_refusal size) (IsOkUnless result TreeFault.Memory)
+            (λ fault. result ≡ Err fault) }
         ensures shrinks { size ≤ length (bytes_of self.old file) → IsOk result }
         ensures ok { OnOk result (self.new ≡ with_size self.old file size at) }
         ensures err { OnErr result (self.new ≡ self.old) }

@@ -145,11 +145,14 @@ pub fn read_reply(bytes: &[u8], xid: u32) -> Result<&[u8], ReplyFault>
 /// Results are given exactly where they stand after a reply to this transaction that was accepted
 /// and ended by SUCCESS, whatever its verifier.
 pub fn results_stand_behind_a_reply()
-    ensures gives { (xid : ℕ) (bytes found : List ℕ) → answered xid bytes ≡ Ok found → (verifier : Value auth) × Begins reply_message (xid, (1, inl (verifier, inl tt))) bytes found }
-    ensures given { (xid : ℕ) (verifier : Value auth) (bytes found : List ℕ) → Begins reply_message (xid, (1, inl (verifier, inl tt))) bytes found → answered xid bytes ≡ Ok found }
+    ensures gives { (xid : ℕ) (bytes found : List ℕ) → answered xid bytes ≡ Ok found → (verifier : Value auth) ×
+        Begins reply_message (xid, (1, inl (verifier, inl tt))) bytes found }
+    ensures given { (xid : ℕ) (verifier : Value auth) (bytes found : List ℕ) →
+        Begins reply_message (xid, (1, inl (verifier, inl tt))) bytes found → answered xid bytes ≡ Ok found }
 {}
 
 /// A client reads a server's reply as it was written: after SUCCESS the results, else the cause.
 pub fn what_is_replied_is_read()
-    ensures { (xid : ℕ) (reply : Reply) (found : List ℕ) → xid < 2 ^ 32 → answered xid (reply_bytes xid reply ++ found) ≡ read_as reply found }
+    ensures { (xid : ℕ) (reply : Reply) (found : List ℕ) → xid < 2 ^ 32 →
+        answered xid (reply_bytes xid reply ++ found) ≡ read_as reply found }
 {}

@@ -130,8 +130,11 @@ impl fmt::Debug for Caller {
 pub fn groups_are_a_set()
     ensures is_set { (sent : List ℕ) → IsSetOf (group_set sent) sent }
     ensures one_set { (groups sent : List ℕ) → IsSetOf groups sent → groups ≡ group_set sent }
-    ensures same_set { (sent again : List ℕ) → ((group : ℕ) → has_group sent group ≡ has_group again group) → group_set sent ≡ group_set again }
-    ensures same_caller { (uid gid : ℕ) (further again : List ℕ) → ((group : ℕ) → has_group (gid ∷ further) group ≡ has_group (gid ∷ again) group) → identity uid gid further ≡ identity uid gid again }
+    ensures same_set { (sent again : List ℕ) → ((group : ℕ) → has_group sent group ≡ has_group again group) →
+        group_set sent ≡ group_set again }
+    ensures same_caller { (uid gid : ℕ) (further again : List ℕ) →
+        ((group : ℕ) → has_group (gid ∷ further) group ≡ has_group (gid ∷ again) group) →
+        identity uid gid further ≡ identity uid gid again }
 {}
 
 /// `==` tells callers apart exactly where they differ.

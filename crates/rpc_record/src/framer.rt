@@ -138,7 +138,8 @@ impl Framer {
     pub fn feed(&mut self, piece: &[u8], at: usize) -> Step
         requires { at ≤ length piece.now }
         ensures within { IsWithin result piece.now at }
-        ensures gives { (content bytes : List ℕ) → Stands self.old content bytes → StepGives result self.new content bytes piece.now at }
+        ensures gives { (content bytes : List ℕ) → Stands self.old content bytes →
+            StepGives result self.new content bytes piece.now at }
         ensures all { TakesAll result self.new piece.now }
         ensures broken { result ≡ Step.Broken ↔ IsTrue self.new.broken }
         ensures stays { IsTrue self.old.broken → (result ≡ Step.Broken) × (self.new ≡ self.old) }
@@ -184,9 +185,11 @@ pub fn a_stream_has_one_cut()
 /// rest. A rest that is a record is one more, and a stream that breaks stays broken.
 pub fn records_of_a_growing_stream()
     ensures start { Cuts [] [] [] }
-    ensures more { (stream rest more : List ℕ) (records : List (List ℕ)) → Cuts stream records rest → Cuts (stream ++ more) records (rest ++ more) }
+    ensures more { (stream rest more : List ℕ) (records : List (List ℕ)) → Cuts stream records rest →
+        Cuts (stream ++ more) records (rest ++ more) }
     ensures broken { (bytes more : List ℕ) → Breaks bytes → Breaks (bytes ++ more) }
-    ensures next { (stream rest content : List ℕ) (records : List (List ℕ)) → Cuts stream records rest → IsRecord content rest → Cuts stream (records ++ content ∷ []) [] }
+    ensures next { (stream rest content : List ℕ) (records : List (List ℕ)) → Cuts stream records rest →
+        IsRecord content rest → Cuts stream (records ++ content ∷ []) [] }
 {}
 
 /// A framer stands for the unfinished rest after the last whole record.

@@ -21,7 +21,8 @@ pub fn accept<A: Allocator>(
     number: u64,
     creation: Creation,
 )
-    ensures { clients.new.entries ≡ changed_client number (λ c. record c { created = Some creation }) clients.old.entries }
+    ensures { clients.new.entries ≡ changed_client number (λ c. record c { created = Some creation })
+        clients.old.entries }
 {
     if let Some(client) = clients.get_mut(&number) {
         client.accept(creation);
@@ -34,7 +35,8 @@ pub fn confirm<A: Allocator>(
     number: u64,
     creation: Creation,
 )
-    ensures { clients.new.entries ≡ changed_client number (λ c. record c { confirmed = true; created = Some creation }) clients.old.entries }
+    ensures { clients.new.entries ≡ changed_client number (λ c. record c { confirmed = true; created = Some creation })
+        clients.old.entries }
 {
     if let Some(client) = clients.get_mut(&number) {
         client.confirm(creation);

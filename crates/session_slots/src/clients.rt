@@ -1,15 +1,21 @@
 //! Clients and their sessions, as a server calls them.
-ghost use Rattle.std.specs.Prelude.{◌≡◌, ◌≤◌, ◌<◌, true, false, if◌then◌else◌, length, is_some, Err, IfSome, IsSome, IsOk, OnOk, OnErr, MatchOption};
+ghost use Rattle.std.specs.Prelude.{◌≡◌, ◌≤◌, ◌<◌, true, false, if◌then◌else◌, length, is_some, Err, IfSome, IsSome};
+ghost use Rattle.std.specs.Prelude.{IsOk, OnOk, OnErr, MatchOption};
 ghost use Rattle.std.specs.Option.{option_map};
 ghost use Rattle.session_slots.specs.Limits as limits;
 ghost use Rattle.session_slots.specs.Slots.{finished};
-ghost use Rattle.session_slots.specs.Registry.{nobody, client_at, session_at, results_at, kept_size, confirmed_entry, with_session, with_place};
-ghost use Rattle.session_slots.specs.Sequencing.{sequence_begin, sequence_begun, SequencesByHistory, StandsIn, UnlessNew, KeepsAt, HasSlots};
+ghost use Rattle.session_slots.specs.Registry.{nobody, client_at, session_at, results_at, kept_size, confirmed_entry};
+ghost use Rattle.session_slots.specs.Registry.{with_session, with_place};
+ghost use Rattle.session_slots.specs.Sequencing.{sequence_begin, sequence_begun, SequencesByHistory, StandsIn};
+ghost use Rattle.session_slots.specs.Sequencing.{UnlessNew, KeepsAt, HasSlots};
 ghost use Rattle.session_slots.specs.Creating.{Creates, CreatesAt};
 ghost use Rattle.session_slots.specs.Exchanging.{Exchanges};
-ghost use Rattle.session_slots.specs.Destroying.{destroy_session_refusal, without_session, destroy_client_refusal, without_client, reclaim_refusal, with_reclaimed};
+ghost use Rattle.session_slots.specs.Destroying.{destroy_session_refusal, without_session, destroy_client_refusal};
+ghost use Rattle.session_slots.specs.Destroying.{without_client, reclaim_refusal, with_reclaimed};
 ghost use Rattle.session_slots.specs.Orderly.{IsOrderly, has_form};
-ghost use Rattle.session_slots.specs.Restoring.{IsRising, number_from, numbers_fit, record_fits, with_record, session_fits, with_restored, slot_fits, with_kept, held_of, kept_at, with_numbers};
+ghost use Rattle.session_slots.specs.Restoring.{IsRising, number_from, numbers_fit, record_fits, with_record};
+ghost use Rattle.session_slots.specs.Restoring.{session_fits, with_restored, slot_fits, with_kept, held_of, kept_at};
+ghost use Rattle.session_slots.specs.Restoring.{with_numbers};
 ghost use Rattle.session_slots.specs.Letting.{let_go};
 ghost use Rattle.session_slots.specs.Views.{asked_of, bytes_of, exchanging_of, client_of, kept_of};
 
@@ -81,7 +87,8 @@ impl<A: Allocator + Copy> Clients<A> {
 
     /// DESTROY_SESSION (RFC 8881, section 18.37). BADSESSION: the session isn't there. It takes no memory.
     pub fn destroy_session(&mut self, session: u64) -> Result<(), Status>
-        ensures refused { MatchOption (destroy_session_refusal self.old session) (IsOk result) (λ status. result ≡ Err status) }
+        ensures refused { MatchOption (destroy_session_refusal self.old session) (IsOk result)
+            (λ status. result ≡ Err status) }
         ensures ok { OnOk result (self.new ≡ without_session self.old session) }
         ensures err { OnErr result (self.new ≡ self.old) }
     {
@@ -91,7 +98,8 @@ impl<A: Allocator + Copy> Clients<A> {
     /// DESTROY_CLIENTID (RFC 8881, section 18.50). STALE_CLIENTID: the client isn't there.
     /// CLIENTID_BUSY: it has opens or sessions. It takes no memory.
     pub fn destroy_client(&mut self, client: u64, has_opens: bool) -> Result<(), Status>
-        ensures refused { MatchOption (destroy_client_refusal self.old client has_opens) (IsOk result) (λ status. result ≡ Err status) }
+        ensures refused { MatchOption (destroy_client_refusal self.old client has_opens) (IsOk result)
+            (λ status. result ≡ Err status) }
         ensures ok { OnOk result (self.new ≡ without_client self.old client) }
         ensures err { OnErr result (self.new ≡ self.old) }
     {

@@ -3,7 +3,8 @@ ghost use Rattle.std.specs.Prelude.{◌≡◌, ◌<◌, ◌^◌, Ok, Err, Some, 
 ghost use Rattle.std.specs.BTreeMap.{insert_entry};
 ghost use Rattle.std.specs.Ordering.{nat_cmp};
 ghost use Rattle.session_slots.specs.Registry.{new_session};
-ghost use Rattle.session_slots.specs.Creating.{judged, creation_fault, granted, refusing, delayed, MakesSession, Creates};
+ghost use Rattle.session_slots.specs.Creating.{judged, creation_fault, granted, refusing, delayed, MakesSession};
+ghost use Rattle.session_slots.specs.Creating.{Creates};
 
 use crate::changes::{accept, add_session, confirm, other_in, remove_record, remove_sessions};
 use crate::client::{Client, Created, Creation};

@@ -1,6 +1,7 @@
 //! DESTROY_SESSION (RFC 8881, section 18.37), DESTROY_CLIENTID (section 18.50) and RECLAIM_COMPLETE (section 18.51).
 ghost use Rattle.std.specs.Prelude.{◌≡◌, IsOk, Err, OnOk, OnErr, MatchOption};
-ghost use Rattle.session_slots.specs.Destroying.{destroy_session_refusal, without_session, destroy_client_refusal, without_client, reclaim_refusal, with_reclaimed};
+ghost use Rattle.session_slots.specs.Destroying.{destroy_session_refusal, without_session, destroy_client_refusal};
+ghost use Rattle.session_slots.specs.Destroying.{without_client, reclaim_refusal, with_reclaimed};
 
 use crate::changes::{has_sessions, reclaim};
 use crate::registry::Registry;
@@ -10,7 +11,8 @@ use std::alloc::Allocator;
 impl<A: Allocator + Copy> Registry<A> {
     /// DESTROY_SESSION.
     pub fn destroy_session(&mut self, session: u64) -> Result<(), Status>
-        ensures refused { MatchOption (destroy_session_refusal self.old session) (IsOk result) (λ status. result ≡ Err status) }
+        ensures refused { MatchOption (destroy_session_refusal self.old session) (IsOk result)
+            (λ status. result ≡ Err status) }
         ensures ok { OnOk result (self.new ≡ without_session self.old session) }
         ensures err { OnErr result (self.new ≡ self.old) }
     {
@@ -38,7 +40,8 @@ impl<A: Allocator + Copy> Registry<A> {
 
     /// DESTROY_CLIENTID.
     pub fn destroy_client(&mut self, client: u64, has_opens: bool) -> Result<(), Status>
-        ensures refused { MatchOption (destroy_client_refusal self.old client has_opens) (IsOk result) (λ status. result ≡ Err status) }
+        ensures refused { MatchOption (destroy_client_refusal self.old client has_opens) (IsOk result)
+            (λ status. result ≡ Err status) }
         ensures ok { OnOk result (self.new ≡ without_client self.old client) }
         ensures err { OnErr result (self.new ≡ self.old) }
     {

@@ -1,6 +1,7 @@
 //! EXCHANGE_ID (RFC 8881, section 18.35).
 ghost use Rattle.std.specs.Prelude.{◌≡◌, ◌<◌, ◌^◌, Ok, Err, Some, None};
-ghost use Rattle.session_slots.specs.Exchanging.{known, answered_flags, standing_new, standing, without_unconfirmed, MakesClient, Exchanges};
+ghost use Rattle.session_slots.specs.Exchanging.{known, answered_flags, standing_new, standing, without_unconfirmed};
+ghost use Rattle.session_slots.specs.Exchanging.{MakesClient, Exchanges};
 ghost use Rattle.session_slots.specs.Views.{exchanging_of};
 
 use crate::changes::{

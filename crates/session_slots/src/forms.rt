@@ -354,8 +354,10 @@ fn set_of(groups: Array<'_, u32, 17>) -> Option<GroupSet>
 impl<'a> CallForm<'a> {
     /// The caller. `None`: its groups don't rise.
     pub fn caller(self) -> Option<Caller>
-        ensures none { IsNone result → IsStrictlyIncreasing (groups_in self.entry.groups.count self.entry.groups.bytes.now) → ⊥ }
-        ensures same { IfSome result (λ caller. caller_value caller ≡ (self.entry.uid, (self.entry.gid, groups_in self.entry.groups.count self.entry.groups.bytes.now))) }
+        ensures none { IsNone result → IsStrictlyIncreasing
+            (groups_in self.entry.groups.count self.entry.groups.bytes.now) → ⊥ }
+        ensures same { IfSome result (λ caller. caller_value caller ≡
+            (self.entry.uid, (self.entry.gid, groups_in self.entry.groups.count self.entry.groups.bytes.now))) }
     {
         Some(Caller::with_groups(self.uid, self.gid, set_of(self.groups)?))
     }
@@ -407,7 +409,8 @@ pub fn write_call<A: Allocator>(
     requires arguments { length kept.arguments.now ≤ 65536 }
     requires results { length kept.results.now ≤ 65512 }
     ensures has_spelling { OnOk result (HasSpelling specs.call (specs.call_value session slot (kept_of kept.entry))) }
-    ensures puts { Puts writer.old writer.new (spelling specs.call (specs.call_value session slot (kept_of kept.entry))) result }
+    ensures puts { Puts writer.old writer.new (spelling specs.call (specs.call_value session slot (kept_of kept.entry)))
+        result }
 {
     let (Some(arguments), Some(results)) = (
         Opaque::<65536>::new(kept.arguments),

@@ -19,7 +19,8 @@ ghost use Rattle.session_slots.specs.Slots.{finished};
 /// A slot stands for some history of calls, in any state.
 #[tactic(auto, using(crate::proofs::Histories::some_history))]
 pub fn every_slot_has_a_history()
-    ensures { (last : Option Kept) → last_number number_of last < 2 ^ 32 → (history : List Kept) × SlotStandsFor last history }
+    ensures { (last : Option Kept) → last_number number_of last < 2 ^ 32 → (history : List Kept) ×
+        SlotStandsFor last history }
 {}
 
 /// A slot that is unused, and a client's record without a session, stand for no call.
@@ -38,14 +39,18 @@ pub trait World {
 /// replies to the rest and an equal state, whatever the running of a call does.
 #[tactic(auto, using(crate::proofs::Repeating::repeats_go))]
 pub fn repeats_change_nothing<W: World>()
-    ensures { (called : List calls.Call) (replies : List Reply) (old new : State W) → AnswersAll fate (RunsSo W.run) called replies old new → WithoutRepeats fate (RunsSo W.run) called replies old new }
+    ensures { (called : List calls.Call) (replies : List Reply) (old new : State W) →
+        AnswersAll fate (RunsSo W.run) called replies old new →
+        WithoutRepeats fate (RunsSo W.run) called replies old new }
 {}
 
 /// However calls come, the slot stands for the history of those that came on it, with their
 /// results. It keeps the last that was accepted, and counts the accepted ones.
 #[tactic(auto, using(crate::proofs::Whole::slot_by_history))]
 pub fn slots_go_by_history<W: World>()
-    ensures { (called : List calls.Call) (replies : List Reply) (old new : State W) → AnswersAll fate (RunsSo W.run) called replies old new → (history : List Kept) → SlotStandsFor old.kept history → SlotStandsFor new.kept (sent called replies history) }
+    ensures { (called : List calls.Call) (replies : List Reply) (old new : State W) →
+        AnswersAll fate (RunsSo W.run) called replies old new → (history : List Kept) → SlotStandsFor old.kept history →
+        SlotStandsFor new.kept (sent called replies history) }
 {}
 
 /// However calls come on many slots that change one world, and whenever the server starts again
@@ -56,7 +61,8 @@ pub fn slots_go_by_history<W: World>()
 /// last call again.
 #[tactic(auto, using(crate::proofs::Acting::acts_once))]
 pub fn what_changes_the_world_acts_once<W: World>()
-    ensures { (events : List acting.Event) (first : W) (last : acting.State W) → acting.Steps W.run events (acting.unused first) last → acting.ActsOnce W.run first last }
+    ensures { (events : List acting.Event) (first : W) (last : acting.State W) →
+        acting.Steps W.run events (acting.unused first) last → acting.ActsOnce W.run first last }
 {}
 
 /// A call that begins, and results that are kept, change a slot alone: records, sessions without
@@ -64,7 +70,8 @@ pub fn what_changes_the_world_acts_once<W: World>()
 #[tactic(auto, using(crate::proofs::Restored::begun_heads))]
 pub fn calls_change_slots_alone()
     ensures begun { (r : Registry) (session : ℕ) (a : Asked) → HeadsStay r (sequence_begun r session a) }
-    ensures kept { (r : Registry) (session slot : ℕ) (results : List ℕ) → HeadsStay r (with_session session (with_place slot (λ p. finished p results)) r) }
+    ensures kept { (r : Registry) (session slot : ℕ) (results : List ℕ) →
+        HeadsStay r (with_session session (with_place slot (λ p. finished p results)) r) }
 {}
 
 /// The records of a registry are those of the least number from 0 on, of the least number after

@@ -5,7 +5,8 @@
 ghost use Rattle.std.specs.Prelude.{◌≡◌, ◌≤◌, ◌<◌, length, IfSome};
 ghost use Rattle.std.specs.Option.{option_map};
 ghost use Rattle.session_slots.specs.Slots.{finished};
-ghost use Rattle.session_slots.specs.Registry.{nobody, session_at, results_at, kept_size, most_kept, confirmed_entry, with_session, with_place};
+ghost use Rattle.session_slots.specs.Registry.{nobody, session_at, results_at, kept_size, most_kept, confirmed_entry};
+ghost use Rattle.session_slots.specs.Registry.{with_session, with_place};
 ghost use Rattle.session_slots.specs.Sequencing.{sequence_begin, sequence_begun};
 ghost use Rattle.session_slots.specs.Views.{asked_of, bytes_of};
 

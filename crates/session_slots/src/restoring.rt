@@ -7,7 +7,9 @@ ghost use Rattle.std.specs.Ordering.{nat_cmp};
 ghost use Rattle.session_slots.specs.Registry.{client_at, session_at, kept_size};
 ghost use Rattle.session_slots.specs.Orderly.{has_form, is_kept_refusal};
 ghost use Rattle.session_slots.specs.Sequencing.{HasSlots};
-ghost use Rattle.session_slots.specs.Restoring.{IsRising, number_from, numbers_fit, record_fits, with_record, is_within, is_home, session_fits, with_restored, slot_fits, with_kept, held_of, kept_at, with_numbers};
+ghost use Rattle.session_slots.specs.Restoring.{IsRising, number_from, numbers_fit, record_fits, with_record};
+ghost use Rattle.session_slots.specs.Restoring.{is_within, is_home, session_fits, with_restored, slot_fits, with_kept};
+ghost use Rattle.session_slots.specs.Restoring.{held_of, kept_at, with_numbers};
 ghost use Rattle.session_slots.specs.Views.{client_of, kept_of};
 ghost use Rattle.session_slots.specs.declared.restoring.RestoreFault.TheVariants.{Memory};
 
@@ -197,7 +199,8 @@ impl<A: Allocator + Copy> Registry<A> {
     /// Restores the last call of a slot, which fits.
     pub fn restore_slot(&mut self, session: u64, slot: u32, kept: KeptCall<'_>)
         requires slot { IfSome (session_at self.old session) (λ s. slot < s.granted.slots) }
-        requires arguments { IfSome (session_at self.old session) (λ s. length kept.arguments.now ≤ s.granted.request_size) }
+        requires arguments { IfSome (session_at self.old session)
+            (λ s. length kept.arguments.now ≤ s.granted.request_size) }
         requires results { IfSome (session_at self.old session) (λ s. length kept.results.now ≤ kept_size s.granted) }
         ensures { self.new ≡ with_kept self.old session slot (kept_of kept.entry) }
     {

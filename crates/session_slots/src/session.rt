@@ -2,10 +2,12 @@
 ghost use Rattle.std.specs.Prelude.{◌≡◌, ◌≤◌, ◌<◌, length, slice_get, Some, IfSome, IfOk};
 ghost use Rattle.std.specs.Option.{option_copied};
 ghost use Rattle.session_slots.specs.Slots.{begun, finished, restored};
-ghost use Rattle.session_slots.specs.Registry.{changed_place, kept_size, with_place, unused_places, new_session, restored_session};
+ghost use Rattle.session_slots.specs.Registry.{changed_place, kept_size, with_place, unused_places, new_session};
+ghost use Rattle.session_slots.specs.Registry.{restored_session};
 ghost use Rattle.session_slots.specs.Restoring.{held_of, slot_fits};
 ghost use Rattle.session_slots.specs.Views.{asked_of, bytes_of, call_of, kept_of};
-ghost use Rattle.session_slots.specs.Sequencing.{HasSlots, grant_fault, place_turn, begin_of, session_begin, session_begun};
+ghost use Rattle.session_slots.specs.Sequencing.{HasSlots, grant_fault, place_turn, begin_of, session_begin};
+ghost use Rattle.session_slots.specs.Sequencing.{session_begun};
 
 use crate::call_bytes::CallBytes;
 use crate::limits::REPLY_HEADER;
@@ -123,9 +125,11 @@ fn begin_of(client: u64, granted: Channel, turn: Turn) -> Begin
 #[tactic(auto, using(crate::proofs::Places::changed_there, crate::proofs::Places::is_there))]
 fn begin_at<A: Allocator + Copy>(slots: &mut Vec<Slot<A>, A>, asked: Sequence<'_>) -> Turn
     requires within { asked.slot < length slots.old.items }
-    requires room { IfSome (slice_get slots.old.items asked.slot) (λ p. length (bytes_of asked.arguments) ≤ p.most_arguments) }
+    requires room { IfSome (slice_get slots.old.items asked.slot)
+        (λ p. length (bytes_of asked.arguments) ≤ p.most_arguments) }
     ensures turn { result ≡ place_turn (slice_get slots.old.items asked.entry.slot) (call_of asked.entry) }
-    ensures begun { slots.new.items ≡ changed_place asked.entry.slot (λ p. begun p (call_of asked.entry)) slots.old.items }
+    ensures begun { slots.new.items ≡ changed_place asked.entry.slot (λ p. begun p (call_of asked.entry))
+        slots.old.items }
 {
     let index = asked.slot as usize;
     let slot = &mut slots[index];
@@ -249,7 +253,8 @@ impl<A: Allocator + Copy> Session<A> {
     pub fn slot(&self, number: u32) -> Option<&Slot<A>>
         ensures slot { option_copied result ≡ slice_get self.now.slots number }
         ensures room { IfSome (slice_get self.now.slots number) (λ p. p.most_results ≡ kept_size self.now.granted) }
-        ensures argument_room { IfSome (slice_get self.now.slots number) (λ p. p.most_arguments ≡ self.now.granted.request_size) }
+        ensures argument_room { IfSome (slice_get self.now.slots number)
+            (λ p. p.most_arguments ≡ self.now.granted.request_size) }
         ensures slots { HasSlots self.now.granted self.now.slots }
     {
         self.slots.get(number as usize)

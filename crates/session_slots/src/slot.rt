@@ -1,8 +1,10 @@
 //! A slot of a session (RFC 8881, section 2.10.6.1).
-ghost use Rattle.std.specs.Prelude.{◌≡◌, ◌+◌, ◌%◌, ◌^◌, ◌≤◌, ◌<◌, ℕ, ◌==◌, if◌then◌else◌, length, Some, None, IfOk, IfSome};
+ghost use Rattle.std.specs.Prelude.{◌≡◌, ◌+◌, ◌%◌, ◌^◌, ◌≤◌, ◌<◌, ℕ, ◌==◌, if◌then◌else◌, length, Some, None, IfOk};
+ghost use Rattle.std.specs.Prelude.{IfSome};
 ghost use Rattle.std.specs.Option.{option_map};
 ghost use Rattle.session_slots.specs.Counting as specs;
-ghost use Rattle.session_slots.specs.Slots.{Call, Kept, Place, number_of, turn_of, begun, finished, restored, results_of, BeginsBy, KeepsByHistory};
+ghost use Rattle.session_slots.specs.Slots.{Call, Kept, Place, number_of, turn_of, begun, finished, restored};
+ghost use Rattle.session_slots.specs.Slots.{results_of, BeginsBy, KeepsByHistory};
 ghost use Rattle.session_slots.specs.Views.{bytes_of, kept_of};
 
 use crate::call_bytes::CallBytes;
@@ -208,7 +210,8 @@ impl<A: Allocator + Copy> Slot<A> {
     /// The last call, with its results; `None`: no call is kept.
     pub fn kept(&self) -> Option<KeptCall<'_>>
         ensures kept { option_map kept_of result ≡ self.now.kept }
-        ensures few { IfSome result (λ k. (length k.arguments.now ≤ self.now.most_arguments) × (length k.results.now ≤ self.now.most_results)) }
+        ensures few { IfSome result (λ k. (length k.arguments.now ≤ self.now.most_arguments) ×
+            (length k.results.now ≤ self.now.most_results)) }
     {
         match &self.last {
             Some((number, caller)) => Some(KeptCall {

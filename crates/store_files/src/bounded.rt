@@ -67,7 +67,8 @@ impl<F: Write> Write for Bounded<F> {
         ensures bytes { WriteAppends (F.contents self.old.file) (F.contents self.new.file) result buf.now }
         ensures full { self.old.room < length buf.now → IsErrAnd result (λ e. error_kind e ≡ ErrorKind.FileTooLarge) }
         ensures whole { self.old.room < length buf.now → self.new ≡ self.old }
-        ensures room { MatchResult result (λ n. self.new.room ≡ self.old.room - n) (λ e. self.new.room ≡ self.old.room) }
+        ensures room { MatchResult result (λ n. self.new.room ≡ self.old.room - n)
+            (λ e. self.new.room ≡ self.old.room) }
     {
         if buf.len() as u64 > self.room {
             return Err(ErrorKind::FileTooLarge.into());

@@ -1,7 +1,8 @@
 //! The folder of a store, as the disk of a journal.
 ghost use Rattle.std.specs.Prelude.{◌≡◌, Some, None, Ok, Err, IfOk, IfErr, MatchResult, true, false};
 ghost use Rattle.journal.specs.Disk.{Found, Unfound, Appended, Synced, Emptied, appended, emptied, synced};
-ghost use Rattle.store_files.specs.Held.{IsFault, AreReadable, IsOpen, IsReadable, IsThere, IsUnloaded, Keeps, UnloadedSo, WentSo, part_in, without_failure};
+ghost use Rattle.store_files.specs.Held.{IsFault, AreReadable, IsOpen, IsReadable, IsThere, IsUnloaded, Keeps};
+ghost use Rattle.store_files.specs.Held.{UnloadedSo, WentSo, part_in, without_failure};
 ghost use Rattle.store_files.specs.Keys.{KeyFor};
 
 use crate::bounded::file_limit;
@@ -265,7 +266,8 @@ impl StoreFolder {
 
     /// Syncs a file, and reads all its bytes.
     fn load_file<A: Allocator>(&mut self, alloc: A, slot: Slot) -> io::Result<Vec<u8, A>>
-        ensures { MatchResult result (λ bytes. Keeps self.old (Found slot bytes.items) self.new) (λ e. self.new ≡ self.old) }
+        ensures { MatchResult result (λ bytes. Keeps self.old (Found slot bytes.items) self.new)
+            (λ e. self.new ≡ self.old) }
     {
         match slot {
             Slot::A => self.a.load(alloc),
@@ -275,7 +277,8 @@ impl StoreFolder {
 
     /// Appends bytes to a file.
     fn append_to(&mut self, slot: Slot, bytes: &[u8]) -> io::Result<()>
-        ensures { MatchResult result (λ done. Keeps self.old (Appended slot bytes.now) self.new) (λ e. self.new ≡ self.old) }
+        ensures { MatchResult result (λ done. Keeps self.old (Appended slot bytes.now) self.new)
+            (λ e. self.new ≡ self.old) }
     {
         match slot {
             Slot::A => self.a.append(bytes),
@@ -344,7 +347,8 @@ impl Disk for StoreFolder {
     ghost adds = { KeepsWhat };
 
     fn load<A: Allocator>(&mut self, alloc: A, slot: Slot) -> Result<Vec<u8, A>, LoadFault>
-        ensures keeps { MatchResult result (λ bytes. Keeps self.old (Found slot bytes.items) self.new) (λ fault. Keeps self.old (Unfound slot) self.new) }
+        ensures keeps { MatchResult result (λ bytes. Keeps self.old (Found slot bytes.items) self.new)
+            (λ fault. Keeps self.old (Unfound slot) self.new) }
         ensures unloaded { IfErr result (λ fault. IsUnloaded slot fault self.old self.new) }
     {
         match self.load_file(alloc, slot) {

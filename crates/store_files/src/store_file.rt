@@ -1,5 +1,6 @@
 //! A file of a journal on a file system.
-ghost use Rattle.std.specs.Prelude.{◌≡◌, ◌+◌, ◌-◌, ◌≤◌, ◌<◌, ◌^◌, ◌↔◌, Some, None, length, IfOk, OnErr, IsErrAnd, IsTrue, MatchResult};
+ghost use Rattle.std.specs.Prelude.{◌≡◌, ◌+◌, ◌-◌, ◌≤◌, ◌<◌, ◌^◌, ◌↔◌, Some, None, length, IfOk, OnErr, IsErrAnd};
+ghost use Rattle.std.specs.Prelude.{IsTrue, MatchResult};
 ghost use Rattle.std.specs.IoError.{error_kind};
 ghost use Rattle.store_files.specs.Held.{IsFound, IsGrown, IsSynced, IsThere, ahead, of_length, room};
 
@@ -81,7 +82,8 @@ impl StoreFile {
 
     /// Syncs the file, and reads all its bytes.
     pub(crate) fn load<A: Allocator>(&mut self, alloc: A) -> io::Result<Vec<u8, A>>
-        ensures { MatchResult result (λ bytes. IsFound self.old.file bytes.items self.old self.new) (λ e. self.new ≡ self.old) }
+        ensures { MatchResult result (λ bytes. IsFound self.old.file bytes.items self.old self.new)
+            (λ e. self.new ≡ self.old) }
     {
         let mut bytes = Vec::new(alloc);
         let Some(file) = &self.file else {
@@ -115,7 +117,8 @@ impl StoreFile {
     /// Appends bytes, over room ahead where there is any. Those that would pass the limit are refused, and none of them
     /// is written.
     pub(crate) fn append(&mut self, bytes: &[u8]) -> io::Result<()>
-        ensures grown { MatchResult result (λ done. IsGrown (length bytes.now) self.old self.new) (λ e. self.new ≡ self.old) }
+        ensures grown { MatchResult result (λ done. IsGrown (length bytes.now) self.old self.new)
+            (λ e. self.new ≡ self.old) }
         ensures full { room self.old < length bytes.now → IsErrAnd result (λ e. error_kind e ≡ ErrorKind.FileTooLarge) }
     {
         if self.is_full(bytes.len()) {

@@ -125,7 +125,8 @@ pub fn append_new_after<A: Allocator + Copy, W: Write>(
 ) -> io::Result<u64>
     requires { length front.now ≤ MOST_FRONT }
     ensures total { IfOk result (λ n. n ≡ guard.now.log.total) }
-    ensures written { WriteGives (W.contents out.old) (W.contents out.new) (new_text front.now seen guard.now.log) result }
+    ensures written { WriteGives (W.contents out.old) (W.contents out.new) (new_text front.now seen guard.now.log)
+        result }
 {
     let total = guard.total();
     let new = total.saturating_sub(seen);

@@ -3,7 +3,8 @@ ghost use Rattle.std.specs.Prelude.{◌≡◌, ◌&&◌, true, false, not, OnOk,
 ghost use Rattle.acl_shape.specs.Bounds.{fits};
 ghost use Rattle.node_tree.specs.World.{is_directory_at, is_one};
 ghost use Rattle.node_tree.specs.Refusals.{has_left};
-ghost use Rattle.node_tree.specs.Steps.{Add, Link, Unlink, Rename, Write, Resize, SetList, SetOwner, allows, is_tick, is_short, is_file_at, is_plain_at, may_rename};
+ghost use Rattle.node_tree.specs.Steps.{Add, Link, Unlink, Rename, Write, Resize, SetList, SetOwner, allows, is_tick};
+ghost use Rattle.node_tree.specs.Steps.{is_short, is_file_at, is_plain_at, may_rename};
 ghost use Rattle.tree_changes.specs.Stepped.{stepped};
 ghost use Rattle.tree_changes.specs.Views.{step_of, applied};
 ghost use Rattle.tree_changes.specs.declared.applying.ApplyFault.TheVariants.{Refused, Memory};
@@ -222,9 +223,12 @@ fn add<A: Allocator + Copy>(
     new: NewObject<A>,
     at: At,
 ) -> Result<(), ApplyFault>
-    ensures refused { allows tree.old (Add directory name.now new.kind new.bytes.items new.owner new.group new.list new.high at) ≡ false → result ≡ Err Refused }
-    ensures taken { allows tree.old (Add directory name.now new.kind new.bytes.items new.owner new.group new.list new.high at) ≡ true → IsOkUnless result Memory }
-    ensures ok { OnOk result (tree.new ≡ stepped tree.old (Add directory name.now new.kind new.bytes.items new.owner new.group new.list new.high at)) }
+    ensures refused { allows tree.old (Add directory name.now new.kind new.bytes.items new.owner new.group new.list
+        new.high at) ≡ false → result ≡ Err Refused }
+    ensures taken { allows tree.old (Add directory name.now new.kind new.bytes.items new.owner new.group new.list
+        new.high at) ≡ true → IsOkUnless result Memory }
+    ensures ok { OnOk result (tree.new ≡ stepped tree.old
+        (Add directory name.now new.kind new.bytes.items new.owner new.group new.list new.high at)) }
     ensures err { OnErr result (tree.new ≡ tree.old) }
 {
     if !(is_tick(tree, at.tick)

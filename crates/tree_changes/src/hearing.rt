@@ -64,7 +64,8 @@ pub(crate) fn object_of<A: Allocator + Copy>(
     ensures bytes { IfOk result (λ new. new.bytes.items ≡ said.entry.1.0.bytes.now) }
     ensures owner { IfOk result (λ new. new.owner ≡ said.entry.1.1.0) }
     ensures group { IfOk result (λ new. new.group ≡ said.entry.1.1.1.0) }
-    ensures list { IfOk result (λ new. list_value new.list ≡ array_values entry None said.entry.1.1.1.1.0.count said.entry.1.1.1.1.0.bytes.now) }
+    ensures list { IfOk result (λ new. list_value new.list ≡
+        array_values entry None said.entry.1.1.1.1.0.count said.entry.1.1.1.1.0.bytes.now) }
     ensures high { IfOk result (λ new. new.high ≡ said.entry.1.1.1.1.1) }
 {
     let (KindForm(kind), (bytes, (owner, (group, (list, high))))) = said;

@@ -14,7 +14,8 @@ ghost use Rattle.tree_changes.specs.Again.{IsTakenAgain};
 
 /// The bytes of changes are read again as these changes.
 pub fn changes_are_read_again()
-    ensures { (steps : List Step) → AllByRecursion (λ s. in_range s ≡ true) steps → ReadsAs (flat_map spelled steps) steps }
+    ensures { (steps : List Step) → AllByRecursion (λ s. in_range s ≡ true) steps →
+        ReadsAs (flat_map spelled steps) steps }
 {}
 
 /// Where notes are begun, or cleared, they lead from there.

@@ -148,8 +148,10 @@ fn put_object<A: Allocator, B: Allocator>(
 ) -> Result<(), Full>
     requires bytes { length bytes.now ≤ 1048576 }
     requires list { length node.now.list ≤ 64 }
-    ensures puts { Puts writer.old writer.new (spelling specs.part (specs.object_value number (record node.now { bytes = bytes.now }))) result }
-    ensures has_spelling { OnOk result (HasSpelling specs.part (specs.object_value number (record node.now { bytes = bytes.now }))) }
+    ensures puts { Puts writer.old writer.new
+        (spelling specs.part (specs.object_value number (record node.now { bytes = bytes.now }))) result }
+    ensures has_spelling { OnOk result (HasSpelling specs.part
+        (specs.object_value number (record node.now { bytes = bytes.now }))) }
 {
     let (Some(bytes), Some(list)) = (
         Opaque::<1_048_576>::new(bytes),
@@ -172,9 +174,13 @@ pub fn write_object<A: Allocator + Copy, B: Allocator>(
     writer: &mut Writer<B>,
 ) -> Result<(), PartFault>
     requires { IsSome (object tree.now number) }
-    ensures ok { OnOk result (IfSome (object tree.now number) (λ o. Appends writer.old writer.new (spelling specs.part (specs.object_value number o)))) }
-    ensures has_spelling { OnOk result (IfSome (object tree.now number) (λ o. HasSpelling specs.part (specs.object_value number o))) }
-    ensures full { result ≡ Err PartFault.Full → IfSome (object tree.now number) (λ o. writer.old.room < length (spelling specs.part (specs.object_value number o))) }
+    ensures ok { OnOk result (IfSome (object tree.now number)
+        (λ o. Appends writer.old writer.new (spelling specs.part (specs.object_value number o)))) }
+    ensures has_spelling { OnOk result (IfSome (object tree.now number)
+        (λ o. HasSpelling specs.part (specs.object_value number o))) }
+    ensures full { result ≡ Err PartFault.Full →
+        IfSome (object tree.now number) (λ o. writer.old.room <
+        length (spelling specs.part (specs.object_value number o))) }
     ensures err { OnErr result (writer.new ≡ writer.old) }
 {
     let Some(node) = tree.object(number) else {

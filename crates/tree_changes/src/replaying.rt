@@ -49,7 +49,8 @@ fn next<'a, A: Allocator + Copy>(
     reader: &mut Reader<'a>,
 ) -> Result<Change<'a, A>, ReplayFault>
     ensures ok { IfOk result (λ made. read_at change reader.old ≡ Ok (step_value (step_of made), reader.new)) }
-    ensures unfit { result ≡ Err Unfit → (s : Step) (rest : List ℕ) → read_at change reader.old ≡ Ok (step_value s, rest) → ⊥ }
+    ensures unfit { result ≡ Err Unfit → (s : Step) (rest : List ℕ) →
+        read_at change reader.old ≡ Ok (step_value s, rest) → ⊥ }
 {
     let said = Said::read(reader)?;
     hear(alloc, said)

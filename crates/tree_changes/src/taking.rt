@@ -15,8 +15,10 @@ use std::alloc::Allocator;
 
 /// The last change of an object with its two times, and its stamp.
 fn kept_of(said: (u64, (SaidMoment, (SaidMoment, u64)))) -> Option<Kept>
-    ensures value { IfSome result (λ kept. (kept.change, (moment_value kept.time_modify, (moment_value kept.time_metadata, kept.stamp))) ≡ said) }
-    ensures none { IfNone result ((change : ℕ) (modify metadata : Moment) (stamp : ℕ) → (change, (moment_value modify, (moment_value metadata, stamp))) ≡ said → ⊥) }
+    ensures value { IfSome result (λ kept.
+        (kept.change, (moment_value kept.time_modify, (moment_value kept.time_metadata, kept.stamp))) ≡ said) }
+    ensures none { IfNone result ((change : ℕ) (modify metadata : Moment) (stamp : ℕ) →
+        (change, (moment_value modify, (moment_value metadata, stamp))) ≡ said → ⊥) }
 {
     let (change, (modify, (metadata, stamp))) = said;
     Some(Kept {
@@ -36,7 +38,8 @@ fn take_object<A: Allocator + Copy>(
     last: (u64, (SaidMoment, (SaidMoment, u64))),
 ) -> Result<Restoring<A>, RestoreFault>
     ensures ok { IfOk result (λ more. Takes (Some restoring) (said_part (SaidPart.Object number new.entry last)) more) }
-    ensures unsound { result ≡ Err Unsound → (more : Begun) → Takes (Some restoring) (said_part (SaidPart.Object number new.entry last)) more → ⊥ }
+    ensures unsound { result ≡ Err Unsound → (more : Begun) →
+        Takes (Some restoring) (said_part (SaidPart.Object number new.entry last)) more → ⊥ }
 {
     let Some(kept) = kept_of(last) else {
         return Err(RestoreFault::Unsound);

@@ -1,7 +1,8 @@
 //! A checkpoint and records, read as what was kept.
 ghost use Rattle.std.specs.Prelude.{map};
 ghost use Rattle.tree_store.specs.Keeping.{ReadsSo};
-ghost use Rattle.tree_store.specs.Reading.{LeadsWholeSo, BeginsClientsSo, TakesSo, RestoresSo, BeginsSo, LeadsSo, content_of, found_kept};
+ghost use Rattle.tree_store.specs.Reading.{LeadsWholeSo, BeginsClientsSo, TakesSo, RestoresSo, BeginsSo, LeadsSo};
+ghost use Rattle.tree_store.specs.Reading.{content_of, found_kept};
 
 use crate::fault::StoreFault;
 use crate::opening::Found;

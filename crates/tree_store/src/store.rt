@@ -99,7 +99,8 @@ impl<A: Allocator + Copy> Store<A> {
         tree: &Tree<A>,
         now: Lent<'_, A>,
     ) -> Result<(), StoreFault>
-        ensures goes_on { (known : KnownSo) × AreSame known (lent_view now.entry) × ((kept : Kept) → GoesOn D.adds self.old kept (kept_with tree.now known) result self.new disk.old disk.new) }
+        ensures goes_on { (known : KnownSo) × AreSame known (lent_view now.entry) ×
+            ((kept : Kept) → GoesOn D.adds self.old kept (kept_with tree.now known) result self.new disk.old disk.new) }
         ensures failed { OnErr result (self.new.journal.has_failed ≡ true) }
     {
         let place = Place {
@@ -129,7 +130,9 @@ impl<A: Allocator + Copy> Store<A> {
         notes: &[u8],
         now: Lent<'_, A>,
     ) -> Result<(), StoreFault>
-        ensures goes_on { (known : KnownSo) × AreSame known (lent_view now.entry) × ((kept : Kept) (w : World) → Replays kept.0 notes.now w → GoesOn D.adds self.old kept (w, known) result self.new disk.old disk.new) }
+        ensures goes_on { (known : KnownSo) × AreSame known (lent_view now.entry) ×
+            ((kept : Kept) (w : World) → Replays kept.0 notes.now w →
+            GoesOn D.adds self.old kept (w, known) result self.new disk.old disk.new) }
         ensures failed { OnErr result (self.new.journal.has_failed ≡ true) }
     {
         let mut journal = self.journal;
@@ -164,7 +167,8 @@ impl<A: Allocator + Copy> Store<A> {
     ) -> Result<(), StoreFault>
         ensures keeps { Keeps D.adds self.old tree.now (lent_view now.entry) result self.new disk.old disk.new }
         ensures failed { self.old.journal.has_failed ≡ true → (result ≡ Err Failed) × (disk.new ≡ disk.old) }
-        ensures idle { self.old.journal.has_failed ≡ false → tree.now.notes.is_lost ≡ false → IsIdle self.old tree.now.notes.bytes (lent_view now.entry) → IsOk result × (disk.new ≡ disk.old) }
+        ensures idle { self.old.journal.has_failed ≡ false → tree.now.notes.is_lost ≡ false →
+            IsIdle self.old tree.now.notes.bytes (lent_view now.entry) → IsOk result × (disk.new ≡ disk.old) }
     {
         if self.journal.has_failed {
             return Err(StoreFault::Failed);

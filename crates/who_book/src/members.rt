@@ -1,5 +1,6 @@
 //! The groups of a book's users.
-ghost use Rattle.std.specs.Prelude.{◌≡◌, ◌⊎◌, ◌<◌, ◌≤◌, ◌==◌, if◌then◌else◌, ℕ, [], length, false, true, OnOk, IfErr, IfOk, IfSome, option_map};
+ghost use Rattle.std.specs.Prelude.{◌≡◌, ◌⊎◌, ◌<◌, ◌≤◌, ◌==◌, if◌then◌else◌, ℕ, [], length, false, true, OnOk, IfErr};
+ghost use Rattle.std.specs.Prelude.{IfOk, IfSome, option_map};
 ghost use Rattle.rpc_record.specs.Identity.{has_group, with_group};
 ghost use Rattle.who_book.specs.Indexes.{AreAdded, Enrolls, EnrollsAny, HasFull, groups_in};
 ghost use Rattle.who_book.specs.Members.{are_users, gid_among};
@@ -91,7 +92,8 @@ impl Members {
         requires fresh { (n : ℕ) → has_group (groups_in self.old n) gid ≡ false }
         requires few { (n : ℕ) → length (groups_in self.old n) ≤ MOST_GROUPS }
         ensures users { OnOk result (are_users users.now (texts_of names.now) ≡ true) }
-        ensures added { OnOk result (AreAdded users.now gid (texts_of names.now) (groups_in self.old) (groups_in self.new)) }
+        ensures added { OnOk result (AreAdded users.now gid (texts_of names.now) (groups_in self.old)
+            (groups_in self.new)) }
         ensures few { OnOk result ((n : ℕ) → length (groups_in self.new n) ≤ MOST_GROUPS) }
         ensures err { IfErr result (λ fault. (fault ≡ Memory) ⊎ ((fault ≡ Member) ×
             ((are_users users.now (texts_of names.now) ≡ false) ⊎ HasFull users.now (texts_of names.now) (groups_in self.old)))) }

@@ -1,5 +1,6 @@
 //! A table of names, found by name and by number.
-ghost use Rattle.std.specs.Prelude.{◌≡◌, ◌⊎◌, ◌==◌, [], ◌∷◌, ◌++◌, if◌then◌else◌, ℕ, Option, None, Some, true, IsSome, OnOk, IfOk, IfErr, option_map};
+ghost use Rattle.std.specs.Prelude.{◌≡◌, ◌⊎◌, ◌==◌, [], ◌∷◌, ◌++◌, if◌then◌else◌, ℕ, Option, None, Some, true, IsSome};
+ghost use Rattle.std.specs.Prelude.{OnOk, IfOk, IfErr, option_map};
 ghost use Rattle.std.specs.BTreeMap.{get};
 ghost use Rattle.std.specs.List.{AllByRecursion};
 ghost use Rattle.std.specs.Map.{keys_of};

@@ -3,7 +3,8 @@ ghost use Rattle.std.specs.Prelude.{◌≡◌, true, IfOk, IfSome, option_map};
 ghost use Rattle.std.specs.List.{list_all};
 ghost use Rattle.std.specs.Char.{is_ascii_digit};
 ghost use Rattle.toml.specs.View.{table_view};
-ghost use Rattle.who_book.specs.Document.{has_known_keys, integers, integers_at, integer_at, text_at, table_at, is_up_to, natural, is_row, is_table, is_in_range, outline};
+ghost use Rattle.who_book.specs.Document.{has_known_keys, integers, integers_at, integer_at, text_at, table_at};
+ghost use Rattle.who_book.specs.Document.{is_up_to, natural, is_row, is_table, is_in_range, outline};
 ghost use Rattle.who_book.specs.Names.{is_word, is_name};
 ghost use Rattle.who_book.specs.Document as document;
 ghost use Rattle.who_book.specs.Outlines.{rolls_of, rows_of, outline_of, IsAscending, Finds};
@@ -62,7 +63,8 @@ impl<'a> Outline<'a> {
         ensures found { Finds outline_of result (outline (table_view table.now)) }
         ensures users_ascend { IfOk result (λ said. IsAscending (rows_of said.users.items)) }
         ensures groups_ascend { IfOk result (λ said. IsAscending (rows_of said.groups.items)) }
-        ensures members_ascend { IfOk result (λ said. IfSome said.members (λ rolls. IsAscending (rolls_of rolls.items))) }
+        ensures members_ascend { IfOk result
+            (λ said. IfSome said.members (λ rolls. IsAscending (rolls_of rolls.items))) }
     {
         if !has_only_known(table) {
             return Err(BookFault::Shape);

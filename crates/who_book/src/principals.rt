@@ -1,8 +1,10 @@
 //! The texts of users, groups and whos, and how they are read (RFC 8881, sections 5.9 and 6.2.1.5).
-ghost use Rattle.std.specs.Prelude.{◌≡◌, ◌<◌, ◌≤◌, ◌^◌, ◌↔◌, ◌++◌, List, ℕ, decimal, Some, None, MatchOption, length, true, false, if◌then◌else◌, nat_lt, ◌&&◌};
+ghost use Rattle.std.specs.Prelude.{◌≡◌, ◌<◌, ◌≤◌, ◌^◌, ◌↔◌, ◌++◌, List, ℕ, decimal, Some, None, MatchOption, length};
+ghost use Rattle.std.specs.Prelude.{true, false, if◌then◌else◌, nat_lt, ◌&&◌};
 ghost use Rattle.std.specs.Str.{all_ascii_digits};
 ghost use Rattle.acl_list.specs.Mask.{has_bit};
-ghost use Rattle.who_book.specs.Spelling.{full_name, is_short, kind_of, number_in, special_in, principal_in, principal_text, value_after, who_in, who_text, Spells, IsUnder};
+ghost use Rattle.who_book.specs.Spelling.{full_name, is_short, kind_of, number_in, special_in, principal_in};
+ghost use Rattle.who_book.specs.Spelling.{principal_text, value_after, who_in, who_text, Spells, IsUnder};
 
 use crate::book::Book;
 use crate::kind::NameKind;
@@ -162,7 +164,8 @@ fn is_short(digits: &[u8]) -> bool
 
 /// The value of digits, none where a byte is no digit or the value has more than 32 bits.
 fn value_of(digits: &[u8]) -> Option<u32>
-    ensures { result ≡ (if all_ascii_digits digits.now && nat_lt (value_after 0 digits.now) 4294967296 then Some (value_after 0 digits.now) else None) }
+    ensures { result ≡ (if all_ascii_digits digits.now && nat_lt (value_after 0 digits.now) 4294967296
+        then Some (value_after 0 digits.now) else None) }
 {
     let mut value: u32 = 0;
     for digit in digits {

@@ -73,7 +73,8 @@ pub fn rolls_at<'a>(
     table: &'a Table,
     key: &str,
 ) -> Result<Option<Vec<Roll<'a>>>, BookFault>
-    ensures found { Finds (option_map (λ rolls. rolls_of rolls.items)) result (rolls_at key.now (table_view table.now)) }
+    ensures found { Finds (option_map (λ rolls. rolls_of rolls.items)) result
+        (rolls_at key.now (table_view table.now)) }
     ensures ascending { IfOk result (λ found. IfSome found (λ rolls. IsAscending (rolls_of rolls.items))) }
 {
     match table.get(key) {

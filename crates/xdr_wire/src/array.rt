@@ -67,7 +67,8 @@ impl<'a, T: Wire<'a>, const MAX: u32> Array<'a, T, MAX> {
 
     /// Takes the first item that is left.
     pub fn next(&mut self) -> Option<T>
-        ensures { TakesFirst T.view result (array_values T.form T.normal self.old.count self.old.bytes.now) (array_values T.form T.normal self.new.count self.new.bytes.now) }
+        ensures { TakesFirst T.view result (array_values T.form T.normal self.old.count self.old.bytes.now)
+            (array_values T.form T.normal self.new.count self.new.bytes.now) }
     {
         if self.count == 0 {
             return None;
@@ -85,7 +86,8 @@ impl<'a, T: Wire<'a>, const MAX: u32> Array<'a, T, MAX> {
 
 /// Reads over items, one after the other.
 fn pass_items<'a, T: Wire<'a>>(reader: &mut Reader<'a>, count: u32) -> Result<(), XdrFault>
-    ensures { Gives (λ _. values_of (items_at (read_at T.form) count reader.old)) reader.old reader.new result (items_at (read_at T.form) count reader.old) }
+    ensures { Gives (λ _. values_of (items_at (read_at T.form) count reader.old)) reader.old reader.new result
+        (items_at (read_at T.form) count reader.old) }
 {
     let mut ahead = reader.fork();
     for _ in 0..count {

@@ -24,7 +24,8 @@ pub struct Chain<'a, T: Wire<'a>> {
 impl<'a, T: Wire<'a>> Chain<'a, T> {
     /// Takes the first item that is left.
     pub fn next(&mut self) -> Option<T>
-        ensures { TakesFirst T.view result (chain_values T.form T.normal self.old.bytes.now) (chain_values T.form T.normal self.new.bytes.now) }
+        ensures { TakesFirst T.view result (chain_values T.form T.normal self.old.bytes.now)
+            (chain_values T.form T.normal self.new.bytes.now) }
     {
         let mut reader = Reader::new(self.bytes);
         let Ok(Some(item)) = Option::<T>::read(&mut reader) else {
@@ -40,7 +41,8 @@ impl<'a, T: Wire<'a>> Chain<'a, T> {
 
 /// Reads over links and the end after them.
 fn pass_links<'a, T: Wire<'a>>(reader: &mut Reader<'a>) -> Result<(), XdrFault>
-    ensures { Gives (λ _. values_of (read_at (chain T.form) reader.old)) reader.old reader.new result (read_at (chain T.form) reader.old) }
+    ensures { Gives (λ _. values_of (read_at (chain T.form) reader.old)) reader.old reader.new result
+        (read_at (chain T.form) reader.old) }
 {
     let mut ahead = reader.fork();
     while Option::<T>::read(&mut ahead)?.is_some() {}

@@ -10,7 +10,8 @@ pub fn reading_is_spelling()
 
 /// Reading gives a fault exactly where no front of the bytes spells a value.
 pub fn fault_is_no_spelling()
-    ensures { (t : Xdr) (bytes : List ℕ) → (IsErr (read_at t bytes)) ↔ ((v : Value t) (rest : List ℕ) → ¬ Begins t v bytes rest) }
+    ensures { (t : Xdr) (bytes : List ℕ) →
+        (IsErr (read_at t bytes)) ↔ ((v : Value t) (rest : List ℕ) → ¬ Begins t v bytes rest) }
 {}
 
 /// The bytes written spell the value.
@@ -20,7 +21,8 @@ pub fn writing_is_spelling()
 
 /// No spelling begins another one, also of another value: where two stand at one front, they are one.
 pub fn one_spelling_at_a_front()
-    ensures { (t : Xdr) (v w : Value t) (a b x y : List ℕ) → Spells t v a → Spells t w b → a ++ x ≡ b ++ y → (v ≡ w) × (a ≡ b) }
+    ensures { (t : Xdr) (v w : Value t) (a b x y : List ℕ) → Spells t v a → Spells t w b → a ++ x ≡ b ++ y → (v ≡ w) ×
+        (a ≡ b) }
 {}
 
 /// Among lists of bytes a value has one spelling, the one that is written.
@@ -30,5 +32,6 @@ pub fn a_value_has_one_spelling()
 
 /// The bytes written are read again as the value, whatever stands after them.
 pub fn what_is_written_is_read()
-    ensures { (t : Xdr) (v : Value t) (rest : List ℕ) → HasSpelling t v → read_at t (spelling t v ++ rest) ≡ Ok (v, rest) }
+    ensures { (t : Xdr) (v : Value t) (rest : List ℕ) → HasSpelling t v →
+        read_at t (spelling t v ++ rest) ≡ Ok (v, rest) }
 {}

@@ -38,7 +38,8 @@ fn are_zero(bytes: &[u8]) -> bool
 /// An item of this length and its padding, and the bytes after them.
 #[tactic(auto, unfolding(crate::specs::Reading::padded_at))]
 fn split_padded(bytes: &[u8], len: usize) -> Result<(&[u8], &[u8]), XdrFault>
-    ensures gives { MatchResult result (λ x. padded_at len bytes.now ≡ Ok (x.0.now, x.1.now)) (λ e. padded_at len bytes.now ≡ Err e) }
+    ensures gives { MatchResult result (λ x. padded_at len bytes.now ≡ Ok (x.0.now, x.1.now))
+        (λ e. padded_at len bytes.now ≡ Err e) }
     ensures len { IfOk result (λ x. length x.0.now ≡ len) }
 {
     if bytes.len() < len {
