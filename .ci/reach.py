@@ -17,9 +17,6 @@ only its type: "a definition's clauses are shut to everything", but for `abbrev`
 `unfolding` (antt/docs/primer-language.md, section 4.11). An `enum` or `data` is reached by its variants as well, a trait by its methods, an operator by each of
 its parts. A record isn't reached by its fields: where a value of it is, its type stands by name in what gives that value.
 
-A `use` line is reached by a word that can mean what it brings: by one that stands free, and not after a dot or two colons; and not from an item that brings the
-same name by a `use` of its own.
-
 What acts without being named, and is reached so:
   an `impl` of a trait (operators, `?`, `for`, drop, `Model`, derived functions call it) where the type that it is for is reached, since a value of a type
     comes only from what names the type; an `impl` for types that the crates don't declare where its trait is reached; else, and for an alias, always;
@@ -67,18 +64,6 @@ def words_of(text):
     found = frozenset().union(*map(parts_of, set(BETWEEN.split(text))))
     after = frozenset().union(*map(parts_of, set(AFTER.findall(text))))
     return found, after.union(*(words_of(said)[0] for said in BROUGHT.findall(text)))
-
-
-# a `use` line, and one inside an item
-USES = re.compile(r"^(?:#\[.*\] *)?(?:pub *(?:\([^)]*\))? *)?(?:ghost +)?(?:pub +)?use\b")
-INNER_USE = re.compile(r"\b(?:ghost )?use\b([^;]*);")
-AFTER_PATH = re.compile(r"(?:\.|::)[^\s(){}.;,@\"«»:]+")
-
-
-def free_of(text):
-    """The words of a text that can mean what a `use` line of its file brings: those that stand free, but for what a `use` inside the text brings."""
-    inner = frozenset() if USES.search(text) else frozenset().union(*(parts_of(word) for said in INNER_USE.findall(text) for word in BETWEEN.split(said)))
-    return words_of(AFTER_PATH.sub(" ", INNER_USE.sub(" ", text) if inner else text))[0] - inner
 
 
 def declared(names):
@@ -384,13 +369,12 @@ class Reach:
         types = {it.type for _, it in self.items} - {"", FUNCTION}
         self.world, self.crate, self.local, self.inner, self.own, self.macros, self.any = (defaultdict(int) for _ in range(7))
         self.globs, self.merged = set(), {}
-        self.implemented, self.always, self.functions, self.uses, self.opened = defaultdict(int), 0, 0, 0, defaultdict(set)
+        self.implemented, self.always, self.functions, self.opened = defaultdict(int), 0, 0, defaultdict(set)
         for at, (crate, it) in enumerate(self.items):
             self.opened[crate, it.file] |= inward(it.text)
             bit = 1 << at
             self.always |= bit if it.always else 0
             self.functions |= bit if it.type == FUNCTION else 0
-            self.uses |= bit if USES.search(it.text) else 0
             if it.impl:
                 self.give_impl(bit, it, types)
             if it.always and re.search(r"\buse\b", it.text):
@@ -426,14 +410,12 @@ class Reach:
         """The items that a text of a file can name: those of its own file and what its `use` lines bring by each word, and any by a word after a dot or two
         colons. By each word any, where the text is `wide`. Functions only where the text `calls` any."""
         words, after = words_of(text)
-        free = free_of(text)
         if wide == ANYWHERE:
             return functools.reduce(lambda found, word: found | self.any.get(word, 0) | self.implemented.get(word, 0), words, 0)
         wide = wide or (crate, file) in self.globs
         found, files, crates, is_source = 0, chain(file), [crate, *self.below[crate]], file.endswith(".rt")
         for word in words:
-            own = self.own.get((word, crate, file), 0)
-            found |= self.implemented.get(word, 0) | (own if word in free else own & ~self.uses)
+            found |= self.implemented.get(word, 0) | self.own.get((word, crate, file), 0)
             if is_source:
                 found |= self.macros.get((word, crate), 0) | self.macros.get((word, ""), 0)
         for word in words if wide else after:
