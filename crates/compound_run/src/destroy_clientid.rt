@@ -3,6 +3,7 @@ ghost use Rattle.std.specs.Prelude.{◌≤◌};
 ghost use Rattle.nfs_ops.specs.Operations.{Known};
 ghost use Rattle.nfs_ops.specs.Views.{destroy_clientid_args_value};
 ghost use Rattle.nfs_ops.specs.declared.op_kind.OpKind.TheVariants as kinds;
+ghost use Rattle.rpc_record.specs.Identity.{Identity};
 ghost use Rattle.compound_run.specs.Limits as limits;
 ghost use Rattle.compound_run.specs.SessionViews.{ActGives, IsOfClients};
 ghost use Rattle.compound_run.specs.Views.{realm_of};
@@ -11,7 +12,6 @@ use crate::operation_results::put_result;
 use crate::realm::Realm;
 use nfs_ops::{DestroyClientIdArgs, OpResult};
 use nfs_types::Status;
-use rpc_record::Caller;
 use std::alloc::Allocator;
 use xdr_wire::Writer;
 
@@ -19,16 +19,15 @@ impl<A: Allocator + Copy> Realm<A> {
     /// The record of a client without opens and sessions goes. It takes no memory.
     pub fn destroy_clientid(
         &mut self,
-        caller: &Caller,
         args: &DestroyClientIdArgs,
         out: &mut Writer<A>,
     ) -> Result<(), Status>
         requires room { limits.MIN_ROOM ≤ out.old.room }
-        ensures gives { ActGives caller.now (Known kinds.DestroyClientId (destroy_clientid_args_value args.now))
-            (realm_of self.old) out.old result (realm_of self.new) out.new }
+        ensures gives { (caller : Identity) →
+            ActGives caller (Known kinds.DestroyClientId (destroy_clientid_args_value args.now)) (realm_of self.old)
+            out.old result (realm_of self.new) out.new }
         ensures others { IsOfClients self.old self.new }
     {
-        let _caller = caller;
         let has_opens = self.has_opens(args.client);
         self.clients.destroy_client(args.client, has_opens)?;
         put_result(OpResult::DestroyClientId, out);

@@ -3,6 +3,7 @@ ghost use Rattle.std.specs.Prelude.{◌≤◌};
 ghost use Rattle.nfs_ops.specs.Operations.{Known};
 ghost use Rattle.nfs_ops.specs.Views.{destroy_session_args_value};
 ghost use Rattle.nfs_ops.specs.declared.op_kind.OpKind.TheVariants as kinds;
+ghost use Rattle.rpc_record.specs.Identity.{Identity};
 ghost use Rattle.compound_run.specs.Limits as limits;
 ghost use Rattle.compound_run.specs.SessionViews.{ActGives, IsOfClients};
 ghost use Rattle.compound_run.specs.Views.{realm_of};
@@ -12,7 +13,6 @@ use crate::realm::Realm;
 use crate::sessions::session_of;
 use nfs_ops::{DestroySessionArgs, OpResult};
 use nfs_types::Status;
-use rpc_record::Caller;
 use std::alloc::Allocator;
 use xdr_wire::Writer;
 
@@ -20,16 +20,15 @@ impl<A: Allocator + Copy> Realm<A> {
     /// A session ends. It takes no memory.
     pub fn destroy_session(
         &mut self,
-        caller: &Caller,
         args: &DestroySessionArgs,
         out: &mut Writer<A>,
     ) -> Result<(), Status>
         requires room { limits.MIN_ROOM ≤ out.old.room }
-        ensures gives { ActGives caller.now (Known kinds.DestroySession (destroy_session_args_value args.now))
-            (realm_of self.old) out.old result (realm_of self.new) out.new }
+        ensures gives { (caller : Identity) →
+            ActGives caller (Known kinds.DestroySession (destroy_session_args_value args.now)) (realm_of self.old)
+            out.old result (realm_of self.new) out.new }
         ensures others { IsOfClients self.old self.new }
     {
-        let _caller = caller;
         self.clients.destroy_session(session_of(&args.session))?;
         put_result(OpResult::DestroySession, out);
         Ok(())

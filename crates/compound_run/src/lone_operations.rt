@@ -47,8 +47,8 @@ impl<A: Allocator + Copy> Realm<A> {
         match lone {
             Lone::ExchangeId(args) => self.exchange_id(caller, now, args, out),
             Lone::CreateSession(args) => self.create_session(caller, now, args, out),
-            Lone::DestroySession(args) => self.destroy_session(caller, args, out),
-            Lone::DestroyClientId(args) => self.destroy_clientid(caller, args, out),
+            Lone::DestroySession(args) => self.destroy_session(args, out),
+            Lone::DestroyClientId(args) => self.destroy_clientid(args, out),
         }
     }
 

@@ -12,13 +12,13 @@ use Rattle.compound_run.proofs.Acting.{refuses, told_refused}
 use Rattle.compound_run.proofs.realm.Realm.destroy_clientid.Goals as goal
 
 pub returns-in_err-destroy_client-clause-gives : goal.returns-in_err-destroy_client-clause-gives
-returns-in_err-destroy_client-clause-gives g c =
+returns-in_err-destroy_client-clause-gives g c caller =
     let old = realm_of c.args.self.now in
     let client = c.args.args.now.client in
     let status = c.in_err-destroy_client.field-0.0 in
     let answer : c.from_residual.result ≡ Err status = search rules in
     let refused = told_refused (destroy_client_refusal old.registry client c.has_opens-has_opens.result) status (Done kinds.DestroyClientId tt) c.in_err-destroy_client.ensures.refused in
-    refuses c.args.caller.now (Known kinds.DestroyClientId (destroy_clientid_args_value c.args.args.now)) old c.args.out.now status (with_registry c.destroy_client.new.self old) c.from_residual.result answer
+    refuses caller (Known kinds.DestroyClientId (destroy_clientid_args_value c.args.args.now)) old c.args.out.now status (with_registry c.destroy_client.new.self old) c.from_residual.result answer
     (record {
       told = refused ∙ ap (λ opens. told (destroy_client_refusal old.registry client opens) (Done kinds.DestroyClientId tt)) c.has_opens-has_opens.ensures;
       ok = tt;

@@ -12,12 +12,12 @@ use Rattle.compound_run.proofs.Acting.{refuses, told_refused}
 use Rattle.compound_run.proofs.realm.Realm.destroy_session.Goals as goal
 
 pub returns-in_err-destroy_session-clause-gives : goal.returns-in_err-destroy_session-clause-gives
-returns-in_err-destroy_session-clause-gives g c =
+returns-in_err-destroy_session-clause-gives g c caller =
     let old = realm_of c.args.self.now in
     let status = c.in_err-destroy_session.field-0.0 in
     let answer : c.from_residual.result ≡ Err status = search rules in
     let refused = told_refused (destroy_session_refusal old.registry c.session_of.result) status (Done kinds.DestroySession tt) c.in_err-destroy_session.ensures.refused in
-    refuses c.args.caller.now (Known kinds.DestroySession (destroy_session_args_value c.args.args.now)) old c.args.out.now status (with_registry c.destroy_session.new.self old) c.from_residual.result answer
+    refuses caller (Known kinds.DestroySession (destroy_session_args_value c.args.args.now)) old c.args.out.now status (with_registry c.destroy_session.new.self old) c.from_residual.result answer
     (record {
       told = refused ∙ ap (λ session. told (destroy_session_refusal old.registry session) (Done kinds.DestroySession tt)) c.session_of.ensures;
       ok = tt;
