@@ -15,15 +15,15 @@ use Rattle.compound_run.proofs.realm.Realm.put_child.Goals as goal
 pub unreachable-requires : goal.unreachable-requires
 unreachable-requires g c =
     let entry = c.requires.there in
-    let again = c.name_of.ensures.again entry.directory entry.last entry.name entry.listed entry.by in
-    let none : option_copied c.name_of.result ≡ None = ap option_copied c.in_default.is in
+    let again = c.name_by_cookie.ensures.again entry.directory entry.last entry.name entry.listed entry.by in
+    let none : option_copied c.name_by_cookie.result ≡ None = ap option_copied c.in_default.is in
     cc
 
 pub unreachable-requires-in_default-facts_for : goal.unreachable-requires-in_default-facts_for
 unreachable-requires-in_default-facts_for g c =
     let entry = c.requires.there in
     let w = c.args.self.now.tree.world in
-    let again : Some c.in-Some.name.now ≡ Some entry.name = search (rules, c.name_of.ensures.again entry.directory entry.last entry.name entry.listed entry.by) in
+    let again : Some c.in-Some.name.now ≡ Some entry.name = search (rules, c.name_by_cookie.ensures.again entry.directory entry.last entry.name entry.listed entry.by) in
     let same : c.in-Some.name.now ≡ entry.name = cc in
     let next : IsNextName w entry.directory entry.last entry.name = next_name w c.facts_for.ensures.sound entry.directory entry.last (Some entry.name) (sym entry.listed) in
     let number : c.child.result ≡ entry.name.child = c.child.ensures ∙ ap (λ (n : Name). n.child) same in
@@ -36,13 +36,13 @@ pub put_entry-requires : goal.put_entry-requires
 put_entry-requires g c =
     let entry = c.requires.there in
     let w = c.args.self.now.tree.world in
-    let again : Some c.in-Some.name.now ≡ Some entry.name = search (rules, c.name_of.ensures.again entry.directory entry.last entry.name entry.listed entry.by) in
+    let again : Some c.in-Some.name.now ≡ Some entry.name = search (rules, c.name_by_cookie.ensures.again entry.directory entry.last entry.name entry.listed entry.by) in
     let same : c.in-Some.name.now ≡ entry.name = cc in
     record { short = short_name w entry.directory entry.last c.in-Some.name.now c.facts_for.ensures.sound (entry.listed ∙ ap (λ (n : Name). Some n) (sym same)) }
 
 pub returns-clause-puts : goal.returns-clause-puts
 returns-clause-puts g c directory last n is by =
-    let again : Some c.in-Some.name.now ≡ Some n = search (rules, c.name_of.ensures.again directory last n is by) in
+    let again : Some c.in-Some.name.now ≡ Some n = search (rules, c.name_by_cookie.ensures.again directory last n is by) in
     let same : c.in-Some.name.now ≡ n = cc in
     next_told (context_at c.args.self.now c.args.context) (sight_of c.args.self.now) c.in-Some.name.now n c.child.result c.args.given.0 (bitmap_value c.args.given.1) c.in-Some-facts_for.facts _ _ _
     same c.child.ensures c.in-Some-facts_for.ensures.tells
