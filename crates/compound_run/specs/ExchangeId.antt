@@ -1,12 +1,12 @@
 -- EXCHANGE_ID (RFC 8881, section 18.35): a client is made known.
-use Rattle.std.specs.Prelude.{◌≡◌, ℕ, Bool, false, List, codes, Result}
+use Rattle.std.specs.Prelude.{◌≡◌, ℕ, Bool, false, List, Result}
 use Rattle.std.proofs.Common.{inl}
 use Rattle.std.specs.Int.{w64, from_be_bytes}
 use Rattle.std.specs.Option.{option_map_or}
 use Rattle.xdr_wire.specs.Xdr.{Value}
 use Rattle.rpc_record.specs.Identity.{Identity}
 use Rattle.nfs_types.specs.declared.status.Status.{Status}
-use Rattle.nfs_ops.specs.Forms.{exchange_id_args}
+use Rattle.nfs_ops.specs.Forms.{exchange_id_args, SERVER}
 use Rattle.nfs_ops.specs.Parts.{client_verifier, client_owner, exchange_id_flags}
 use Rattle.nfs_ops.specs.declared.op_kind.OpKind.TheVariants as kinds
 use Rattle.nfs_ops.specs.Results.{Outcome, Done}
@@ -28,10 +28,6 @@ exchanging caller v r = record {
   flags = exchange_id_flags v;
   has_opens = owner_has_opens (client_owner v) r;
 }
-
--- the server owner's major ID, and the server scope
-abbrev pub SERVER : List ℕ
-SERVER = codes "nfs41-lists"
 
 abbrev pub exchanged : Exchanged → Outcome
 exchanged e = Done kinds.ExchangeId (e.client, (e.sequence, (answered_flags e, (inl tt, ((inl tt, inl tt), (SERVER, (SERVER, inl tt)))))))

@@ -14,15 +14,12 @@ ghost use Rattle.compound_run.specs.Views.{realm_of};
 use crate::operation_results::put_result;
 use crate::realm::Realm;
 use crate::sessions::second;
-use nfs_ops::{ExchangeIdArgs, ExchangeIdResult, OpResult};
+use nfs_ops::{ExchangeIdArgs, ExchangeIdResult, OpResult, SERVER};
 use nfs_types::{Moment, Status};
 use rpc_record::Caller;
 use session_slots::{Exchange, Exchanged};
 use std::alloc::Allocator;
 use xdr_wire::{Opaque, Writer};
-
-/// The server owner's major ID, and the server scope.
-const SERVER: &[u8] = b"nfs41-lists";
 
 /// Writes the record of a client.
 fn put_exchanged<A: Allocator>(told: Exchanged, out: &mut Writer<A>)

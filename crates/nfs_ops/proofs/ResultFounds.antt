@@ -1,18 +1,19 @@
 -- A result that is read is at the front of the bytes.
-use Rattle.std.proofs.Common.{◌≡◌, ◌≢◌, ℕ, Bool, true, false, cond, List, ◌++◌, Option, Some, None, Ok, refl, sym, ap, subst, ◌∙◌, inl, inr, eq-eqb}
-use Rattle.std.proofs.lemmas.Bool.{ne_eqb, cases_eq}
+use Rattle.std.proofs.Common.{◌≡◌, ◌≢◌, ℕ, Bool, true, false, cond, List, [], ◌∷◌, ◌++◌, length, Option, Some, None, Ok, Err, refl, sym, ap, subst, ◌∙◌, inl, inr, eq-eqb, arith}
+use Rattle.std.proofs.lemmas.Bool.{ne_eqb, cases_eq, eqb-true}
 use Rattle.std.specs.Prelude.{◌==◌, nat_lt}
 use Rattle.xdr_wire.specs.Xdr.{Value, uint, pair}
+use Rattle.xdr_wire.specs.declared.fault.XdrFault.TheVariants.{BadChoice}
 use Rattle.xdr_wire.specs.Reading.{◌>>=◌, Read as ReadOf, read_at}
 use Rattle.xdr_wire.specs.Wire.{normalized, in_normal_form, both}
 use Rattle.xdr_wire.proofs.Spelling.{begins_from_read}
 use Rattle.xdr_wire.proofs.Normal.{normal_ok, both_is}
-use Rattle.xdr_wire.proofs.Steps.{bind_ok, ok_is}
+use Rattle.xdr_wire.proofs.Steps.{bind_ok, check_ok, ok_is}
 use Rattle.nfs_types.specs.Forms.{bitmap, trimmed}
 use Rattle.nfs_ops.specs.Items.{Item, Spelled, done, plain, Stands}
 use Rattle.nfs_ops.specs.Rows.{row, kind_at}
 use Rattle.nfs_ops.specs.Results.{Outcome, Done, Refused, SetAttrRefused, outcome_item}
-use Rattle.nfs_ops.specs.ResultReading.{file_refusal, state_refusal, session_refusal, refusal_at, refused_from, refused_at, behind_status, result_at, done_at, done_of, done_from}
+use Rattle.nfs_ops.specs.ResultReading.{file_refusal, state_refusal, session_refusal, refusal_at, none_set, setattr_refused, refused_from, refused_at, behind_status, result_at, outcome_conforms, conforming, spelled_of, done_at, done_of, done_from}
 use Rattle.nfs_ops.specs.Readable.{IsResult}
 use Rattle.nfs_ops.specs.declared.op_kind.OpKind.{OpKind}
 use Rattle.nfs_ops.proofs.Numbers.{number_is}
@@ -34,20 +35,25 @@ plain_found k s op bytes r q rest o is good number_is status_is e =
     let stands : Stands (plain k s) bytes q = ((k, s), begins_from_read (pair uint uint) (k, s) bytes q all_read, refl) in
     subst (λ (y : Outcome × List ℕ). Found y.0 bytes y.1) (ok_is (op, q) (o, rest) e) (good, subst (λ (i : Item). Stands i bytes q) (sym is) stands)
 
+-- a result that is made of a value, and conforms
+taken : {V : Type 0} (read : ReadOf V) (made : V → Outcome) (o : Outcome) (rest : List ℕ) → ((read >>= λ x. Ok (made x.0, x.1)) >>= conforming) ≡ Ok (o, rest)
+    → (x : V × List ℕ) × (read ≡ Ok x) × (outcome_conforms (made x.0) ≡ true) × (◌≡◌ {A = Outcome × List ℕ} (made x.0, x.1) (o, rest))
+taken (Ok x) made o rest e = let t = check_ok (outcome_conforms (made x.0)) BadChoice (Ok (made x.0, x.1)) (o, rest) e in (x, refl, t.0, ok_is (made x.0, x.1) (o, rest) t.1)
+taken (Err fault) made o rest e = absurd cc
+
 done_found : (k : OpKind) (bytes r q rest : List ℕ) (o : Outcome) → read_at uint bytes ≡ Ok ((row k).number, r) → read_at uint r ≡ Ok (0, q) → done_of k q ≡ Ok (o, rest) → Found o bytes rest
-unfolding done_of
+unfolding done_of spelled_of
 done_found k bytes r q rest o number_read status_is e =
     let n : ℕ = (row k).number in
     let g : Spelled = (row k).gives in
-    let a = bind_ok (in_normal_form g.normal (read_at g.form q)) _ (o, rest) e in
-    let same : (Done k a.0.0, a.0.1) ≡ (o, rest) = ok_is (Done k a.0.0, a.0.1) (o, rest) a.2 in
+    let a = taken (in_normal_form g.normal (read_at g.form q)) (λ v. Done k v) o rest e in
     let b = normal_ok g.normal (read_at g.form q) a.0.0 a.0.1 a.1 in
     let value_read : read_at (pair uint g.form) r ≡ Ok ((0, b.0), a.0.1) = pair_from g.form r q a.0.1 0 b.0 status_is b.1 in
     let all_read : read_at (pair uint (pair uint g.form)) bytes ≡ Ok ((n, (0, b.0)), a.0.1) = pair_from (pair uint g.form) bytes r a.0.1 n (0, b.0) number_read value_read in
     let inner : normalized (both None g.normal) (0, b.0) ≡ (0, a.0.0) = both_is None g.normal (0, b.0) ∙ ap (λ (w : Value g.form). (0, w)) b.2 in
     let outer : normalized (both None (both None g.normal)) (n, (0, b.0)) ≡ (n, (0, a.0.0)) = both_is None (both None g.normal) (n, (0, b.0)) ∙ ap (λ (w : ℕ × Value g.form). (n, w)) inner in
     let stands : Stands (done n g a.0.0) bytes a.0.1 = ((n, (0, b.0)), begins_from_read (pair uint (pair uint g.form)) (n, (0, b.0)) bytes a.0.1 all_read, outer) in
-    subst (λ (y : Outcome × List ℕ). Found y.0 bytes y.1) same (tt, stands)
+    subst (λ (y : Outcome × List ℕ). Found y.0 bytes y.1) a.3 (a.2, stands)
 
 kind_found : (n : ℕ) (bytes r q rest : List ℕ) (o : Outcome) (found : Option OpKind) → kind_at n ≡ found → read_at uint bytes ≡ Ok (n, r) → read_at uint r ≡ Ok (0, q)
     → done_from q found ≡ Ok (o, rest) → Found o bytes rest
@@ -140,19 +146,22 @@ refusal_same : (s t : ℕ) → refusal_at s ≡ Some t → s ≡ t
 unfolding refusal_at
 refusal_same s t e = in_table s t (nat_lt s 100) (nat_lt s 10034) e
 
--- a refusal of SETATTR with the bitmap after it
-abbrev with_bitmap : ℕ → List ℕ → ReadOf Outcome
-with_bitmap s q = in_normal_form (Some trimmed) (read_at bitmap q) >>= λ x. Ok (SetAttrRefused s, x.1)
+-- a refusal of SETATTR with the empty bitmap after it
+no_word : (words : List ℕ) → (length words == 0) ≡ true → words ≡ []
+no_word [] e = refl
+no_word (w ∷ words) e = absurd (omega (arith, eqb-true (length (w ∷ words)) 0 e))
 
 setattr_found : (s : ℕ) (bytes r q rest : List ℕ) (o : Outcome) → IsResult (SetAttrRefused s) → read_at uint bytes ≡ Ok (34, r) → read_at uint r ≡ Ok (s, q)
-    → with_bitmap s q ≡ Ok (o, rest) → Found o bytes rest
+    → setattr_refused s q ≡ Ok (o, rest) → Found o bytes rest
 setattr_found s bytes r q rest o good number_is status_is e =
-    let a = bind_ok (in_normal_form (Some trimmed) (read_at bitmap q)) _ (o, rest) e in
-    let same : (SetAttrRefused s, a.0.1) ≡ (o, rest) = ok_is (SetAttrRefused s, a.0.1) (o, rest) a.2 in
+    let a = bind_ok (in_normal_form (Some trimmed) (read_at bitmap q)) (none_set s) (o, rest) e in
+    let t = check_ok (length a.0.0 == 0) BadChoice (Ok (SetAttrRefused s, a.0.1)) (o, rest) a.2 in
+    let same : (SetAttrRefused s, a.0.1) ≡ (o, rest) = ok_is (SetAttrRefused s, a.0.1) (o, rest) t.1 in
     let b = normal_ok (Some trimmed) (read_at bitmap q) a.0.0 a.0.1 a.1 in
+    let none : trimmed b.0 ≡ [] = b.2 ∙ no_word a.0.0 t.0 in
     let value_read : read_at (pair uint bitmap) r ≡ Ok ((s, b.0), a.0.1) = pair_from bitmap r q a.0.1 s b.0 status_is b.1 in
     let all_read : read_at (pair uint (pair uint bitmap)) bytes ≡ Ok ((34, (s, b.0)), a.0.1) = pair_from (pair uint bitmap) bytes r a.0.1 34 (s, b.0) number_is value_read in
-    let stands : Stands (outcome_item (SetAttrRefused s)) bytes a.0.1 = ((34, (s, b.0)), begins_from_read (pair uint (pair uint bitmap)) (34, (s, b.0)) bytes a.0.1 all_read, refl) in
+    let stands : Stands (outcome_item (SetAttrRefused s)) bytes a.0.1 = ((34, (s, b.0)), begins_from_read (pair uint (pair uint bitmap)) (34, (s, b.0)) bytes a.0.1 all_read, ap (λ (w : List ℕ). (34, (s, w))) none) in
     subst (λ (y : Outcome × List ℕ). Found y.0 bytes y.1) same (good, stands)
 
 known_found : (n s : ℕ) (bytes r q rest : List ℕ) (o : Outcome) → refusal_at s ≡ Some s → s ≢ 0 → read_at uint bytes ≡ Ok (n, r) → read_at uint r ≡ Ok (s, q)
@@ -160,7 +169,7 @@ known_found : (n s : ℕ) (bytes r q rest : List ℕ) (o : Outcome) → refusal_
 known_found n s bytes r q rest o known other number_is status_is e =
     elim (cases_eq n 34) [
       | inl eq ↦ setattr_found s bytes r q rest o (known, other) (number_is ∙ ap (λ (m : ℕ). Ok (m, r)) eq) status_is (sym (ap (λ (m : ℕ). refused_from m q (Some s)) eq) ∙ e)
-      | inr ne ↦ plain_found n s (Refused n s) bytes r q rest o refl (known, ne, other) number_is status_is (sym (ap (λ b. cond b (with_bitmap s q) (alone (Refused n s) q)) (ne_eqb n 34 ne)) ∙ e)
+      | inr ne ↦ plain_found n s (Refused n s) bytes r q rest o refl (known, ne, other) number_is status_is (sym (ap (λ b. cond b (setattr_refused s q) (alone (Refused n s) q)) (ne_eqb n 34 ne)) ∙ e)
     ]
 
 from_found : (n s : ℕ) (bytes r q rest : List ℕ) (o : Outcome) (found : Option ℕ) → refusal_at s ≡ found → s ≢ 0 → read_at uint bytes ≡ Ok (n, r) → read_at uint r ≡ Ok (s, q)
