@@ -48,7 +48,7 @@ impl<A: Allocator + Copy> Realm<A> {
             (Done kinds.GetAttr (told (context_at self.now context.entry) number (bitmap_value asked)
             (sight_of self.now))) out.old result out.new }
     {
-        let Some(facts) = self.facts(number, Status::Ok) else {
+        let Some(facts) = self.facts_for(number, Status::Ok, &asked) else {
             unreachable!();
         };
         let given = GivenAttributes {

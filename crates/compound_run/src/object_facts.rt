@@ -2,7 +2,7 @@
 ghost use Rattle.std.specs.Prelude.{◌≡◌, IfSome, is_some, if◌then◌else◌, length, bit_or, true};
 ghost use Rattle.acl_shape.specs.Inherited.{is_directory};
 ghost use Rattle.compound_run.specs.Asking.{sight_of};
-ghost use Rattle.compound_run.specs.Says.{Says, SaysAsked};
+ghost use Rattle.compound_run.specs.Says.{SaysAsked};
 ghost use Rattle.compound_run.specs.Values.{links_at};
 ghost use Rattle.nfs_types.specs.Sets.{has_number};
 ghost use Rattle.nfs_types.specs.Views.{bitmap_value};
@@ -64,30 +64,6 @@ impl<A: Allocator + Copy> Realm<A> {
         } else {
             0
         }
-    }
-
-    /// The facts of an object, with this status as rdattr_error. `None`: it isn't there.
-    pub fn facts(&self, number: u64, error: Status) -> Option<ObjectFacts<'_>>
-        ensures says { IfSome result (Says (sight_of self.now) number error) }
-        ensures there { is_some result ≡ is_some ((sight_of self.now).kinds number) }
-        ensures sound { IsSound self.now.tree.world }
-    {
-        let node = self.tree.object(number)?;
-        let links = self.links_told(number, node.is_directory());
-        Some(ObjectFacts {
-            kind: node.kind(),
-            number,
-            change: node.change(),
-            size: size_told(node),
-            error,
-            entries: node.list().as_slice(),
-            mode: node.high() | mode_of(node.list()),
-            links,
-            owner: node.owner(),
-            group: node.group(),
-            metadata: node.time_metadata(),
-            modify: node.time_modify(),
-        })
     }
 
     /// The facts of an object for the attributes requested, with this status as rdattr_error. The

@@ -74,7 +74,7 @@ impl<A: Allocator + Copy> Realm<A> {
             is_same (context_at self.now context.entry) number (attributes_value sent.now) (sight_of self.now)) }
         ensures delay { MatchResult result (λ same. Unit {0}) (λ status. status ≡ Status.Delay) }
     {
-        let Some(facts) = self.facts(number, Status::Ok) else {
+        let Some(facts) = self.facts_for(number, Status::Ok, &sent.set) else {
             unreachable!();
         };
         let given = GivenAttributes {

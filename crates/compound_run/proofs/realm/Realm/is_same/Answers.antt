@@ -4,10 +4,7 @@ use Rattle.std.specs.Cmp.Lexicographic.{pointwise}
 use Rattle.who_book.specs.Content.{Content}
 use Rattle.nfs_types.specs.Given.{given_values}
 use Rattle.nfs_types.specs.Views.{bitmap_value}
-use Rattle.nfs_types.specs.declared.status.Status.TheVariants as statuses
-use Rattle.compound_run.specs.Asking.{sight_of}
 use Rattle.compound_run.specs.Verify.{is_same}
-use Rattle.compound_run.proofs.Saying.{same_values}
 use Rattle.compound_run.proofs.realm.Realm.is_same.Goals as goal
 
 pub returns-in-Ok-clause-same : goal.returns-in-Ok-clause-same
@@ -16,4 +13,4 @@ returns-in-Ok-clause-same g c =
     c.in-Ok.ensures
     ∙ ap (λ (b : Content). pointwise nat_eq (given_values b c.in-Some.facts (bitmap_value c.args.sent.now.set)) c.args.sent.now.values.bytes.now) c.book.ensures
     ∙ ap (λ (values : List ℕ). pointwise nat_eq values c.args.sent.now.values.bytes.now)
-    (same_values c.args.self.now.tree.book (sight_of c.args.self.now) c.args.number statuses.Ok c.in-Some.facts (bitmap_value c.args.sent.now.set) c.in-Some.ensures.says)
+    (c.in-Some.ensures.tells c.args.self.now.tree.book)

@@ -2,13 +2,10 @@ use Rattle.std.proofs.Common.{subst, List, ℕ}
 use Rattle.who_book.specs.Content.{Content}
 use Rattle.nfs_types.specs.Given.{given_set, given_values}
 use Rattle.nfs_types.specs.Views.{bitmap_value}
-use Rattle.nfs_types.specs.declared.status.Status.TheVariants as statuses
 use Rattle.nfs_ops.specs.Results.{Done}
 use Rattle.nfs_ops.specs.declared.op_kind.OpKind.TheVariants as kinds
-use Rattle.compound_run.specs.Asking.{sight_of}
 use Rattle.compound_run.specs.Getattr.{told}
 use Rattle.compound_run.specs.Says.{PutsWithin}
-use Rattle.compound_run.proofs.Saying.{same_values}
 use Rattle.compound_run.proofs.realm.Realm.put_told.Goals as goal
 
 pub returns : goal.returns
@@ -16,5 +13,5 @@ unfolding told
 returns g c =
     let asked = bitmap_value c.args.asked in
     subst (λ (values : List ℕ). PutsWithin c.args.context.room (Done kinds.GetAttr (given_set asked, values)) c.args.out.now c.put_attributes.result c.put_attributes.new.out)
-    (same_values c.args.self.now.tree.book (sight_of c.args.self.now) c.args.number statuses.Ok c.in-Some.facts asked c.in-Some.ensures.says)
+    (c.in-Some.ensures.tells c.args.self.now.tree.book)
     (subst (λ (b : Content). PutsWithin c.args.context.room (Done kinds.GetAttr (given_set asked, given_values b c.in-Some.facts asked)) c.args.out.now c.put_attributes.result c.put_attributes.new.out) c.book.ensures c.put_attributes.ensures)
