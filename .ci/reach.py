@@ -5,10 +5,12 @@ A function is proved by its own contract and body, and by the contracts, types, 
 So of other text only what is reached by a name can bear on a proof. A word by itself reaches what its own file declares, or brings by a `use` line. A word in
 a `use` line, or after a dot or two colons, reaches every item that declares it, whatever module it is of: a field, a method and a module's item of one name
 alike. So what is reached is more than what is meant, never less. What limits it is who can name an item at all: no crate what is of a crate above it; a
-function that isn't `pub` only its own crate, and one without any `pub`, as a definition or a `use` line without, only its own module and those inside it. And
-functions and macros are named only where they can be called: in the bodies that the edit stands in, in macros, constants, and attributes that a derive reads,
-and on the way there in `use` lines. No clause and no definition can name one (CONTRACTS.md, "Clauses": constants, types, variants and members of traits), but
-through what the kit makes of it, `Rattle.CRATE.specs.contracts` and `Rattle.CRATE.proofs`: a file that has such a path can.
+function that isn't `pub` only its own crate, and one without any `pub`, as a definition or a `use` line without, only its own module and those inside it; and
+a line that brings a name by its whole path, `Rattle.CRATE.` and so on, only what that crate declares, or brings itself. And functions and macros are named
+only where they can be called: in the bodies that the edit stands in, in macros, constants, and attributes that a derive reads, and on the way there in `use`
+lines. So are the `use` lines of sources whose name is in all sources that of functions or macros alone. No clause and no definition can name one
+(CONTRACTS.md, "Clauses": constants, types, variants and members of traits), but through what the kit makes of it, `Rattle.CRATE.specs.contracts` and
+`Rattle.CRATE.proofs`: a file that has such a path can.
 
 Items are, without the tactics that they are proved by: the signature and contract of one function, with the head of the `impl` that it is in; a type with its
 fields, variants and ghost lines; a trait; a constant; a macro, whole; each name that a `use` line brings; a `mod` line; and of definitions and of shared
@@ -23,7 +25,7 @@ What acts without being named, and is reached so:
   the lines `#![..]` of a source, and a `mod` line with a tactic, which name lemmas for all functions below them: always;
   a call of a macro among items, a glob, and what this script can't read: always, and with a glob each word of its file reaches any item;
   a proof in a folder that begins with a +, by which several functions go down: always;
-  the words of a macro reach what any file declares, since they mean what they mean where it is called.
+  the words of a macro reach what any file declares, since they mean what they mean where it is called; but not what a file of definitions brings for itself.
 No lemma or definition acts unnamed. By the kit's pages the tactics take the hypotheses and their list (antt/docs/primer-tactics.md, section 4.10: "the
 hypotheses, the lemmas of `L` and the members of the sets that it names"; a `ruleset` "is its list and nothing more"). Where a goal has no answer,
 `tactic(auto)` tries `search rules` and `grind` with sets of std's alone, with what `using(..)` and `unfolding(..)` of its attribute name
@@ -48,6 +50,8 @@ ANYWHERE = "anywhere"
 # what stands between names, in definitions
 BETWEEN = re.compile(r"[\s(){}.;,@\"«»]+")
 BROUGHT = re.compile(r"\buse\b([^;]*)")
+# a line that brings names of one crate by their whole path
+BY_PATH = re.compile(r"(?:\b(?:pub|ghost)\s+)*\buse\s+Rattle\.(\w+)(\.[^;*\n]*)(?:;|$)", re.MULTILINE)
 AFTER = re.compile(r"(?:\.|::)([^\s(){}.;,@\"«»]+)")
 PARTS = re.compile(r"[◌\[\]:|=×→↦]+")
 PLAIN = re.compile(r"\w+")
@@ -59,11 +63,19 @@ def parts_of(word):
     return frozenset(it for it in (word, *PARTS.split(word), *PLAIN.findall(word)) if it)
 
 
+def split(text):
+    """The words of a text, with the parts of each."""
+    return frozenset().union(*map(parts_of, set(BETWEEN.split(text))))
+
+
 def words_of(text):
-    """The words by which a text can name something; and which of these stand after a dot or two colons, or in a `use`."""
-    found = frozenset().union(*map(parts_of, set(BETWEEN.split(text))))
-    after = frozenset().union(*map(parts_of, set(AFTER.findall(text))))
-    return found, after.union(*(words_of(said)[0] for said in BROUGHT.findall(text)))
+    """The words by which a text can name something; which of these stand after a dot or two colons, or in a `use`; and apart from these, by crates, those of
+    lines that bring names of one crate by whole paths."""
+    others, paths = BY_PATH.sub("", text), defaultdict(frozenset)
+    for crate, said in BY_PATH.findall(text):
+        paths[crate] |= split(said)
+    after = frozenset().union(*map(parts_of, set(AFTER.findall(others))))
+    return split(text), after.union(*(split(said) for said in BROUGHT.findall(others))), paths
 
 
 def declared(names):
@@ -357,6 +369,20 @@ def places_in(found):
     return places
 
 
+def brings_of(it):
+    """The names that an item brings, if it is of a `use` line of a source, which brings no ghost."""
+    return it.names if it.file.endswith(".rt") and re.match(r"(?:pub\s*(?:\([^)]*\))?\s+)?use\b", it.text) else frozenset()
+
+
+def called_alone(items):
+    """The names that sources declare of functions and macros alone."""
+    functions, others = set(), set()
+    for it in items:
+        if it.file.endswith(".rt") and not re.search(r"\buse\b", it.text.split("\n")[0]):
+            (functions if it.type == FUNCTION else others).update(it.names)
+    return functions - others
+
+
 class Reach:
     """All items of the crates, and which of them texts reach."""
 
@@ -367,6 +393,7 @@ class Reach:
             self.of_crate[crate] = ((1 << len(its)) - 1) << len(self.items)
             self.items += [(crate, it) for it in its]
         types = {it.type for _, it in self.items} - {"", FUNCTION}
+        called = called_alone(it for _, it in self.items)
         self.world, self.crate, self.local, self.inner, self.own, self.macros, self.any = (defaultdict(int) for _ in range(7))
         self.globs, self.merged = set(), {}
         self.implemented, self.always, self.functions, self.opened = defaultdict(int), 0, 0, defaultdict(set)
@@ -374,14 +401,15 @@ class Reach:
             self.opened[crate, it.file] |= inward(it.text)
             bit = 1 << at
             self.always |= bit if it.always else 0
-            self.functions |= bit if it.type == FUNCTION else 0
+            self.functions |= bit if it.type == FUNCTION or brings_of(it) & called else 0
             if it.impl:
                 self.give_impl(bit, it, types)
             if it.always and re.search(r"\buse\b", it.text):
                 self.globs.add((crate, it.file))
             for name in it.names:
                 self.own[name, crate, it.file] |= bit
-                self.any[name] |= bit
+                # a line that brings a name into a file of definitions, for this file alone, is named by no macro
+                self.any[name] |= 0 if it.sight == FILE and it.text.startswith("use ") and it.file.endswith(".antt") else bit
                 if it.file.endswith(".rt"):
                     self.inner[name, crate] |= bit
                 if it.wide == ANYWHERE:
@@ -409,10 +437,11 @@ class Reach:
     def named(self, text, crate, file, wide=False, calls=False):
         """The items that a text of a file can name: those of its own file and what its `use` lines bring by each word, and any by a word after a dot or two
         colons. By each word any, where the text is `wide`. Functions only where the text `calls` any."""
-        words, after = words_of(text)
+        words, after, paths = words_of(text)
         if wide == ANYWHERE:
             return functools.reduce(lambda found, word: found | self.any.get(word, 0) | self.implemented.get(word, 0), words, 0)
-        wide = wide or (crate, file) in self.globs
+        # a line of that kind by itself names no more
+        wide = (wide or (crate, file) in self.globs) and not BY_PATH.fullmatch(text)
         found, files, crates, is_source = 0, chain(file), [crate, *self.below[crate]], file.endswith(".rt")
         for word in words:
             found |= self.implemented.get(word, 0) | self.own.get((word, crate, file), 0)
@@ -426,6 +455,14 @@ class Reach:
             found |= self.merged[word, crate]
             for it in files:
                 found |= self.local.get((word, crate, it), 0)
+        # of a path what its crate declares, or brings itself; nothing of these crates, where it is one of the kit's
+        for of, said in paths.items():
+            for word in said if of in crates else ():
+                found |= self.world.get((word, of), 0)
+                if of == crate:
+                    found |= self.crate.get((word, crate), 0)
+                    for it in files:
+                        found |= self.local.get((word, crate, it), 0)
         if not calls:
             found &= ~self.functions
         # what a source hides, and functions, through what the kit makes of them
