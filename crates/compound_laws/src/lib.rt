@@ -3,6 +3,7 @@
 //! Each is the contract of a function that does nothing, so that a program or a reader can cite it by name.
 #![tactic(auto)]
 
+mod conforming;
 mod disclosure;
 mod exactness;
 mod lasting;
@@ -10,6 +11,7 @@ mod noted;
 mod opens;
 mod repeats;
 
+pub use conforming::what_is_answered_conforms;
 pub use disclosure::{
     a_lookup_that_tells_names_discloses, operations_disclose_nothing, sessions_disclose_nothing,
 };

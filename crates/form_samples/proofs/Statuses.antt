@@ -3,7 +3,7 @@ use Rattle.std.proofs.Common.{◌≡◌, ◌≢◌, ◌<◌, ◌^◌, ℕ, Bool,
 use Rattle.std.proofs.lemmas.Bool.{ne_eqb, cases_eq}
 use Rattle.nfs_types.specs.declared.status.Status.{Status}
 use Rattle.nfs_types.specs.declared.status.Status.TheVariants as status
-use Rattle.nfs_types.specs.Status.{number_of}
+use Rattle.nfs_types.specs.Status.{number_of, status_at}
 use Rattle.nfs_ops.specs.Items.{item_spelling}
 use Rattle.nfs_ops.specs.Results.{Outcome, Refused, SetAttrRefused, outcome_item, refused, refusal}
 use Rattle.nfs_ops.specs.ResultReading.{refusal_at, result_at}
@@ -14,7 +14,7 @@ abbrev IsKnown : ℕ → Type 0
 IsKnown k = (refusal_at k ≡ Some k) × (k ≢ 0) × (k < 2 ^ 32)
 
 known : (s : Status) → number_of s ≢ 0 → (refusal_at (number_of s) ≡ Some (number_of s)) × (number_of s < 2 ^ 32)
-unfolding refusal_at
+unfolding refusal_at status_at
 known status.Ok other = absurd (other refl)
 known status.Perm other = (refl, lit< tt)
 known status.NoEnt other = (refl, lit< tt)

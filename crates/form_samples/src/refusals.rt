@@ -1,4 +1,4 @@
-//! A law of statuses: the two tables of `nfs_types` and `nfs_ops` agree.
+//! A law of statuses: each refusal that is written is read.
 ghost use Rattle.std.specs.Prelude.{◌≡◌, ◌≢◌, ◌<◌, ◌^◌, ◌++◌, ℕ, List, Some, Ok};
 ghost use Rattle.nfs_types.specs.declared.status.Status.{Status};
 ghost use Rattle.nfs_types.specs.Status.{number_of};
@@ -6,7 +6,7 @@ ghost use Rattle.nfs_ops.specs.Items.{item_spelling};
 ghost use Rattle.nfs_ops.specs.Results.{outcome_item, refused, refusal};
 ghost use Rattle.nfs_ops.specs.ResultReading.{refusal_at, result_at};
 
-/// Each status but OK is in the table by which a client reads statuses (`known`). So what a server
+/// Each status but OK is one that a client reads (`known`). So what a server
 /// writes as a refusal of any operation with any status is read as that refusal, whatever is after
 /// it (`read`). In place of OK a server writes SERVERFAULT.
 #[tactic(auto, using(crate::proofs::Statuses::status_is_read, crate::proofs::Statuses::refusal_is_read))]

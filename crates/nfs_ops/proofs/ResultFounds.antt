@@ -1,21 +1,24 @@
 -- A result that is read is at the front of the bytes.
-use Rattle.std.proofs.Common.{◌≡◌, ◌≢◌, ℕ, Bool, true, false, cond, List, ◌++◌, Option, Some, None, Ok, refl, sym, ap, subst, ◌∙◌, inl, inr, eq-eqb}
+use Rattle.std.proofs.Common.{◌≡◌, ◌≢◌, ℕ, true, cond, List, [], ◌∷◌, ◌++◌, Option, Some, None, Ok, Err, refl, sym, ap, subst, ◌∙◌, inl, inr, eq-eqb}
 use Rattle.std.proofs.lemmas.Bool.{ne_eqb, cases_eq}
-use Rattle.std.specs.Prelude.{◌==◌, nat_lt}
 use Rattle.xdr_wire.specs.Xdr.{Value, uint, pair}
+use Rattle.xdr_wire.specs.declared.fault.XdrFault.TheVariants.{BadChoice}
 use Rattle.xdr_wire.specs.Reading.{◌>>=◌, Read as ReadOf, read_at}
 use Rattle.xdr_wire.specs.Wire.{normalized, in_normal_form, both}
 use Rattle.xdr_wire.proofs.Spelling.{begins_from_read}
 use Rattle.xdr_wire.proofs.Normal.{normal_ok, both_is}
-use Rattle.xdr_wire.proofs.Steps.{bind_ok, ok_is}
+use Rattle.xdr_wire.proofs.Steps.{bind_ok, check_ok, ok_is}
+use Rattle.std.specs.Option.{option_map}
 use Rattle.nfs_types.specs.Forms.{bitmap, trimmed}
+use Rattle.nfs_types.specs.Status.{number_of, all_statuses, of_that_number, status_at}
+use Rattle.nfs_types.specs.declared.status.Status.{Status}
 use Rattle.nfs_ops.specs.Items.{Item, Spelled, done, plain, Stands}
 use Rattle.nfs_ops.specs.Rows.{row, kind_at}
 use Rattle.nfs_ops.specs.Results.{Outcome, Done, Refused, SetAttrRefused, outcome_item}
-use Rattle.nfs_ops.specs.ResultReading.{file_refusal, state_refusal, session_refusal, refusal_at, refused_from, refused_at, behind_status, result_at, done_at, done_of, done_from}
+use Rattle.nfs_ops.specs.ResultReading.{refusal_at, refused_from, refused_at, behind_status, result_at, outcome_conforms, conforming, spelled_of, done_at, done_of, done_from}
 use Rattle.nfs_ops.specs.Readable.{IsResult}
 use Rattle.nfs_ops.specs.declared.op_kind.OpKind.{OpKind}
-use Rattle.nfs_ops.proofs.Numbers.{number_is}
+use Rattle.nfs_ops.proofs.Numbers.{number_is, either}
 use Rattle.nfs_ops.proofs.Founds.{pair_from, same_front}
 use Rattle.nfs_ops.proofs.ResultNexts.{result_is}
 
@@ -34,20 +37,25 @@ plain_found k s op bytes r q rest o is good number_is status_is e =
     let stands : Stands (plain k s) bytes q = ((k, s), begins_from_read (pair uint uint) (k, s) bytes q all_read, refl) in
     subst (λ (y : Outcome × List ℕ). Found y.0 bytes y.1) (ok_is (op, q) (o, rest) e) (good, subst (λ (i : Item). Stands i bytes q) (sym is) stands)
 
+-- a result that is made of a value, and conforms
+taken : {V : Type 0} (read : ReadOf V) (made : V → Outcome) (o : Outcome) (rest : List ℕ) → ((read >>= λ x. Ok (made x.0, x.1)) >>= conforming) ≡ Ok (o, rest)
+    → (x : V × List ℕ) × (read ≡ Ok x) × (outcome_conforms (made x.0) ≡ true) × (◌≡◌ {A = Outcome × List ℕ} (made x.0, x.1) (o, rest))
+taken (Ok x) made o rest e = let t = check_ok (outcome_conforms (made x.0)) BadChoice (Ok (made x.0, x.1)) (o, rest) e in (x, refl, t.0, ok_is (made x.0, x.1) (o, rest) t.1)
+taken (Err fault) made o rest e = absurd cc
+
 done_found : (k : OpKind) (bytes r q rest : List ℕ) (o : Outcome) → read_at uint bytes ≡ Ok ((row k).number, r) → read_at uint r ≡ Ok (0, q) → done_of k q ≡ Ok (o, rest) → Found o bytes rest
-unfolding done_of
+unfolding done_of spelled_of
 done_found k bytes r q rest o number_read status_is e =
     let n : ℕ = (row k).number in
     let g : Spelled = (row k).gives in
-    let a = bind_ok (in_normal_form g.normal (read_at g.form q)) _ (o, rest) e in
-    let same : (Done k a.0.0, a.0.1) ≡ (o, rest) = ok_is (Done k a.0.0, a.0.1) (o, rest) a.2 in
+    let a = taken (in_normal_form g.normal (read_at g.form q)) (λ v. Done k v) o rest e in
     let b = normal_ok g.normal (read_at g.form q) a.0.0 a.0.1 a.1 in
     let value_read : read_at (pair uint g.form) r ≡ Ok ((0, b.0), a.0.1) = pair_from g.form r q a.0.1 0 b.0 status_is b.1 in
     let all_read : read_at (pair uint (pair uint g.form)) bytes ≡ Ok ((n, (0, b.0)), a.0.1) = pair_from (pair uint g.form) bytes r a.0.1 n (0, b.0) number_read value_read in
     let inner : normalized (both None g.normal) (0, b.0) ≡ (0, a.0.0) = both_is None g.normal (0, b.0) ∙ ap (λ (w : Value g.form). (0, w)) b.2 in
     let outer : normalized (both None (both None g.normal)) (n, (0, b.0)) ≡ (n, (0, a.0.0)) = both_is None (both None g.normal) (n, (0, b.0)) ∙ ap (λ (w : ℕ × Value g.form). (n, w)) inner in
     let stands : Stands (done n g a.0.0) bytes a.0.1 = ((n, (0, b.0)), begins_from_read (pair uint (pair uint g.form)) (n, (0, b.0)) bytes a.0.1 all_read, outer) in
-    subst (λ (y : Outcome × List ℕ). Found y.0 bytes y.1) same (tt, stands)
+    subst (λ (y : Outcome × List ℕ). Found y.0 bytes y.1) a.3 (a.2, stands)
 
 kind_found : (n : ℕ) (bytes r q rest : List ℕ) (o : Outcome) (found : Option OpKind) → kind_at n ≡ found → read_at uint bytes ≡ Ok (n, r) → read_at uint r ≡ Ok (0, q)
     → done_from q found ≡ Ok (o, rest) → Found o bytes rest
@@ -61,84 +69,22 @@ all_done_found n bytes r q rest o number_read status_is e = kind_found n bytes r
 
 -- ---- the status that isn't OK is the status that was read
 
-listed : (s k t : ℕ) (y : Option ℕ) → cond (s == k) (Some k) y ≡ Some t → (y ≡ Some t → s ≡ t) → s ≡ t
-listed s k t y e other =
-    elim (cases_eq s k) [
-      | inl eq ↦ let here : Some k ≡ Some t = sym (ap (λ b. cond b (Some k) y) (eq-eqb s k eq)) ∙ e in cc
-      | inr ne ↦ other (sym (ap (λ b. cond b (Some k) y) (ne_eqb s k ne)) ∙ e)
-    ]
+found_status : (those : List Status) (n : ℕ) (s : Status) → of_that_number those n ≡ Some s → n ≡ number_of s
+found_status [] n s e = absurd cc
+found_status (j ∷ those) n s e =
+    either (n ≡ number_of s) n (number_of j) (Some j) (of_that_number those n) (Some s) e
+    (λ eq h. eq ∙ ap (λ (o : Option Status). elim o as (λ w. ℕ) [ Some i ↦ number_of i | None ↦ n ]) h)
+    (λ h. found_status those n s h)
 
-file_same : (s t : ℕ) → file_refusal s ≡ Some t → s ≡ t
-file_same s t e =
-    listed s 1 t _ e (λ e1.
-    listed s 2 t _ e1 (λ e2.
-    listed s 13 t _ e2 (λ e13.
-    listed s 17 t _ e13 (λ e17.
-    listed s 20 t _ e17 (λ e20.
-    listed s 21 t _ e20 (λ e21.
-    listed s 22 t _ e21 (λ e22.
-    listed s 27 t _ e22 (λ e27.
-    listed s 28 t _ e27 (λ e28.
-    listed s 31 t _ e28 (λ e31.
-    listed s 63 t _ e31 (λ e63.
-    listed s 66 t _ e63 (λ e66.
-    listed s 70 t _ e66 (λ e70.
-    absurd cc)))))))))))))
-
-state_same : (s t : ℕ) → state_refusal s ≡ Some t → s ≡ t
-state_same s t e =
-    listed s 10001 t _ e (λ e10001.
-    listed s 10003 t _ e10001 (λ e10003.
-    listed s 10004 t _ e10003 (λ e10004.
-    listed s 10005 t _ e10004 (λ e10005.
-    listed s 10006 t _ e10005 (λ e10006.
-    listed s 10007 t _ e10006 (λ e10007.
-    listed s 10008 t _ e10007 (λ e10008.
-    listed s 10009 t _ e10008 (λ e10009.
-    listed s 10017 t _ e10009 (λ e10017.
-    listed s 10020 t _ e10017 (λ e10020.
-    listed s 10021 t _ e10020 (λ e10021.
-    listed s 10022 t _ e10021 (λ e10022.
-    listed s 10024 t _ e10022 (λ e10024.
-    listed s 10025 t _ e10024 (λ e10025.
-    listed s 10027 t _ e10025 (λ e10027.
-    listed s 10029 t _ e10027 (λ e10029.
-    listed s 10032 t _ e10029 (λ e10032.
-    absurd cc)))))))))))))))))
-
-session_same : (s t : ℕ) → session_refusal s ≡ Some t → s ≡ t
-session_same s t e =
-    listed s 10036 t _ e (λ e10036.
-    listed s 10038 t _ e10036 (λ e10038.
-    listed s 10039 t _ e10038 (λ e10039.
-    listed s 10040 t _ e10039 (λ e10040.
-    listed s 10041 t _ e10040 (λ e10041.
-    listed s 10044 t _ e10041 (λ e10044.
-    listed s 10052 t _ e10044 (λ e10052.
-    listed s 10053 t _ e10052 (λ e10053.
-    listed s 10054 t _ e10053 (λ e10054.
-    listed s 10063 t _ e10054 (λ e10063.
-    listed s 10064 t _ e10063 (λ e10064.
-    listed s 10065 t _ e10064 (λ e10065.
-    listed s 10066 t _ e10065 (λ e10066.
-    listed s 10067 t _ e10066 (λ e10067.
-    listed s 10070 t _ e10067 (λ e10070.
-    listed s 10071 t _ e10070 (λ e10071.
-    listed s 10074 t _ e10071 (λ e10074.
-    listed s 10076 t _ e10074 (λ e10076.
-    listed s 10077 t _ e10076 (λ e10077.
-    listed s 10081 t _ e10077 (λ e10081.
-    listed s 10083 t _ e10081 (λ e10083.
-    absurd cc)))))))))))))))))))))
-
-in_table : (s t : ℕ) (b d : Bool) → cond b (file_refusal s) (cond d (state_refusal s) (session_refusal s)) ≡ Some t → s ≡ t
-in_table s t true d e = file_same s t e
-in_table s t false true e = state_same s t e
-in_table s t false false e = session_same s t e
+of_status : (n t : ℕ) (found : Option Status) → of_that_number all_statuses n ≡ found → option_map number_of found ≡ Some t → n ≡ t
+of_status n t (Some s) is e = let same : number_of s ≡ t = cc in found_status all_statuses n s is ∙ same
+of_status n t None is e = absurd cc
 
 refusal_same : (s t : ℕ) → refusal_at s ≡ Some t → s ≡ t
-unfolding refusal_at
-refusal_same s t e = in_table s t (nat_lt s 100) (nat_lt s 10034) e
+unfolding refusal_at status_at
+refusal_same s t e =
+    either (s ≡ t) s 0 None (option_map number_of (of_that_number all_statuses s)) (Some t) e (λ eq h. absurd cc)
+    (λ h. of_status s t (of_that_number all_statuses s) refl h)
 
 -- a refusal of SETATTR with the bitmap after it
 abbrev with_bitmap : ℕ → List ℕ → ReadOf Outcome

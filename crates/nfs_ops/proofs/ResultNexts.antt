@@ -1,7 +1,8 @@
 -- A result at the front is read.
-use Rattle.std.proofs.Common.{◌≡◌, ℕ, List, ◌++◌, Some, None, Ok, refl, sym, ap, ◌∙◌}
+use Rattle.std.proofs.Common.{◌≡◌, ℕ, Bool, true, cond, List, ◌++◌, Some, None, Ok, Err, refl, sym, ap, ◌∙◌}
 use Rattle.std.proofs.lemmas.Bool.{ne_eqb}
 use Rattle.xdr_wire.specs.Xdr.{Value, uint, pair}
+use Rattle.xdr_wire.specs.declared.fault.XdrFault.TheVariants.{BadChoice}
 use Rattle.xdr_wire.specs.Reading.{◌>>=◌, Read as ReadOf, read_at}
 use Rattle.xdr_wire.specs.Wire.{normalized, in_normal_form, both}
 use Rattle.xdr_wire.proofs.Spelling.{begins_from_read, read_from_begins, again, spelled}
@@ -10,7 +11,7 @@ use Rattle.nfs_types.specs.Forms.{bitmap, trimmed}
 use Rattle.nfs_ops.specs.Items.{Item, Spelled, done, plain, Stands, ItemHasSpelling, ItemIsNormal, item_spelling}
 use Rattle.nfs_ops.specs.Rows.{row}
 use Rattle.nfs_ops.specs.Results.{Outcome, Done, Refused, SetAttrRefused, outcome_item}
-use Rattle.nfs_ops.specs.ResultReading.{refused_at, behind_status, result_at, done_at, done_of, done_from}
+use Rattle.nfs_ops.specs.ResultReading.{refused_at, behind_status, result_at, conforms, conforming, spelled_of, done_at, done_of, done_from}
 use Rattle.nfs_ops.specs.Readable.{IsResult}
 use Rattle.nfs_ops.specs.declared.op_kind.OpKind.{OpKind}
 use Rattle.nfs_ops.proofs.Numbers.{kind_is}
@@ -28,13 +29,14 @@ unfolding result_at
 two_read k s bytes r q e f = ap (λ (m : ReadOf ℕ). m >>= behind_number) e ∙ ap (λ (m : ReadOf ℕ). m >>= behind_both k) f
 
 -- after the number of an operation and OK, its result is read
-done_is : (k : OpKind) (v : Value (row k).gives.form) (r rest : List ℕ) → in_normal_form (row k).gives.normal (read_at (row k).gives.form r) ≡ Ok (v, rest) → behind_status (row k).number 0 r ≡ Ok (Done k v, rest)
-unfolding behind_status done_at done_of
-done_is k v r rest e =
-    ap (done_from r) (kind_is k) ∙ ap (λ (m : ReadOf (Value (row k).gives.form)). m >>= λ x. Ok (Done k x.0, x.1)) e
+done_is : (k : OpKind) (v : Value (row k).gives.form) (r rest : List ℕ) → conforms k v ≡ true → in_normal_form (row k).gives.normal (read_at (row k).gives.form r) ≡ Ok (v, rest) → behind_status (row k).number 0 r ≡ Ok (Done k v, rest)
+unfolding behind_status done_at done_of spelled_of
+done_is k v r rest good e =
+    ap (done_from r) (kind_is k) ∙ ap (λ (m : ReadOf (Value (row k).gives.form)). (m >>= λ x. Ok (Done k x.0, x.1)) >>= conforming) e
+    ∙ ap (λ (b : Bool). let x : ReadOf Outcome = cond b (Ok (Done k v, rest)) (Err BadChoice) in x) good
 
-done_next : (k : OpKind) (w : Value (row k).gives.form) (bytes rest : List ℕ) → Stands (done (row k).number (row k).gives w) bytes rest → result_at bytes ≡ Ok (Done k w, rest)
-done_next k w bytes rest s =
+done_next : (k : OpKind) (w : Value (row k).gives.form) (bytes rest : List ℕ) → conforms k w ≡ true → Stands (done (row k).number (row k).gives w) bytes rest → result_at bytes ≡ Ok (Done k w, rest)
+done_next k w bytes rest good s =
     let n : ℕ = (row k).number in
     let g : Spelled = (row k).gives in
     let p = pair_parts (pair uint g.form) bytes rest s.0 (read_from_begins (pair uint (pair uint g.form)) s.0 bytes rest s.1) in
@@ -44,7 +46,7 @@ done_next k w bytes rest s =
     let number_is : read_at uint bytes ≡ Ok (n, p.0) = p.1 ∙ ap (λ (x : ℕ × (ℕ × Value g.form)). Ok (x.0, p.0)) outer in
     let status_is : read_at uint p.0 ≡ Ok (0, q.0) = q.1 ∙ ap (λ (x : ℕ × Value g.form). Ok (x.0, q.0)) inner in
     let value_is : in_normal_form g.normal (read_at g.form q.0) ≡ Ok (w, rest) = to_normal g.normal (read_at g.form q.0) s.0.1.1 rest q.2 ∙ ap (λ (x : ℕ × Value g.form). Ok (x.1, rest)) inner in
-    two_read n 0 bytes p.0 q.0 number_is status_is ∙ done_is k w q.0 rest value_is
+    two_read n 0 bytes p.0 q.0 number_is status_is ∙ done_is k w q.0 rest good value_is
 
 -- a number and a status, and nothing after them
 plain_next : (k s : ℕ) (bytes rest : List ℕ) → Stands (plain k s) bytes rest → result_at bytes ≡ behind_status k s rest
@@ -67,7 +69,7 @@ setattr_next s bytes rest known stands =
     two_read 34 s bytes p.0 q.0 number_is status_is ∙ rw (ne_eqb s 0 known.1) (rw known.0 (rw set_is refl))
 
 pub result_is : (o : Outcome) (bytes rest : List ℕ) → IsResult o → Stands (outcome_item o) bytes rest → result_at bytes ≡ Ok (o, rest)
-result_is (Done k v) bytes rest known s = done_next k v bytes rest s
+result_is (Done k v) bytes rest known s = done_next k v bytes rest known s
 result_is (Refused n status) bytes rest known s = plain_next n status bytes rest s ∙ refused_next n status rest known
 result_is (SetAttrRefused status) bytes rest known s = setattr_next status bytes rest known s
 

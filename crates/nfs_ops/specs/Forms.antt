@@ -2,7 +2,7 @@
 -- (RFC 8881, section 18; RFC 5662). They have the names of their parts and of the arms of their
 -- unions. A result stands after the number and the status, where the status is OK. The comment at
 -- an operation lists its arguments, and after a ';' its result, where it has one.
-use Rattle.std.specs.Prelude.{ℕ, Bool, ◌+◌, ◌*◌, List, [], ◌∷◌, length, map}
+use Rattle.std.specs.Prelude.{ℕ, Bool, ◌+◌, ◌*◌, List, [], ◌∷◌, length, map, codes}
 use Rattle.std.proofs.Common.{inl, inr}
 use Rattle.std.specs.List.{sum_by}
 use Rattle.xdr_wire.specs.Xdr.{Xdr, Value, padding, void, uint, hyper, boolean, fixed, opaque, array, chain, union, arm, no_more, fields}
@@ -483,6 +483,17 @@ client_owner v = v.1.0
 abbrev pub exchange_id_flags : Value exchange_id_args → ℕ
 exchange_id_flags v = v.1.1.0
 
+-- the server owner's major ID, and the server scope
+abbrev pub told_server : Value exchange_id_result → List ℕ
+told_server v = v.1.1.1.1.1.0
+
+abbrev pub told_scope : Value exchange_id_result → List ℕ
+told_scope v = v.1.1.1.1.1.1.0
+
+-- this server's name, which is both
+abbrev pub SERVER_NAME : List ℕ
+SERVER_NAME = codes "nfs41-lists"
+
 -- channel_attrs4: padding, sizes of request, reply and cached reply, operations, slots, RDMA
 abbrev pub channel : Xdr
 channel = fields (uint ∷ uint ∷ uint ∷ uint ∷ uint ∷ uint ∷ array 1 uint ∷ [])
@@ -571,6 +582,13 @@ highest_slot v = v.1.1.1.0
 -- sa_cachethis
 abbrev pub keeps_reply : Value sequence_args → Bool
 keeps_reply v = v.1.1.1.1
+
+-- sr_highest_slotid and sr_target_highest_slotid
+abbrev pub granted_slot : Value sequence_result → ℕ
+granted_slot v = v.1.1.1.0
+
+abbrev pub target_slot : Value sequence_result → ℕ
+target_slot v = v.1.1.1.1.0
 
 -- DESTROY_CLIENTID (18.50): the client ID
 abbrev pub destroy_clientid_args : Xdr

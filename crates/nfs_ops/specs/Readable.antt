@@ -1,12 +1,13 @@
 -- The results that are read again.
-use Rattle.std.specs.Prelude.{◌≡◌, ◌≢◌, Some}
+use Rattle.std.specs.Prelude.{◌≡◌, ◌≢◌, true, Some}
 use Rattle.nfs_ops.specs.Rows.{row}
 use Rattle.nfs_ops.specs.declared.op_kind.OpKind.TheVariants.{SetAttr}
-use Rattle.nfs_ops.specs.Results.{Outcome, Refused, SetAttrRefused}
-use Rattle.nfs_ops.specs.ResultReading.{refusal_at}
+use Rattle.nfs_ops.specs.Results.{Outcome, Done, Refused, SetAttrRefused}
+use Rattle.nfs_ops.specs.ResultReading.{conforms, refusal_at}
 
--- A refusal has the number of a status that isn't OK, and SETATTR's refusal stands apart.
+-- A result that is OK conforms. A refusal has the number of a status that isn't OK, and SETATTR's
+-- refusal stands apart.
 abbrev pub IsResult : Outcome → Type 0
+IsResult (Done k v) = conforms k v ≡ true
 IsResult (Refused n status) = (refusal_at status ≡ Some status) × (n ≢ (row SetAttr).number) × (status ≢ 0)
 IsResult (SetAttrRefused status) = (refusal_at status ≡ Some status) × (status ≢ 0)
-IsResult _ = Unit {0}

@@ -10,6 +10,9 @@ pub const OP_EXCHANGE_ID: u32 = 42;
 /// The bytes of the server's name.
 pub const MAX_SERVER: u32 = 11;
 
+/// The server's name: the server owner's major ID, and the server scope.
+pub const SERVER_NAME: &[u8] = b"nfs41-lists";
+
 /// Makes a client known, without protection of its state. The arguments of EXCHANGE_ID (RFC 8881, section 18.35).
 #[derive(Clone, Copy)]
 pub struct ExchangeIdArgs<'a> {

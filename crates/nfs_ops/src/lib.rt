@@ -64,7 +64,7 @@ pub use create::{CreateArgs, CreateResult, CreateType, OP_CREATE};
 pub use create_session::{CreateSessionArgs, CreateSessionResult, OP_CREATE_SESSION};
 pub use destroy_clientid::{DestroyClientIdArgs, OP_DESTROY_CLIENTID};
 pub use destroy_session::{DestroySessionArgs, OP_DESTROY_SESSION};
-pub use exchange_id::{ExchangeIdArgs, ExchangeIdResult, MAX_SERVER, OP_EXCHANGE_ID};
+pub use exchange_id::{ExchangeIdArgs, ExchangeIdResult, MAX_SERVER, OP_EXCHANGE_ID, SERVER_NAME};
 pub use getattr::{GetAttrArgs, GetAttrResult, OP_GETATTR, write_getattr};
 pub use getfh::{GetFhResult, OP_GETFH};
 pub use link::{LinkArgs, LinkResult, OP_LINK};

@@ -2,106 +2,28 @@
 ghost use Rattle.std.specs.Prelude.{◌≡◌, option_map, Some};
 ghost use Rattle.xdr_wire.specs.Reading.{Gives};
 ghost use Rattle.nfs_types.specs.Status.{number_of};
-ghost use Rattle.nfs_ops.specs.ResultReading.{result_at, done_at, done_of, refused_from, refused_at, refusal_at};
-ghost use Rattle.nfs_ops.specs.ResultReading.{behind_status};
+ghost use Rattle.nfs_ops.specs.ResultReading.{result_at, done_at, done_of, spelled_of, outcome_conforms};
+ghost use Rattle.nfs_ops.specs.ResultReading.{refused_from, refused_at, refusal_at, behind_status};
 ghost use Rattle.nfs_ops.specs.ResultReading as specs;
 ghost use Rattle.nfs_ops.specs.Views.{read_view};
 
 use crate::OP_SETATTR;
 use crate::always::Zeros;
+use crate::exchange_id::SERVER_NAME;
 use crate::op_kind::{OpKind, rows};
 use crate::op_result::OpResult;
-use nfs_types::{Bitmap, Status};
+use nfs_types::{Bitmap, StateId, Status};
 use xdr_wire::{Reader, Wire, XdrFault};
-
-/// The status of this number below 100 that isn't OK, where there is one.
-fn file_refusal(number: u32) -> Option<Status>
-    ensures { option_map number_of result ≡ specs.file_refusal number }
-{
-    match number {
-        1 => Some(Status::Perm),
-        2 => Some(Status::NoEnt),
-        13 => Some(Status::Access),
-        17 => Some(Status::Exist),
-        20 => Some(Status::NotDir),
-        21 => Some(Status::IsDir),
-        22 => Some(Status::Inval),
-        27 => Some(Status::FBig),
-        28 => Some(Status::NoSpc),
-        31 => Some(Status::MLink),
-        63 => Some(Status::NameTooLong),
-        66 => Some(Status::NotEmpty),
-        70 => Some(Status::Stale),
-        _ => None,
-    }
-}
-
-/// The status of this number up to 10033 that isn't OK, where there is one.
-fn state_refusal(number: u32) -> Option<Status>
-    ensures { option_map number_of result ≡ specs.state_refusal number }
-{
-    match number {
-        10001 => Some(Status::BadHandle),
-        10003 => Some(Status::BadCookie),
-        10004 => Some(Status::NotSupp),
-        10005 => Some(Status::TooSmall),
-        10006 => Some(Status::ServerFault),
-        10007 => Some(Status::BadType),
-        10008 => Some(Status::Delay),
-        10009 => Some(Status::Same),
-        10017 => Some(Status::ClidInUse),
-        10020 => Some(Status::NoFileHandle),
-        10021 => Some(Status::MinorVersMismatch),
-        10022 => Some(Status::StaleClientId),
-        10024 => Some(Status::OldStateId),
-        10025 => Some(Status::BadStateId),
-        10027 => Some(Status::NotSame),
-        10029 => Some(Status::Symlink),
-        10032 => Some(Status::AttrNotSupp),
-        _ => None,
-    }
-}
-
-/// The status of this number from 10034 on that isn't OK, where there is one.
-fn session_refusal(number: u32) -> Option<Status>
-    ensures { option_map number_of result ≡ specs.session_refusal number }
-{
-    match number {
-        10036 => Some(Status::BadXdr),
-        10038 => Some(Status::OpenMode),
-        10039 => Some(Status::BadOwner),
-        10040 => Some(Status::BadChar),
-        10041 => Some(Status::BadName),
-        10044 => Some(Status::OpIllegal),
-        10052 => Some(Status::BadSession),
-        10053 => Some(Status::BadSlot),
-        10054 => Some(Status::CompleteAlready),
-        10063 => Some(Status::SeqMisordered),
-        10064 => Some(Status::SequencePos),
-        10065 => Some(Status::ReqTooBig),
-        10066 => Some(Status::RepTooBig),
-        10067 => Some(Status::RepTooBigToCache),
-        10070 => Some(Status::TooManyOps),
-        10071 => Some(Status::OpNotInSession),
-        10074 => Some(Status::ClientIdBusy),
-        10076 => Some(Status::SeqFalseRetry),
-        10077 => Some(Status::BadHighSlot),
-        10081 => Some(Status::NotOnlyOp),
-        10083 => Some(Status::WrongType),
-        _ => None,
-    }
-}
 
 /// The status of this number (section 15.1), where there is one and it isn't OK.
 #[tactic(auto, unfolding(crate::specs::ResultReading::refusal_at))]
 fn refusal_of(number: u32) -> Option<Status>
     ensures { option_map number_of result ≡ refusal_at number }
 {
-    match number {
-        0..100 => file_refusal(number),
-        100..10_034 => state_refusal(number),
-        _ => session_refusal(number),
+    if number == 0 {
+        return None;
     }
+    Status::of_number(number)
 }
 
 /// Reads the result in a row, if it has one. COMMIT has a verifier without meaning.
@@ -123,11 +45,39 @@ macro_rules! given_of {
     };
 }
 
+/// Reads what the form of an operation's result spells.
+fn read_spelled<'a>(kind: OpKind, reader: &mut Reader<'a>) -> Result<OpResult<'a>, XdrFault>
+    ensures { Gives read_view reader.old reader.new result (spelled_of kind reader.old) }
+{
+    rows!(given_of, kind, reader)
+}
+
+/// Whether a result has the values that rules fix: CLOSE the invalid stateid, EXCHANGE_ID this
+/// server's name twice, and SEQUENCE as its target the highest slot that is granted.
+fn conforms(outcome: &OpResult<'_>) -> bool
+    ensures { result ≡ outcome_conforms (read_view outcome.now) }
+{
+    match outcome {
+        OpResult::Close(given) => given.stateid == StateId::closed(),
+        OpResult::ExchangeId(given) => given.server.bytes == SERVER_NAME
+            && given.scope.bytes == SERVER_NAME,
+        OpResult::Sequence(given) => given.target == given.highest,
+        _ => true,
+    }
+}
+
 /// Reads the result of an operation.
+#[tactic(auto, unfolding(crate::specs::ResultReading::done_of))]
 fn read_done<'a>(kind: OpKind, reader: &mut Reader<'a>) -> Result<OpResult<'a>, XdrFault>
     ensures { Gives read_view reader.old reader.new result (done_of kind reader.old) }
 {
-    rows!(given_of, kind, reader)
+    let mut ahead = reader.fork();
+    let outcome = read_spelled(kind, &mut ahead)?;
+    if !conforms(&outcome) {
+        return Err(XdrFault::BadChoice);
+    }
+    *reader = ahead;
+    Ok(outcome)
 }
 
 /// Reads the result of the operation of this number.
@@ -188,9 +138,12 @@ fn read_behind_status<'a>(
     }
 }
 
-/// Reads a result, as a client does. `BadChoice` where no operation has the number of a result that
-/// is OK, or no status has the number of a status that isn't. A fault leaves the reader where the
-/// result begins.
+/// Reads a result, as a client does. A fault leaves the reader where the result begins. Besides what
+/// the forms refuse, it is `BadChoice` where
+/// - no operation has the number of a result that is OK, or no status that of one that isn't;
+/// - CLOSE returns another stateid than the invalid one (section 18.2.4);
+/// - EXCHANGE_ID returns another server owner or another scope than this server's (2.5, 2.10.4);
+/// - SEQUENCE returns another target than the highest slot that it grants (18.46.3).
 #[tactic(auto, unfolding(crate::specs::ResultReading::result_at))]
 pub fn read_result<'a>(reader: &mut Reader<'a>) -> Result<OpResult<'a>, XdrFault>
     ensures { Gives read_view reader.old reader.new result (result_at reader.old) }

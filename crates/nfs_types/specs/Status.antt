@@ -1,5 +1,5 @@
 -- The outcomes of operations (RFC 8881, section 15.1).
-use Rattle.std.specs.Prelude.{ℕ, List, codes}
+use Rattle.std.specs.Prelude.{ℕ, ◌==◌, if◌then◌else◌, List, [], ◌∷◌, Option, Some, None, codes}
 use Rattle.nfs_types.specs.declared.status.Status.{Status}
 use Rattle.nfs_types.specs.declared.status.Status.TheVariants.{Ok, Perm, NoEnt, Access, Exist, NotDir, IsDir, Inval, FBig, NoSpc, MLink, NameTooLong, NotEmpty, Stale, BadHandle, BadCookie, NotSupp, TooSmall, ServerFault, BadType, Delay, Same, ClidInUse, NoFileHandle, MinorVersMismatch, StaleClientId, OldStateId, BadStateId, NotSame, Symlink, AttrNotSupp, BadXdr, OpenMode, BadOwner, BadChar, BadName, OpIllegal, BadSession, BadSlot, CompleteAlready, SeqMisordered, SequencePos, ReqTooBig, RepTooBig, RepTooBigToCache, TooManyOps, OpNotInSession, ClientIdBusy, SeqFalseRetry, BadHighSlot, NotOnlyOp, WrongType}
 
@@ -57,6 +57,26 @@ number_of SeqFalseRetry = 10076
 number_of BadHighSlot = 10077
 number_of NotOnlyOp = 10081
 number_of WrongType = 10083
+
+-- all of them, by rising number
+abbrev pub all_statuses : List Status
+all_statuses =
+    Ok ∷ Perm ∷ NoEnt ∷ Access ∷ Exist ∷ NotDir ∷ IsDir ∷ Inval ∷ FBig ∷ NoSpc ∷ MLink ∷
+    NameTooLong ∷ NotEmpty ∷ Stale ∷ BadHandle ∷ BadCookie ∷ NotSupp ∷ TooSmall ∷ ServerFault ∷
+    BadType ∷ Delay ∷ Same ∷ ClidInUse ∷ NoFileHandle ∷ MinorVersMismatch ∷ StaleClientId ∷
+    OldStateId ∷ BadStateId ∷ NotSame ∷ Symlink ∷ AttrNotSupp ∷ BadXdr ∷ OpenMode ∷ BadOwner ∷
+    BadChar ∷ BadName ∷ OpIllegal ∷ BadSession ∷ BadSlot ∷ CompleteAlready ∷ SeqMisordered ∷
+    SequencePos ∷ ReqTooBig ∷ RepTooBig ∷ RepTooBigToCache ∷ TooManyOps ∷ OpNotInSession ∷
+    ClientIdBusy ∷ SeqFalseRetry ∷ BadHighSlot ∷ NotOnlyOp ∷ WrongType ∷ []
+
+-- the first of these that has this number
+abbrev pub of_that_number : List Status → ℕ → Option Status
+of_that_number [] n = None
+of_that_number (s ∷ others) n = if n == number_of s then Some s else of_that_number others n
+
+-- the status of a number, if this server has one
+unfoldable pub status_at : ℕ → Option Status
+status_at n = of_that_number all_statuses n
 
 -- the name, without NFS4ERR_
 abbrev pub name_of : Status → List ℕ

@@ -111,13 +111,75 @@ pub enum Status {
 }
 
 impl Status {
-    ghost use Rattle.nfs_types.specs.Status.{number_of, name_of};
+    ghost use Rattle.nfs_types.specs.Status.{number_of, status_at, name_of};
 
     /// The number that stands on the wire.
     pub fn number(self) -> u32
         ensures { result ≡ number_of self }
     {
         self as u32
+    }
+
+    /// The status of a number, if this server has one.
+    #[tactic(auto, unfolding(crate::specs::Status::status_at))]
+    pub fn of_number(number: u32) -> Option<Status>
+        ensures { result ≡ status_at number }
+    {
+        match number {
+            0 => Some(Status::Ok),
+            1 => Some(Status::Perm),
+            2 => Some(Status::NoEnt),
+            13 => Some(Status::Access),
+            17 => Some(Status::Exist),
+            20 => Some(Status::NotDir),
+            21 => Some(Status::IsDir),
+            22 => Some(Status::Inval),
+            27 => Some(Status::FBig),
+            28 => Some(Status::NoSpc),
+            31 => Some(Status::MLink),
+            63 => Some(Status::NameTooLong),
+            66 => Some(Status::NotEmpty),
+            70 => Some(Status::Stale),
+            10_001 => Some(Status::BadHandle),
+            10_003 => Some(Status::BadCookie),
+            10_004 => Some(Status::NotSupp),
+            10_005 => Some(Status::TooSmall),
+            10_006 => Some(Status::ServerFault),
+            10_007 => Some(Status::BadType),
+            10_008 => Some(Status::Delay),
+            10_009 => Some(Status::Same),
+            10_017 => Some(Status::ClidInUse),
+            10_020 => Some(Status::NoFileHandle),
+            10_021 => Some(Status::MinorVersMismatch),
+            10_022 => Some(Status::StaleClientId),
+            10_024 => Some(Status::OldStateId),
+            10_025 => Some(Status::BadStateId),
+            10_027 => Some(Status::NotSame),
+            10_029 => Some(Status::Symlink),
+            10_032 => Some(Status::AttrNotSupp),
+            10_036 => Some(Status::BadXdr),
+            10_038 => Some(Status::OpenMode),
+            10_039 => Some(Status::BadOwner),
+            10_040 => Some(Status::BadChar),
+            10_041 => Some(Status::BadName),
+            10_044 => Some(Status::OpIllegal),
+            10_052 => Some(Status::BadSession),
+            10_053 => Some(Status::BadSlot),
+            10_054 => Some(Status::CompleteAlready),
+            10_063 => Some(Status::SeqMisordered),
+            10_064 => Some(Status::SequencePos),
+            10_065 => Some(Status::ReqTooBig),
+            10_066 => Some(Status::RepTooBig),
+            10_067 => Some(Status::RepTooBigToCache),
+            10_070 => Some(Status::TooManyOps),
+            10_071 => Some(Status::OpNotInSession),
+            10_074 => Some(Status::ClientIdBusy),
+            10_076 => Some(Status::SeqFalseRetry),
+            10_077 => Some(Status::BadHighSlot),
+            10_081 => Some(Status::NotOnlyOp),
+            10_083 => Some(Status::WrongType),
+            _ => None,
+        }
     }
 
     /// The name, without `NFS4ERR_`.

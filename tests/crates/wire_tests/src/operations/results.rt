@@ -47,7 +47,7 @@ pub const COUNT: u32 = 26;
 pub fn bytes_of(index: u32) -> &'static [u8] {
     match index {
         0 => b"\0\0\0\x03\0\0\0\0\0\0\0-\0\0\0\x01",
-        1 => b"\0\0\0\x04\0\0\0\0\0\0\0\x01\0\0\0\0\0\0\0\0\0\0\0\x07",
+        1 => b"\0\0\0\x04\0\0\0\0\xff\xff\xff\xff\0\0\0\0\0\0\0\0\0\0\0\0",
         2 => b"\0\0\0\x05\0\0\0\0\0\0\0\0\0\0\0\0",
         3 =>
             b"\0\0\0\x06\0\0\0\0\0\0\0\x01\0\0\0\0\0\0\0\x05\0\0\0\0\0\0\0\x06\0\0\0\x02\0\0\0\0\0\0\0\x02",
@@ -87,7 +87,9 @@ pub fn result_of(index: u32) -> OpResult<'static> {
             supported: 0x2d,
             granted: 1,
         }),
-        1 => OpResult::Close(CloseResult { stateid: stateid() }),
+        1 => OpResult::Close(CloseResult {
+            stateid: StateId::closed(),
+        }),
         2 => OpResult::Commit,
         3 => OpResult::Create(CreateResult {
             change: change(),

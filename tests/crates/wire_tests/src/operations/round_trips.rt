@@ -106,7 +106,8 @@ fn lent(rt: HostRuntime) {
     }
 }
 
-/// Bytes that are no result: a number of no operation that is OK, an unknown status, a change that isn't atomic, and none.
+/// Bytes that are no result: a number of no operation that is OK, an unknown status, a change that isn't atomic, none,
+/// and what this server doesn't return.
 #[test]
 fn no_results(rt: HostRuntime) {
     for bytes in vectors::no_results() {

@@ -216,12 +216,19 @@ static OTHERS: [(&[u8], Kind); 34] = [
 ];
 
 /// Bytes that are no result.
-static NO_RESULTS: [&[u8]; 5] = [
+static NO_RESULTS: [&[u8]; 9] = [
     b"",
     b"\0\0\0\x0f",
     b"\0\0\x27\x3c\0\0\0\0",
     b"\0\0\0\x0f\0\0\0\x03",
     b"\0\0\0\x0b\0\0\0\0\0\0\0\0\0\0\0\0\0\0\0\x05\0\0\0\0\0\0\0\x06",
+    // CLOSE with the stateid of an open
+    b"\0\0\0\x04\0\0\0\0\0\0\0\x01\0\0\0\0\0\0\0\0\0\0\0\x07",
+    // EXCHANGE_ID with another server owner, and with another scope
+    b"\0\0\0*\0\0\0\0\0\0\0\0\0\0\0\x01\0\0\0\x01\0\x01\0\0\0\0\0\0\0\0\0\0\0\0\0\0\0\0\0\x0bnfs42-lists\0\0\0\0\x0bnfs41-lists\0\0\0\0\0",
+    b"\0\0\0*\0\0\0\0\0\0\0\0\0\0\0\x01\0\0\0\x01\0\x01\0\0\0\0\0\0\0\0\0\0\0\0\0\0\0\0\0\x0bnfs41-lists\0\0\0\0\x0anfs41-list\0\0\0\0\0\0",
+    // SEQUENCE with a target below the highest slot
+    b"\0\0\05\0\0\0\0\0\0\0\0\0\0\0\0\0\0\0\0\0\0\0\x01\0\0\0\x01\0\0\0\0\0\0\0\x07\0\0\0\x06\0\0\0\0",
 ];
 
 pub fn operations() -> &'static [&'static [u8]] {
