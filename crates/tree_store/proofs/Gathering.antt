@@ -11,13 +11,14 @@ use Rattle.tree_changes.specs.Parts.{part}
 use Rattle.tree_changes.specs.Taken.{Takes, TakesAll}
 use Rattle.journal.specs.Frames.{Bytes}
 use Rattle.tree_store.specs.Kept.{Kept}
+use Rattle.tree_store.specs.Folded.{whole_of}
 use Rattle.compound_run.specs.Known.{Known, unknown}
 use Rattle.tree_store.specs.Holds.{ReadsParts, Restores, LeadsWhole, BeginsClients, Begins, LeadsOn, LeadsThrough, Holds}
 use Rattle.tree_store.specs.declared.fault.StoreFault.{StoreFault}
 use Rattle.tree_store.specs.declared.fault.StoreFault.TheVariants.{Failed, Version, Damaged, Memory}
 use Rattle.tree_store.specs.Keeping.{ReadsSo}
-use Rattle.tree_store.specs.Reading.{TakesBytes, TakesSo, RestoresSo, BeginsSo, LeadsWholeSo, BeginsClientsSo, LeadsSo, content_of}
-use Rattle.tree_store.proofs.One.{whole_one, one_reading, takes_one, begins_one, leads_on_one}
+use Rattle.tree_store.specs.Reading.{TakesBytes, TakesSo, RestoresSo, BeginsSo, LeadsWholeSo, BeginsClientsSo, LeadsSo, FindsSo, content_of}
+use Rattle.tree_store.proofs.One.{whole_one, one_reading, takes_one, begins_one, leads_on_one, no_whole_leads}
 use Rattle.tree_store.proofs.Quiet.{IsQuiet, bare_is, replays_quiet, restores_quiet}
 
 -- ---- parts
@@ -193,6 +194,13 @@ clients_fault A parts first second third others Failed is it = it
 clients_fault A parts first second third others Version is it = it
 clients_fault A parts first second third others Damaged is it = clients_not parts first second third others is it
 clients_fault A parts first second third others Memory is it = tt
+
+-- a record of which no whole is found
+pub whole_fault : {X : Type 0} (in_x : X → Bytes) (old : Kept) (bytes : Bytes) (new : Kept) (fault : StoreFault) → FindsSo in_x (whole_of bytes) (Err fault) → LeadsSo old bytes (Err fault) new
+whole_fault in_x old bytes new Failed it = it
+whole_fault in_x old bytes new Version it = it
+whole_fault in_x old bytes new Damaged none = no_whole_leads old bytes none
+whole_fault in_x old bytes new Memory it = tt
 
 pub content_fault : (A : Type 0) (parts records : List Bytes) (found new : Kept) (all : List Bytes) (bytes : Bytes) (left : List Bytes) (fault : StoreFault) → IsReadingOn parts records found all → all ≡ bytes ∷ left → LeadsSo found bytes (Err fault) new → ReadsSo {A = A} (content_of parts records) (Err fault)
 content_fault A parts records found new all bytes left Failed r is it = it

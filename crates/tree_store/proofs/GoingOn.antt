@@ -17,13 +17,15 @@ use Rattle.tree_store.specs.declared.fault.StoreFault.{StoreFault}
 use Rattle.tree_store.specs.declared.fault.StoreFault.TheVariants.{Failed, Version, Damaged, Memory}
 use Rattle.tree_store.specs.Running.{Store}
 use Rattle.tree_store.specs.Kept.{Kept}
-use Rattle.tree_store.specs.Holds.{Holds, LeadsOn, LeadsThrough, IsHeldOr}
+use Rattle.tree_store.specs.Folded.{whole_of}
+use Rattle.tree_store.specs.Holds.{Holds, LeadsWhole, LeadsOn, LeadsThrough, IsHeldOr}
 use Rattle.tree_store.specs.Leaving.{Leaves, Does}
 use Rattle.tree_store.specs.Standing.{Stands}
 use Rattle.tree_store.specs.Reading.{content_of}
 use Rattle.tree_store.specs.Writing.{frame_of, framed_of, RecordGives, IfDone}
 use Rattle.tree_store.proofs.Doing.{does_nothing, does_one, does_two}
 use Rattle.tree_store.proofs.Crashes.{leaves_live}
+use Rattle.tree_store.proofs.Leading.{leads_before}
 use Rattle.tree_store.proofs.Records.{none_written, front_of_none, front_of_one, record_appended, record_torn, record_unsynced, record_synced, written_appended, written_torn, written_unsynced, written_synced, none_loose_synced}
 
 -- ---- a store that stands
@@ -144,10 +146,12 @@ pub nothing_done : {D : Type 0} (adds : Adding D) (store : Store) (kept aim : Ke
 nothing_done adds store kept aim history s after old new same so =
     does_nothing adds store.journal.key history (IsHeldOr kept aim) after old new (stands_leaves store.journal.key history store kept (IsHeldOr kept aim) s (λ c h. inl (c, refl, h))) same so
 
--- the bytes of a record lead on
-pub record_leads : (kept : Kept) (w : World) (old known : Known) (notes bytes : Bytes) → old ≡ kept.1 → Leads old bytes known notes → Replays kept.0 notes w → LeadsOn kept bytes (w, known)
-record_leads kept w old known notes bytes is leads replays = record {
+-- a record leads on, which comes to changes of clients and to notes
+pub record_leads : (kept : Kept) (w : World) (old known : Known) (changes notes bytes : Bytes) → whole_of bytes ≡ Some (changes ++ notes) → old ≡ kept.1 → LeadsWhole old changes known → Replays kept.0 notes w → LeadsOn kept bytes (w, known)
+record_leads kept w old known changes notes bytes whole is leads replays = record {
+  whole = changes ++ notes;
+  whole_is = whole;
   rest = notes;
-  clients = subst (λ (k : Known). Leads k bytes known notes) is leads;
+  clients = subst (λ (k : Known). Leads k (changes ++ notes) known notes) is (leads_before old changes known [] notes leads);
   replays = replays;
 }

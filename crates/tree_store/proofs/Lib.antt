@@ -3,6 +3,8 @@ pub mod Crashes
 pub mod Records
 pub mod Parts
 pub mod One
+pub mod Pieces
+pub mod Leading
 pub mod Quiet
 pub mod Gathering
 pub mod GoingOn

@@ -22,6 +22,7 @@ use Rattle.tree_changes.proofs.Telling.{step_one, kind_in, kind_again, list_in, 
 use Rattle.tree_changes.proofs.Writing.{same_object}
 use Rattle.journal.specs.Frames.{Bytes}
 use Rattle.tree_store.specs.Kept.{Kept}
+use Rattle.tree_store.specs.Folded.{whole_of}
 use Rattle.tree_store.specs.Holds.{LeadsWhole, BeginsClients, ReadsParts, Restores, Begins, LeadsOn, LeadsThrough, HoldsOneLaw}
 
 abbrev value_in : {V : Type 0} → V → Result (V × List ℕ) XdrFault → V
@@ -158,16 +159,47 @@ leads_one old (s ∷ steps) v w r q = leads_one (stepped old s) steps v w r.1 q.
 replays_one : (old : World) (bytes : Bytes) (v w : World) → Replays old bytes v → Replays old bytes w → v ≡ w
 replays_one old bytes v w r q = leads_one old q.steps v w (subst (λ (l : List Step). Leads old l v) (reads_as_one bytes r.steps q.steps r.read q.read) r.leads) q.leads
 
+whole_once : (a b : Bytes) → Some a ≡ Some b → a ≡ b
+whole_once a b e = cc
+
 pub leads_on_one : (old : Kept) (bytes : Bytes) (j k : Kept) → LeadsOn old bytes j → LeadsOn old bytes k → j ≡ k
 leads_on_one old bytes j k r q =
-    let next = front_one old.1 bytes j.1 k.1 r.rest q.rest r.clients q.clients in
+    let whole : r.whole ≡ q.whole = whole_once r.whole q.whole (sym r.whole_is ∙ q.whole_is) in
+    let next = front_one old.1 q.whole j.1 k.1 r.rest q.rest (subst (λ (b : Bytes). LeadsFront old.1 b j.1 r.rest) whole r.clients) q.clients in
     ap (λ (w : World). both w j.1) (replays_one old.0 q.rest j.0 k.0 (subst (λ (b : Bytes). Replays old.0 b j.0) next.1 r.replays) q.replays)
     ∙ ap (λ (n : Known). both k.0 n) next.0
 
--- where the changes after those of clients aren't replayed, a record leads nowhere
-pub lead_on_not : (old : Kept) (bytes reader : Bytes) (a : Known) (rest now : Bytes) → reader ≡ bytes → LeadsFront old.1 reader a rest → now ≡ rest → ((w : World) → Replays old.0 now w → ⊥) → (kept : Kept) → LeadsOn old bytes kept → ⊥
-lead_on_not old bytes reader a rest now same it is not kept l =
-    let rests : rest ≡ l.rest = (front_one old.1 bytes a kept.1 rest l.rest (subst (λ (b : Bytes). LeadsFront old.1 b a rest) same it) l.clients).1 in
+-- a record that has no whole leads nowhere
+pub no_whole_leads : (old : Kept) (bytes : Bytes) → whole_of bytes ≡ None → (kept : Kept) → LeadsOn old bytes kept → ⊥
+no_whole_leads old bytes none kept l = never l.whole (sym none ∙ l.whole_is)
+  where
+    never : (whole : Bytes) → None ≡ Some whole → ⊥
+    never whole e = cc
+
+-- the reader stands before the whole of a record
+pub record WholeAt (bytes reader : Bytes) : Type 0 where
+  pub whole : Bytes
+  pub whole_is : whole_of bytes ≡ Some whole
+  pub same : reader ≡ whole
+
+pub whole_in : (bytes reader : Bytes) → WholeAt bytes reader → whole_of bytes ≡ Some reader
+whole_in bytes reader at = at.whole_is ∙ ap (λ (b : Bytes). Some b) (sym at.same)
+
+pub lead_on_so : (old : Kept) (bytes reader : Bytes) (new : Kept) (rest now : Bytes) → WholeAt bytes reader → LeadsFront old.1 reader new.1 rest → now ≡ rest → Replays old.0 now new.0 → LeadsOn old bytes new
+lead_on_so old bytes reader new rest now at it is replays =
+    record { whole = reader; whole_is = whole_in bytes reader at; rest = rest; clients = it; replays = subst (λ (b : Bytes). Replays old.0 b new.0) is replays }
+
+-- where the changes of clients lead nowhere, a record doesn't
+pub clients_not : (old : Kept) (bytes reader : Bytes) → WholeAt bytes reader → ((a : Known) (rest : Bytes) → LeadsFront old.1 reader a rest → ⊥) → (kept : Kept) → LeadsOn old bytes kept → ⊥
+clients_not old bytes reader at not kept l =
+    let whole : l.whole ≡ reader = whole_once l.whole reader (sym l.whole_is ∙ whole_in bytes reader at) in
+    not kept.1 l.rest (subst (λ (b : Bytes). LeadsFront old.1 b kept.1 l.rest) whole l.clients)
+
+-- nor where the changes after those of clients aren't replayed
+pub lead_on_not : (old : Kept) (bytes reader : Bytes) (a : Known) (rest now : Bytes) → WholeAt bytes reader → LeadsFront old.1 reader a rest → now ≡ rest → ((w : World) → Replays old.0 now w → ⊥) → (kept : Kept) → LeadsOn old bytes kept → ⊥
+lead_on_not old bytes reader a rest now at it is not kept l =
+    let whole : l.whole ≡ reader = whole_once l.whole reader (sym l.whole_is ∙ whole_in bytes reader at) in
+    let rests : rest ≡ l.rest = (front_one old.1 reader a kept.1 rest l.rest it (subst (λ (b : Bytes). LeadsFront old.1 b kept.1 l.rest) whole l.clients)).1 in
     not kept.0 (subst (λ (b : Bytes). Replays old.0 b kept.0) (sym (is ∙ rests)) l.replays)
 
 through_one : (old : Kept) (records : List Bytes) (j k : Kept) → LeadsThrough old records j → LeadsThrough old records k → j ≡ k

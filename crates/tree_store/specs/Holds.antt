@@ -12,6 +12,7 @@ use Rattle.journal.specs.Files.{Content}
 use Rattle.compound_run.specs.Known.{Known, unknown}
 use Rattle.client_changes.specs.Applying.{Leads}
 use Rattle.tree_store.specs.Kept.{Kept}
+use Rattle.tree_store.specs.Folded.{whole_of}
 
 -- these bytes are changes of what is known of clients, and no more
 abbrev pub LeadsWhole : Known → Bytes → Known → Type 0
@@ -46,10 +47,13 @@ abbrev pub Begins : List Bytes → Kept → Type 0
 Begins (first ∷ second ∷ third ∷ parts) kept = BeginsClients first second third kept.1 × Restores None parts kept.0
 Begins parts kept = ⊥
 
--- a record: changes of what is known of clients, and after them changes that lead from one tree to the next
+-- The whole of a record is changes of what is known of clients, and after them changes that lead from one tree to the
+-- next.
 pub record LeadsOn (old : Kept) (bytes : Bytes) (new : Kept) : Type 0 where
+  pub whole : Bytes
+  pub whole_is : whole_of bytes ≡ Some whole
   pub rest : Bytes
-  pub clients : Leads old.1 bytes new.1 rest
+  pub clients : Leads old.1 whole new.1 rest
   pub replays : Replays old.0 rest new.0
 
 -- records that lead on, one after the other

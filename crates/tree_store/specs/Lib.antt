@@ -1,6 +1,7 @@
 pub mod Said
 pub mod Running
 pub mod Kept
+pub mod Folded
 pub mod Holds
 pub mod Leaving
 pub mod Standing

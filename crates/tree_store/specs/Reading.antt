@@ -29,6 +29,10 @@ AnswersSo so never (Err Version) = ⊥
 AnswersSo so never (Err Damaged) = never
 AnswersSo so never (Err Memory) = Unit {0}
 
+-- a step finds these bytes, or that there are none
+abbrev pub FindsSo : {X : Type 0} → (X → Bytes) → Option Bytes → Result X StoreFault → Type 0
+FindsSo bytes_in sought result = AnswersSo (λ x. sought ≡ Some (bytes_in x)) (sought ≡ None) result
+
 abbrev pub LeadsWholeSo : Known → Bytes → Result (Unit {0}) StoreFault → Known → Type 0
 LeadsWholeSo old bytes result new = AnswersSo (λ done. LeadsWhole old bytes new) ((known : Known) → LeadsWhole old bytes known → ⊥) result
 

@@ -3,11 +3,14 @@
 
 mod checkpoint;
 mod fault;
+mod folding;
 mod laws;
 mod opening;
+mod piece;
 mod reading;
 mod record;
 mod store;
+mod unfolding;
 
 pub use fault::StoreFault;
 pub use laws::what_a_store_holds_is_one;

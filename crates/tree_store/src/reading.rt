@@ -6,6 +6,7 @@ ghost use Rattle.tree_store.specs.Reading.{content_of, found_kept};
 
 use crate::fault::StoreFault;
 use crate::opening::Found;
+use crate::unfolding::whole_of;
 use client_changes::{ChangeFault, lead};
 use compound_run::Known;
 use node_tree::{RestoreFault, Restoring, Tree};
@@ -57,20 +58,20 @@ fn restored<A: Allocator + Copy>(alloc: A, parts: &[&[u8]]) -> Result<Tree<A>, S
 
 /// Leads on by changes of what is known of clients, which these bytes are, whole. After a fault
 /// what is known isn't to go on with.
-fn lead_whole<A: Allocator + Copy>(
+pub(crate) fn lead_whole<A: Allocator + Copy>(
     alloc: A,
     known: &mut Known<A>,
     bytes: &[u8],
 ) -> Result<(), StoreFault>
     ensures { LeadsWholeSo known.old bytes.now result known.new }
 {
-    let mut reader = Reader::new(bytes);
-    match lead(known, alloc, &mut reader) {
+    let mut left = Reader::new(bytes);
+    match lead(known, alloc, &mut left) {
         Ok(()) => {}
         Err(ChangeFault::Unfit) => return Err(StoreFault::Damaged),
         Err(ChangeFault::Memory) => return Err(StoreFault::Memory),
     }
-    if !reader.is_empty() {
+    if !left.is_empty() {
         return Err(StoreFault::Damaged);
     }
     Ok(())
@@ -125,7 +126,11 @@ fn lead_on<A: Allocator + Copy>(
 ) -> Result<(), StoreFault>
     ensures { LeadsSo (found_kept found.old) bytes.now result (found_kept found.new) }
 {
-    let mut reader = Reader::new(bytes);
+    let whole = match whole_of(alloc, bytes) {
+        Ok(whole) => whole,
+        Err(fault) => return Err(fault),
+    };
+    let mut reader = Reader::new(whole.as_slice());
     match lead(&mut found.known, alloc, &mut reader) {
         Ok(()) => {}
         Err(ChangeFault::Unfit) => return Err(StoreFault::Damaged),

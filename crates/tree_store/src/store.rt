@@ -13,7 +13,7 @@ ghost use Rattle.tree_store.specs.declared.fault.StoreFault.TheVariants.{Failed}
 use crate::checkpoint::{Place, write_checkpoint};
 use crate::fault::StoreFault;
 use crate::opening::Base;
-use crate::record::{keep_record, leads_to, record_of};
+use crate::record::{TurnRecord, keep_record, leads_to, record_of};
 use client_changes::{Closeness, are_close};
 use compound_run::{Known, Lent};
 use journal::{Disk, Journal};
@@ -121,30 +121,29 @@ impl<A: Allocator + Copy> Store<A> {
         }
     }
 
-    /// Keeps a record of these bytes, which end in the notes.
+    /// Keeps a record.
     fn note<D: Disk>(
         &mut self,
         disk: &mut D,
         alloc: A,
-        bytes: &[u8],
-        notes: &[u8],
+        turn: &TurnRecord<'_, A>,
         now: Lent<'_, A>,
     ) -> Result<(), StoreFault>
         ensures goes_on { (known : KnownSo) × AreSame known (lent_view now.entry) ×
-            ((kept : Kept) (w : World) → Replays kept.0 notes.now w →
+            ((kept : Kept) (w : World) → Replays kept.0 turn.now.notes.now w →
             GoesOn D.adds self.old kept (w, known) result self.new disk.old disk.new) }
         ensures failed { OnErr result (self.new.journal.has_failed ≡ true) }
     {
         let mut journal = self.journal;
         self.journal.has_failed = true;
-        let Ok(()) = leads_to(alloc, &mut self.known, now, bytes, notes) else {
+        let Ok(()) = leads_to(alloc, &mut self.known, now, turn.changes.as_slice()) else {
             return Err(StoreFault::Memory);
         };
-        match keep_record(&mut journal, disk, alloc, bytes) {
+        match keep_record(&mut journal, disk, alloc, turn.folded.as_slice()) {
             Ok(()) => {}
             Err(fault) => return Err(fault),
         }
-        self.records = self.records.saturating_add(bytes.len() as u64);
+        self.records = self.records.saturating_add(turn.folded.len() as u64);
         self.journal = journal;
         Ok(())
     }
@@ -179,13 +178,13 @@ impl<A: Allocator + Copy> Store<A> {
         if self.is_idle(notes, now) {
             return Ok(());
         }
-        let Ok(bytes) = record_of(alloc, self.known.lend(), now, notes) else {
+        let Ok(turn) = record_of(alloc, self.known.lend(), now, notes) else {
             self.journal.has_failed = true;
             return Err(StoreFault::Memory);
         };
-        if self.is_long(bytes.len()) {
+        if self.is_long(turn.folded.len()) {
             return self.renew(disk, alloc, tree, now);
         }
-        self.note(disk, alloc, &bytes, notes, now)
+        self.note(disk, alloc, &turn, now)
     }
 }

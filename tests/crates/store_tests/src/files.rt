@@ -97,6 +97,50 @@ fn files_that_hold_a_tree_or_none(rt: HostRuntime) {
     assert_eq!(rt; tree_outcome(alloc, &[&COUNTERS, &ROOT], Some(&ROOT)), 1);
 }
 
+/// What is answered of a tree and a record of these words.
+fn record_outcome(alloc: Global, words: &[u32]) -> u32 {
+    let mut record = Vec::new(alloc);
+    for word in words {
+        if record.extend_from_slice(&word.to_be_bytes()).is_err() {
+            return 2;
+        }
+    }
+    tree_outcome(alloc, &[&COUNTERS, &ROOT], Some(&record))
+}
+
+/// The number in front of a record that is folded.
+const FOLDED: u32 = 0xffff_ffff;
+
+#[test]
+fn records_that_are_folded_or_not(rt: HostRuntime) {
+    let alloc = rt.alloc();
+    // in front what `NOTHING` says; then the root gets the owner 3 and the group 4 at the tick 2
+    let plain = [0, 1, 0, 7, 0, 1, 3, 4, 0, 2, 0, 0, 0];
+    assert_eq!(rt; record_outcome(alloc, &plain), 0);
+    // the same in one piece, and in three: the second one has the first two words again
+    let whole = [FOLDED, 1, 0, 52, 0, 1, 0, 7, 0, 1, 3, 4, 0, 2, 0, 0, 0];
+    assert_eq!(rt; record_outcome(alloc, &whole), 0);
+    let folded = [
+        FOLDED, 3, 0, 16, 0, 1, 0, 7, 1, 0, 8, 0, 28, 3, 4, 0, 2, 0, 0, 0,
+    ];
+    assert_eq!(rt; record_outcome(alloc, &folded), 0);
+    // no piece, and a piece of nothing
+    assert_eq!(rt; record_outcome(alloc, &[FOLDED, 0]), 1);
+    assert_eq!(rt; record_outcome(alloc, &[FOLDED, 1, 0, 0]), 1);
+    // the last bytes so far again, and one byte past them; they are too few for a record, or no change
+    assert_eq!(rt; record_outcome(alloc, &[FOLDED, 2, 0, 8, 0, 1, 1, 0, 4]), 0);
+    assert_eq!(rt; record_outcome(alloc, &[FOLDED, 2, 0, 8, 0, 1, 1, 4, 4]), 1);
+    assert_eq!(rt; record_outcome(alloc, &[FOLDED, 2, 0, 8, 0, 0, 1, 4, 4]), 0);
+    assert_eq!(rt; record_outcome(alloc, &[FOLDED, 2, 0, 8, 0, 0, 1, 5, 4]), 1);
+    assert_eq!(rt; record_outcome(alloc, &[FOLDED, 2, 0, 8, 0, 0, 1, 0, 9]), 1);
+    assert_eq!(rt; record_outcome(alloc, &[FOLDED, 1, 1, 0, 0]), 1);
+    // a piece of another kind, fewer pieces than the count says, and a word after them
+    assert_eq!(rt; record_outcome(alloc, &[FOLDED, 1, 2, 0, 0]), 1);
+    assert_eq!(rt; record_outcome(alloc, &[FOLDED, 2, 0, 12, 0, 1, 0]), 1);
+    assert_eq!(rt; record_outcome(alloc, &[FOLDED, 1, 0, 12, 0, 1, 0]), 0);
+    assert_eq!(rt; record_outcome(alloc, &[FOLDED, 1, 0, 12, 0, 1, 0, 0]), 1);
+}
+
 #[test]
 fn files_that_hold_clients_or_none(rt: HostRuntime) {
     let alloc = rt.alloc();

@@ -11,6 +11,8 @@ mod crashes;
 #[cfg(test)]
 mod files;
 #[cfg(test)]
+mod folding;
+#[cfg(test)]
 mod heap;
 #[cfg(test)]
 mod large;

@@ -51,5 +51,5 @@ returns-clause-keeps g c =
       e.1,
       λ history kept s f.
           keeps c.args.tree.now e.0 (lent_view c.args.now) e.1 g.D.Disk.adds c.args.self.now c.note.new.self kept c.note.result c.args.disk.now c.note.new.disk history s
-          (e.2 kept (bare c.args.tree.now) (follows kept c.args.tree.now c.in-Some.notes.now f c.in-Some.ensures.0 c.in-Some.ensures.1)) c.note.ensures.failed,
+          (e.2 kept (bare c.args.tree.now) (follows kept c.args.tree.now c.in-Ok.turn.notes.now f c.in-Some.ensures.0 (c.in-Ok.ensures ∙ c.in-Some.ensures.1))) c.note.ensures.failed,
     )

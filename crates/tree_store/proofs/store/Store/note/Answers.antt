@@ -1,13 +1,13 @@
-use Rattle.std.proofs.Common.{◌≡◌, true, refl, Ok, Err, subst, sym}
+use Rattle.std.proofs.Common.{◌≡◌, ◌∙◌, true, refl, ap, Ok, Err, subst}
 use Rattle.node_tree.specs.World.{World}
 use Rattle.tree_changes.specs.Replays.{Replays}
-use Rattle.client_changes.specs.Applying.{Leads}
 use Rattle.compound_run.specs.Views.{lent_view}
 use Rattle.client_changes.proofs.Alike.{same_itself}
 use Rattle.journal.specs.Frames.{Bytes}
 use Rattle.tree_store.specs.Running.{Store}
 use Rattle.tree_store.specs.Kept.{Kept}
-use Rattle.tree_store.specs.Holds.{LeadsOn}
+use Rattle.tree_store.specs.Folded.{whole_of}
+use Rattle.tree_store.specs.Holds.{LeadsWhole, LeadsOn}
 use Rattle.tree_store.specs.Writing.{GoesOn}
 use Rattle.tree_store.proofs.GoingOn.{goes_on, nothing_done, record_leads}
 use Rattle.tree_store.proofs.store.Store.note.Goals as goal
@@ -24,10 +24,12 @@ returns-in-Err-clause-goes_on g c =
     let failed : Store = record { journal = record c.self.inside.journal { has_failed = true }; known = known } in (
       known,
       c.in-Ok.ensures.same,
-      subst (λ (t : Store). (kept : Kept) (w : World) → Replays kept.0 c.args.notes.now w → GoesOn g.D.Disk.adds t kept (w, known) (Err c.in-Err.fault) failed c.args.disk.now c.keep_record.new.disk) c.self.view_is
+      subst (λ (t : Store). (kept : Kept) (w : World) → Replays kept.0 c.args.turn.now.notes.now w → GoesOn g.D.Disk.adds t kept (w, known) (Err c.in-Err.fault) failed c.args.disk.now c.keep_record.new.disk) c.self.view_is
           (λ kept w replays history s.
-          let leads : LeadsOn kept c.args.bytes.now (w, known) = record_leads kept w store.known known c.args.notes.now c.args.bytes.now s.known_is c.in-Ok.ensures.leads replays in
-          goes_on g.D.Disk.adds store failed kept (w, known) c.args.bytes.now leads history s (Err c.in-Err.fault) c.keep_record.new.journal c.args.disk.now c.keep_record.new.disk c.in-Err.ensures (λ is. absurd (never is))),
+          let leads : LeadsOn kept c.as_slice-2.result.now (w, known) =
+          record_leads kept w store.known known c.args.turn.now.changes.items c.args.turn.now.notes.now c.as_slice-2.result.now (ap whole_of c.as_slice-2.ensures.value ∙ c.args.turn.now.whole) s.known_is
+          (subst (λ (b : Bytes). LeadsWhole store.known b known) c.as_slice.ensures.value c.in-Ok.ensures.leads) replays in
+          goes_on g.D.Disk.adds store failed kept (w, known) c.as_slice-2.result.now leads history s (Err c.in-Err.fault) c.keep_record.new.journal c.args.disk.now c.keep_record.new.disk c.in-Err.ensures (λ is. absurd (never is))),
     )
   where
     never : Err c.in-Err.fault ≡ Ok (tt {0}) → ⊥
@@ -40,8 +42,10 @@ returns-clause-goes_on g c =
     let then : Store = record { journal = c.keep_record.new.journal; known = known } in (
       known,
       c.in-Ok.ensures.same,
-      subst (λ (t : Store). (kept : Kept) (w : World) → Replays kept.0 c.args.notes.now w → GoesOn g.D.Disk.adds t kept (w, known) (Ok tt) then c.args.disk.now c.keep_record.new.disk) c.self.view_is
+      subst (λ (t : Store). (kept : Kept) (w : World) → Replays kept.0 c.args.turn.now.notes.now w → GoesOn g.D.Disk.adds t kept (w, known) (Ok tt) then c.args.disk.now c.keep_record.new.disk) c.self.view_is
           (λ kept w replays history s.
-          let leads : LeadsOn kept c.args.bytes.now (w, known) = record_leads kept w store.known known c.args.notes.now c.args.bytes.now s.known_is c.in-Ok.ensures.leads replays in
-          goes_on g.D.Disk.adds store then kept (w, known) c.args.bytes.now leads history s (Ok tt) c.keep_record.new.journal c.args.disk.now c.keep_record.new.disk c.in-Ok-keep_record.ensures (λ is. (refl, refl))),
+          let leads : LeadsOn kept c.as_slice-2.result.now (w, known) =
+          record_leads kept w store.known known c.args.turn.now.changes.items c.args.turn.now.notes.now c.as_slice-2.result.now (ap whole_of c.as_slice-2.ensures.value ∙ c.args.turn.now.whole) s.known_is
+          (subst (λ (b : Bytes). LeadsWhole store.known b known) c.as_slice.ensures.value c.in-Ok.ensures.leads) replays in
+          goes_on g.D.Disk.adds store then kept (w, known) c.as_slice-2.result.now leads history s (Ok tt) c.keep_record.new.journal c.args.disk.now c.keep_record.new.disk c.in-Ok-keep_record.ensures (λ is. (refl, refl))),
     )
