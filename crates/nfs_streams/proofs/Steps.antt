@@ -71,7 +71,7 @@ heard_knows acts i bytes p p' k none is turns fault = (
 )
 
 module _ {A : Type 0} {n : ℕ} {o : Origin} {hub : Hub A} {left : Left} {before : Option (List Act)} (ps : List (Option (Peer A))) (i : ℕ) (p : Peer A) (lt : i < length ps) (st : Standing (Listening n) o hub (set ps i (Some p)) left before) where
-  pub heard : (bytes : List ℕ) (p' : Peer A) (after : Option (List Act)) → AreWaiting hub p.conn [] → p.fault ≡ None → p.ahead ≡ [] → length bytes ≤ 65536 → p.turns < o.limits.reads → Adds before after (Heard i bytes ∷ [])
+  pub heard : (bytes : List ℕ) (p' : Peer A) (after : Option (List Act)) → AreWaiting hub p.conn [] → p.fault ≡ None → p.ahead ≡ [] → length bytes ≤ 131072 → p.turns < o.limits.reads → Adds before after (Heard i bytes ∷ [])
       → p'.conn ≡ p.conn → p'.ahead ≡ bytes → p'.turns ≡ p.turns + 1 → p'.fault ≡ p.fault → Standing (Listening n) o hub (set ps i (Some p')) left after
   heard bytes p' after drained none given short few said conn is turns fault =
       let h = here ps i p lt st.stands in

@@ -15,7 +15,7 @@ use Rattle.nfs_streams.specs.Acts.{Act, Knocked, Admitted, Closed, Heard, Ended,
 
 -- the most bytes of one read
 abbrev pub MAX_READ : ℕ
-MAX_READ = 65536
+MAX_READ = 131072
 
 -- the most bytes of one write
 abbrev pub MAX_WRITTEN : ℕ
@@ -139,7 +139,7 @@ IsKept earlier s = HasKept s.served.state.trail s.served.state.total earlier
 -- The acts that may come after earlier acts. After an end or a failure of a stream only its closing
 -- comes, and nothing after a wait that failed, a trail that couldn't be kept, or a store that
 -- failed. A stream is admitted only just after a stream has knocked, at a free place below 16,
--- while fewer connections are open than may be. At most 65,536 bytes are read at once. Then all
+-- while fewer connections are open than may be. At most 131,072 bytes are read at once. Then all
 -- that was read before of that stream is given, no bytes are pending on its connection, and its
 -- turns aren't used up. A piece begins only where at most 4,096 bytes are pending on its connection.
 -- Bytes are given only to a connection that is whole, of what was read of it, in that order, and no

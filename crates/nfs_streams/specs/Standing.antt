@@ -157,7 +157,8 @@ Changes {A} stage stage' limits place old peer new peer' before after =
 
 -- a read of the stream of a place, and what was read
 abbrev pub ReadGives : ℕ → Moved → List ℕ → Option (List Act) → Option (List Act) → Type 0
-ReadGives place (moved.Bytes n) bytes before after = Adds before after (Heard place bytes ∷ []) × (length bytes ≤ 65536)
+ReadGives place (moved.Bytes n) bytes before after =
+    Adds before after (Heard place bytes ∷ []) × (length bytes ≤ 131072)
 ReadGives place moved.NotYet bytes before after = Adds before after [] × (bytes ≡ [])
 ReadGives place moved.Over bytes before after = Adds before after (Ended place ∷ []) × (bytes ≡ [])
 ReadGives place moved.Failed bytes before after = Adds before after (Unread place ∷ []) × (bytes ≡ [])

@@ -6,7 +6,7 @@ use std::alloc::{AllocError, Allocator};
 use std::marker::Model;
 
 /// The most bytes of one read.
-const MAX_READ: usize = 65_536;
+const MAX_READ: usize = 131_072;
 
 /// The bytes that were read of a stream and aren't given yet, in their order. Its memory, for one
 /// read, is taken as it is made.
@@ -24,7 +24,7 @@ impl<A: Allocator + Copy> Model for Ahead<A> {
 
     ghost view = { λ a. slice_range a.bytes.items a.from a.to };
 
-    ghost invariant = { λ a. (a.from ≤ a.to) × (a.to ≤ length a.bytes.items) × (length a.bytes.items ≡ 65536) };
+    ghost invariant = { λ a. (a.from ≤ a.to) × (a.to ≤ length a.bytes.items) × (length a.bytes.items ≡ 131072) };
 }
 
 impl<A: Allocator + Copy> Ahead<A> {
@@ -49,7 +49,7 @@ impl<A: Allocator + Copy> Ahead<A> {
         self.from == self.to
     }
 
-    /// Reads of the stream of a place at most 65,536 bytes, where none are left.
+    /// Reads of the stream of a place at most 131,072 bytes, where none are left.
     pub(crate) fn read<S: Streams<A>>(&mut self, streams: &mut S, place: usize) -> Moved
         ensures { ReadGives place result self.new (S.acts streams.old) (S.acts streams.new) }
     {

@@ -222,7 +222,7 @@ fn free_places<A: Allocator + Copy>(alloc: A) -> Result<Vec<Option<Peer<A>>, A>,
 /// opened and are closed, or for `limits.turns` waits. Then it lets go all streams still open. One
 /// place serves them one after the other.
 ///
-/// A turn waits once. Then at each place at most 65,536 bytes are read, if all that was read before
+/// A turn waits once. Then at each place at most 131,072 bytes are read, if all that was read before
 /// is given and no reply of that connection waits to be written. Or a stream that has come is
 /// admitted, if the place is free. It is asked for another book of names, and one that has come is
 /// loaded. So each call whose last byte is read after a book had come is judged by that book. What
@@ -244,7 +244,7 @@ fn free_places<A: Allocator + Copy>(alloc: A) -> Result<Vec<Option<Peer<A>>, A>,
 /// says how each ended. It may be that the limit of open connections is reached, another stream has
 /// come, and room is to be made. Then the stream of which no bytes were read or written for longest
 /// is let go, if for two seconds of the clock none were. Until then the other stream waits outside.
-/// So does a stream that can't be taken, or for which there is no memory: a connection takes 65,536
+/// So does a stream that can't be taken, or for which there is no memory: a connection takes 131,072
 /// bytes of `alloc` besides what the hub takes. It is tried again in the next turn, which comes
 /// within a second.
 pub fn serve_all<A: Allocator + Copy, S: Streams<A>, C: Clock>(

@@ -52,14 +52,14 @@ fn deaf(alloc: Global, hasher: RandomState, piece: usize) -> Result<(usize, u64)
     ))
 }
 
-/// Of 4,096 bytes that are read of a peer that never reads all are given: 37 calls of 108 bytes, and a part of one. Of 65,536 bytes 57 calls are given
+/// Of 4,096 bytes that are read of a peer that never reads all are given: 37 calls of 108 bytes, and a part of one. Of 131,072 bytes 57 calls are given
 /// until more than 4,096 bytes wait, since a reply has 72; and then what is left of the piece that began with the last of them: 36 calls and a part of one.
 #[test]
 fn one_piece_is_given_while_replies_wait(rt: HostRuntime) -> Result<(), Fail> {
     let hasher = RandomState::new(&rt)?;
     assert_eq!(rt; deaf(rt.alloc(), hasher, 4096)?, (4096, 38));
-    assert_eq!(rt; deaf(rt.alloc(), hasher, 65_536)?, (65_536, 94));
-    assert_eq!(rt; deaf(rt.alloc(), hasher, 70_000)?, (65_536, 94));
+    assert_eq!(rt; deaf(rt.alloc(), hasher, 131_072)?, (131_072, 94));
+    assert_eq!(rt; deaf(rt.alloc(), hasher, 140_000)?, (131_072, 94));
     Ok(())
 }
 
