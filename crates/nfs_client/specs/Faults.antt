@@ -1,8 +1,7 @@
 -- The numbers of a client's faults.
 use Rattle.std.specs.Prelude.{ℕ}
 use Rattle.nfs_client.specs.declared.fault.ToolFault.{ToolFault}
-use Rattle.nfs_client.specs.declared.fault.ToolFault.TheVariants.{Path, Refused, Reply, Read, Write, Memory, Entry}
-use Rattle.nfs_client.specs.declared.fault.ToolFault.TheVariants.{Failed}
+use Rattle.nfs_client.specs.declared.fault.ToolFault.TheVariants.{Path, Refused, Reply, Read, Write, Memory, Entry, Failed}
 
 abbrev pub number_of : ToolFault → ℕ
 number_of Path = 1

@@ -1,8 +1,7 @@
 //! Results by hand (RFC 8881, section 18, and RFC 5662).
 use nfs_ops::{
-    AccessResult, ChangeInfo, Channel, CloseResult, CommitResult, CreateResult,
-    CreateSessionResult, LinkResult, OpResult, OpenResult, RemoveResult, RenameResult,
-    SequenceResult, SetAttrResult, WriteResult,
+    AccessResult, ChangeInfo, Channel, CloseResult, CreateResult, CreateSessionResult, LinkResult,
+    OpResult, OpenResult, RemoveResult, RenameResult, SequenceResult, SetAttrResult, WriteResult,
 };
 use nfs_types::{Bitmap, StateId, Status};
 
@@ -91,7 +90,7 @@ pub fn result_of(index: u32) -> OpResult<'static> {
         1 => OpResult::Close(CloseResult {
             stateid: StateId::closed(),
         }),
-        2 => OpResult::Commit(CommitResult),
+        2 => OpResult::Commit,
         3 => OpResult::Create(CreateResult {
             change: change(),
             set: mode(),
