@@ -37,7 +37,8 @@ removal parent target Unmentioned Unmentioned add = answer parent ADD_FILE add
 abbrev pub decision : Lists → Identity → Demand → Decision
 decision lists caller (Bits object mask) = answer object mask (verdict_at lists caller object mask)
 decision lists caller (Removal parent target) =
-    removal parent target (mention_at lists caller target places.delete) (mention_at lists caller parent places.delete_child) (verdict_at lists caller parent ADD_FILE)
+    removal parent target (mention_at lists caller target places.delete)
+    (mention_at lists caller parent places.delete_child) (verdict_at lists caller parent ADD_FILE)
 
 abbrev pub is_granted : Decision → Bool
 is_granted Granted = true

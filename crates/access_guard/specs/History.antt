@@ -23,7 +23,8 @@ IsLookUp capacity (key, sum) old new =
 -- look-ups one after another
 abbrev pub AreLookUps : ℕ → List (Key × Summary) → List (Key × Summary) → List (Key × Summary) → Type 0
 AreLookUps capacity [] old new = new ≡ old
-AreLookUps capacity (look ∷ more) old new = (between : List (Key × Summary)) × IsLookUp capacity look old between × AreLookUps capacity more between new
+AreLookUps capacity (look ∷ more) old new =
+    (between : List (Key × Summary)) × IsLookUp capacity look old between × AreLookUps capacity more between new
 
 -- the look-up of an object, if it is there
 abbrev pub looks_at : Lists → Asker → ℕ → List (Key × Summary)

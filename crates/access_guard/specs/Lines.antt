@@ -79,7 +79,9 @@ abbrev pub demand_lines : Lists → Identity → ℕ → Bool → Demand → Lis
 demand_lines lists caller op granted (Bits object mask) = watch_lines lists caller op granted object mask
 demand_lines lists caller op granted (Removal parent target) =
     watch_lines lists caller op granted target DELETE
-    ++ watch_lines lists caller op granted parent (parent_mask (mention_at lists caller target places.delete) (mention_at lists caller parent places.delete_child))
+    ++ watch_lines lists caller op granted parent
+    (parent_mask (mention_at lists caller target places.delete)
+    (mention_at lists caller parent places.delete_child))
 
 -- the lines of a decision: those of the entries that watch, then on refusal the DENY line
 abbrev pub lines : Lists → Identity → ℕ → Demand → List Line

@@ -1,5 +1,6 @@
 -- The summaries that a guard remembers, their agreement with a tree and a book, and how many entries it has looked at.
-use Rattle.std.specs.Prelude.{◌≡◌, ◌⊎◌, ℕ, ◌+◌, ◌-◌, ◌^◌, ◌<◌, ◌≤◌, min, Bool, false, ◌&&◌, ◌||◌, if◌then◌else◌, List, ◌∷◌, length, take, Option, Some, None, Contains, MatchOption}
+use Rattle.std.specs.Prelude.{◌≡◌, ◌⊎◌, ℕ, ◌+◌, ◌-◌, ◌^◌, ◌<◌, ◌≤◌, min, Bool, false, ◌&&◌, ◌||◌, if◌then◌else◌, List}
+use Rattle.std.specs.Prelude.{◌∷◌, length, take, Option, Some, None, Contains, MatchOption}
 use Rattle.std.specs.Map.{lookup}
 use Rattle.lru.specs.LruCache.{promoted}
 use Rattle.rpc_record.specs.Identity.{Identity}
@@ -31,7 +32,8 @@ pub record Memory : Type 0 where
 pub record Agrees (remembered : List (Key × Summary)) (book : Content) (epoch : ℕ) (w : World) : Type 0 where
   pub known : (key : Key) (sum : Summary) → Contains remembered (key, sum) → key.stamp < w.next_stamp
   pub past : (key : Key) (sum : Summary) → Contains remembered (key, sum) → key.epoch ≤ epoch
-  pub now : (key : Key) (sum : Summary) → Contains remembered (key, sum) → key.epoch ≡ epoch → (number : ℕ) (j : Judged) → judged_of w number ≡ Some j → j.stamp ≡ key.stamp
+  pub now : (key : Key) (sum : Summary) → Contains remembered (key, sum) → key.epoch ≡ epoch
+      → (number : ℕ) (j : Judged) → judged_of w number ≡ Some j → j.stamp ≡ key.stamp
       → sum ≡ sum_of j (member book key.caller)
 
 -- ---- look-ups
@@ -57,7 +59,8 @@ learnt key sum m = record m { remembered = (key, sum) ∷ take (m.capacity - 1) 
 abbrev pub LooksUp : Judged → Asker → Memory → Memory → Type 0
 LooksUp j asker old new =
     MatchOption (lookup (is_key (key_of j asker)) old.remembered)
-    ((new ≡ learnt (key_of j asker) (sum_of j (member_of asker)) (examined_more (length j.list) old)) ⊎ (new ≡ examined_more (length j.list) old))
+    ((new ≡ learnt (key_of j asker) (sum_of j (member_of asker)) (examined_more (length j.list) old))
+    ⊎ (new ≡ examined_more (length j.list) old))
     (λ sum. new ≡ used (key_of j asker) old)
 
 -- an object that isn't there isn't looked up
@@ -84,7 +87,8 @@ abbrev pub tells_removal : Option Summary → Option Summary → Bool
 tells_removal None on_parent = false
 tells_removal (Some on_target) None = false
 tells_removal (Some on_target) (Some on_parent) =
-    (grants on_target DELETE || grants on_parent DELETE_CHILD) && (is_quiet on_target DELETE && is_quiet on_parent DELETE_CHILD)
+    (grants on_target DELETE || grants on_parent DELETE_CHILD)
+    && (is_quiet on_target DELETE && is_quiet on_parent DELETE_CHILD)
 
 abbrev pub is_told : Lists → Identity → Demand → Bool
 is_told lists caller (Bits object mask) = tells (sum_at lists caller object) mask
@@ -93,9 +97,11 @@ is_told lists caller (Removal parent target) = tells_removal (sum_at lists calle
 -- the entries of the lists that a demand is about are looked at
 abbrev pub walked : Lists → Demand → Memory → Memory
 walked lists (Bits object mask) m = examined_more (entries_at lists object) m
-walked lists (Removal parent target) m = examined_more (entries_at lists parent) (examined_more (entries_at lists target) m)
+walked lists (Removal parent target) m =
+    examined_more (entries_at lists parent) (examined_more (entries_at lists target) m)
 
 -- The memory after a decision: its look-ups, and where the summaries don't tell it a walk over its lists.
 abbrev pub Decides : Lists → Asker → Demand → Memory → Memory → Type 0
 Decides lists asker demand old new =
-    (between : Memory) × LooksUpFor lists asker demand old between × (new ≡ (if is_told lists (member_of asker) demand then between else walked lists demand between))
+    (between : Memory) × LooksUpFor lists asker demand old between
+    × (new ≡ (if is_told lists (member_of asker) demand then between else walked lists demand between))

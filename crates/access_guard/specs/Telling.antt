@@ -22,16 +22,20 @@ IsAllow m = (index : ℕ) × (m ≡ AllowedBy index)
 -- the demand is granted, and a removal by DELETE or by DELETE_CHILD
 abbrev pub IsAllowed : Lists → Identity → Demand → Type 0
 IsAllowed lists caller (Bits object mask) = verdict_at lists caller object mask ≡ Granted
-IsAllowed lists caller (Removal parent target) = IsAllow (mention_at lists caller target places.delete) ⊎ IsAllow (mention_at lists caller parent places.delete_child)
+IsAllowed lists caller (Removal parent target) =
+    IsAllow (mention_at lists caller target places.delete)
+    ⊎ IsAllow (mention_at lists caller parent places.delete_child)
 
 -- the object is there, and no entry of its list watches a bit of the mask for success
 abbrev pub IsQuietAt : Lists → Identity → ℕ → ℕ → Type 0
-IsQuietAt lists caller object mask = MatchOption (lists object) ⊥ (λ j. All (λ e. watched_bits (names j caller) places.successful mask e ≡ 0) j.list)
+IsQuietAt lists caller object mask =
+    MatchOption (lists object) ⊥ (λ j. All (λ e. watched_bits (names j caller) places.successful mask e ≡ 0) j.list)
 
 -- no entry watches a bit of the demand for success
 abbrev pub IsQuiet : Lists → Identity → Demand → Type 0
 IsQuiet lists caller (Bits object mask) = IsQuietAt lists caller object mask
-IsQuiet lists caller (Removal parent target) = IsQuietAt lists caller target DELETE × IsQuietAt lists caller parent DELETE_CHILD
+IsQuiet lists caller (Removal parent target) =
+    IsQuietAt lists caller target DELETE × IsQuietAt lists caller parent DELETE_CHILD
 
 -- each of the look-ups is of a summary that is remembered
 abbrev pub AreHits : List (Key × Summary) → List (Key × Summary) → Type 0

@@ -54,7 +54,13 @@ impl<A: Allocator> Model for GuardedTree<A> {
 
     ghost Value = { Guarded };
 
-    ghost view = { λ t. record { world = t.tree; book = t.book; epoch = t.epoch; log = t.guard.log; capacity = t.guard.memory.capacity } };
+    ghost view = { λ t. record {
+      world = t.tree;
+      book = t.book;
+      epoch = t.epoch;
+      log = t.guard.log;
+      capacity = t.guard.memory.capacity;
+    } };
 
     ghost invariant = { λ t. Agrees t.guard.memory.remembered t.book t.epoch t.tree };
 }
@@ -85,7 +91,9 @@ impl<A: Allocator + Copy> GuardedTree<A> {
     pub fn decide(&mut self, demand: Demand, caller: &Caller, op: u32) -> Decision
         requires { length self.old.log.held + most_lines demand ≤ MOST_HELD }
         ensures decision { result ≡ decision (judged_of self.old.world) (member self.old.book caller.now) demand }
-        ensures state { self.new ≡ record self.old { log = held (lines (judged_of self.old.world) (member self.old.book caller.now) op demand) self.old.log } }
+        ensures state { self.new ≡ record self.old {
+          log = held (lines (judged_of self.old.world) (member self.old.book caller.now) op demand) self.old.log;
+        } }
         ensures few { IsTrue (is_granted result) →
             length self.new.log.held + 1 ≤ length self.old.log.held + most_lines demand }
     {
@@ -181,7 +189,9 @@ impl<A: Allocator + Copy> GuardedTree<A> {
 
     /// As [`Tree::clear_notes`].
     pub fn clear_notes(&mut self)
-        ensures { self.new ≡ record self.old { world = record self.old.world { notes = cleared self.old.world.notes } } }
+        ensures { self.new ≡ record self.old {
+          world = record self.old.world { notes = cleared self.old.world.notes };
+        } }
     {
         self.tree.clear_notes();
     }
@@ -318,7 +328,9 @@ impl<A: Allocator + Copy> GuardedTree<A> {
         ensures refused { MatchOption (add_refusal self.old.world directory name.now)
             (IsOkUnless result TreeFault.Memory) (λ fault. result ≡ Err fault) }
         ensures number { IfOk result (λ number. number ≡ self.old.world.next_number) }
-        ensures ok { OnOk result (self.new ≡ record self.old { world = with_new self.old.world directory name.now (made new self.old.world.next_stamp at) at }) }
+        ensures ok { OnOk result (self.new ≡ record self.old {
+          world = with_new self.old.world directory name.now (made new self.old.world.next_stamp at) at;
+        }) }
         ensures err { OnErr result (self.new ≡ self.old) }
     {
         self.tree.add(directory, name, new, at)
@@ -372,7 +384,9 @@ impl<A: Allocator + Copy> GuardedTree<A> {
             moved.target ≡ true }
         requires space { may_move (name_count self.old.world.names moved.to) self.old.world.next_cookie moved.from
             moved.to moved.target ≡ true }
-        ensures ok { OnOk result (self.new ≡ record self.old { world = renamed self.old.world moved.entry.from moved.entry.old.now moved.entry.to moved.entry.new.now at }) }
+        ensures ok { OnOk result (self.new ≡ record self.old {
+          world = renamed self.old.world moved.entry.from moved.entry.old.now moved.entry.to moved.entry.new.now at;
+        }) }
         ensures err { OnErr result (self.new ≡ self.old) }
     {
         self.tree.rename(moved, at)

@@ -27,25 +27,33 @@ pub fn changes_keep_agreement()
 pub fn reloads_keep_agreement()
     ensures agrees { (remembered : List (Key × Summary)) (old new : Content) (epoch : ℕ) (w : World) →
         Agrees remembered old epoch w → Agrees remembered new (epoch + 1) w }
-    ensures anew { (remembered : List (Key × Summary)) (old : Content) (epoch : ℕ) (w : World) → Agrees remembered old epoch w →
+    ensures anew { (remembered : List (Key × Summary)) (old : Content) (epoch : ℕ) (w : World)
+        → Agrees remembered old epoch w →
         (j : Judged) (asker : Asker) → asker.epoch ≡ epoch + 1 → lookup (is_key (key_of j asker)) remembered ≡ None }
 {}
 
 /// The summaries that are remembered after any list of calls are those after their look-ups, one after another.
 pub fn calls_are_their_look_ups()
-    ensures decision { (lists : Lists) (asker : Asker) (demand : Demand) (old new : Memory) → Decides lists asker demand old new →
-        AreLookUps old.capacity (looks_for lists asker demand) old.remembered new.remembered × (new.capacity ≡ old.capacity) }
-    ensures grants { (lists : Lists) (asker : Asker) (object : ℕ) (old new : Memory) → LooksUpAt lists asker object old new →
-        AreLookUps old.capacity (looks_at lists asker object) old.remembered new.remembered × (new.capacity ≡ old.capacity) }
+    ensures decision { (lists : Lists) (asker : Asker) (demand : Demand) (old new : Memory)
+        → Decides lists asker demand old new →
+        AreLookUps old.capacity (looks_for lists asker demand) old.remembered new.remembered
+        × (new.capacity ≡ old.capacity) }
+    ensures grants { (lists : Lists) (asker : Asker) (object : ℕ) (old new : Memory)
+        → LooksUpAt lists asker object old new →
+        AreLookUps old.capacity (looks_at lists asker object) old.remembered new.remembered
+        × (new.capacity ≡ old.capacity) }
     ensures in_turn { (capacity : ℕ) (first second : List (Key × Summary)) (old between new : List (Key × Summary)) →
-        AreLookUps capacity first old between → AreLookUps capacity second between new → AreLookUps capacity (first ++ second) old new }
+        AreLookUps capacity first old between → AreLookUps capacity second between new
+        → AreLookUps capacity (first ++ second) old new }
 {}
 
 /// A look-up that finds no summary counts at least the whole list, and a look-up that finds one counts nothing.
 pub fn misses_are_counted()
-    ensures miss { (j : Judged) (asker : Asker) (old new : Memory) → LooksUp j asker old new → lookup (is_key (key_of j asker)) old.remembered ≡ None →
+    ensures miss { (j : Judged) (asker : Asker) (old new : Memory) → LooksUp j asker old new
+        → lookup (is_key (key_of j asker)) old.remembered ≡ None →
         new.examined ≡ min (old.examined + length j.list) (2 ^ 64 - 1) }
-    ensures hit { (j : Judged) (asker : Asker) (old new : Memory) → LooksUp j asker old new → IsSome (lookup (is_key (key_of j asker)) old.remembered) →
+    ensures hit { (j : Judged) (asker : Asker) (old new : Memory) → LooksUp j asker old new
+        → IsSome (lookup (is_key (key_of j asker)) old.remembered) →
         new.examined ≡ old.examined }
 {}
 
@@ -53,9 +61,12 @@ pub fn misses_are_counted()
 /// at no entry. A removal that is granted by ADD_FILE alone is excepted.
 pub fn quiet_hits_count_nothing()
     ensures bits { (lists : Lists) (asker : Asker) (object mask : ℕ) (old new : Memory) → mask < 2 ^ 32 →
-        IsAllowed lists (member_of asker) (Bits object mask) → IsQuiet lists (member_of asker) (Bits object mask) → AreHits (looks_for lists asker (Bits object mask)) old.remembered →
+        IsAllowed lists (member_of asker) (Bits object mask) → IsQuiet lists (member_of asker) (Bits object mask)
+        → AreHits (looks_for lists asker (Bits object mask)) old.remembered →
         Decides lists asker (Bits object mask) old new → new.examined ≡ old.examined }
     ensures removal { (lists : Lists) (asker : Asker) (parent target : ℕ) (old new : Memory) →
-        IsAllowed lists (member_of asker) (Removal parent target) → IsQuiet lists (member_of asker) (Removal parent target) → AreHits (looks_for lists asker (Removal parent target)) old.remembered →
+        IsAllowed lists (member_of asker) (Removal parent target)
+        → IsQuiet lists (member_of asker) (Removal parent target)
+        → AreHits (looks_for lists asker (Removal parent target)) old.remembered →
         Decides lists asker (Removal parent target) old new → new.examined ≡ old.examined }
 {}

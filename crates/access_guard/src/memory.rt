@@ -133,7 +133,8 @@ impl<A: Allocator + Copy> Summaries<A> {
         capacity: NonZeroUsize,
         hasher: RandomState,
     ) -> Result<Self, AllocError>
-        ensures { IfOk result (λ m. m ≡ record { capacity = non_zero_usize_get capacity; remembered = []; examined = 0 }) }
+        ensures { IfOk result
+            (λ m. m ≡ record { capacity = non_zero_usize_get capacity; remembered = []; examined = 0 }) }
     {
         Ok(Summaries {
             pairs: LruCache::with_hasher(alloc, capacity, hasher)?,

@@ -21,12 +21,17 @@ right supported r grants bit = if (bit_and supported r == 0) || (bit_and grants 
 -- DELETE_CHILD, EXECUTE by EXECUTE
 abbrev pub granted_rights : ℕ → ℕ → ℕ
 granted_rights supported grants =
-    bit_or (bit_or (bit_or (bit_or (bit_or (right supported 0x01 grants mask.READ_DATA) (right supported 0x02 grants mask.EXECUTE))
+    bit_or (bit_or (bit_or (bit_or (bit_or
+    (right supported 0x01 grants mask.READ_DATA) (right supported 0x02 grants mask.EXECUTE))
     (right supported 0x04 grants mask.WRITE_DATA)) (right supported 0x08 grants mask.APPEND_DATA))
     (right supported 0x10 grants mask.DELETE_CHILD)) (right supported 0x20 grants mask.EXECUTE)
 
 abbrev pub rights_of : Kind → ℕ → ℕ → Rights
-rights_of kind asked grants = record { supported = bit_and asked (meaningful kind); granted = granted_rights (bit_and asked (meaningful kind)) grants }
+rights_of kind asked grants =
+    record {
+      supported = bit_and asked (meaningful kind);
+      granted = granted_rights (bit_and asked (meaningful kind)) grants;
+    }
 
 -- Each right is in the granted word exactly where it is supported and the list allows the bit of
 -- the mask that it takes, by the bit's place. No other bit is there.

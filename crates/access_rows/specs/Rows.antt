@@ -1,17 +1,21 @@
 -- The bits that each operation demands of the lists (RFC 8881, sections 6.2.1.3.1 and 18): a line
 -- for each operation, by its number.
-use Rattle.std.specs.Prelude.{ℕ, ◌+◌, ◌%◌, Bool, true, false, ◌==◌, ◌&&◌, ◌||◌, nat_le, if◌then◌else◌, List, [], ◌∷◌, length, Option, Some, None, bit_or}
+use Rattle.std.specs.Prelude.{ℕ, ◌+◌, ◌%◌, Bool, true, false, ◌==◌, ◌&&◌, ◌||◌, nat_le, if◌then◌else◌, List, [], ◌∷◌}
+use Rattle.std.specs.Prelude.{length, Option, Some, None, bit_or}
 use Rattle.std.specs.List.{list_any}
 use Rattle.std.specs.Option.{option_map_or}
 use Rattle.acl_list.specs.declared.entry.Kind.{Kind}
 use Rattle.acl_list.specs.declared.entry.Kind.TheVariants.{File, Directory, Link as LinkKind}
-use Rattle.acl_list.specs.declared.mask.TheConstants.{READ_DATA, LIST_DIRECTORY, WRITE_DATA, ADD_FILE, APPEND_DATA, ADD_SUBDIRECTORY, EXECUTE, READ_ATTRIBUTES, READ_ACL, WRITE_ACL, WRITE_OWNER}
+use Rattle.acl_list.specs.declared.mask.TheConstants.{READ_DATA, LIST_DIRECTORY, WRITE_DATA, ADD_FILE, APPEND_DATA}
+use Rattle.acl_list.specs.declared.mask.TheConstants.{ADD_SUBDIRECTORY, EXECUTE, READ_ATTRIBUTES, READ_ACL, WRITE_ACL}
+use Rattle.acl_list.specs.declared.mask.TheConstants.{WRITE_OWNER}
 use Rattle.nfs_types.specs.Attributes.{supported_words}
 use Rattle.nfs_types.specs.Common.{without}
 use Rattle.nfs_types.specs.Sets.{has_number}
 use Rattle.nfs_ops.specs.Operations.{Operation, Known}
 use Rattle.nfs_ops.specs.Parts as parts
-use Rattle.nfs_ops.specs.Parts.{Created, How, Claim, created_type, open_access, how_of, claim_of, set_of, set_attributes, write_offset, written_bytes}
+use Rattle.nfs_ops.specs.Parts.{Created, How, Claim, created_type, open_access, how_of, claim_of, set_of}
+use Rattle.nfs_ops.specs.Parts.{set_attributes, write_offset, written_bytes}
 use Rattle.nfs_ops.specs.declared.op_kind.OpKind.TheVariants as kinds
 use Rattle.access_rows.specs.declared.demand.Demand.{Demand}
 use Rattle.access_rows.specs.declared.demand.Demand.TheVariants.{Bits, Removal}
@@ -82,7 +86,8 @@ list_giving = 12 ∷ 58 ∷ 59 ∷ []
 
 -- all other attributes can be read by everyone
 abbrev pub reading_mask : List ℕ → ℕ
-reading_mask set = bit_or (if has_any set governed then READ_ATTRIBUTES else 0) (if has_any set list_giving then READ_ACL else 0)
+reading_mask set =
+    bit_or (if has_any set governed then READ_ATTRIBUTES else 0) (if has_any set list_giving then READ_ACL else 0)
 
 -- the words of a set, without these attributes where the bit that governs them isn't granted
 abbrev pub kept_where : Bool → List ℕ → List ℕ → List ℕ
@@ -110,7 +115,9 @@ sizing_mask None new = bit_or WRITE_DATA APPEND_DATA
 -- size as above, the other attributes by WRITE_ACL and by WRITE_OWNER
 abbrev pub setting_mask : List ℕ → First → ℕ
 setting_mask set facts =
-    bit_or (bit_or (if has_number set 4 then sizing_mask facts.size facts.new_size else 0) (if has_any set list_setting then WRITE_ACL else 0))
+    bit_or
+    (bit_or (if has_number set 4 then sizing_mask facts.size facts.new_size else 0)
+    (if has_any set list_setting then WRITE_ACL else 0))
     (if has_any set owner_setting then WRITE_OWNER else 0)
 
 -- Writing within the file, or nothing, takes WRITE_DATA; writing at its end APPEND_DATA; across the
@@ -158,7 +165,8 @@ is_truncating parts.NoCreate new_size = false
 -- reading takes READ_DATA, writing APPEND_DATA, truncation WRITE_DATA
 abbrev pub opening_mask : ℕ → How → Option ℕ → ℕ
 opening_mask access how new_size =
-    bit_or (bit_or (if is_to_read access then READ_DATA else 0) (if is_to_write access then APPEND_DATA else 0)) (if is_truncating how new_size then WRITE_DATA else 0)
+    bit_or (bit_or (if is_to_read access then READ_DATA else 0) (if is_to_write access then APPEND_DATA else 0))
+    (if is_truncating how new_size then WRITE_DATA else 0)
 
 -- a file that is there is opened; else it may be created
 abbrev pub opening : Option Object → ℕ → How → Second → Option Demand
@@ -185,11 +193,14 @@ is_one (Some a) None = false
 is_one None b = false
 
 abbrev pub rename_first : First → Demands
-rename_first facts = bits facts.saved EXECUTE ∷ (if is_one facts.saved facts.current then None else bits facts.current EXECUTE) ∷ []
+rename_first facts =
+    bits facts.saved EXECUTE ∷ (if is_one facts.saved facts.current then None else bits facts.current EXECUTE) ∷ []
 
 abbrev pub rename_second : Second → Demands
 rename_second facts =
-    removal facts.saved facts.child ∷ bits facts.current (option_map_or (λ child. adding_mask child.kind) facts.child 0) ∷ removal facts.current facts.replaced ∷ []
+    removal facts.saved facts.child
+    ∷ bits facts.current (option_map_or (λ child. adding_mask child.kind) facts.child 0)
+    ∷ removal facts.current facts.replaced ∷ []
 
 -- ---- the table
 
@@ -210,7 +221,8 @@ first_demands (Known kinds.Remove v) facts = row (bits facts.current EXECUTE)
 first_demands (Known kinds.Rename v) facts = rename_first facts
 first_demands (Known kinds.SetAttr v) facts = row (bits facts.current (setting_mask (set_of (set_attributes v)) facts))
 first_demands (Known kinds.Verify v) facts = row (bits facts.current (reading_mask (set_of v)))
-first_demands (Known kinds.Write v) facts = row (bits facts.current (writing_mask facts.size (write_offset v) (length (written_bytes v))))
+first_demands (Known kinds.Write v) facts =
+    row (bits facts.current (writing_mask facts.size (write_offset v) (length (written_bytes v))))
 first_demands _ facts = row None
 
 -- The demands of each operation once the names are known to be there; there are none in a phase that isn't reached.
@@ -222,4 +234,6 @@ second_demands _ facts = one_of_three None
 
 -- The demands of READDIR on each entry, as it is listed, for these attributes: READ_ATTRIBUTES, and then READ_ACL.
 abbrev pub entry_demands : List ℕ → Option Object → Demands
-entry_demands set entry = bits entry (if has_any set governed then READ_ATTRIBUTES else 0) ∷ bits entry (if has_any set list_giving then READ_ACL else 0) ∷ []
+entry_demands set entry =
+    bits entry (if has_any set governed then READ_ATTRIBUTES else 0)
+    ∷ bits entry (if has_any set list_giving then READ_ACL else 0) ∷ []

@@ -8,7 +8,8 @@ use Rattle.session_slots.specs.declared.session.Held.{Held}
 use Rattle.session_slots.specs.Forms.{client, session, call, client_value, session_value, call_value}
 use Rattle.session_slots.specs.Registry.{Client, Registry, client_at, session_at}
 use Rattle.session_slots.specs.Letting.{let_go}
-use Rattle.session_slots.specs.Restoring.{numbers_fit, with_numbers, record_fits, with_record, session_fits, with_restored, slot_fits, with_kept}
+use Rattle.session_slots.specs.Restoring.{numbers_fit, with_numbers, record_fits, with_record, session_fits}
+use Rattle.session_slots.specs.Restoring.{with_restored, slot_fits, with_kept}
 use Rattle.session_slots.specs.Slots.{Kept}
 use Rattle.compound_run.specs.Known.{Known}
 use Rattle.client_changes.specs.Forms.{change, front, opened_in}
@@ -63,7 +64,8 @@ LeadsOne old bytes new rest = (v : Value change) × (read_at change bytes ≡ Ok
 -- N changes, one after the other
 abbrev pub LeadsAll : ℕ → Known → List ℕ → Known → List ℕ → Type 0
 LeadsAll zero old bytes new rest = (new ≡ old) × (rest ≡ bytes)
-LeadsAll (suc n) old bytes new rest = (mid : Known) × (after : List ℕ) × LeadsOne old bytes mid after × LeadsAll n mid after new rest
+LeadsAll (suc n) old bytes new rest =
+    (mid : Known) × (after : List ℕ) × LeadsOne old bytes mid after × LeadsAll n mid after new rest
 
 -- The bytes begin with the number that the next open gets, and changes, which lead to this.
 pub record Leads (old : Known) (bytes : List ℕ) (new : Known) (rest : List ℕ) : Type 0 where

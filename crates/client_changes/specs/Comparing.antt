@@ -19,7 +19,8 @@ first_of None o = o
 -- The last call of a slot as it is kept, and as it is now. Fewer than 2^20 calls came after it; or
 -- it is the same; or nothing is said of it.
 abbrev pub IsClose : Closeness → Option Kept → Option Kept → Type 0
-IsClose closeness.Near old new = (old ≡ new) ⊎ (ahead (last_number number_of old) (last_number number_of new) < WRITTEN_EVERY)
+IsClose closeness.Near old new =
+    (old ≡ new) ⊎ (ahead (last_number number_of old) (last_number number_of new) < WRITTEN_EVERY)
 IsClose closeness.Same old new = old ≡ new
 IsClose closeness.Any old new = Unit {0}
 

@@ -20,7 +20,9 @@ opened = fields (hyper ∷ hyper ∷ opaque 1024 ∷ hyper ∷ uint ∷ uint ∷
 -- a call is there; the first N of the open files stay open alone; a file is open, after the others;
 -- or a client is gone, with its sessions.
 abbrev pub change : Xdr
-change = union (arm 0 numbers (arm 1 client (arm 2 session (arm 3 call (arm 4 uint (arm 5 opened (arm 6 hyper no_more)))))))
+change =
+    union
+    (arm 0 numbers (arm 1 client (arm 2 session (arm 3 call (arm 4 uint (arm 5 opened (arm 6 hyper no_more)))))))
 
 -- the number that the next open gets, and how many changes follow
 abbrev pub front : Xdr

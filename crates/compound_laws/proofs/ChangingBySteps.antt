@@ -1,14 +1,13 @@
 -- Each operation changes the world by changes that are data, and so does each call.
-use Rattle.std.proofs.Common.{◌≡◌, ℕ, Bool, true, false, List, refl, ap, sym, ◌∙◌, subst}
+use Rattle.std.proofs.Common.{◌≡◌, ℕ, Bool, true, false, List, inl, inr, refl, ap, sym, ◌∙◌, subst}
 use Rattle.std.specs.Prelude.{[], ◌∷◌, ◌++◌, Option, Some, None, unwrap_or, if◌then◌else◌}
 use Rattle.std.specs.Option.{option_map_or}
 use Rattle.xdr_wire.specs.Xdr.{Value}
 use Rattle.acl_shape.specs.Permissions.{changed_high, created_high}
 use Rattle.nfs_types.specs.Sent.{Wanted}
 use Rattle.nfs_ops.specs.Forms.{open_args}
-use Rattle.nfs_ops.specs.Operations.{Operation, Known, Unsupported, Illegal, Bad}
+use Rattle.nfs_ops.specs.Operations.{Operation}
 use Rattle.nfs_ops.specs.Parts.{created_name, claim_of, old_name, new_name, write_offset, written_bytes}
-use Rattle.nfs_ops.specs.declared.op_kind.OpKind.TheVariants as kinds
 use Rattle.node_tree.specs.declared.at.At.{At}
 use Rattle.node_tree.specs.World.{World, Object, object}
 use Rattle.node_tree.specs.Changes.{with_list, with_owner, with_size}
@@ -28,6 +27,8 @@ use Rattle.compound_run.specs.Operations.{meaning}
 use Rattle.compound_run.specs.ReclaimComplete.{reclaimed}
 use Rattle.compound_run.specs.Setattr.{sets_list, sets_owner, sized, listed, owned, set_on, setting}
 use Rattle.compound_laws.specs.Stepping.{ComesBySteps, after_steps}
+use Rattle.compound_laws.proofs.Changing.{Changing, OfClose, OfCreate, OfLink, OfOpen, OfRemove, OfRename, OfSetAttr}
+use Rattle.compound_laws.proofs.Changing.{OfWrite, OfReclaimComplete, operation_of, part_of}
 use Rattle.compound_laws.proofs.KeptByRuns.{Keeps}
 
 -- ---- changes in turn
@@ -103,39 +104,30 @@ reclaimed_steps false c r = no_step r.world
 
 -- ---- each operation
 
-pub operations_step : (c : Context) (h : Handles) (op : Operation) (r : Realm) → ComesBySteps r.world ((meaning c h op).effect r).world
-operations_step c h (Known kinds.Access v) r = no_step r.world
-operations_step c h (Known kinds.Close v) r = no_step r.world
-operations_step c h (Known kinds.Commit v) r = no_step r.world
-operations_step c h (Known kinds.Create v) r = record { steps = add_step c (here h) (created_name v) (draft v) (creating.wanted c v) r.world ∷ []; comes = refl }
-operations_step c h (Known kinds.GetAttr v) r = no_step r.world
-operations_step c h (Known kinds.GetFh v) r = no_step r.world
-operations_step c h (Known kinds.Link v) r = one_step r.world (Link (here h) v (there h) (at c r.world))
-operations_step c h (Known kinds.Lookup v) r = no_step r.world
-operations_step c h (Known kinds.LookupP v) r = no_step r.world
-operations_step c h (Known kinds.NVerify v) r = no_step r.world
-operations_step c h (Known kinds.Open v) r = file_steps c v (here h) (found v h (whole r)) r.world
-operations_step c h (Known kinds.PutFh v) r = no_step r.world
-operations_step c h (Known kinds.PutRootFh v) r = no_step r.world
-operations_step c h (Known kinds.Read v) r = no_step r.world
-operations_step c h (Known kinds.ReadDir v) r = no_step r.world
-operations_step c h (Known kinds.ReadLink v) r = no_step r.world
-operations_step c h (Known kinds.Remove v) r = one_step r.world (Unlink (here h) v (at c r.world))
-operations_step c h (Known kinds.Rename v) r = one_step r.world (Rename (there h) (old_name v) (here h) (new_name v) (at c r.world))
-operations_step c h (Known kinds.RestoreFh v) r = no_step r.world
-operations_step c h (Known kinds.SaveFh v) r = no_step r.world
-operations_step c h (Known kinds.SetAttr v) r = setting_steps (here h) _ (at c r.world) r.world
-operations_step c h (Known kinds.Verify v) r = no_step r.world
-operations_step c h (Known kinds.Write v) r = one_step r.world (Write (here h) (write_offset v) (written_bytes v) (at c r.world))
-operations_step c h (Known kinds.ExchangeId v) r = no_step r.world
-operations_step c h (Known kinds.CreateSession v) r = no_step r.world
-operations_step c h (Known kinds.DestroySession v) r = no_step r.world
-operations_step c h (Known kinds.Sequence v) r = no_step r.world
-operations_step c h (Known kinds.DestroyClientId v) r = no_step r.world
-operations_step c h (Known kinds.ReclaimComplete v) r = reclaimed_steps v c r
-operations_step c h (Unsupported n) r = no_step r.world
-operations_step c h Illegal r = no_step r.world
-operations_step c h (Bad n) r = no_step r.world
+changing_steps : (c : Context) (h : Handles) (k : Changing) (r : Realm)
+    → ComesBySteps r.world ((meaning c h (operation_of k)).effect r).world
+changing_steps c h (OfClose v) r = no_step r.world
+changing_steps c h (OfCreate v) r =
+    record { steps = add_step c (here h) (created_name v) (draft v) (creating.wanted c v) r.world ∷ []; comes = refl }
+changing_steps c h (OfLink v) r = one_step r.world (Link (here h) v (there h) (at c r.world))
+changing_steps c h (OfOpen v) r = file_steps c v (here h) (found v h (whole r)) r.world
+changing_steps c h (OfRemove v) r = one_step r.world (Unlink (here h) v (at c r.world))
+changing_steps c h (OfRename v) r =
+    one_step r.world (Rename (there h) (old_name v) (here h) (new_name v) (at c r.world))
+changing_steps c h (OfSetAttr v) r = setting_steps (here h) _ (at c r.world) r.world
+changing_steps c h (OfWrite v) r =
+    one_step r.world (Write (here h) (write_offset v) (written_bytes v) (at c r.world))
+changing_steps c h (OfReclaimComplete v) r = reclaimed_steps v c r
+
+pub operations_step : (c : Context) (h : Handles) (op : Operation) (r : Realm)
+    → ComesBySteps r.world ((meaning c h op).effect r).world
+operations_step c h op r =
+    elim (part_of c h op) [
+      | inl stays ↦ subst (λ (s : Realm). ComesBySteps r.world s.world) (sym (stays r)) (no_step r.world)
+      | inr one ↦
+          subst (λ (op : Operation). ComesBySteps r.world ((meaning c h op).effect r).world) (sym one.1)
+          (changing_steps c h one.0 r)
+    ]
 
 -- ---- each call
 

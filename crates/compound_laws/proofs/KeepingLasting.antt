@@ -1,10 +1,9 @@
 -- No operation, and so no call, changes whether sessions outlive a restart.
-use Rattle.std.proofs.Common.{◌≡◌, ℕ, Bool, true, false, refl, ◌∙◌}
+use Rattle.std.proofs.Common.{◌≡◌, ℕ, Bool, true, false, inl, inr, refl, sym, ap, subst, ◌∙◌}
 use Rattle.std.specs.Prelude.{Option, Some, None, unwrap_or}
 use Rattle.xdr_wire.specs.Xdr.{Value}
 use Rattle.nfs_ops.specs.Forms.{open_args}
-use Rattle.nfs_ops.specs.Operations.{Operation, Known, Unsupported, Illegal, Bad}
-use Rattle.nfs_ops.specs.declared.op_kind.OpKind.TheVariants as kinds
+use Rattle.nfs_ops.specs.Operations.{Operation}
 use Rattle.compound_run.specs.Realm.{Realm, Opened}
 use Rattle.compound_run.specs.Context.{Context, Handles}
 use Rattle.compound_run.specs.Sight.{whole}
@@ -12,6 +11,8 @@ use Rattle.compound_run.specs.Meaning.{here}
 use Rattle.compound_run.specs.Open.{found, joined, opened_on, with_open}
 use Rattle.compound_run.specs.Operations.{meaning}
 use Rattle.compound_run.specs.ReclaimComplete.{reclaimed}
+use Rattle.compound_laws.proofs.Changing.{Changing, OfClose, OfCreate, OfLink, OfOpen, OfRemove, OfRename, OfSetAttr}
+use Rattle.compound_laws.proofs.Changing.{OfWrite, OfReclaimComplete, operation_of, part_of}
 use Rattle.compound_laws.proofs.KeptByRuns.{Keeps}
 
 with_open_leaves : (c : Context) (v : Value open_args) (file : ℕ) (o : Option Opened) (r : Realm) → (with_open c v file o r).lasting ≡ r.lasting
@@ -25,39 +26,27 @@ reclaimed_leaves : (one_fs : Bool) (c : Context) (r : Realm) → (reclaimed one_
 reclaimed_leaves true c r = refl
 reclaimed_leaves false c r = refl
 
-pub operations_leave : (c : Context) (h : Handles) (op : Operation) (r : Realm) → ((meaning c h op).effect r).lasting ≡ r.lasting
-operations_leave c h (Known kinds.Access v) r = refl
-operations_leave c h (Known kinds.Close v) r = refl
-operations_leave c h (Known kinds.Commit v) r = refl
-operations_leave c h (Known kinds.Create v) r = refl
-operations_leave c h (Known kinds.GetAttr v) r = refl
-operations_leave c h (Known kinds.GetFh v) r = refl
-operations_leave c h (Known kinds.Link v) r = refl
-operations_leave c h (Known kinds.Lookup v) r = refl
-operations_leave c h (Known kinds.LookupP v) r = refl
-operations_leave c h (Known kinds.NVerify v) r = refl
-operations_leave c h (Known kinds.Open v) r = opened_leaves c v (here h) (found v h (whole r)) r
-operations_leave c h (Known kinds.PutFh v) r = refl
-operations_leave c h (Known kinds.PutRootFh v) r = refl
-operations_leave c h (Known kinds.Read v) r = refl
-operations_leave c h (Known kinds.ReadDir v) r = refl
-operations_leave c h (Known kinds.ReadLink v) r = refl
-operations_leave c h (Known kinds.Remove v) r = refl
-operations_leave c h (Known kinds.Rename v) r = refl
-operations_leave c h (Known kinds.RestoreFh v) r = refl
-operations_leave c h (Known kinds.SaveFh v) r = refl
-operations_leave c h (Known kinds.SetAttr v) r = refl
-operations_leave c h (Known kinds.Verify v) r = refl
-operations_leave c h (Known kinds.Write v) r = refl
-operations_leave c h (Known kinds.ExchangeId v) r = refl
-operations_leave c h (Known kinds.CreateSession v) r = refl
-operations_leave c h (Known kinds.DestroySession v) r = refl
-operations_leave c h (Known kinds.Sequence v) r = refl
-operations_leave c h (Known kinds.DestroyClientId v) r = refl
-operations_leave c h (Known kinds.ReclaimComplete v) r = reclaimed_leaves v c r
-operations_leave c h (Unsupported n) r = refl
-operations_leave c h Illegal r = refl
-operations_leave c h (Bad n) r = refl
+changing_leaves : (c : Context) (h : Handles) (k : Changing) (r : Realm)
+    → ((meaning c h (operation_of k)).effect r).lasting ≡ r.lasting
+changing_leaves c h (OfClose v) r = refl
+changing_leaves c h (OfCreate v) r = refl
+changing_leaves c h (OfLink v) r = refl
+changing_leaves c h (OfOpen v) r = opened_leaves c v (here h) (found v h (whole r)) r
+changing_leaves c h (OfRemove v) r = refl
+changing_leaves c h (OfRename v) r = refl
+changing_leaves c h (OfSetAttr v) r = refl
+changing_leaves c h (OfWrite v) r = refl
+changing_leaves c h (OfReclaimComplete v) r = reclaimed_leaves v c r
+
+pub operations_leave : (c : Context) (h : Handles) (op : Operation) (r : Realm)
+    → ((meaning c h op).effect r).lasting ≡ r.lasting
+operations_leave c h op r =
+    elim (part_of c h op) [
+      | inl stays ↦ ap (λ (s : Realm). s.lasting) (stays r)
+      | inr one ↦
+          subst (λ (op : Operation). ((meaning c h op).effect r).lasting ≡ r.lasting) (sym one.1)
+          (changing_leaves c h one.0 r)
+    ]
 
 -- ---- each call
 

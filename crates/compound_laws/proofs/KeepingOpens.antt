@@ -1,5 +1,5 @@
 -- Each operation keeps the law of open files.
-use Rattle.std.proofs.Common.{◌≡◌, ℕ, ◌<◌, ◌≤◌, Bool, true, false, ◌&&◌, List, refl, ap, subst, length, nat_lt, arith}
+use Rattle.std.proofs.Common.{◌≡◌, ℕ, ◌<◌, ◌≤◌, Bool, true, false, ◌&&◌, List, inl, inr, refl, sym, ap, subst, length, nat_lt, arith}
 use Rattle.std.specs.Prelude.{[], ◌∷◌, ◌++◌, ◌==◌, Option, Some, None, IsSome, Ok, not, unwrap_or, if◌then◌else◌}
 use Rattle.std.specs.List.{AllByRecursion}
 use Rattle.std.specs.Option.{option_map, option_map_or}
@@ -12,7 +12,7 @@ use Rattle.acl_shape.specs.Permissions.{changed_high}
 use Rattle.nfs_types.specs.Sent.{Wanted}
 use Rattle.nfs_types.specs.declared.status.Status.{Status}
 use Rattle.nfs_ops.specs.Forms.{open_args}
-use Rattle.nfs_ops.specs.Operations.{Operation, Known, Unsupported, Illegal, Bad}
+use Rattle.nfs_ops.specs.Operations.{Operation, Known}
 use Rattle.nfs_ops.specs.Parts.{How, NoCreate, Unchecked, Guarded, Claim, ByName, ByHandle, how_of, claim_of, created_name, old_name, new_name}
 use Rattle.nfs_ops.specs.Results.{Outcome}
 use Rattle.nfs_ops.specs.declared.op_kind.OpKind.TheVariants as kinds
@@ -43,6 +43,8 @@ use Rattle.session_slots.specs.Destroying.{with_reclaimed}
 use Rattle.session_slots.specs.Registry.{Registry}
 use Rattle.compound_laws.specs.LiveOpens.{OpensHold}
 use Rattle.compound_run.proofs.Exactly.{passed}
+use Rattle.compound_laws.proofs.Changing.{Changing, OfClose, OfCreate, OfLink, OfOpen, OfRemove, OfRename, OfSetAttr}
+use Rattle.compound_laws.proofs.Changing.{OfWrite, OfReclaimComplete, operation_of, part_of}
 use Rattle.compound_laws.proofs.KeptByRuns.{Keeps}
 use Rattle.compound_laws.proofs.LivingOpens.{LiveIn, each_left, one_more, of_child, Same, same_again, same_then, hold_same, hold_linked, hold_new, kind_there, kept_new, live_new, hold_removed, hold_renamed, hold_registry}
 
@@ -217,43 +219,34 @@ no_failure (Some status) answer o is = cc
 all_passed : (c : Context) (h : Handles) (op : Operation) (r : Realm) (o : Outcome) → outcome (meaning c h op) r ≡ Ok o → ArePassedOrSuffice (meaning c h op).caller (whole r) (meaning c h op).questions
 all_passed c h op r o is = let m = meaning c h op in passed m.caller (whole r) m.questions (no_failure (failure m.caller (whole r) m.questions) (m.answer (whole r)) o is)
 
-pub operations_keep : (c : Context) (h : Handles) (op : Operation) (r : Realm) (o : Outcome) → OpensHold r → outcome (meaning c h op) r ≡ Ok o → OpensHold ((meaning c h op).effect r)
-operations_keep c h (Known kinds.Access v) r o hold is = hold
-operations_keep c h (Known kinds.Close v) r o hold is = hold_closed r _ hold
-operations_keep c h (Known kinds.Commit v) r o hold is = hold
-operations_keep c h (Known kinds.Create v) r o hold is = hold_new r (here h) (created_name v) _ (at c r.world) hold
-operations_keep c h (Known kinds.GetAttr v) r o hold is = hold
-operations_keep c h (Known kinds.GetFh v) r o hold is = hold
-operations_keep c h (Known kinds.Link v) r o hold is =
-    let p = all_passed c h (Known kinds.Link v) r o is in hold_linked r (here h) v (there h) (at c r.world) p.1.1.1.1.0 hold
-operations_keep c h (Known kinds.Lookup v) r o hold is = hold
-operations_keep c h (Known kinds.LookupP v) r o hold is = hold
-operations_keep c h (Known kinds.NVerify v) r o hold is = hold
-operations_keep c h (Known kinds.Open v) r o hold is =
+changing_keeps : (c : Context) (h : Handles) (k : Changing) (r : Realm) (o : Outcome) → OpensHold r
+    → outcome (meaning c h (operation_of k)) r ≡ Ok o → OpensHold ((meaning c h (operation_of k)).effect r)
+changing_keeps c h (OfClose v) r o hold is = hold_closed r _ hold
+changing_keeps c h (OfCreate v) r o hold is = hold_new r (here h) (created_name v) _ (at c r.world) hold
+changing_keeps c h (OfLink v) r o hold is =
+    let p = all_passed c h (Known kinds.Link v) r o is in
+    hold_linked r (here h) v (there h) (at c r.world) p.1.1.1.1.0 hold
+changing_keeps c h (OfOpen v) r o hold is =
     let p = all_passed c h (Known kinds.Open v) r o is in
     hold_opened c v h r (found v h (whole r)) refl p.1.1.0 p.1.1.1.1.1.1.1.0 p.1.1.1.1.1.1.1.1.1.1.1.0 hold
-operations_keep c h (Known kinds.PutFh v) r o hold is = hold
-operations_keep c h (Known kinds.PutRootFh v) r o hold is = hold
-operations_keep c h (Known kinds.Read v) r o hold is = hold
-operations_keep c h (Known kinds.ReadDir v) r o hold is = hold
-operations_keep c h (Known kinds.ReadLink v) r o hold is = hold
-operations_keep c h (Known kinds.Remove v) r o hold is = hold_removed r (here h) v (at c r.world) (child_named r.world (here h) v) refl hold
-operations_keep c h (Known kinds.Rename v) r o hold is =
-    hold_renamed r (there h) (old_name v) (here h) (new_name v) (at c r.world) (child_named r.world (there h) (old_name v)) (child_named r.world (here h) (new_name v)) refl refl hold
-operations_keep c h (Known kinds.RestoreFh v) r o hold is = hold
-operations_keep c h (Known kinds.SaveFh v) r o hold is = hold
-operations_keep c h (Known kinds.SetAttr v) r o hold is = hold_same r _ (setting_same (here h) _ (at c r.world) r.world) hold
-operations_keep c h (Known kinds.Verify v) r o hold is = hold
-operations_keep c h (Known kinds.Write v) r o hold is = hold_same r _ (written_same r.world (here h) _ _ (at c r.world)) hold
-operations_keep c h (Known kinds.ExchangeId v) r o hold is = hold
-operations_keep c h (Known kinds.CreateSession v) r o hold is = hold
-operations_keep c h (Known kinds.DestroySession v) r o hold is = hold
-operations_keep c h (Known kinds.Sequence v) r o hold is = hold
-operations_keep c h (Known kinds.DestroyClientId v) r o hold is = hold
-operations_keep c h (Known kinds.ReclaimComplete v) r o hold is = hold_reclaimed v c r hold
-operations_keep c h (Unsupported n) r o hold is = hold
-operations_keep c h Illegal r o hold is = hold
-operations_keep c h (Bad n) r o hold is = hold
+changing_keeps c h (OfRemove v) r o hold is =
+    hold_removed r (here h) v (at c r.world) (child_named r.world (here h) v) refl hold
+changing_keeps c h (OfRename v) r o hold is =
+    hold_renamed r (there h) (old_name v) (here h) (new_name v) (at c r.world)
+    (child_named r.world (there h) (old_name v)) (child_named r.world (here h) (new_name v)) refl refl hold
+changing_keeps c h (OfSetAttr v) r o hold is = hold_same r _ (setting_same (here h) _ (at c r.world) r.world) hold
+changing_keeps c h (OfWrite v) r o hold is = hold_same r _ (written_same r.world (here h) _ _ (at c r.world)) hold
+changing_keeps c h (OfReclaimComplete v) r o hold is = hold_reclaimed v c r hold
+
+pub operations_keep : (c : Context) (h : Handles) (op : Operation) (r : Realm) (o : Outcome) → OpensHold r
+    → outcome (meaning c h op) r ≡ Ok o → OpensHold ((meaning c h op).effect r)
+operations_keep c h op r o hold is =
+    elim (part_of c h op) [
+      | inl stays ↦ subst OpensHold (sym (stays r)) hold
+      | inr one ↦
+          subst (λ (op : Operation). outcome (meaning c h op) r ≡ Ok o → OpensHold ((meaning c h op).effect r))
+          (sym one.1) (changing_keeps c h one.0 r o hold) is
+    ]
 
 -- ---- each call
 

@@ -8,6 +8,7 @@ pub mod OpenSeen
 pub mod EntriesExactly
 pub mod LivingOpens
 pub mod KeptByRuns
+pub mod Changing
 pub mod KeptInSessions
 pub mod KeepingOpens
 pub mod ChangingBySteps

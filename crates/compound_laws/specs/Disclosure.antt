@@ -32,7 +32,8 @@ DisclosesNothing m = (q r : Realm) → view q m.caller ≡ view r m.caller → s
 -- opens are equal afterwards.
 abbrev pub DisclosesNothingAlone : Identity → Operation → Type 0
 DisclosesNothingAlone caller op =
-    (viewer : Identity) (q r new : Realm) (outcome : Result Outcome Status) → view q viewer ≡ view r viewer → ActsAlone caller op q outcome new
+    (viewer : Identity) (q r new : Realm) (outcome : Result Outcome Status) → view q viewer ≡ view r viewer
+    → ActsAlone caller op q outcome new
     → ActsAlone caller op r outcome (record r { registry = new.registry; opens = new.opens })
 
 -- SEQUENCE has equal answers and equal kept results, and begins the call alike
@@ -41,4 +42,5 @@ BeginsAlike call count v operations =
     (viewer : Identity) (q r : Realm) → view q viewer ≡ view r viewer
     → (begin_in q call count v operations ≡ begin_in r call count v operations)
     × (begun_in q call count v operations ≡ begun_in r call count v operations)
-    × (results_at q.registry (session_of (sequence_session v)) (sequence_slot v) ≡ results_at r.registry (session_of (sequence_session v)) (sequence_slot v))
+    × (results_at q.registry (session_of (sequence_session v)) (sequence_slot v)
+    ≡ results_at r.registry (session_of (sequence_session v)) (sequence_slot v))

@@ -10,7 +10,8 @@ use Rattle.nfs_ops.specs.Forms.{entry, readdir_args}
 use Rattle.nfs_ops.specs.Given.{readdir_outcome}
 use Rattle.nfs_ops.specs.Listing.{Listing, listing_size, readdir_limit}
 use Rattle.nfs_ops.specs.Operations.{Known}
-use Rattle.nfs_ops.specs.Parts.{entry_cookie, entry_name, entry_attributes, set_of, listed_behind, listed_at_most, listed_attributes}
+use Rattle.nfs_ops.specs.Parts.{entry_cookie, entry_name, entry_attributes, set_of, listed_behind, listed_at_most}
+use Rattle.nfs_ops.specs.Parts.{listed_attributes}
 use Rattle.nfs_ops.specs.Results.{Outcome}
 use Rattle.nfs_ops.specs.declared.op_kind.OpKind.TheVariants as kinds
 use Rattle.node_tree.specs.World.{Name}
@@ -43,15 +44,19 @@ ungoverned =
 pub record IsExact (lists : Lists) (caller : Identity) (asked : List ℕ) (n : Name) (e : Value entry) : Type 0 where
   pub cookie : entry_cookie e ≡ n.cookie
   pub name : entry_name e ≡ n.name
-  pub attributes : AllByRecursion (λ a. has_number (attributes_in e) a ≡ has_number asked a && allows lists caller n.child READ_ATTRIBUTES) governed
-  pub acls : AllByRecursion (λ a. has_number (attributes_in e) a ≡ has_number asked a && allows lists caller n.child READ_ACL) list_giving
+  pub attributes : AllByRecursion
+      (λ a. has_number (attributes_in e) a ≡ has_number asked a && allows lists caller n.child READ_ATTRIBUTES)
+      governed
+  pub acls : AllByRecursion
+      (λ a. has_number (attributes_in e) a ≡ has_number asked a && allows lists caller n.child READ_ACL) list_giving
   pub others : AllByRecursion (λ a. has_number (attributes_in e) a ≡ has_number asked a) ungoverned
 
 -- the entries are those of the first of these names, in their order
 abbrev pub AreExact : Lists → Identity → List ℕ → List Name → List (Value entry) → Type 0
 AreExact lists caller asked names [] = Unit {0}
 AreExact lists caller asked [] (e ∷ entries) = ⊥
-AreExact lists caller asked (n ∷ names) (e ∷ entries) = IsExact lists caller asked n e × AreExact lists caller asked names entries
+AreExact lists caller asked (n ∷ names) (e ∷ entries) =
+    IsExact lists caller asked n e × AreExact lists caller asked names entries
 
 -- the result of READDIR has exact entries, of the names above the cookie
 pub record GivesExactly (c : Context) (h : Handles) (v : Value readdir_args) (s : Sight) (o : Outcome) : Type 0 where
@@ -86,4 +91,5 @@ pub record MeetsRefused (c : Context) (h : Handles) (v : Value readdir_args) (s 
   pub given : map (judged_entry c (listed_attributes v) s) before ≡ map Ok entries
   pub within : (entries ≡ []) ⊎ (listing_size entries ≤ readdir_limit (listed_at_most v) c.room)
   pub unasked : has_number (listed_attributes v) 11 ≡ false
-  pub refused : IsSome (first_refused s.lists c.caller (entry_demands (listed_attributes v) (object_of s (Some name.child))))
+  pub refused : IsSome
+      (first_refused s.lists c.caller (entry_demands (listed_attributes v) (object_of s (Some name.child))))

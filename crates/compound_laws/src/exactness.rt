@@ -28,8 +28,10 @@ ghost use Rattle.compound_laws.specs.RowsAsked.{SomeSuffices};
 /// An outcome after a row of demands comes only where the lists grant each of them; else the
 /// outcome is ACCESS.
 pub fn rows_decide()
-    ensures { (caller : Identity) (s : Sight) (before behind : List Question) (demands : Sight → List (Option Demand)) → ArePassed caller s before →
-        failure caller s (before ++ Row demands ∷ behind) ≡ (if all_granted s.lists caller (demands s) then failure caller s behind else Some statuses.Access) }
+    ensures { (caller : Identity) (s : Sight) (before behind : List Question) (demands : Sight → List (Option Demand))
+        → ArePassed caller s before →
+        failure caller s (before ++ Row demands ∷ behind)
+        ≡ (if all_granted s.lists caller (demands s) then failure caller s behind else Some statuses.Access) }
 {}
 
 /// An operation is OK exactly where each of its questions is passed, up to a question that suffices.
@@ -46,7 +48,8 @@ pub fn access_is_exact()
     ensures exact { (m : Meaning) (r : Realm) →
         (outcome m r ≡ Err statuses.Access) ↔ IsRefusedByRow m.caller (whole r) m.questions }
     ensures told { (m : Meaning) (r : Realm) → outcome m r ≡ Err statuses.Access →
-        (row : IsRefusedByRow m.caller (whole r) m.questions) × EndsInRefusal m.caller m.number (judged_of r.world) (row.demands (whole r)) (traced m r) }
+        (row : IsRefusedByRow m.caller (whole r) m.questions)
+        × EndsInRefusal m.caller m.number (judged_of r.world) (row.demands (whole r)) (traced m r) }
 {}
 
 /// Each row that the table of demands has for an operation stands among its questions. This holds
@@ -98,5 +101,6 @@ pub fn readdir_gives_exactly()
 /// refused entry is met without rdattr_error requested.
 pub fn readdir_is_refused_exactly()
     ensures { (c : Context) (h : Handles) (v : Value readdir_args) (r : Realm) →
-        (outcome (meaning c h (Known kinds.ReadDir v)) r ≡ Err statuses.Access) ↔ (IsUnlisted c h v (whole r) ⊎ MeetsRefused c h v (whole r)) }
+        (outcome (meaning c h (Known kinds.ReadDir v)) r ≡ Err statuses.Access) ↔
+        (IsUnlisted c h v (whole r) ⊎ MeetsRefused c h v (whole r)) }
 {}

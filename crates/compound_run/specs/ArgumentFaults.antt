@@ -1,5 +1,6 @@
 -- The fault of a name, a filehandle or attributes is neither ACCESS nor DELAY, nor OK.
-use Rattle.std.specs.Prelude.{ℕ, ◌==◌, ◌&&◌, Bool, true, false, cond, not, is_none, nat_lt, List, [], ◌∷◌, length, map, take, Option, Some, None, Result, Ok, Err, slice_get, ◌||◌}
+use Rattle.std.specs.Prelude.{ℕ, ◌==◌, ◌&&◌, Bool, true, false, cond, not, is_none, nat_lt, List, [], ◌∷◌, length}
+use Rattle.std.specs.Prelude.{map, take, Option, Some, None, Result, Ok, Err, slice_get, ◌||◌}
 use Rattle.std.specs.List.{list_any, list_all, filter_map, cons_option}
 use Rattle.std.specs.Str.{is_utf8}
 use Rattle.xdr_wire.specs.Xdr.{Value}
@@ -26,7 +27,9 @@ use Rattle.nfs_types.specs.declared.status.Status.{Status}
 use Rattle.nfs_types.specs.Name.{name_fault, separates, is_dots}
 use Rattle.nfs_types.specs.Handles.{object_of}
 use Rattle.nfs_types.specs.Attributes.{ace, acl41, is_within, supported_words, settable_words}
-use Rattle.nfs_types.specs.Sent.{Sent, ◌>>◌, raw_of, unless, taken_list, taken_mode, taken_name, taken_plain, taken_part, taken_parts, taken_each, taken, is_set_twice, known, spelled, whole, sent_at, wanted_of}
+use Rattle.nfs_types.specs.Sent.{Sent, ◌>>◌, raw_of, unless, taken_list, taken_mode, taken_name, taken_plain}
+use Rattle.nfs_types.specs.Sent.{taken_part, taken_parts, taken_each, taken, is_set_twice, known, spelled, whole}
+use Rattle.nfs_types.specs.Sent.{sent_at, wanted_of}
 use Rattle.compound_run.specs.Faults.{MayFault, IsValueOrFault}
 
 -- ---- names
@@ -42,7 +45,8 @@ name_may name =
 
 -- ---- filehandles
 
-choose : {A : Type 0} (b : Bool) (first second : Result A Status) → IsValueOrFault first → IsValueOrFault second → IsValueOrFault (cond b first second)
+choose : {A : Type 0} (b : Bool) (first second : Result A Status) → IsValueOrFault first → IsValueOrFault second
+    → IsValueOrFault (cond b first second)
 choose true first second f s = f
 choose false first second f s = s
 
@@ -51,7 +55,8 @@ object_may handle = choose ((length handle == 16) && are_zero (take 8 handle)) _
 
 -- ---- attributes
 
-bind : {A B : Type 0} (r : Result A Status) (f : A → Result B Status) → IsValueOrFault r → ((x : A) → IsValueOrFault (f x)) → IsValueOrFault (r >> f)
+bind : {A B : Type 0} (r : Result A Status) (f : A → Result B Status) → IsValueOrFault r
+    → ((x : A) → IsValueOrFault (f x)) → IsValueOrFault (r >> f)
 bind (Ok x) f may more = more x
 bind (Err status) f may more = may
 
@@ -64,22 +69,26 @@ MayAdmit (Some faults.Inval) = Unit {0}
 MayAdmit (Some faults.BadOwner) = Unit {0}
 MayAdmit (Some faults.Memory) = ⊥
 
-admits : (b : Bool) (first second : Option AdmitFault) → MayAdmit first → MayAdmit second → MayAdmit (cond b first second)
+admits : (b : Bool) (first second : Option AdmitFault) → MayAdmit first → MayAdmit second
+    → MayAdmit (cond b first second)
 admits true first second f s = f
 admits false first second f s = s
 
 entry_may : (raw : Raw) → MayAdmit (lists.fault_of raw)
 entry_may raw =
-    admits (is_none (kind_of raw.kind)) _ _ tt (admits (nat_lt flag.DEFINED raw.flags || not (without raw.mask mask.DEFINED == 0)) _ _ tt
+    admits (is_none (kind_of raw.kind)) _ _ tt
+    (admits (nat_lt flag.DEFINED raw.flags || not (without raw.mask mask.DEFINED == 0)) _ _ tt
     (admits (is_none raw.who) _ _ tt tt))
 
-first_of : (fault : Option AdmitFault) (more : List AdmitFault) → MayAdmit fault → MayAdmit (slice_get more 0) → MayAdmit (slice_get (cons_option fault more) 0)
+first_of : (fault : Option AdmitFault) (more : List AdmitFault) → MayAdmit fault → MayAdmit (slice_get more 0)
+    → MayAdmit (slice_get (cons_option fault more) 0)
 first_of None more may may' = may'
 first_of (Some fault) more may may' = may
 
 entries_may : (raws : List Raw) → MayAdmit (slice_get (filter_map lists.fault_of raws) 0)
 entries_may [] = tt
-entries_may (raw ∷ raws) = first_of (lists.fault_of raw) (filter_map lists.fault_of raws) (entry_may raw) (entries_may raws)
+entries_may (raw ∷ raws) =
+    first_of (lists.fault_of raw) (filter_map lists.fault_of raws) (entry_may raw) (entries_may raws)
 
 list_may : (raws : List Raw) → MayAdmit (lists.first_fault raws)
 list_may raws = admits (nat_lt 59 (length raws)) _ _ tt (entries_may raws)
@@ -92,10 +101,12 @@ admit_may (Some faults.Inval) list may = tt
 admit_may (Some faults.BadOwner) list may = tt
 admit_may (Some faults.Memory) list may = may
 
-acl_may : (book : Content) (kind : Kind) (entries : Option (List (Value ace))) → IsValueOrFault (taken_list book kind entries)
+acl_may : (book : Content) (kind : Kind) (entries : Option (List (Value ace)))
+    → IsValueOrFault (taken_list book kind entries)
 acl_may book kind None = tt
 acl_may book kind (Some entries) =
-    admit_may (lists.first_fault (map (raw_of book) entries)) (admitted kind (map (raw_of book) entries)) (list_may (map (raw_of book) entries))
+    admit_may (lists.first_fault (map (raw_of book) entries)) (admitted kind (map (raw_of book) entries))
+    (list_may (map (raw_of book) entries))
 
 mode_may : (mode : Option ℕ) → IsValueOrFault (taken_mode mode)
 mode_may None = tt
@@ -109,12 +120,15 @@ principal_may : (book : Content) (kind : NameKind) (name : Option (List ℕ)) �
 principal_may book kind None = tt
 principal_may book kind (Some name) = known_may (principal_in kind book name)
 
-plain_may : (book : Content) (mode : Option ℕ) (owner group : Option (List ℕ)) → IsValueOrFault (taken_plain book mode owner group)
+plain_may : (book : Content) (mode : Option ℕ) (owner group : Option (List ℕ))
+    → IsValueOrFault (taken_plain book mode owner group)
 plain_may book mode owner group =
-    bind (taken_mode mode) _ (mode_may mode) (λ m. bind (taken_name book names.User owner) _ (principal_may book names.User owner)
+    bind (taken_mode mode) _ (mode_may mode)
+    (λ m. bind (taken_name book names.User owner) _ (principal_may book names.User owner)
     (λ o. bind (taken_name book names.Group group) _ (principal_may book names.Group group) (λ g. tt)))
 
-first_may : (first second : Option AdmitFault) → MayAdmit first → MayAdmit second → MayAdmit (lists.first_of first second)
+first_may : (first second : Option AdmitFault) → MayAdmit first → MayAdmit second
+    → MayAdmit (lists.first_of first second)
 first_may None second f s = s
 first_may (Some fault) second f s = f
 
@@ -122,13 +136,16 @@ part_of_list_may : (part : Part) (kind : Kind) (raws : List Raw) → MayAdmit (l
 part_of_list_may part kind raws =
     first_may (lists.first_fault raws) _ (list_may raws) (admits (list_all (is_of part) (admitted kind raws)) _ _ tt tt)
 
-part_may : (part : Part) (book : Content) (kind : Kind) (sent : Option (Value acl41)) → IsValueOrFault (taken_part part book kind sent)
+part_may : (part : Part) (book : Content) (kind : Kind) (sent : Option (Value acl41))
+    → IsValueOrFault (taken_part part book kind sent)
 part_may part book kind None = tt
 part_may part book kind (Some sent) =
     choose (not (sent.0 == 0)) _ _ tt
-    (admit_may (lists.part_fault part kind (map (raw_of book) sent.1)) (admitted kind (map (raw_of book) sent.1)) (part_of_list_may part kind (map (raw_of book) sent.1)))
+    (admit_may (lists.part_fault part kind (map (raw_of book) sent.1)) (admitted kind (map (raw_of book) sent.1))
+    (part_of_list_may part kind (map (raw_of book) sent.1)))
 
-parts_may : (book : Content) (kind : Kind) (dacl sacl : Option (Value acl41)) → IsValueOrFault (taken_parts book kind dacl sacl)
+parts_may : (book : Content) (kind : Kind) (dacl sacl : Option (Value acl41))
+    → IsValueOrFault (taken_parts book kind dacl sacl)
 parts_may book kind dacl sacl =
     bind (taken_part parts.Dacl book kind dacl) _ (part_may parts.Dacl book kind dacl)
     (λ d. bind (taken_part parts.Sacl book kind sacl) _ (part_may parts.Sacl book kind sacl) (λ s. tt))
@@ -148,4 +165,5 @@ spelled_may book kind (Some s) = taken_may book kind s
 
 pub wanted_may : (book : Content) (kind : Kind) (set bytes : List ℕ) → IsValueOrFault (wanted_of book kind set bytes)
 wanted_may book kind set bytes =
-    choose (not (is_within set supported_words)) _ _ tt (choose (not (is_within set settable_words)) _ _ tt (spelled_may book kind (whole (sent_at set bytes))))
+    choose (not (is_within set supported_words)) _ _ tt
+    (choose (not (is_within set settable_words)) _ _ tt (spelled_may book kind (whole (sent_at set bytes))))

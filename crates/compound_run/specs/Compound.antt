@@ -1,5 +1,6 @@
 -- A COMPOUND: the fields before its operations, and its results (RFC 8881, section 16.2).
-use Rattle.std.specs.Prelude.{ℕ, ◌+◌, ◌-◌, ◌==◌, nat_lt, if◌then◌else◌, List, [], ◌∷◌, ◌++◌, length, Option, Some, None, Ok, Err}
+use Rattle.std.specs.Prelude.{ℕ, ◌+◌, ◌-◌, ◌==◌, nat_lt, if◌then◌else◌, List, [], ◌∷◌, ◌++◌, length, Option, Some}
+use Rattle.std.specs.Prelude.{None, Ok, Err}
 use Rattle.xdr_wire.specs.Xdr.{Xdr, Value, uint, opaque, fields, spelling, padded}
 use Rattle.xdr_wire.specs.Reading.{Read}
 use Rattle.nfs_types.specs.declared.status.Status.{Status}
@@ -45,4 +46,5 @@ together tag results = head (last_status results) tag (length results) ++ result
 -- Another minor version is refused before any operation, and then more operations than these.
 abbrev pub opening_fault : ℕ → ℕ → ℕ → Option Status
 opening_fault most minor count =
-    if minor == MINOR_VERSION then (if nat_lt most count then Some statuses.TooManyOps else None) else Some statuses.MinorVersMismatch
+    if minor == MINOR_VERSION then (if nat_lt most count then Some statuses.TooManyOps else None)
+    else Some statuses.MinorVersMismatch

@@ -1,5 +1,6 @@
 -- CREATE (RFC 8881, section 18.4): a directory or a link is created in the current directory, and becomes current.
-use Rattle.std.specs.Prelude.{ℕ, nat_lt, ◌==◌, ◌&&◌, Bool, true, false, if◌then◌else◌, List, [], ◌∷◌, length, is_some, unwrap_or, Option, Some, None, Result, Ok, Err}
+use Rattle.std.specs.Prelude.{ℕ, nat_lt, ◌==◌, ◌&&◌, Bool, true, false, if◌then◌else◌, List, [], ◌∷◌, length, is_some}
+use Rattle.std.specs.Prelude.{unwrap_or, Option, Some, None, Result, Ok, Err}
 use Rattle.std.specs.Option.{option_map_or}
 use Rattle.xdr_wire.specs.Xdr.{Value}
 use Rattle.rpc_record.specs.Identity.{Identity, is_member}
@@ -32,7 +33,8 @@ use Rattle.compound_run.specs.Lists.{new_list, new_fits}
 use Rattle.compound_run.specs.Values as values
 use Rattle.compound_run.specs.Questions.{Holds, is_valid}
 use Rattle.compound_run.specs.Rows.{first_row}
-use Rattle.compound_run.specs.Meaning.{Meaning, at, in_world, changed, with_handle, here, names_at, is_link, is_directory, is_name, has_no_child, has_space}
+use Rattle.compound_run.specs.Meaning.{Meaning, at, in_world, changed, with_handle, here, names_at, is_link}
+use Rattle.compound_run.specs.Meaning.{is_directory, is_name, has_no_child, has_space}
 
 -- the object that is created: a directory, or a link with its text; other types aren't
 pub record Draft : Type 0 where
@@ -58,7 +60,10 @@ draft v = unwrap_or (draft_of (created_type v)) (record { kind = kinds.Directory
 
 -- a link's text is neither empty nor too long
 abbrev pub link_fault : List ℕ → Option Status
-link_fault text = if length text == 0 then Some statuses.Inval else if nat_lt MAX_TEXT (length text) then Some statuses.NameTooLong else None
+link_fault text =
+    if length text == 0 then Some statuses.Inval
+    else if nat_lt MAX_TEXT (length text) then Some statuses.NameTooLong
+    else None
 
 abbrev pub text_fault : Draft → Option Status
 text_fault draft = if is_link draft.kind then link_fault draft.text else None
@@ -66,7 +71,9 @@ text_fault draft = if is_link draft.kind then link_fault draft.text else None
 pub text_may : (draft : Draft) → MayFault (text_fault draft)
 text_may draft = of (is_link draft.kind) (length draft.text == 0) (nat_lt MAX_TEXT (length draft.text))
   where
-    of : (a b c : Bool) → MayFault (if a then (if b then Some statuses.Inval else if c then Some statuses.NameTooLong else None) else None)
+    of : (a b c : Bool)
+        → MayFault
+        (if a then (if b then Some statuses.Inval else if c then Some statuses.NameTooLong else None) else None)
     of true true c = tt
     of true false true = tt
     of true false false = tt
@@ -77,7 +84,9 @@ abbrev pub sent : Context → Value create_args → Result Wanted Status
 sent c v = wanted_of c.book (draft v).kind (set_of (created_attributes v)) (values_of (created_attributes v))
 
 pub sent_may : (c : Context) (v : Value create_args) → MayFault (fault_in (sent c v))
-sent_may c v = fault_in_may (sent c v) (wanted_may c.book (draft v).kind (set_of (created_attributes v)) (values_of (created_attributes v)))
+sent_may c v =
+    fault_in_may (sent c v)
+    (wanted_may c.book (draft v).kind (set_of (created_attributes v)) (values_of (created_attributes v)))
 
 abbrev pub wanted_in : Result Wanted Status → Wanted
 wanted_in (Ok wanted) = wanted
@@ -113,7 +122,8 @@ can_make wanted kind s directory = new_fits wanted kind (values.list_at s direct
 -- the new object, in a directory of this list
 abbrev pub created : Context → Draft → Wanted → List Entry → ℕ → At → Object
 created c draft wanted parent stamp at =
-    new_object draft.kind draft.text c.caller.uid (unwrap_or wanted.group c.caller.gid) (new_list wanted draft.kind parent) (created_high wanted.mode) stamp at
+    new_object draft.kind draft.text c.caller.uid (unwrap_or wanted.group c.caller.gid)
+    (new_list wanted draft.kind parent) (created_high wanted.mode) stamp at
 
 -- the list of the new object
 abbrev pub list_at : World → ℕ → List Entry
@@ -121,7 +131,9 @@ list_at w number = option_map_or (λ j. j.list) (judged_of w number) []
 
 -- the world with the new object
 abbrev pub with_created : Context → FileHandles → Value create_args → World → World
-with_created c h v w = with_new w (here h) (created_name v) (created c (draft v) (wanted c v) (list_at w (here h)) w.next_stamp (at c w)) (at c w)
+with_created c h v w =
+    with_new w (here h) (created_name v) (created c (draft v) (wanted c v) (list_at w (here h)) w.next_stamp (at c w))
+    (at c w)
 
 abbrev pub create : Value create_args → Context → FileHandles → Meaning
 create v c h = record {
@@ -146,4 +158,5 @@ create v c h = record {
 
 -- CREATE in a directory with its last question alone
 abbrev pub making : Value create_args → ℕ → Context → FileHandles → Meaning
-making v directory c h = record (create v c h) { questions = has_space (λ s. can_make (wanted c v) (draft v).kind s directory) ∷ [] }
+making v directory c h =
+    record (create v c h) { questions = has_space (λ s. can_make (wanted c v) (draft v).kind s directory) ∷ [] }

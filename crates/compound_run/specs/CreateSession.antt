@@ -4,7 +4,8 @@ use Rattle.xdr_wire.specs.Xdr.{Value}
 use Rattle.rpc_record.specs.Identity.{Identity}
 use Rattle.nfs_types.specs.declared.status.Status.{Status}
 use Rattle.nfs_ops.specs.Forms.{create_session_args, channel}
-use Rattle.nfs_ops.specs.Parts.{session_client, session_sequence, session_flags, fore_channel, back_channel, request_size, reply_size, cached_size, operations, slots}
+use Rattle.nfs_ops.specs.Parts.{session_client, session_sequence, session_flags, fore_channel, back_channel}
+use Rattle.nfs_ops.specs.Parts.{request_size, reply_size, cached_size, operations, slots}
 use Rattle.nfs_ops.specs.declared.op_kind.OpKind.TheVariants as kinds
 use Rattle.nfs_ops.specs.Results.{Outcome, Done}
 use Rattle.session_slots.specs.declared.session.Channel.{Channel}
@@ -48,7 +49,11 @@ abbrev pub channel_given : Channel → Value channel
 channel_given c = (c.padding, (c.request_size, (c.reply_size, (c.cached_size, (c.operations, (c.slots, []))))))
 
 abbrev pub session_made : Created → Outcome
-session_made c = Done kinds.CreateSession (session_id c.session, (c.sequence, (if c.persist then PERSIST else 0, (channel_given c.fore, channel_given c.back))))
+session_made c =
+    Done kinds.CreateSession (
+      session_id c.session,
+      (c.sequence, (if c.persist then PERSIST else 0, (channel_given c.fore, channel_given c.back))),
+    )
 
 abbrev pub kept_for : ℕ → Option Client → Option (Result Created Status)
 kept_for sequence None = None
@@ -59,7 +64,8 @@ abbrev pub created_before : Value create_session_args → Realm → Option (Resu
 created_before v r = kept_for (session_sequence v) (client_at r.registry (session_client v))
 
 -- The opens of a client whose record goes are closed.
-pub record CreatesSession (caller : Identity) (v : Value create_session_args) (old : Realm) (outcome : Result Outcome Status) (new : Realm) : Type 0 where
+pub record CreatesSession (caller : Identity) (v : Value create_session_args) (old : Realm)
+    (outcome : Result Outcome Status) (new : Realm) : Type 0 where
   pub made : Made
   pub creates : Creates old.registry (create_of old.lasting caller v) made new.registry
   pub told : outcome ≡ told_by session_made made.result

@@ -14,7 +14,8 @@ use Rattle.compound_run.specs.Sessions.{has_opens, with_registry}
 abbrev pub client_refusal : Value destroy_clientid_args → Realm → Option Status
 client_refusal v r = destroy_client_refusal r.registry v (has_opens v r.opens)
 
-pub record DestroysClient (v : Value destroy_clientid_args) (old : Realm) (outcome : Result Outcome Status) (new : Realm) : Type 0 where
+pub record DestroysClient (v : Value destroy_clientid_args) (old : Realm) (outcome : Result Outcome Status)
+    (new : Realm) : Type 0 where
   pub told : outcome ≡ told (client_refusal v old) (Done kinds.DestroyClientId tt)
   pub ok : OnOk outcome (new ≡ with_registry (without_client old.registry v) old)
   pub err : OnErr outcome (new ≡ old)

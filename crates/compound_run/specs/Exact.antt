@@ -32,7 +32,8 @@ ArePassed caller s (q ∷ questions) = Passes caller s q × ArePassed caller s q
 -- the first of these questions that fails: those before it are passed
 abbrev pub FailsFirst : Identity → Sight → List Question → Question → Type 0
 FailsFirst caller s [] f = ⊥
-FailsFirst caller s (q ∷ questions) f = ((q ≡ f) × Fails caller s q) ⊎ (Passes caller s q × FailsFirst caller s questions f)
+FailsFirst caller s (q ∷ questions) f =
+    ((q ≡ f) × Fails caller s q) ⊎ (Passes caller s q × FailsFirst caller s questions f)
 
 -- the first question that fails is a row of demands
 pub record IsRefusedByRow (caller : Identity) (s : Sight) (questions : List Question) : Type 0 where
@@ -44,19 +45,23 @@ abbrev pub ArePassedOrSuffice : Identity → Sight → List Question → Type 0
 ArePassedOrSuffice caller s [] = Unit {0}
 ArePassedOrSuffice caller s (Holds test status is ∷ questions) = (test s ≡ true) × ArePassedOrSuffice caller s questions
 ArePassedOrSuffice caller s (Valid fault may ∷ questions) = (fault s ≡ None) × ArePassedOrSuffice caller s questions
-ArePassedOrSuffice caller s (Row demands ∷ questions) = (all_granted s.lists caller (demands s) ≡ true) × ArePassedOrSuffice caller s questions
-ArePassedOrSuffice caller s (Suffices test ∷ questions) = (test s ≡ true) ⊎ ((test s ≡ false) × ArePassedOrSuffice caller s questions)
+ArePassedOrSuffice caller s (Row demands ∷ questions) =
+    (all_granted s.lists caller (demands s) ≡ true) × ArePassedOrSuffice caller s questions
+ArePassedOrSuffice caller s (Suffices test ∷ questions) =
+    (test s ≡ true) ⊎ ((test s ≡ false) × ArePassedOrSuffice caller s questions)
 
 -- a demand of a row, of which those before are granted
 abbrev pub IsReached : Lists → Identity → Demand → List (Option Demand) → Type 0
 IsReached lists caller demand [] = ⊥
 IsReached lists caller demand (None ∷ demands) = IsReached lists caller demand demands
-IsReached lists caller demand (Some d ∷ demands) = (demand ≡ d) ⊎ ((decision lists caller d ≡ decisions.Granted) × IsReached lists caller demand demands)
+IsReached lists caller demand (Some d ∷ demands) =
+    (demand ≡ d) ⊎ ((decision lists caller d ≡ decisions.Granted) × IsReached lists caller demand demands)
 
 -- The last line is the DENY line of the first demand of the row that the lists refuse. It has the
 -- object and the bits demanded of it. It also has the first entry that denies it, else the lowest
 -- bit that no entry allows.
-pub record EndsInRefusal (caller : Identity) (op : ℕ) (lists : Lists) (demands : List (Option Demand)) (lines : List Line) : Type 0 where
+pub record EndsInRefusal (caller : Identity) (op : ℕ) (lists : Lists) (demands : List (Option Demand))
+    (lines : List Line) : Type 0 where
   pub demand : Demand
   pub reached : IsReached lists caller demand demands
   pub object : ℕ
@@ -64,4 +69,15 @@ pub record EndsInRefusal (caller : Identity) (op : ℕ) (lists : Lists) (demands
   pub cause : Cause
   pub before : List Line
   pub refused : decision lists caller demand ≡ decisions.Refused object mask cause
-  pub told : lines ≡ before ++ record { kind = Deny; uid = caller.uid; op = op; object = object; mask = mask; granted = false; cause = cause } ∷ []
+  pub told : lines
+      ≡ before
+      ++ record {
+        kind = Deny;
+        uid = caller.uid;
+        op = op;
+        object = object;
+        mask = mask;
+        granted = false;
+        cause = cause;
+      }
+      ∷ []

@@ -34,10 +34,13 @@ abbrev pub SERVER : List ℕ
 SERVER = codes "nfs41-lists"
 
 abbrev pub exchanged : Exchanged → Outcome
-exchanged e = Done kinds.ExchangeId (e.client, (e.sequence, (answered_flags e, (inl tt, ((inl tt, inl tt), (SERVER, (SERVER, inl tt)))))))
+exchanged e =
+    Done kinds.ExchangeId
+    (e.client, (e.sequence, (answered_flags e, (inl tt, ((inl tt, inl tt), (SERVER, (SERVER, inl tt)))))))
 
 -- A client whose record goes has no opens.
-pub record ExchangesId (caller : Identity) (v : Value exchange_id_args) (old : Realm) (outcome : Result Outcome Status) (new : Realm) : Type 0 where
+pub record ExchangesId (caller : Identity) (v : Value exchange_id_args) (old : Realm)
+    (outcome : Result Outcome Status) (new : Realm) : Type 0 where
   pub given : Result Exchanged Status
   pub exchanges : Exchanges old.registry (exchanging caller v old) given new.registry
   pub told : outcome ≡ told_by exchanged given

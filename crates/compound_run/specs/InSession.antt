@@ -55,7 +55,9 @@ ActsAlone caller _ old outcome new = ⊥
 
 -- an operation alone in its COMPOUND has its result under the tag of its call
 abbrev pub ActsTo : Identity → Operation → List ℕ → Realm → List ℕ → Realm → Type 0
-ActsTo caller op tag old bytes new = (outcome : Result Outcome Status) × ActsAlone caller op old outcome new × (bytes ≡ given_alone tag (number_of op) outcome)
+ActsTo caller op tag old bytes new =
+    (outcome : Result Outcome Status) × ActsAlone caller op old outcome new
+    × (bytes ≡ given_alone tag (number_of op) outcome)
 
 -- ---- operations after a SEQUENCE
 
@@ -63,7 +65,8 @@ ActsTo caller op tag old bytes new = (outcome : Result Outcome Status) × ActsAl
 -- that of SEQUENCE.
 abbrev pub RunsTo : Context → List ℕ → Given → List ℕ → Point → List ℕ → Point → Type 0
 RunsTo c tag given operations old bytes new =
-    (results : List Given) × runs.Runs c (c.count - c.position) operations old results new × (bytes ≡ together tag (given ∷ results))
+    (results : List Given) × runs.Runs c (c.count - c.position) operations old results new
+    × (bytes ≡ together tag (given ∷ results))
 
 -- the realm with other clients and sessions
 abbrev pub in_registry : Registry → State → State
@@ -75,10 +78,12 @@ asked_in lasting call count v operations =
     asked_by v count call.record_len call.caller (compared lasting call.arguments (length operations))
 
 abbrev pub begin_in : Realm → Call → ℕ → Value sequence_args → List ℕ → Begin
-begin_in r call count v operations = sequence_begin r.registry (session_of (sequence_session v)) (asked_in r.lasting call count v operations)
+begin_in r call count v operations =
+    sequence_begin r.registry (session_of (sequence_session v)) (asked_in r.lasting call count v operations)
 
 abbrev pub begun_in : Realm → Call → ℕ → Value sequence_args → List ℕ → Registry
-begun_in r call count v operations = sequence_begun r.registry (session_of (sequence_session v)) (asked_in r.lasting call count v operations)
+begun_in r call count v operations =
+    sequence_begun r.registry (session_of (sequence_session v)) (asked_in r.lasting call count v operations)
 
 -- the context of the first operation after SEQUENCE
 abbrev pub context_behind : State → Call → List ℕ → ℕ → Value sequence_args → NewCall → Context
@@ -97,7 +102,8 @@ context_behind s call tag count v new = record {
 abbrev pub RunsOnSlot : State → Call → List ℕ → ℕ → Value sequence_args → List ℕ → NewCall → List ℕ → State → Type 0
 RunsOnSlot old call tag count v operations granted bytes new =
     (end : Point)
-    × RunsTo (context_behind old call tag count v granted) tag (sequence_done v granted.highest_slot) operations (start (in_registry (begun_in old.realm call count v operations) old)) bytes end
+    × RunsTo (context_behind old call tag count v granted) tag (sequence_done v granted.highest_slot) operations
+    (start (in_registry (begun_in old.realm call count v operations) old)) bytes end
     × (new ≡ in_registry (keeping v bytes end.realm.registry) (left old end))
     × (length bytes ≤ granted.reply_size - REPLY_HEADER)
 
@@ -123,11 +129,13 @@ abbrev pub fate_begun : State → Call → List ℕ → ℕ → Beginning → Fa
 fate_begun s call tag count (Ends status) = Fails (Some (head status tag 0))
 fate_begun s call tag count (Refuses number status) = Fails (Some (refused_alone tag number status))
 fate_begun s call tag count (Acts op) = fate_alone tag op s.realm
-fate_begun s call tag count (Follows v operations) = fate_by tag v s.realm.registry (begin_in s.realm call count v operations)
+fate_begun s call tag count (Follows v operations) =
+    fate_by tag v s.realm.registry (begin_in s.realm call count v operations)
 
 abbrev pub fate_of : State → Call → Option (Value args_form × List ℕ) → Fate Reply
 fate_of s call None = Fails None
-fate_of s call (Some ((tag, (minor, count)), operations)) = fate_begun s call tag count (beginning minor count operations)
+fate_of s call (Some ((tag, (minor, count)), operations)) =
+    fate_begun s call tag count (beginning minor count operations)
 
 unfoldable pub fate : State → Call → Fate Reply
 fate s call = fate_of s call (args_in (read_at args_form call.arguments))
@@ -135,10 +143,12 @@ fate s call = fate_of s call (args_in (read_at args_form call.arguments))
 -- ---- a call that is run
 
 abbrev pub RunsAlone : Call → List ℕ → Operation → State → List ℕ → State → Type 0
-RunsAlone call tag op old bytes new = ActsTo call.caller op tag old.realm bytes new.realm × (new ≡ record old { realm = new.realm })
+RunsAlone call tag op old bytes new =
+    ActsTo call.caller op tag old.realm bytes new.realm × (new ≡ record old { realm = new.realm })
 
 abbrev pub RunsBy : Begin → Call → List ℕ → ℕ → Value sequence_args → List ℕ → State → List ℕ → State → Type 0
-RunsBy (begins.New new_call) call tag count v operations old bytes new = RunsOnSlot old call tag count v operations new_call bytes new
+RunsBy (begins.New new_call) call tag count v operations old bytes new =
+    RunsOnSlot old call tag count v operations new_call bytes new
 RunsBy begins.Repeat call tag count v operations old bytes new = ⊥
 RunsBy (begins.Refused status) call tag count v operations old bytes new = ⊥
 
@@ -146,12 +156,14 @@ abbrev pub RunsBegun : Call → List ℕ → ℕ → Beginning → State → Lis
 RunsBegun call tag count (Ends status) old bytes new = ⊥
 RunsBegun call tag count (Refuses number status) old bytes new = ⊥
 RunsBegun call tag count (Acts op) old bytes new = RunsAlone call tag op old bytes new
-RunsBegun call tag count (Follows v operations) old bytes new = RunsBy (begin_in old.realm call count v operations) call tag count v operations old bytes new
+RunsBegun call tag count (Follows v operations) old bytes new =
+    RunsBy (begin_in old.realm call count v operations) call tag count v operations old bytes new
 
 abbrev pub RunsOf : Call → Option (Value args_form × List ℕ) → State → Reply → State → Type 0
 RunsOf call None old reply new = ⊥
 RunsOf call (Some ((tag, (minor, count)), operations)) old None new = ⊥
-RunsOf call (Some ((tag, (minor, count)), operations)) old (Some bytes) new = RunsBegun call tag count (beginning minor count operations) old bytes new
+RunsOf call (Some ((tag, (minor, count)), operations)) old (Some bytes) new =
+    RunsBegun call tag count (beginning minor count operations) old bytes new
 
 unfoldable pub RunsCall : Call → State → Reply → State → Type 0
 RunsCall call old reply new = RunsOf call (args_in (read_at args_form call.arguments)) old reply new

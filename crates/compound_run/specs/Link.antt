@@ -11,7 +11,8 @@ use Rattle.compound_run.specs.declared.filehandles.FileHandles.{FileHandles}
 use Rattle.compound_run.specs.Context.{Context}
 use Rattle.compound_run.specs.Questions.{Question, Holds}
 use Rattle.compound_run.specs.Rows.{first_row}
-use Rattle.compound_run.specs.Meaning.{Meaning, at, in_world, changed, with_handle, here, there, is_directory, is_no_directory, is_name, has_no_child, names_at, has_space}
+use Rattle.compound_run.specs.Meaning.{Meaning, at, in_world, changed, with_handle, here, there, is_directory}
+use Rattle.compound_run.specs.Meaning.{is_no_directory, is_name, has_no_child, names_at, has_space}
 
 -- the last question: there is space for the name
 abbrev pub is_nameable : ℕ → Question

@@ -1,5 +1,6 @@
 -- The entries of a directory, as the code writes them.
-use Rattle.std.specs.Prelude.{◌≡◌, ℕ, ◌&&◌, Bool, not, is_some, if◌then◌else◌, List, [], ◌∷◌, Option, Some, None, Result, Ok, Err, OnOk}
+use Rattle.std.specs.Prelude.{◌≡◌, ℕ, ◌&&◌, Bool, not, is_some, if◌then◌else◌, List, [], ◌∷◌, Option, Some, None}
+use Rattle.std.specs.Prelude.{Result, Ok, Err, OnOk}
 use Rattle.xdr_wire.specs.Xdr.{Value}
 use Rattle.xdr_wire.specs.Buffer.{Buffer, Puts}
 use Rattle.xdr_wire.specs.declared.writer.Full.{Full}
@@ -23,7 +24,8 @@ use Rattle.compound_run.specs.Readdir.{names_above}
 abbrev pub refused_of : Bool → Bool → Demands → Option Demand
 refused_of attributes list [] = None
 refused_of attributes list (first ∷ []) = None
-refused_of attributes list (first ∷ second ∷ others) = if not attributes && is_some first then first else if list then None else second
+refused_of attributes list (first ∷ second ∷ others) =
+    if not attributes && is_some first then first else if list then None else second
 
 -- the attributes of an entry's object, as the code holds them
 abbrev pub given_view : Result (Status × Bitmap) Demand → Result (Status × List ℕ) Demand

@@ -1,7 +1,8 @@
 -- The meaning of an operation at its place in a COMPOUND, and the questions of several operations
 -- (RFC 8881, sections 2.10, 16.2 and 18). A meaning is the operation's questions in order, its
 -- result, and its effect on the realm and on the filehandles.
-use Rattle.std.specs.Prelude.{ℕ, ◌&&◌, Bool, true, false, not, nat_le, if◌then◌else◌, List, [], ◌∷◌, length, is_some, unwrap_or, Option, Some, None}
+use Rattle.std.specs.Prelude.{ℕ, ◌&&◌, Bool, true, false, not, nat_le, if◌then◌else◌, List, [], ◌∷◌, length, is_some}
+use Rattle.std.specs.Prelude.{unwrap_or, Option, Some, None}
 use Rattle.std.proofs.Common.{inl}
 use Rattle.std.specs.Option.{option_map_or}
 use Rattle.rpc_record.specs.Identity.{Identity}

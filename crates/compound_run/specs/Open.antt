@@ -1,7 +1,8 @@
 -- OPEN (RFC 8881, section 18.16): a file is opened, by its name in the current directory or by the
 -- current filehandle. An absent file may be created, an existing file truncated. The file becomes
 -- current.
-use Rattle.std.specs.Prelude.{ℕ, ◌+◌, ◌==◌, ◌%◌, Bool, true, false, ◌&&◌, ◌||◌, nat_lt, nat_eq, if◌then◌else◌, List, [], ◌∷◌, ◌++◌, length, map, find, unwrap_or, bit_or, Option, Some, None, Result, Ok}
+use Rattle.std.specs.Prelude.{ℕ, ◌+◌, ◌==◌, ◌%◌, Bool, true, false, ◌&&◌, ◌||◌, nat_lt, nat_eq, if◌then◌else◌, List}
+use Rattle.std.specs.Prelude.{[], ◌∷◌, ◌++◌, length, map, find, unwrap_or, bit_or, Option, Some, None, Result, Ok}
 use Rattle.std.proofs.Common.{inl}
 use Rattle.std.specs.Option.{option_map}
 use Rattle.std.specs.Cmp.Lexicographic.{pointwise}
@@ -17,7 +18,8 @@ use Rattle.nfs_types.specs.declared.status.Status.TheVariants as statuses
 use Rattle.nfs_types.specs.Sent.{Wanted, nothing, wanted_of}
 use Rattle.nfs_ops.specs.Forms.{change_info, open_args, open_result}
 use Rattle.nfs_ops.specs.Operations.{Known}
-use Rattle.nfs_ops.specs.Parts.{How, NoCreate, Unchecked, Guarded, Claim, ByName, ByHandle, open_access, open_deny, open_owner, how_of, claim_of, set_of, values_of}
+use Rattle.nfs_ops.specs.Parts.{How, NoCreate, Unchecked, Guarded, Claim, ByName, ByHandle, open_access, open_deny}
+use Rattle.nfs_ops.specs.Parts.{open_owner, how_of, claim_of, set_of, values_of}
 use Rattle.nfs_ops.specs.declared.op_kind.OpKind.TheVariants as kinds
 use Rattle.nfs_ops.specs.Rows.{row}
 use Rattle.nfs_ops.specs.Results.{Done}
@@ -58,7 +60,9 @@ claim_fault (ByName name) how = name_fault name
 claim_fault ByHandle how = if is_creating how then Some statuses.Inval else None
 
 abbrev pub arguments_fault : Value open_args → Option Status
-arguments_fault v = first_fault (access_fault (access_of v)) (first_fault (deny_fault (open_deny v)) (claim_fault (claim_of v) (how_of v)))
+arguments_fault v =
+    first_fault (access_fault (access_of v))
+    (first_fault (deny_fault (open_deny v)) (claim_fault (claim_of v) (how_of v)))
 
 -- ---- the attributes of a file that may be created
 
@@ -153,11 +157,19 @@ with_reopened number access opens = map (λ o. if o.number == number then reopen
 -- a new open, by the next number
 abbrev pub new_open : Context → Value open_args → ℕ → ℕ → Opened
 new_open c v number file =
-    record { number = number; client = client_of c; owner = open_owner v; object = file; access = access_of v; seqid = 1 }
+    record {
+      number = number;
+      client = client_of c;
+      owner = open_owner v;
+      object = file;
+      access = access_of v;
+      seqid = 1;
+    }
 
 abbrev pub with_open : Context → Value open_args → ℕ → Option Opened → Realm → Realm
 with_open c v file (Some o) r = record r { opens = with_reopened o.number (access_of v) r.opens }
-with_open c v file None r = record r { opens = r.opens ++ new_open c v r.next_open file ∷ []; next_open = r.next_open + 1 }
+with_open c v file None r =
+    record r { opens = r.opens ++ new_open c v r.next_open file ∷ []; next_open = r.next_open + 1 }
 
 abbrev pub stateid_of : Option Opened → ℕ → Value stateid
 stateid_of (Some o) next = open_stateid (risen o.seqid) o.number
@@ -190,8 +202,10 @@ claim_may ByHandle how = of (is_creating how)
 
 pub arguments_may : (v : Value open_args) → MayFault (arguments_fault v)
 arguments_may v =
-    first_may (access_fault (access_of v)) (first_fault (deny_fault (open_deny v)) (claim_fault (claim_of v) (how_of v))) (access_may (access_of v))
-    (first_may (deny_fault (open_deny v)) (claim_fault (claim_of v) (how_of v)) (deny_may (open_deny v)) (claim_may (claim_of v) (how_of v)))
+    first_may (access_fault (access_of v))
+    (first_fault (deny_fault (open_deny v)) (claim_fault (claim_of v) (how_of v))) (access_may (access_of v))
+    (first_may (deny_fault (open_deny v)) (claim_fault (claim_of v) (how_of v)) (deny_may (open_deny v))
+    (claim_may (claim_of v) (how_of v)))
 
 pub sent_may : (c : Context) (how : How) → IsValueOrFault (sent c how)
 sent_may c NoCreate = tt
@@ -263,18 +277,23 @@ set_by c v None = sent_set (how_of v)
 set_by c v (Some file) = if truncates c v then 16 ∷ [] else []
 
 abbrev pub result_on : Context → Value open_args → ℕ → Option ℕ → Sight → Value open_result
-result_on c v directory file s =
-    (stateid_of (joined c v file s.opens) s.next_open, (change_of (claim_of v) directory file s, (inl tt, (set_by c v file, inl tt))))
+result_on c v directory file s = (
+  stateid_of (joined c v file s.opens) s.next_open,
+  (change_of (claim_of v) directory file s, (inl tt, (set_by c v file, inl tt))),
+)
 
 -- the world with the opened file
 abbrev pub file_in : Context → Value open_args → ℕ → Option ℕ → World → World
 file_in c v directory None w =
-    with_new w directory (name_in (claim_of v)) (created c (file_of (wanted c v)) (wanted c v) (list_at w directory) w.next_stamp (at c w)) (at c w)
+    with_new w directory (name_in (claim_of v))
+    (created c (file_of (wanted c v)) (wanted c v) (list_at w directory) w.next_stamp (at c w)) (at c w)
 file_in c v directory (Some file) w = if truncates c v then with_size w file 0 (at c w) else w
 
 abbrev pub opened_on : Context → Value open_args → ℕ → Option ℕ → Realm → Realm
 opened_on c v directory file r =
-    record (with_open c v (unwrap_or file r.world.next_number) (joined c v file r.opens) r) { world = file_in c v directory file r.world }
+    record (with_open c v (unwrap_or file r.world.next_number) (joined c v file r.opens) r) {
+      world = file_in c v directory file r.world;
+    }
 
 abbrev pub open_file : Value open_args → Context → FileHandles → Meaning
 open_file v c h = record {
@@ -285,7 +304,8 @@ open_file v c h = record {
       ∷ is_valid (arguments_fault v) (arguments_may v)
       ∷ is_valid (fault_in (sent c (how_of v))) (fault_in_may (sent c (how_of v)) (sent_may c (how_of v)))
       ∷ first_row h (Known kinds.Open v)
-      ∷ Valid (λ s. found_fault (how_of v) (option_map (kind_at s) (found v h s))) (λ s. found_may (how_of v) (option_map (kind_at s) (found v h s)))
+      ∷ Valid (λ s. found_fault (how_of v) (option_map (kind_at s) (found v h s)))
+      (λ s. found_may (how_of v) (option_map (kind_at s) (found v h s)))
       ∷ opening_row h (Known kinds.Open v) (found v h) (wanted c v).size
       ∷ last_questions v c h);
   answer = λ s. Done kinds.Open (result_on c v (here h) (found v h s) s);

@@ -1,5 +1,6 @@
 -- The opening of a file by the code.
-use Rattle.std.specs.Prelude.{◌≡◌, ◌≤◌, ◌<◌, ◌+◌, ◌^◌, ℕ, ◌==◌, if◌then◌else◌, bit_or, List, [], ◌∷◌, ◌++◌, length, unwrap_or, Option, Some, None}
+use Rattle.std.specs.Prelude.{◌≡◌, ◌≤◌, ◌<◌, ◌+◌, ◌^◌, ℕ, ◌==◌, if◌then◌else◌, bit_or, List, [], ◌∷◌, ◌++◌, length}
+use Rattle.std.specs.Prelude.{unwrap_or, Option, Some, None}
 use Rattle.xdr_wire.specs.Xdr.{Value}
 use Rattle.rpc_record.specs.Identity.{Identity}
 use Rattle.acl_list.specs.declared.entry.Entry.{Entry}
@@ -27,7 +28,8 @@ use Rattle.compound_run.specs.Open.{risen, with_reopened}
 
 -- an open that is opened again, if it has this number
 abbrev pub reopened_by : {A : Type 0} → ℕ → ℕ → Open A → Open A
-reopened_by number access o = if o.number == number then record o { access = bit_or o.access access; seqid = risen o.seqid } else o
+reopened_by number access o =
+    if o.number == number then record o { access = bit_or o.access access; seqid = risen o.seqid } else o
 
 -- the place of an open of these owner's bytes, which joins this open, or none
 abbrev pub IsPlace : {A : Type 0} → List ℕ → Option Opened → Place A → Type 0
@@ -45,7 +47,17 @@ HasPlace next len capacity (places.New bytes) = (next < 2 ^ 63) × (len + 1 ≤ 
 abbrev pub placed : {A : Type 0} → Context → ℕ → ℕ → Place A → Realm → Realm
 placed c access file (places.Again number seqid) r = record r { opens = with_reopened number access r.opens }
 placed c access file (places.New bytes) r = record r {
-  opens = r.opens ++ record { number = r.next_open; client = client_of c; owner = bytes.items; object = file; access = access; seqid = 1 } ∷ [];
+  opens =
+      r.opens
+      ++ record {
+        number = r.next_open;
+        client = client_of c;
+        owner = bytes.items;
+        object = file;
+        access = access;
+        seqid = 1;
+      }
+      ∷ [];
   next_open = r.next_open + 1;
 }
 
@@ -56,7 +68,8 @@ placed_stateid (places.New bytes) next = open_stateid 1 next
 -- ---- the file
 
 -- a new file
-pub record MakesFile {A : Type 0} (caller : Identity) (parent : List Entry) (wanted : Wanted) (new : NewObject A) : Type 0 where
+pub record MakesFile {A : Type 0} (caller : Identity) (parent : List Entry) (wanted : Wanted)
+    (new : NewObject A) : Type 0 where
   pub kind : new.kind ≡ File
   pub bytes : new.bytes.items ≡ resized [] (unwrap_or wanted.size 0)
   pub owner : new.owner ≡ caller.uid

@@ -23,4 +23,5 @@ permitted number made at w = option_map_or (λ p. with_list w number p.list p.hi
 -- the world with this owner and this group, each where there is one, else the one before
 abbrev pub entitled : ℕ → Option ℕ → Option ℕ → ℕ × ℕ → At → World → World
 entitled number owner group before at w =
-    if is_some owner || is_some group then with_owner w number (unwrap_or owner before.0) (unwrap_or group before.1) at else w
+    if is_some owner || is_some group
+    then with_owner w number (unwrap_or owner before.0) (unwrap_or group before.1) at else w

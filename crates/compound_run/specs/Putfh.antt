@@ -21,7 +21,9 @@ abbrev pub putfh : List ℕ → Context → FileHandles → Meaning
 putfh handle c h = record {
   number = (row kinds.PutFh).number;
   caller = c.caller;
-  questions = is_valid (fault_in (object_of handle)) (fault_in_may (object_of handle) (object_may handle)) ∷ is_live (object_in (object_of handle)) ∷ [];
+  questions =
+      is_valid (fault_in (object_of handle)) (fault_in_may (object_of handle) (object_may handle))
+      ∷ is_live (object_in (object_of handle)) ∷ [];
   answer = λ s. Done kinds.PutFh tt;
   effect = stays;
   goes = λ s. record h { current = object_in (object_of handle) };

@@ -1,7 +1,8 @@
 -- An operation puts its questions in order. Its outcome is the status of the first that fails, else
 -- OK. The decisions of its rows write lines into the trail, up to and with the first that is
 -- refused (RFC 8881, sections 6.2.1 and 18).
-use Rattle.std.specs.Prelude.{ℕ, Bool, true, ◌&&◌, if◌then◌else◌, List, [], ◌∷◌, ◌++◌, Option, Some, None, Result, Ok, Err}
+use Rattle.std.specs.Prelude.{ℕ, Bool, true, ◌&&◌, if◌then◌else◌, List, [], ◌∷◌, ◌++◌, Option, Some, None, Result, Ok}
+use Rattle.std.specs.Prelude.{Err}
 use Rattle.rpc_record.specs.Identity.{Identity}
 use Rattle.nfs_types.specs.declared.status.Status.{Status}
 use Rattle.nfs_types.specs.declared.status.Status.TheVariants as statuses
@@ -37,7 +38,8 @@ abbrev pub failure : Identity → Sight → List Question → Option Status
 failure caller s [] = None
 failure caller s (Holds test status is ∷ questions) = if test s then failure caller s questions else Some status
 failure caller s (Valid fault may ∷ questions) = first_fault (fault s) (failure caller s questions)
-failure caller s (Row demands ∷ questions) = if all_granted s.lists caller (demands s) then failure caller s questions else Some statuses.Access
+failure caller s (Row demands ∷ questions) =
+    if all_granted s.lists caller (demands s) then failure caller s questions else Some statuses.Access
 failure caller s (Suffices test ∷ questions) = if test s then None else failure caller s questions
 
 -- the lines of demands, up to and with the first that is refused
@@ -45,7 +47,8 @@ abbrev pub demand_lines : Lists → Identity → ℕ → List (Option Demand) �
 demand_lines lists caller op [] = []
 demand_lines lists caller op (None ∷ demands) = demand_lines lists caller op demands
 demand_lines lists caller op (Some d ∷ demands) =
-    lines lists caller op d ++ (if is_granted (decision lists caller d) then demand_lines lists caller op demands else [])
+    lines lists caller op d
+    ++ (if is_granted (decision lists caller d) then demand_lines lists caller op demands else [])
 
 -- lines where there is no fault
 abbrev pub lines_unless : Option Status → List Line → List Line
@@ -58,7 +61,8 @@ trace caller op s [] = []
 trace caller op s (Holds test status is ∷ questions) = if test s then trace caller op s questions else []
 trace caller op s (Valid fault may ∷ questions) = lines_unless (fault s) (trace caller op s questions)
 trace caller op s (Row demands ∷ questions) =
-    demand_lines s.lists caller op (demands s) ++ (if all_granted s.lists caller (demands s) then trace caller op s questions else [])
+    demand_lines s.lists caller op (demands s)
+    ++ (if all_granted s.lists caller (demands s) then trace caller op s questions else [])
 trace caller op s (Suffices test ∷ questions) = if test s then [] else trace caller op s questions
 
 -- the answer: the result, or the status of a refusal

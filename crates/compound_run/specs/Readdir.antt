@@ -1,5 +1,6 @@
 -- READDIR (RFC 8881, section 18.23): entries of the current directory, each with attributes of its object.
-use Rattle.std.specs.Prelude.{ℕ, ◌==◌, ◌||◌, Bool, true, false, not, nat_lt, if◌then◌else◌, List, [], ◌∷◌, map, filter, Option, Some, None, Result, Ok, Err}
+use Rattle.std.specs.Prelude.{ℕ, ◌==◌, ◌||◌, Bool, true, false, not, nat_lt, if◌then◌else◌, List, [], ◌∷◌, map}
+use Rattle.std.specs.Prelude.{filter, Option, Some, None, Result, Ok, Err}
 use Rattle.xdr_wire.specs.Xdr.{Value}
 use Rattle.rpc_record.specs.Identity.{Identity}
 use Rattle.acl_list.specs.declared.mask.TheConstants.{READ_ATTRIBUTES, READ_ACL}
@@ -42,12 +43,15 @@ allows lists caller number mask = is_granted (decision lists caller (Bits number
 abbrev pub first_refused : Lists → Identity → Demands → Option Demand
 first_refused lists caller [] = None
 first_refused lists caller (None ∷ demands) = first_refused lists caller demands
-first_refused lists caller (Some d ∷ demands) = if is_granted (decision lists caller d) then first_refused lists caller demands else Some d
+first_refused lists caller (Some d ∷ demands) =
+    if is_granted (decision lists caller d) then first_refused lists caller demands else Some d
 
 -- the attributes requested that the object's list permits
 abbrev pub permitted : Lists → Identity → ℕ → List ℕ → List ℕ
 permitted lists caller number asked =
-    trimmed (common asked (granted_words (allows lists caller number READ_ATTRIBUTES) (allows lists caller number READ_ACL)))
+    trimmed
+    (common asked
+    (granted_words (allows lists caller number READ_ATTRIBUTES) (allows lists caller number READ_ACL)))
 
 -- The rdattr_error (11) and the attributes of an entry's object, where this demand is the first
 -- that its list refuses. Where rdattr_error isn't requested, the demand refuses the entry.
@@ -57,7 +61,8 @@ judgment lists caller asked number (Some d) =
     if has_number asked 11 then Ok (statuses.Access, permitted lists caller number asked) else Err d
 
 abbrev pub judgment_of : Lists → Identity → List ℕ → ℕ → Option Object → Result (Status × List ℕ) Demand
-judgment_of lists caller asked number entry = judgment lists caller asked number (first_refused lists caller (entry_demands asked entry))
+judgment_of lists caller asked number entry =
+    judgment lists caller asked number (first_refused lists caller (entry_demands asked entry))
 
 -- the entry with these attributes of its object; rdattr_error is this status
 abbrev pub entry_of : Context → Sight → Name → Status → List ℕ → Value entry
@@ -82,7 +87,8 @@ judged_above c asked directory cookie s = map (judged_entry c asked s) (names_ab
 -- The entries that are returned: the longest beginning that fits, unless a judged entry is refused, or nothing fits.
 unfoldable pub listed : Context → Value readdir_args → ℕ → Sight → Result Listing (ListFault Demand)
 listed c v directory s =
-    listing (readdir_limit (listed_at_most v) c.room) (judged_above c (listed_attributes v) directory (listed_behind v) s)
+    listing (readdir_limit (listed_at_most v) c.room)
+    (judged_above c (listed_attributes v) directory (listed_behind v) s)
 
 abbrev pub refused_in : Result Listing (ListFault Demand) → Option Demand
 refused_in (Ok given) = None

@@ -37,7 +37,8 @@ unopened w = record { world = w; opens = []; next_open = 1; registry = nobody; l
 -- a world where this object has lost a name.
 abbrev pub opens_left : World → Option ℕ → List Opened → List Opened
 opens_left w None opens = opens
-opens_left w (Some number) opens = if is_some (kind_of w number) then opens else filter (λ o. not (o.object == number)) opens
+opens_left w (Some number) opens =
+    if is_some (kind_of w number) then opens else filter (λ o. not (o.object == number)) opens
 
 -- the realm of a world in which an object has lost a name, if one has
 abbrev pub with_loss : World → Option ℕ → Realm → Realm

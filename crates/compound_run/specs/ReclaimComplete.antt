@@ -28,7 +28,8 @@ complete_may (Some c) = of c.reclaimed
 
 -- the client hasn't sent it yet
 abbrev pub is_first : Context → Question
-is_first c = Valid (λ s. reclaim_refusal s.registry (client_of c)) (λ s. complete_may (client_at s.registry (client_of c)))
+is_first c =
+    Valid (λ s. reclaim_refusal s.registry (client_of c)) (λ s. complete_may (client_at s.registry (client_of c)))
 
 abbrev pub reclaim_questions : Value reclaim_complete_args → Context → FileHandles → List Question
 reclaim_questions one_fs c h = if one_fs then with_handle h.current [] else is_first c ∷ []

@@ -13,7 +13,8 @@ use Rattle.compound_run.specs.Context.{Context}
 use Rattle.compound_run.specs.Sight.{child, whole}
 use Rattle.compound_run.specs.Questions.{Holds}
 use Rattle.compound_run.specs.Rows.{first_row, second_row}
-use Rattle.compound_run.specs.Meaning.{Meaning, at, changed, with_handle, here, number_in, is_directory, is_name, has_child, has_tick}
+use Rattle.compound_run.specs.Meaning.{Meaning, at, changed, with_handle, here, number_in, is_directory, is_name}
+use Rattle.compound_run.specs.Meaning.{has_child, has_tick}
 
 abbrev pub remove : List ℕ → Context → FileHandles → Meaning
 remove name c h = record {

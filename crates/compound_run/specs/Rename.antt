@@ -19,7 +19,8 @@ use Rattle.compound_run.specs.Context.{Context}
 use Rattle.compound_run.specs.Sight.{Sight, child, whole}
 use Rattle.compound_run.specs.Questions.{Question, Holds, Suffices}
 use Rattle.compound_run.specs.Rows.{first_row, second_row}
-use Rattle.compound_run.specs.Meaning.{Meaning, at, changed, unchanged, with_handle, here, there, number_in, names_at, is_directory, is_name, has_child, has_space}
+use Rattle.compound_run.specs.Meaning.{Meaning, at, changed, unchanged, with_handle, here, there, number_in, names_at}
+use Rattle.compound_run.specs.Meaning.{is_directory, is_name, has_child, has_space}
 
 -- the child that gets another name, and the target of that name
 abbrev pub moved : FileHandles → Value rename_args → Sight → Option ℕ
@@ -46,7 +47,8 @@ can_move s from to target = may_move (names_at s to) s.next_cookie from to targe
 
 -- the changes of both directories, which stay where the names are those of one object
 abbrev pub changes : FileHandles → Value rename_args → Sight → Value change_info × Value change_info
-changes h v s = if is_same h v s then (unchanged s (there h), unchanged s (here h)) else (changed s (there h), changed s (here h))
+changes h v s =
+    if is_same h v s then (unchanged s (there h), unchanged s (here h)) else (changed s (there h), changed s (here h))
 
 -- the last question
 abbrev pub is_movable : ℕ → ℕ → List ℕ → Question
@@ -70,7 +72,9 @@ rename v c h = record {
       ∷ is_movable (there h) (here h) (new_name v)
       ∷ []));
   answer = λ s. Done kinds.Rename (changes h v s);
-  effect = λ r. with_loss (renamed r.world (there h) (old_name v) (here h) (new_name v) (at c r.world)) (replaced h v (whole r)) r;
+  effect =
+      λ r. with_loss (renamed r.world (there h) (old_name v) (here h) (new_name v) (at c r.world))
+      (replaced h v (whole r)) r;
   goes = λ s. h;
 }
 

@@ -1,5 +1,6 @@
 -- The run of a COMPOUND's operations, in turn up to and with the first that isn't OK (RFC 8881, section 16.2.3).
-use Rattle.std.specs.Prelude.{◌≡◌, ◌≢◌, ℕ, zero, suc, Bool, true, false, List, [], ◌∷◌, length, Result, Ok, Err, MatchResult, OnOk, OnErr}
+use Rattle.std.specs.Prelude.{◌≡◌, ◌≢◌, ℕ, zero, suc, Bool, true, false, List, [], ◌∷◌, length, Result, Ok, Err}
+use Rattle.std.specs.Prelude.{MatchResult, OnOk, OnErr}
 use Rattle.std.specs.List.{flat_map}
 use Rattle.nfs_types.specs.declared.status.Status.{Status}
 use Rattle.nfs_types.specs.declared.status.Status.TheVariants as statuses
@@ -42,7 +43,8 @@ Unless false result A = A
 -- result. Its lines are held, and then pass through `ends`. Where it is OK it has its effect, else
 -- none. An operation that may be delayed answers DELAY in the place of any outcome, where memory
 -- was refused. Then it has no line in the trail.
-pub record Answered (may : Bool) (m : Meaning) (ends : Log → Log) (old : Point) (result : Result Outcome Status) (new : Point) : Type 0 where
+pub record Answered (may : Bool) (m : Meaning) (ends : Log → Log) (old : Point) (result : Result Outcome Status)
+    (new : Point) : Type 0 where
   pub outcome : Unless may result (result ≡ outcome m old.realm)
   pub log : Unless may result (new.log ≡ ends (held (traced m old.realm) old.log))
   pub trail_stays : result ≡ Err statuses.Delay → new.log.trail ≡ old.log.trail
@@ -101,4 +103,6 @@ Runs c zero bytes old (given ∷ results) new = ⊥
 Runs c (suc n) bytes old [] new = ⊥
 Runs c (suc n) bytes old (given ∷ results) new =
     (mid : Point) × (given.number ≡ number_of (next_at bytes).0) × Steps c (next_at bytes).0 old given.outcome mid
-    × MatchResult given.outcome (λ outcome. Runs (behind c (length (result_bytes given))) n (next_at bytes).1 mid results new) (λ status. (results ≡ []) × (new ≡ mid))
+    × MatchResult given.outcome
+    (λ outcome. Runs (behind c (length (result_bytes given))) n (next_at bytes).1 mid results new)
+    (λ status. (results ≡ []) × (new ≡ mid))

@@ -33,14 +33,16 @@ asked_by v count record_len caller arguments = record {
 -- operations after SEQUENCE, which are this many.
 abbrev pub compared : Bool → List ℕ → ℕ → List ℕ
 compared false arguments behind = arguments
-compared true arguments behind = take (length arguments - behind - 8) arguments ++ drop (length arguments - behind - 4) arguments
+compared true arguments behind =
+    take (length arguments - behind - 8) arguments ++ drop (length arguments - behind - 4) arguments
 
 -- The highest slot and the target highest slot are the same. No flag is ever set.
 abbrev pub sequence_given : Value sequence_args → ℕ → Value sequence_result
 sequence_given v highest = (sequence_session v, (sequence_number v, (sequence_slot v, (highest, (highest, inl tt)))))
 
 abbrev pub sequence_done : Value sequence_args → ℕ → Given
-sequence_done v highest = record { number = (row kinds.Sequence).number; outcome = Ok (Done kinds.Sequence (sequence_given v highest)) }
+sequence_done v highest =
+    record { number = (row kinds.Sequence).number; outcome = Ok (Done kinds.Sequence (sequence_given v highest)) }
 
 -- the session for the operations after SEQUENCE
 abbrev pub calling_by : Value sequence_args → NewCall → Calling
@@ -52,4 +54,5 @@ room_behind tag v new = first_room new.reply_size tag - length (result_bytes (se
 
 -- the results of the call are kept in its slot
 abbrev pub keeping : Value sequence_args → List ℕ → Registry → Registry
-keeping v results r = with_session (session_of (sequence_session v)) (with_place (sequence_slot v) (λ p. finished p results)) r
+keeping v results r =
+    with_session (session_of (sequence_session v)) (with_place (sequence_slot v) (λ p. finished p results)) r

@@ -11,7 +11,8 @@ use Rattle.nfs_ops.specs.Operations.{Operation, Known, number_of}
 use Rattle.nfs_ops.specs.Results.{Outcome, Done}
 use Rattle.nfs_ops.specs.Rows.{row}
 use Rattle.nfs_ops.specs.declared.sequence.SequenceResult.{SequenceResult}
-use Rattle.nfs_ops.specs.Views.{exchange_id_args_value, create_session_args_value, destroy_session_args_value, destroy_clientid_args_value, sequence_args_value, sequence_result_value}
+use Rattle.nfs_ops.specs.Views.{exchange_id_args_value, create_session_args_value, destroy_session_args_value}
+use Rattle.nfs_ops.specs.Views.{destroy_clientid_args_value, sequence_args_value, sequence_result_value}
 use Rattle.nfs_ops.specs.declared.op_kind.OpKind.TheVariants as kinds
 use Rattle.session_slots.specs.declared.session.NewCall.{NewCall}
 use Rattle.session_slots.specs.Repeating.{Fate, Runs, Repeats, Fails}
@@ -55,7 +56,8 @@ abbrev pub IsOfClients : {A : Type 0} → realms.Realm A → realms.Realm A → 
 IsOfClients old new = new ≡ record old { clients = new.clients; opens = new.opens }
 
 -- The operation is done, and where it is OK its result is written; else nothing is.
-pub record ActGives (caller : Identity) (op : Operation) (old : Realm) (before : Buffer) (answer : Result (Unit {0}) Status) (new : Realm) (after : Buffer) : Type 0 where
+pub record ActGives (caller : Identity) (op : Operation) (old : Realm) (before : Buffer)
+    (answer : Result (Unit {0}) Status) (new : Realm) (after : Buffer) : Type 0 where
   pub outcome : Result Outcome Status
   pub acts : ActsAlone caller op old outcome new
   pub tells : IsToldBy answer outcome
@@ -64,7 +66,8 @@ pub record ActGives (caller : Identity) (op : Operation) (old : Realm) (before :
   pub unwritten : OnErr answer (after ≡ before)
 
 -- The operation is done, and its result is written.
-pub record ActedSo (caller : Identity) (op : Operation) (old : Realm) (before : Buffer) (status : Status) (new : Realm) (after : Buffer) : Type 0 where
+pub record ActedSo (caller : Identity) (op : Operation) (old : Realm) (before : Buffer) (status : Status)
+    (new : Realm) (after : Buffer) : Type 0 where
   pub outcome : Result Outcome Status
   pub acts : ActsAlone caller op old outcome new
   pub written : Appends before after (result_bytes (record { number = number_of op; outcome = outcome }))
@@ -77,22 +80,27 @@ Writes limit bytes before after = Appends before after bytes × (length bytes �
 
 -- The answer is put after the buffer's bytes, and is within the limit.
 abbrev pub WritesWithin : ℕ → (List ℕ → Type 0) → Buffer → Buffer → Type 0
-WritesWithin limit answers before after = (bytes : List ℕ) × answers bytes × Appends before after bytes × (length bytes ≤ limit)
+WritesWithin limit answers before after =
+    (bytes : List ℕ) × answers bytes × Appends before after bytes × (length bytes ≤ limit)
 
 -- ---- operations after a SEQUENCE
 
-abbrev pub SequencedTo : {A : Type 0} → Context → List ℕ → Given → List ℕ → realms.Realm A → List ℕ → realms.Realm A → Type 0
-SequencedTo c tag given operations old bytes new = (handles : FileHandles) × RunsTo c tag given operations (point_at old no_handles) bytes (point_at new handles)
+abbrev pub SequencedTo : {A : Type 0} → Context → List ℕ → Given → List ℕ → realms.Realm A → List ℕ → realms.Realm A
+    → Type 0
+SequencedTo c tag given operations old bytes new =
+    (handles : FileHandles) × RunsTo c tag given operations (point_at old no_handles) bytes (point_at new handles)
 
 -- The results are put after the buffer's bytes; with a head in front they would be the answer.
-abbrev pub SequencedBehind : {A : Type 0} → ℕ → Context → List ℕ → Given → List ℕ → realms.Realm A → Buffer → Ended → realms.Realm A → Buffer → Type 0
+abbrev pub SequencedBehind : {A : Type 0} → ℕ → Context → List ℕ → Given → List ℕ → realms.Realm A → Buffer → Ended
+    → realms.Realm A → Buffer → Type 0
 SequencedBehind most c tag given operations old before end new after =
     (results : List ℕ) × SequencedTo c tag given operations old (head end.status tag end.ran ++ results) new
     × Appends before after results × (length after.bytes ≤ most)
 
 -- the result of SEQUENCE
 abbrev pub sequence_told : SequenceResult → Given
-sequence_told r = record { number = (row kinds.Sequence).number; outcome = Ok (Done kinds.Sequence (sequence_result_value r)) }
+sequence_told r =
+    record { number = (row kinds.Sequence).number; outcome = Ok (Done kinds.Sequence (sequence_result_value r)) }
 
 -- the context of the first operation after a SEQUENCE
 abbrev pub coming_behind : Content → Coming → Value sequence_args → NewCall → Context
@@ -107,9 +115,11 @@ coming_behind book c v new = record {
 }
 
 -- The operations are run, and the slot keeps all results.
-abbrev pub SequencedKept : {A : Type 0} → Context → List ℕ → Value sequence_args → Given → List ℕ → realms.Realm A → List ℕ → realms.Realm A → Type 0
+abbrev pub SequencedKept : {A : Type 0} → Context → List ℕ → Value sequence_args → Given → List ℕ → realms.Realm A
+    → List ℕ → realms.Realm A → Type 0
 SequencedKept {A} c tag v given operations old bytes new =
-    (mid : realms.Realm A) × SequencedTo c tag given operations old bytes mid × (new ≡ record mid { clients = keeping v bytes mid.clients })
+    (mid : realms.Realm A) × SequencedTo c tag given operations old bytes mid
+    × (new ≡ record mid { clients = keeping v bytes mid.clients })
 
 -- ---- a call
 
@@ -130,9 +140,11 @@ AnswersAs (Fails refusal) run old bytes new = (Some bytes ≡ refusal) × (new �
 abbrev pub AnswersSequence : Coming → Value sequence_args → List ℕ → State → List ℕ → State → Type 0
 AnswersSequence c v operations old bytes new =
     let begin = begin_in old.realm (call_of c) c.compound.count v operations in
-    AnswersAs (fate_by c.compound.tag.now v old.realm.registry begin) (RunsBy begin (call_of c) c.compound.tag.now c.compound.count v operations old) old bytes new
+    AnswersAs (fate_by c.compound.tag.now v old.realm.registry begin)
+    (RunsBy begin (call_of c) c.compound.tag.now c.compound.count v operations old) old bytes new
 
 -- any COMPOUND
 abbrev pub AnswersComing : Coming → State → List ℕ → State → Type 0
 AnswersComing c old bytes new =
-    AnswersAs (fate_begun old (call_of c) c.compound.tag.now c.compound.count (begun_at c)) (RunsBegun (call_of c) c.compound.tag.now c.compound.count (begun_at c) old) old bytes new
+    AnswersAs (fate_begun old (call_of c) c.compound.tag.now c.compound.count (begun_at c))
+    (RunsBegun (call_of c) c.compound.tag.now c.compound.count (begun_at c) old) old bytes new

@@ -1,5 +1,6 @@
 -- The ids of sessions, and the open files of clients (RFC 8881, sections 2.10.3 and 9.1).
-use Rattle.std.specs.Prelude.{ℕ, ◌++◌, ◌==◌, Bool, not, if◌then◌else◌, List, filter, take, drop, replicate, Option, Some, None, Result, Ok, Err}
+use Rattle.std.specs.Prelude.{ℕ, ◌++◌, ◌==◌, Bool, not, if◌then◌else◌, List, filter, take, drop, replicate, Option}
+use Rattle.std.specs.Prelude.{Some, None, Result, Ok, Err}
 use Rattle.std.specs.Int.{w64, from_be_bytes, to_be_bytes}
 use Rattle.std.specs.List.{list_any}
 use Rattle.xdr_wire.specs.Reading.{are_zero}

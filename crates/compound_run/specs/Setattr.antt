@@ -1,5 +1,6 @@
 -- SETATTR (RFC 8881, section 18.30): attributes of the current object are set, all of those that are sent or none.
-use Rattle.std.specs.Prelude.{ℕ, ◌+◌, ◌^◌, Bool, true, false, ◌&&◌, ◌||◌, nat_le, if◌then◌else◌, [], ◌∷◌, is_some, is_none, unwrap_or, Option, Some, None, Result}
+use Rattle.std.specs.Prelude.{ℕ, ◌+◌, ◌^◌, Bool, true, false, ◌&&◌, ◌||◌, nat_le, if◌then◌else◌, [], ◌∷◌, is_some}
+use Rattle.std.specs.Prelude.{is_none, unwrap_or, Option, Some, None, Result}
 use Rattle.std.specs.Option.{option_map_or}
 use Rattle.xdr_wire.specs.Xdr.{Value}
 use Rattle.acl_list.specs.declared.entry.Kind.{Kind}
@@ -44,7 +45,8 @@ abbrev pub sent : Context → Value setattr_args → Kind → Result Wanted Stat
 sent c v kind = sent_by c.book v kind
 
 pub sent_may : (c : Context) (v : Value setattr_args) (kind : Kind) → MayFault (fault_in (sent c v kind))
-sent_may c v kind = fault_in_may (sent c v kind) (wanted_may c.book kind (set_of (set_attributes v)) (values_of (set_attributes v)))
+sent_may c v kind =
+    fault_in_may (sent c v kind) (wanted_may c.book kind (set_of (set_attributes v)) (values_of (set_attributes v)))
 
 abbrev pub wanted : Context → Value setattr_args → Kind → Wanted
 wanted c v kind = wanted_in (sent c v kind)
@@ -66,9 +68,11 @@ is_file Link = false
 -- only a file has a size to set, which takes a stateid
 abbrev pub size_fault : Option ℕ → Context → ℕ → Value stateid → Sight → Option Status
 size_fault None c number id s = None
-size_fault (Some size) c number id s = if is_file (kind_at s number) then stateid_fault ToWrite c number id s else Some statuses.Inval
+size_fault (Some size) c number id s =
+    if is_file (kind_at s number) then stateid_fault ToWrite c number id s else Some statuses.Inval
 
-pub size_may : (size : Option ℕ) (c : Context) (number : ℕ) (id : Value stateid) (s : Sight) → MayFault (size_fault size c number id s)
+pub size_may : (size : Option ℕ) (c : Context) (number : ℕ) (id : Value stateid) (s : Sight)
+    → MayFault (size_fault size c number id s)
 size_may None c number id s = tt
 size_may (Some size) c number id s = of (is_file (kind_at s number)) _ (stateid_may ToWrite c number id s)
   where
@@ -98,7 +102,8 @@ stamps wanted = (if sets_list wanted then 1 else 0) + (if sets_owner wanted then
 
 -- a tick is left, and as many stamps as it takes; where no attribute is set none is taken
 unfoldable pub has_counts : Wanted → Sight → Bool
-has_counts wanted s = if sets_any wanted then has_left s.next_tick && nat_le (s.next_stamp + stamps wanted) (2 ^ 63) else true
+has_counts wanted s =
+    if sets_any wanted then has_left s.next_tick && nat_le (s.next_stamp + stamps wanted) (2 ^ 63) else true
 
 -- these counters are left, and the new list is within the bounds
 abbrev pub has_space_to_set : Wanted → ℕ → Sight → Bool
@@ -118,7 +123,8 @@ listed number o wanted at w =
 
 abbrev pub owned : ℕ → Object → Wanted → At → World → World
 owned number o wanted at w =
-    if sets_owner wanted then with_owner w number (unwrap_or wanted.owner o.owner) (unwrap_or wanted.group o.group) at else w
+    if sets_owner wanted then with_owner w number (unwrap_or wanted.owner o.owner) (unwrap_or wanted.group o.group) at
+    else w
 
 -- the change of an object as it was before
 abbrev pub set_on : ℕ → Object → Wanted → At → World → World

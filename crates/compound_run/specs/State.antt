@@ -52,7 +52,12 @@ known_of s = record { registry = s.realm.registry; opens = s.realm.opens; next_o
 
 -- the numbers that the next client, session and open file get
 abbrev pub next_numbers : State → NextNumbers
-next_numbers s = record { client = s.realm.registry.next_client; session = s.realm.registry.next_session; open_file = s.realm.next_open }
+next_numbers s =
+    record {
+      client = s.realm.registry.next_client;
+      session = s.realm.registry.next_session;
+      open_file = s.realm.next_open;
+    }
 
 -- these are the notes of the world's changes from now on
 abbrev pub with_notes : Notes → State → State
@@ -60,7 +65,13 @@ with_notes notes s = record s { realm = record s.realm { world = record s.realm.
 
 -- the beginning of a COMPOUND: no line is held, and there is no filehandle
 abbrev pub start : State → Point
-start s = record { realm = s.realm; log = record { held = []; trail = s.trail; total = s.total }; settings = s.settings; handles = no_handles }
+start s =
+    record {
+      realm = s.realm;
+      log = record { held = []; trail = s.trail; total = s.total };
+      settings = s.settings;
+      handles = no_handles;
+    }
 
 -- the state that is kept at its end
 abbrev pub left : State → Point → State
@@ -72,7 +83,13 @@ with_book book s = record s { settings = reloaded_settings book s.settings }
 
 -- A client is let go: its record goes with its sessions, and its open files are closed (RFC 8881, section 8.3).
 abbrev pub without_client : ℕ → State → State
-without_client client s = record s { realm = record s.realm { registry = let_go client s.realm.registry; opens = opens_without (Some client) s.realm.opens } }
+without_client client s =
+    record s {
+      realm = record s.realm {
+        registry = let_go client s.realm.registry;
+        opens = opens_without (Some client) s.realm.opens;
+      };
+    }
 
 -- ---- a call
 
@@ -111,7 +128,8 @@ fate_unless None s call tag count operations = Run tag (bare_context s call tag 
 
 abbrev pub fate_of : State → Call → Option (Value args_form × List ℕ) → Fate
 fate_of s call None = Refused None
-fate_of s call (Some ((tag, (minor, count)), operations)) = fate_unless (opening_fault MAX_OPERATIONS minor count) s call tag count operations
+fate_of s call (Some ((tag, (minor, count)), operations)) =
+    fate_unless (opening_fault MAX_OPERATIONS minor count) s call tag count operations
 
 -- where there is no session nothing is repeated
 unfoldable pub fate : State → Call → Fate
@@ -121,7 +139,8 @@ fate s call = fate_of s call (args_in (read_at args_form call.arguments))
 abbrev pub RunsSo : List ℕ → Context → List ℕ → State → Option (List ℕ) → State → Type 0
 RunsSo tag c operations old None new = ⊥
 RunsSo tag c operations old (Some bytes) new =
-    (end : Point) × (results : List Given) × Runs c c.count operations (start old) results end × (bytes ≡ together tag results) × (new ≡ left old end)
+    (end : Point) × (results : List Given) × Runs c c.count operations (start old) results end
+    × (bytes ≡ together tag results) × (new ≡ left old end)
 
 -- a call of this fate may have these results (none: it is garbage), and leave the server so
 abbrev pub AnswersBy : Fate → State → Option (List ℕ) → State → Type 0
@@ -135,5 +154,6 @@ Answers old call results new = AnswersBy (fate old call) old results new
 -- The results are put after the buffer's bytes, and are within the limit of a reply; or there are
 -- none.
 abbrev pub RunsBare : (Option (List ℕ) → State → Type 0) → RunEnd → Buffer → Buffer → State → Type 0
-RunsBare answers Replied before after new = (results : List ℕ) × answers (Some results) new × Appends before after results × (length results ≤ MAX_RESULTS)
+RunsBare answers Replied before after new =
+    (results : List ℕ) × answers (Some results) new × Appends before after results × (length results ≤ MAX_RESULTS)
 RunsBare answers Garbage before after new = answers None new × (after ≡ before)

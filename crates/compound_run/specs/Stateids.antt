@@ -1,6 +1,7 @@
 -- The stateid of an operation on the current object. A special stateid serves every file (RFC 8881,
 -- section 8.2.3). The stateid of an open serves the client and the object of that open alone.
-use Rattle.std.specs.Prelude.{ℕ, Bool, true, false, ◌==◌, ◌&&◌, not, nat_lt, if◌then◌else◌, List, find, filter, Option, Some, None}
+use Rattle.std.specs.Prelude.{ℕ, Bool, true, false, ◌==◌, ◌&&◌, not, nat_lt, if◌then◌else◌, List, find, filter}
+use Rattle.std.specs.Prelude.{Option, Some, None}
 use Rattle.std.specs.Option.{option_map_or}
 use Rattle.xdr_wire.specs.Xdr.{Value}
 use Rattle.nfs_types.specs.Forms.{stateid}
@@ -81,7 +82,9 @@ stateid_fault purpose c object id s =
 seqid_may : (seqid : ℕ) (o : Opened) → MayFault (seqid_fault seqid o)
 seqid_may seqid o = of (seqid == 0) (nat_lt seqid o.seqid) (nat_lt o.seqid seqid)
   where
-    of : (a b c : Bool) → MayFault (if a then None else if b then Some statuses.OldStateId else if c then Some statuses.BadStateId else None)
+    of : (a b c : Bool)
+        → MayFault
+        (if a then None else if b then Some statuses.OldStateId else if c then Some statuses.BadStateId else None)
     of true b c = tt
     of false true c = tt
     of false false true = tt
@@ -96,18 +99,21 @@ mode_may serves o = of (serves o.access)
 
 open_may : (serves : ℕ → Bool) (seqid : ℕ) (o : Option Opened) → MayFault (open_fault serves seqid o)
 open_may serves seqid None = tt
-open_may serves seqid (Some o) = first_may (seqid_fault seqid o) (mode_fault serves o) (seqid_may seqid o) (mode_may serves o)
+open_may serves seqid (Some o) =
+    first_may (seqid_fault seqid o) (mode_fault serves o) (seqid_may seqid o) (mode_may serves o)
 
 special_may : (purpose : Purpose) → MayFault (special_fault purpose)
 special_may ToRead = tt
 special_may ToWrite = tt
 special_may ToClose = tt
 
-pub stateid_may : (purpose : Purpose) (c : Context) (object : ℕ) (id : Value stateid) (s : Sight) → MayFault (stateid_fault purpose c object id s)
+pub stateid_may : (purpose : Purpose) (c : Context) (object : ℕ) (id : Value stateid) (s : Sight)
+    → MayFault (stateid_fault purpose c object id s)
 stateid_may purpose c object id s =
     of (is_special id) _ _ (special_may purpose) (open_may (serves_for purpose) id.0 (open_at c object id s))
   where
-    of : (b : Bool) (first second : Option Status) → MayFault first → MayFault second → MayFault (if b then first else second)
+    of : (b : Bool) (first second : Option Status) → MayFault first → MayFault second
+        → MayFault (if b then first else second)
     of true first second f s = f
     of false first second f s = s
 

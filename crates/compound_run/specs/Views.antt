@@ -41,7 +41,15 @@ use Rattle.access_guard.specs.Guarded.{Guarded}
 
 -- an open file
 abbrev pub open_view : {A : Type 0} → Open A → Opened
-open_view o = record { number = o.number; client = o.client; owner = o.owner.items; object = o.object; access = o.access; seqid = o.seqid }
+open_view o =
+    record {
+      number = o.number;
+      client = o.client;
+      owner = o.owner.items;
+      object = o.object;
+      access = o.access;
+      seqid = o.seqid;
+    }
 
 abbrev pub opens_view : {A : Type 0} → List (Open A) → List Opened
 opens_view opens = map open_view opens
@@ -52,7 +60,14 @@ lent_view l = record { registry = l.clients.now; opens = opens_view l.opens.now;
 
 -- the realm that is served
 abbrev pub realm_of : {A : Type 0} → realms.Realm A → Realm
-realm_of e = record { world = e.tree.world; opens = opens_view e.opens.items; next_open = e.next_open; registry = e.clients; lasting = e.lasting }
+realm_of e =
+    record {
+      world = e.tree.world;
+      opens = opens_view e.opens.items;
+      next_open = e.next_open;
+      registry = e.clients;
+      lasting = e.lasting;
+    }
 
 -- the settings of a server
 abbrev pub settings_in : Guarded → Settings
@@ -82,7 +97,16 @@ with_world w e = record e { tree = record e.tree { world = w } }
 
 -- the context of an operation where this book is loaded: lists decide for the caller by the book
 abbrev pub context_of : code.Context → Content → Context
-context_of c book = record { caller = member book c.caller.now; now = c.now; book = book; calling = c.calling; position = c.position; count = c.count; room = c.room }
+context_of c book =
+    record {
+      caller = member book c.caller.now;
+      now = c.now;
+      book = book;
+      calling = c.calling;
+      position = c.position;
+      count = c.count;
+      room = c.room;
+    }
 
 abbrev pub context_at : {A : Type 0} → realms.Realm A → code.Context → Context
 context_at e c = context_of c e.tree.book
@@ -98,26 +122,37 @@ handles_after before (Ok handles) = handles
 handles_after before (Err status) = before
 
 -- An operation is answered, and where it is OK its result is written, in its room; else nothing is.
-pub record GivesSo {A : Type 0} (may : Bool) (room : ℕ) (m : Meaning) (ends : Log → Log) (old : realms.Realm A) (handles : FileHandles) (before : Buffer) (result : Result FileHandles Status) (new : realms.Realm A) (after : Buffer) : Type 0 where
-  pub answered : Answered may m ends (point_at old handles) (told_as m (realm_of old) result) (point_at new (handles_after handles result))
+pub record GivesSo {A : Type 0} (may : Bool) (room : ℕ) (m : Meaning) (ends : Log → Log) (old : realms.Realm A)
+    (handles : FileHandles) (before : Buffer) (result : Result FileHandles Status) (new : realms.Realm A)
+    (after : Buffer) : Type 0 where
+  pub answered : Answered may m ends (point_at old handles) (told_as m (realm_of old) result)
+      (point_at new (handles_after handles result))
   pub written : OnOk result (Appends before after (spelled (m.answer (whole (realm_of old)))))
   pub within : OnOk result (length after.bytes ≤ length before.bytes + room)
   pub unwritten : OnErr result (after ≡ before)
 
 -- the answer of an operation that takes no memory, before its end
-abbrev pub Gives : {A : Type 0} → steps.Step → (Context → FileHandles → Meaning) → realms.Realm A → Buffer → Result FileHandles Status → realms.Realm A → Buffer → Type 0
-Gives step m old before result new after = GivesSo false step.context.room (m (context_at old step.context) step.handles) waits old step.handles before result new after
+abbrev pub Gives : {A : Type 0} → steps.Step → (Context → FileHandles → Meaning) → realms.Realm A → Buffer
+    → Result FileHandles Status → realms.Realm A → Buffer → Type 0
+Gives step m old before result new after =
+    GivesSo false step.context.room (m (context_at old step.context) step.handles) waits old step.handles before
+    result new after
 
 -- an operation that takes memory may answer DELAY
-abbrev pub GivesOrDelays : {A : Type 0} → steps.Step → (Context → FileHandles → Meaning) → realms.Realm A → Buffer → Result FileHandles Status → realms.Realm A → Buffer → Type 0
-GivesOrDelays step m old before result new after = GivesSo true step.context.room (m (context_at old step.context) step.handles) waits old step.handles before result new after
+abbrev pub GivesOrDelays : {A : Type 0} → steps.Step → (Context → FileHandles → Meaning) → realms.Realm A → Buffer
+    → Result FileHandles Status → realms.Realm A → Buffer → Type 0
+GivesOrDelays step m old before result new after =
+    GivesSo true step.context.room (m (context_at old step.context) step.handles) waits old step.handles before result
+    new after
 
 -- the answer of an operation that may be delayed, by its meaning at its place
-abbrev pub GivesBy : {A : Type 0} → (Context → Operation → Bool) → (Context → FileHandles → Operation → Meaning) → (Log → Log) → steps.Step → Op
+abbrev pub GivesBy : {A : Type 0} → (Context → Operation → Bool) → (Context → FileHandles → Operation → Meaning)
+    → (Log → Log) → steps.Step → Op
     → realms.Realm A → Buffer → Result FileHandles Status → realms.Realm A → Buffer → Type 0
 GivesBy delays means ends step op old before result new after =
     let context = context_at old step.context in
-    GivesSo (delays context (op_view op)) step.context.room (means context step.handles (op_view op)) ends old step.handles before result new after
+    GivesSo (delays context (op_view op)) step.context.room (means context step.handles (op_view op)) ends old
+    step.handles before result new after
 
 -- there is room for the result of an operation that is run, and for a refusal
 abbrev pub HasRoom : code.Context → Buffer → Type 0

@@ -9,6 +9,7 @@ use Rattle.nfs_ops.specs.Parts.{write_stateid, write_offset, written_bytes}
 use Rattle.nfs_ops.specs.declared.op_kind.OpKind.TheVariants as kinds
 use Rattle.nfs_ops.specs.Rows.{row}
 use Rattle.nfs_ops.specs.Results.{Done}
+use Rattle.nfs_ops.specs.Views.{zeros_value}
 use Rattle.node_tree.specs.Changes.{with_write}
 use Rattle.node_tree.specs.Refusals.{has_left, write_refusal}
 use Rattle.compound_run.specs.declared.filehandles.FileHandles.{FileHandles}
@@ -17,7 +18,6 @@ use Rattle.compound_run.specs.Questions.{Holds}
 use Rattle.compound_run.specs.declared.stateids.Purpose.TheVariants.{ToWrite}
 use Rattle.compound_run.specs.Sight.{Sight}
 use Rattle.compound_run.specs.Stateids.{has_stateid}
-use Rattle.compound_run.specs.Commit.{verifier}
 use Rattle.compound_run.specs.Rows.{sized_row}
 use Rattle.compound_run.specs.Meaning.{Meaning, at, in_world, with_handle, here, is_no_directory, is_no_link}
 
@@ -42,7 +42,7 @@ write v c h = record {
       ∷ Holds (λ s. has_tick_for (written_bytes v) s) statuses.NoSpc tt
       ∷ []);
   -- all bytes, as stable as FILE_SYNC4
-  answer = λ s. Done kinds.Write (length (written_bytes v), (inl tt, verifier));
+  answer = λ s. Done kinds.Write (length (written_bytes v), (inl tt, zeros_value));
   effect = in_world (λ w. with_write w (here h) (write_offset v) (written_bytes v) (at c w));
   goes = λ s. h;
 }

@@ -6,7 +6,7 @@ use crate::filehandles::FileHandles;
 use crate::operation_results::put_result;
 use crate::realm::Realm;
 use crate::step::Step;
-use nfs_ops::OpResult;
+use nfs_ops::{CommitResult, OpResult};
 use nfs_types::Status;
 use node_tree::Kind;
 use std::alloc::Allocator;
@@ -24,7 +24,7 @@ impl<A: Allocator + Copy> Realm<A> {
             Kind::Link => return Err(Status::Symlink),
             Kind::File => {}
         }
-        put_result(OpResult::Commit, out);
+        put_result(OpResult::Commit(CommitResult), out);
         Ok(step.handles)
     }
 }

@@ -78,7 +78,9 @@ impl<A: Allocator + Copy> Realm<A> {
             (λ s. args.now.slot < s.granted.slots) }
         requires few { IfSome (session_at self.old.clients (session_of args.now.session))
             (λ s. length (drop start out.now.bytes) ≤ kept_size s.granted) }
-        ensures { self.new ≡ record self.old { clients = keeping (sequence_args_value args.now) (drop start out.now.bytes) self.old.clients } }
+        ensures { self.new ≡ record self.old {
+          clients = keeping (sequence_args_value args.now) (drop start out.now.bytes) self.old.clients;
+        } }
     {
         let results = &out.bytes()[start..];
         self.clients

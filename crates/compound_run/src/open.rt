@@ -271,7 +271,10 @@ impl<A: Allocator + Copy> Realm<A> {
             (sight_of self.old).opens)) }
         ensures room { IfOk result (HasPlace self.new.next_open (vec_len self.new.opens)
             (vec_capacity self.new.opens)) }
-        ensures ok { OnOk result (realm_of self.new ≡ record (realm_of self.old) { world = specs.file_in (context_at self.old context.entry) (open_args_value args.now) 0 (Some file) self.old.tree.world }) }
+        ensures ok { OnOk result (realm_of self.new ≡ record (realm_of self.old) {
+          world = specs.file_in (context_at self.old context.entry) (open_args_value args.now) 0 (Some file)
+              self.old.tree.world;
+        }) }
         ensures err { OnErr result (realm_of self.new ≡ realm_of self.old) }
         ensures log { self.new.tree.log ≡ self.old.tree.log }
         ensures settings { settings_of self.new ≡ settings_of self.old }

@@ -195,7 +195,8 @@ impl<A: Allocator + Copy> Entries for Children<'_, A> {
 
     type Refusal = Demand;
 
-    ghost left = { λ c. judged_above (context_at c.realm.now c.context) (bitmap_value c.asked) c.directory c.cookie (sight_of c.realm.now) };
+    ghost left = { λ c. judged_above (context_at c.realm.now c.context) (bitmap_value c.asked) c.directory c.cookie
+        (sight_of c.realm.now) };
 
     ghost Kept = { ℕ × shape.Realm A };
 

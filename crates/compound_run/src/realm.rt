@@ -72,7 +72,8 @@ impl<A: Allocator + Copy> Realm<A> {
 
     /// When a change is made at this moment, if the counter of ticks has one left.
     pub fn tick(&self, now: Moment) -> Option<At>
-        ensures value { result ≡ (if has_left self.now.tree.world.next_tick then Some (record { tick = self.now.tree.world.next_tick; moment = now }) else None) }
+        ensures value { result ≡ (if has_left self.now.tree.world.next_tick
+            then Some (record { tick = self.now.tree.world.next_tick; moment = now }) else None) }
         ensures tick { IfSome result (λ at. IsTick self.now.tree.world at.tick) }
     {
         let tick = self.tree.next_tick();
@@ -99,7 +100,11 @@ impl<A: Allocator + Copy> Realm<A> {
         ensures full { can_add (whole (realm_of self.old)) directory ≡ false → result ≡ Err Status.NoSpc }
         ensures space { can_add (whole (realm_of self.old)) directory ≡ true → IsOkUnless result Status.Delay }
         ensures number { IfOk result (λ number. number ≡ self.old.tree.world.next_number) }
-        ensures ok { OnOk result (self.new ≡ record self.old { tree = record self.old.tree { world = with_new self.old.tree.world directory name.now (made new self.old.tree.world.next_stamp at) at } }) }
+        ensures ok { OnOk result (self.new ≡ record self.old {
+          tree = record self.old.tree {
+            world = with_new self.old.tree.world directory name.now (made new self.old.tree.world.next_stamp at) at;
+          };
+        }) }
         ensures err { OnErr result (self.new ≡ self.old) }
     {
         self.tree.add(directory, name, new, at).map_err(status_of)
@@ -137,7 +142,11 @@ impl<A: Allocator + Copy> Realm<A> {
             false → result ≡ Err Status.NoSpc }
         ensures space { may_name (names_at (whole (realm_of self.old)) directory) self.old.tree.world.next_cookie ≡
             true → IsOkUnless result Status.Delay }
-        ensures ok { OnOk result (self.new ≡ record self.old { tree = record self.old.tree { world = with_link self.old.tree.world directory name.now number at } }) }
+        ensures ok { OnOk result (self.new ≡ record self.old {
+          tree = record self.old.tree {
+            world = with_link self.old.tree.world directory name.now number at;
+          };
+        }) }
         ensures err { OnErr result (self.new ≡ self.old) }
     {
         self.tree

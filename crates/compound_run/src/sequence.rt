@@ -35,7 +35,12 @@ impl CompoundArgs<'_> {
         requires some { 1 ≤ context.count }
         requires result { length out.old.bytes + limits.MIN_ROOM ≤ end }
         requires room { end + limits.REFUSAL_ROOM ≤ length out.old.bytes + out.old.room }
-        ensures answers { SequencedBehind (end + limits.REFUSAL_ROOM) (record (context_at realm.old context.entry) { room = end - length out.old.bytes - length (spelled (Done kinds.Sequence (sequence_result_value given))) }) self.now.tag.now (sequence_told given) operations.now realm.old out.old result realm.new out.new }
+        ensures answers { SequencedBehind (end + limits.REFUSAL_ROOM)
+            (record (context_at realm.old context.entry) {
+              room = end - length out.old.bytes
+                  - length (spelled (Done kinds.Sequence (sequence_result_value given)));
+            })
+            self.now.tag.now (sequence_told given) operations.now realm.old out.old result realm.new out.new }
         ensures settled { realm.new.tree.log.held ≡ [] }
     {
         put_result(OpResult::Sequence(given), out);
@@ -64,7 +69,14 @@ impl CompoundArgs<'_> {
         requires some { 1 ≤ context.count }
         requires least { 4072 ≤ limit }
         requires room { limit ≤ out.old.room }
-        ensures answers { WritesWithin limit (λ bytes. SequencedTo (record (context_at realm.old context.entry) { room = first_room (limit + limits.REPLY_HEADER) self.now.tag.now - length (spelled (Done kinds.Sequence (sequence_result_value given))) }) self.now.tag.now (sequence_told given) operations.now realm.old bytes realm.new) out.old out.new }
+        ensures answers { WritesWithin limit
+            (λ bytes. SequencedTo
+            (record (context_at realm.old context.entry) {
+              room = first_room (limit + limits.REPLY_HEADER) self.now.tag.now
+                  - length (spelled (Done kinds.Sequence (sequence_result_value given)));
+            })
+            self.now.tag.now (sequence_told given) operations.now realm.old bytes realm.new)
+            out.old out.new }
         ensures settled { realm.new.tree.log.held ≡ [] }
     {
         let end = out.capacity() - (out.room() - limit) - REFUSAL_ROOM;

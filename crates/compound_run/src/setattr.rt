@@ -278,7 +278,10 @@ impl<A: Allocator + Copy> Realm<A> {
         requires counts { has_counts (wanted_view wanted) (sight_of self.old) ≡ true }
         ensures fits { IsFit (set_fits (wanted_view wanted) (kind_at (sight_of self.old) number)
             (list_at self.old.tree.world number)) result }
-        ensures ok { OnOk result (self.new ≡ with_world (setting number (wanted_view wanted) (record { tick = self.old.tree.world.next_tick; moment = now }) self.old.tree.world) self.old) }
+        ensures ok { OnOk result (self.new ≡ with_world
+            (setting number (wanted_view wanted) (record { tick = self.old.tree.world.next_tick; moment = now })
+            self.old.tree.world)
+            self.old) }
         ensures err { OnErr result (self.new ≡ self.old) }
     {
         if !sets_any(&wanted) {

@@ -10,7 +10,8 @@ use Rattle.nfs_ops.specs.Forms.{entry}
 use Rattle.nfs_ops.specs.Listing.{Judged}
 
 abbrev pub entry_of : Content → ObjectFacts → ℕ → List ℕ → Bitmap → Value entry
-entry_of book facts cookie name asked = (cookie, (name, (given_set (bitmap_value asked), given_values book facts (bitmap_value asked))))
+entry_of book facts cookie name asked =
+    (cookie, (name, (given_set (bitmap_value asked), given_values book facts (bitmap_value asked))))
 
 -- of a name with this cookie, and the attributes that are returned of its object, or the fault that refuses it
 abbrev pub judged_as : Content → ObjectFacts → ℕ → List ℕ → Result Bitmap ℕ → Judged ℕ

@@ -1,6 +1,7 @@
 -- The XDR types of some arguments and results (RFC 5662).
 use Rattle.std.specs.Prelude.{ℕ, List, [], ◌∷◌, ◌==◌, if◌then◌else◌}
-use Rattle.xdr_wire.specs.Xdr.{Xdr, Value, void, uint, hyper, signed_hyper, boolean, opaque, array, optional, chain, union, arm, no_more, fields}
+use Rattle.xdr_wire.specs.Xdr.{Xdr, Value, void, uint, hyper, signed_hyper, boolean, opaque, array, optional, chain}
+use Rattle.xdr_wire.specs.Xdr.{union, arm, no_more, fields}
 
 -- channel_attrs4
 abbrev pub channel : Xdr

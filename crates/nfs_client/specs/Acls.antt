@@ -1,5 +1,6 @@
 -- getacl, getdacl and getsacl, and setacl, setdacl and setsacl: an access control list, or a part of it, as text.
-use Rattle.std.specs.Prelude.{◌≡◌, ◌⊎◌, ◌<◌, ℕ, length, nat_lt, ◌==◌, if◌then◌else◌, List, ◌++◌, map, Contains, Option, Some, None, option_and_then, option_map, Result, Ok, Err}
+use Rattle.std.specs.Prelude.{◌≡◌, ◌⊎◌, ◌<◌, ℕ, length, nat_lt, ◌==◌, if◌then◌else◌, List, ◌++◌, map, Contains}
+use Rattle.std.specs.Prelude.{Option, Some, None, option_and_then, option_map, Result, Ok, Err}
 use Rattle.acl_list.specs.declared.entry.EntryKind.{EntryKind}
 use Rattle.acl_list.specs.declared.entry.EntryKind.TheVariants.{Allow, Deny, Audit, Alarm}
 use Rattle.xdr_wire.specs.Xdr.{Value}
@@ -30,7 +31,12 @@ kind_number Audit = 2
 kind_number Alarm = 3
 
 abbrev pub kind_numbered : ℕ → Option EntryKind
-kind_numbered n = if n == 0 then Some Allow else if n == 1 then Some Deny else if n == 2 then Some Audit else if n == 3 then Some Alarm else None
+kind_numbered n =
+    if n == 0 then Some Allow
+    else if n == 1 then Some Deny
+    else if n == 2 then Some Audit
+    else if n == 3 then Some Alarm
+    else None
 
 -- nfsace4
 abbrev pub ace_of : EntryLine → Value ace
@@ -38,7 +44,11 @@ ace_of e = (kind_number e.kind, (e.flags, (e.mask, e.who)))
 
 -- An entry that can be written as text: it has one of the four types, and its flags take two digits.
 abbrev pub line_of : Value ace → Option EntryLine
-line_of v = option_and_then (λ kind. if nat_lt v.1.0 256 then Some (record { kind = kind; flags = v.1.0; mask = v.1.1.0; who = v.1.1.1 }) else None) (kind_numbered v.0)
+line_of v =
+    option_and_then
+    (λ kind. if nat_lt v.1.0 256 then Some (record { kind = kind; flags = v.1.0; mask = v.1.1.0; who = v.1.1.1 })
+    else None)
+    (kind_numbered v.0)
 
 abbrev pub text_of : Value ace → Option (List ℕ)
 text_of v = option_map entry_text (line_of v)
@@ -66,12 +76,14 @@ EntriesGive values texts (Err fault) = ⊥
 -- the path's names, and the operation at their end
 abbrev pub SetAclAsks : ListPart → List ℕ → List (List ℕ) → List (List ℕ) → Operation → Type 0
 SetAclAsks part path texts names op =
-    (values : List (Value ace)) × (names_in path ≡ Some names) × (0 < length texts) × AreRead texts values × (op ≡ set_attributes (of_entries part values))
+    (values : List (Value ace)) × (names_in path ≡ Some names) × (0 < length texts) × AreRead texts values
+    × (op ≡ set_attributes (of_entries part values))
 
 -- The path is read before the entries, of which there is at least one.
 abbrev pub WrongList : List ℕ → List (List ℕ) → ToolFault → Type 0
 WrongList path texts Path = names_in path ≡ None
-WrongList path texts Entry = (names : List (List ℕ)) × (names_in path ≡ Some names) × ((length texts ≡ 0) ⊎ SomeUnread texts)
+WrongList path texts Entry =
+    (names : List (List ℕ)) × (names_in path ≡ Some names) × ((length texts ≡ 0) ⊎ SomeUnread texts)
 WrongList path texts fault = ⊥
 
 -- ---- reading a list
@@ -87,7 +99,8 @@ IsAlone part set = (n : ℕ) → has_number set n ≡ (n == attribute_of part)
 
 -- the path's names, and the operation at their end
 abbrev pub GetAclAsks : ListPart → List ℕ → List (List ℕ) → Operation → Type 0
-GetAclAsks part path names op = (set : List ℕ) × (names_in path ≡ Some names) × IsAlone part set × (op ≡ Known kinds.GetAttr set)
+GetAclAsks part path names op =
+    (set : List ℕ) × (names_in path ≡ Some names) × IsAlone part set × (op ≡ Known kinds.GetAttr set)
 
 -- the entries among the given attributes, without the flags of a part
 abbrev pub entries_of : ListPart → Seen → Option (List (Value ace))

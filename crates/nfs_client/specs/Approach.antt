@@ -1,6 +1,7 @@
 -- An approach: a COMPOUND that walks the first names of a route and gets the filehandle at their
 -- end (RFC 8881, section 18.8).
-use Rattle.std.specs.Prelude.{◌≡◌, ◌≤◌, ◌<◌, ℕ, true, false, List, [], ◌∷◌, length, Option, Some, None, option_and_then, Result, Ok, Err}
+use Rattle.std.specs.Prelude.{◌≡◌, ◌≤◌, ◌<◌, ℕ, true, false, List, [], ◌∷◌, length, Option, Some, None}
+use Rattle.std.specs.Prelude.{option_and_then, Result, Ok, Err}
 use Rattle.nfs_ops.specs.Operations.{Operation, Known}
 use Rattle.nfs_ops.specs.Results.{Outcome, Done}
 use Rattle.nfs_ops.specs.declared.op_kind.OpKind.TheVariants as kinds
@@ -28,14 +29,16 @@ approach client route = along client route get_handle
 module _ {S A : Type 0} (contents remaining : S → Option (List ℕ)) where
   -- the exchange that walks a route's first names
   abbrev pub ApproachGives : Route → Client S A → Client S A → Result (List ℕ) ToolFault → Type 0
-  ApproachGives route old new result = AskGives contents remaining handle_in itself true (approach old (near route)) old new result
+  ApproachGives route old new result =
+      AskGives contents remaining handle_in itself true (approach old (near route)) old new result
 
   -- An approach for each of these filehandles, the last first: each got its filehandle, and more
   -- than this many names were left before it. No other command runs until this command is over.
   abbrev pub Approaches : ℕ → List (List ℕ) → Client S A → List (List ℕ) → Client S A → Type 0
   Approaches most names old [] new = new ≡ old
   Approaches most names old (handle ∷ before) new =
-      (mid : Client S A) × (last : Client S A) × Approaches most names old before mid × (most < length (route_behind names before).names)
+      (mid : Client S A) × (last : Client S A) × Approaches most names old before mid
+      × (most < length (route_behind names before).names)
       × ApproachGives (route_behind names before) mid last (Ok handle) × (new ≡ record last { usable = false })
 
   -- The next approach fails, where one is still needed.
@@ -47,7 +50,9 @@ module _ {S A : Type 0} (contents remaining : S → Option (List ℕ)) where
     pub gives : ApproachGives (route_behind names before) mid new (Err fault)
 
   -- Approaches lead to a route with at most this many names left; or an approach fails.
-  abbrev pub WalkGives : {X : Type 0} → (X → Route) → ℕ → List (List ℕ) → Client S A → Client S A → Result X ToolFault → Type 0
+  abbrev pub WalkGives : {X : Type 0} → (X → Route) → ℕ → List (List ℕ) → Client S A → Client S A → Result X ToolFault
+      → Type 0
   WalkGives value most names old new (Ok x) =
-      (handles : List (List ℕ)) × Approaches most names old handles new × (value x ≡ route_behind names handles) × (length (value x).names ≤ most)
+      (handles : List (List ℕ)) × Approaches most names old handles new × (value x ≡ route_behind names handles)
+      × (length (value x).names ≤ most)
   WalkGives value most names old new (Err fault) = WalkFails most names old new fault

@@ -1,5 +1,6 @@
 -- cat: the bytes of a file, read without an open up to its end.
-use Rattle.std.specs.Prelude.{◌≡◌, ℕ, Bool, true, List, [], ◌∷◌, ◌++◌, length, Option, Some, None, option_and_then, Result, Ok, Err}
+use Rattle.std.specs.Prelude.{◌≡◌, ℕ, Bool, true, List, [], ◌∷◌, ◌++◌, length, Option, Some, None, option_and_then}
+use Rattle.std.specs.Prelude.{Result, Ok, Err}
 use Rattle.nfs_types.specs.StateIds.{anonymous}
 use Rattle.nfs_ops.specs.Operations.{Operation, Known}
 use Rattle.nfs_ops.specs.Results.{Outcome, Done}
@@ -62,18 +63,26 @@ piece_with bytes eof = record { bytes = bytes; eof = eof }
 
 -- a piece that is put after the bytes read so far
 abbrev pub PieceTaken : Said → List ℕ → List ℕ → Result Bool ToolFault → Type 0
-PieceTaken said old new (Ok eof) = (bytes : List ℕ) × SaidGives (piece_with bytes) piece_in said (Ok eof) × (new ≡ old ++ bytes)
+PieceTaken said old new (Ok eof) =
+    (bytes : List ℕ) × SaidGives (piece_with bytes) piece_in said (Ok eof) × (new ≡ old ++ bytes)
 PieceTaken said old new (Err fault) = SaidGives (piece_with []) piece_in said (Err fault)
 
 -- the exchange of a piece, which is put after the bytes read so far
-abbrev pub ReadGives : {S A : Type 0} → (S → Option (List ℕ)) → (S → Option (List ℕ)) → Route → List ℕ → List ℕ → Client S A → Client S A → Result Bool ToolFault → Type 0
+abbrev pub ReadGives : {S A : Type 0} → (S → Option (List ℕ)) → (S → Option (List ℕ)) → Route → List ℕ → List ℕ
+    → Client S A → Client S A → Result Bool ToolFault → Type 0
 ReadGives contents remaining route old_bytes new_bytes old new (Ok eof) =
-    (bytes : List ℕ) × AskGives contents remaining piece_in itself true (read_behind route old old_bytes) old new (Ok (piece_with bytes eof)) × (new_bytes ≡ old_bytes ++ bytes)
+    (bytes : List ℕ)
+    × AskGives contents remaining piece_in itself true (read_behind route old old_bytes) old new
+    (Ok (piece_with bytes eof))
+    × (new_bytes ≡ old_bytes ++ bytes)
 ReadGives contents remaining route old_bytes new_bytes old new (Err fault) =
     AskGives {X = Piece} contents remaining piece_in itself true (read_behind route old old_bytes) old new (Err fault)
 
 -- the bytes of the file at the path; or the path is wrong, and no operation is asked
-abbrev pub CatGives : {S A X : Type 0} → (S → Option (List ℕ)) → (S → Option (List ℕ)) → (X → List ℕ) → List ℕ → Client S A → Client S A → Result X ToolFault → Type 0
+abbrev pub CatGives : {S A X : Type 0} → (S → Option (List ℕ)) → (S → Option (List ℕ)) → (X → List ℕ) → List ℕ
+    → Client S A → Client S A → Result X ToolFault → Type 0
 CatGives contents remaining value path old new result =
     Commanded (NoPath path) (λ told. (names : List (List ℕ)) × (names_in path ≡ Some names)
-    × Walked contents remaining most_names names (λ route mid r. PagesGive (by_pieces contents remaining route) value bytes_of mid new r) old new told) old new result
+    × Walked contents remaining most_names names
+    (λ route mid r. PagesGive (by_pieces contents remaining route) value bytes_of mid new r) old new
+    told) old new result

@@ -9,7 +9,8 @@ use Rattle.nfs_client.specs.declared.fault.ToolFault.TheVariants.{Path, Entry}
 
 -- the path's names, and the operation at their end
 abbrev pub ChModAsks : List ℕ → List ℕ → List (List ℕ) → Operation → Type 0
-ChModAsks word path names op = (mode : ℕ) × (mode_in word ≡ Some mode) × (names_in path ≡ Some names) × (op ≡ set_attributes (of_mode mode))
+ChModAsks word path names op =
+    (mode : ℕ) × (mode_in word ≡ Some mode) × (names_in path ≡ Some names) × (op ≡ set_attributes (of_mode mode))
 
 -- The word is read before the path.
 abbrev pub WrongMode : List ℕ → List ℕ → ToolFault → Type 0

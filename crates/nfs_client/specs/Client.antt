@@ -15,13 +15,15 @@ abbrev pub caller_of : {S A : Type 0} → Client S A → Identity
 caller_of client = identity client.uid client.gid []
 
 -- One exchange over a stream: a call of these operations is written, and after it a record is read.
-pub record Exchange {S : Type 0} (contents remaining : S → Option (List ℕ)) (old new : S) (xid : ℕ) (caller : Identity) (ops : List Operation) (content : List ℕ) : Type 0 where
+pub record Exchange {S : Type 0} (contents remaining : S → Option (List ℕ)) (old new : S) (xid : ℕ)
+    (caller : Identity) (ops : List Operation) (content : List ℕ) : Type 0 where
   pub call : List ℕ
   pub is_call : IsCall xid caller ops call
   pub talked : Talked contents remaining old new call content
 
 -- An exchange that failed: a front of the call was written, or all of the call and no record was read after it.
-pub record Failing {S : Type 0} (contents remaining : S → Option (List ℕ)) (old new : S) (xid : ℕ) (caller : Identity) (ops : List Operation) (fault : ToolFault) : Type 0 where
+pub record Failing {S : Type 0} (contents remaining : S → Option (List ℕ)) (old new : S) (xid : ℕ) (caller : Identity)
+    (ops : List Operation) (fault : ToolFault) : Type 0 where
   pub call : List ℕ
   pub is_call : IsCall xid caller ops call
   pub failed : TalkFails contents remaining old new call fault
@@ -41,7 +43,11 @@ pub record Begun {S A : Type 0} (old new : Client S A) : Type 0 where
   pub number : new.number ≡ old.number
 
 -- the record that was read; or no bytes were written for want of memory; or the fault for which no record was read
-abbrev pub ExchangeGives : {S A : Type 0} → (S → Option (List ℕ)) → (S → Option (List ℕ)) → List Operation → Client S A → Client S A → Result (ReplyOf A) ToolFault → Type 0
+abbrev pub ExchangeGives : {S A : Type 0} → (S → Option (List ℕ)) → (S → Option (List ℕ)) → List Operation
+    → Client S A → Client S A → Result (ReplyOf A) ToolFault → Type 0
 ExchangeGives contents remaining ops old new (Ok reply) =
-    Begun old new × (reply.xid ≡ old.xid) × (reply.asked.items ≡ asked_of ops) × Exchange contents remaining old.stream new.stream old.xid (caller_of old) ops reply.content.items
-ExchangeGives contents remaining ops old new (Err fault) = ((fault ≡ Memory) × (new ≡ old)) ⊎ (Begun old new × Failing contents remaining old.stream new.stream old.xid (caller_of old) ops fault)
+    Begun old new × (reply.xid ≡ old.xid) × (reply.asked.items ≡ asked_of ops)
+    × Exchange contents remaining old.stream new.stream old.xid (caller_of old) ops reply.content.items
+ExchangeGives contents remaining ops old new (Err fault) =
+    ((fault ≡ Memory) × (new ≡ old))
+    ⊎ (Begun old new × Failing contents remaining old.stream new.stream old.xid (caller_of old) ops fault)

@@ -1,5 +1,6 @@
 -- The operations of a command, and its outcome.
-use Rattle.std.specs.Prelude.{◌≡◌, ◌⊎◌, ℕ, ◌==◌, ◌&&◌, not, Bool, true, false, if◌then◌else◌, List, [], ◌∷◌, ◌++◌, map, Option, Some, None, Result, Ok, Err}
+use Rattle.std.specs.Prelude.{◌≡◌, ◌⊎◌, ℕ, ◌==◌, ◌&&◌, not, Bool, true, false, if◌then◌else◌, List, [], ◌∷◌, ◌++◌}
+use Rattle.std.specs.Prelude.{map, Option, Some, None, Result, Ok, Err}
 use Rattle.nfs_types.specs.Status as statuses
 use Rattle.nfs_ops.specs.Operations.{Operation, Known}
 use Rattle.nfs_ops.specs.Results.{Outcome}
@@ -10,7 +11,8 @@ use Rattle.nfs_client.specs.Requests.{asked_of}
 use Rattle.nfs_client.specs.Client.{Begun, Exchange, Failing, caller_of, next}
 use Rattle.nfs_client.specs.declared.client.Client.{Client}
 use Rattle.nfs_client.specs.declared.fault.ToolFault.{ToolFault}
-use Rattle.nfs_client.specs.declared.fault.ToolFault.TheVariants.{Path, Refused, Reply, Read, Write, Memory, Entry, Failed}
+use Rattle.nfs_client.specs.declared.fault.ToolFault.TheVariants.{Path, Refused, Reply, Read, Write, Memory, Entry}
+use Rattle.nfs_client.specs.declared.fault.ToolFault.TheVariants.{Failed}
 
 -- ---- operations
 
@@ -37,15 +39,19 @@ HasNoName path = (names_in path ≡ None) ⊎ (names_in path ≡ Some [])
 -- ---- outcomes
 
 -- an exchange whose reply has this answer
-abbrev pub Answered : {S A : Type 0} → (S → Option (List ℕ)) → (S → Option (List ℕ)) → List Operation → Client S A → Client S A → Answer → Type 0
+abbrev pub Answered : {S A : Type 0} → (S → Option (List ℕ)) → (S → Option (List ℕ)) → List Operation → Client S A
+    → Client S A → Answer → Type 0
 Answered contents remaining ops old new answer =
-    (content : List ℕ) × Exchange contents remaining old.stream new.stream old.xid (caller_of old) ops content × ((said old.xid (asked_of ops) content).answer ≡ answer)
+    (content : List ℕ) × Exchange contents remaining old.stream new.stream old.xid (caller_of old) ops content
+    × ((said old.xid (asked_of ops) content).answer ≡ answer)
 
 -- an exchange whose reply has all operations OK, and this value, taken of its results
-abbrev pub Told : {S A V : Type 0} → (S → Option (List ℕ)) → (S → Option (List ℕ)) → (List Outcome → Option V) → List Operation → Client S A → Client S A → Option V → Type 0
+abbrev pub Told : {S A V : Type 0} → (S → Option (List ℕ)) → (S → Option (List ℕ)) → (List Outcome → Option V)
+    → List Operation → Client S A → Client S A → Option V → Type 0
 Told contents remaining taken ops old new v =
     (content : List ℕ) × Exchange contents remaining old.stream new.stream old.xid (caller_of old) ops content
-    × ((said old.xid (asked_of ops) content).answer ≡ AllDone) × (taken (said old.xid (asked_of ops) content).results ≡ v)
+    × ((said old.xid (asked_of ops) content).answer ≡ AllDone)
+    × (taken (said old.xid (asked_of ops) content).results ≡ v)
 
 -- The number of the slot's next call after a call in the session, or after any other call.
 abbrev pub number_behind : Bool → ℕ → ℕ
@@ -58,7 +64,8 @@ takes_number in_session op = in_session && not (op == 53)
 -- the client's state after an exchange by its reply
 abbrev pub Concludes : {S A X : Type 0} → Bool → Result X ToolFault → Client S A → Client S A → Type 0
 Concludes in_session (Ok x) old new = new ≡ record old { usable = true; number = number_behind in_session old.number }
-Concludes in_session (Err (Refused op status)) old new = new ≡ record old { usable = true; number = number_behind (takes_number in_session op) old.number }
+Concludes in_session (Err (Refused op status)) old new =
+    new ≡ record old { usable = true; number = number_behind (takes_number in_session op) old.number }
 Concludes in_session (Err fault) old new = new ≡ old
 
 -- Where memory was refused after an exchange, no other command runs in the end.
@@ -77,41 +84,53 @@ pub record Settled {S A : Type 0} (old new : Client S A) (number : ℕ) : Type 0
   pub numbered : new.number ≡ number
 
 -- No record was read after the call, and no other command runs.
-abbrev pub GivesUp : {S A : Type 0} → (S → Option (List ℕ)) → (S → Option (List ℕ)) → List Operation → Client S A → Client S A → ToolFault → Type 0
-GivesUp contents remaining ops old new fault = Begun old new × Failing contents remaining old.stream new.stream old.xid (caller_of old) ops fault
+abbrev pub GivesUp : {S A : Type 0} → (S → Option (List ℕ)) → (S → Option (List ℕ)) → List Operation → Client S A
+    → Client S A → ToolFault → Type 0
+GivesUp contents remaining ops old new fault =
+    Begun old new × Failing contents remaining old.stream new.stream old.xid (caller_of old) ops fault
 
 -- A record was read that is no reply to the call, or a reply whose results have no such value; no other command runs.
-abbrev pub NoAnswer : {S A V : Type 0} → (S → Option (List ℕ)) → (S → Option (List ℕ)) → (List Outcome → Option V) → List Operation → Client S A → Client S A → Type 0
+abbrev pub NoAnswer : {S A V : Type 0} → (S → Option (List ℕ)) → (S → Option (List ℕ)) → (List Outcome → Option V)
+    → List Operation → Client S A → Client S A → Type 0
 NoAnswer contents remaining taken ops old new =
     Begun old new × (Answered contents remaining ops old new NoReply ⊎ Told contents remaining taken ops old new None)
 
 -- A record was read, and memory was refused for what it says; no other command runs.
-abbrev pub Unjudged : {S A : Type 0} → (S → Option (List ℕ)) → (S → Option (List ℕ)) → List Operation → Client S A → Client S A → Type 0
+abbrev pub Unjudged : {S A : Type 0} → (S → Option (List ℕ)) → (S → Option (List ℕ)) → List Operation → Client S A
+    → Client S A → Type 0
 Unjudged contents remaining ops old new =
-    Begun old new × (content : List ℕ) × Exchange contents remaining old.stream new.stream old.xid (caller_of old) ops content
+    Begun old new × (content : List ℕ)
+    × Exchange contents remaining old.stream new.stream old.xid (caller_of old) ops content
 
 -- Memory was refused: before the first byte of the call, as the record after it was read, or for what the record says.
-abbrev pub NoMemory : {S A : Type 0} → (S → Option (List ℕ)) → (S → Option (List ℕ)) → List Operation → Client S A → Client S A → Type 0
-NoMemory contents remaining ops old new = (new ≡ old) ⊎ (GivesUp contents remaining ops old new Memory ⊎ Unjudged contents remaining ops old new)
+abbrev pub NoMemory : {S A : Type 0} → (S → Option (List ℕ)) → (S → Option (List ℕ)) → List Operation → Client S A
+    → Client S A → Type 0
+NoMemory contents remaining ops old new =
+    (new ≡ old) ⊎ (GivesUp contents remaining ops old new Memory ⊎ Unjudged contents remaining ops old new)
 
 -- The outcome of operations with a value of their results: the value was taken, the last operation
 -- run was refused, or no other command runs.
-abbrev pub AskGives : {S A X V : Type 0} → (S → Option (List ℕ)) → (S → Option (List ℕ)) → (List Outcome → Option V) → (X → V) → Bool → List Operation → Client S A → Client S A → Result X ToolFault → Type 0
+abbrev pub AskGives : {S A X V : Type 0} → (S → Option (List ℕ)) → (S → Option (List ℕ)) → (List Outcome → Option V)
+    → (X → V) → Bool → List Operation → Client S A → Client S A → Result X ToolFault → Type 0
 AskGives contents remaining taken value in_session ops old new (Ok x) =
     Told contents remaining taken ops old new (Some (value x)) × Settled old new (number_behind in_session old.number)
 AskGives contents remaining taken value in_session ops old new (Err (Refused op status)) =
-    Answered contents remaining ops old new (LastRefused op (statuses.number_of status)) × Settled old new (number_behind (takes_number in_session op) old.number)
+    Answered contents remaining ops old new (LastRefused op (statuses.number_of status))
+    × Settled old new (number_behind (takes_number in_session op) old.number)
 AskGives contents remaining taken value in_session ops old new (Err Memory) = NoMemory contents remaining ops old new
-AskGives contents remaining taken value in_session ops old new (Err Reply) = GivesUp contents remaining ops old new Reply ⊎ NoAnswer contents remaining taken ops old new
+AskGives contents remaining taken value in_session ops old new (Err Reply) =
+    GivesUp contents remaining ops old new Reply ⊎ NoAnswer contents remaining taken ops old new
 AskGives contents remaining taken value in_session ops old new (Err Read) = GivesUp contents remaining ops old new Read
-AskGives contents remaining taken value in_session ops old new (Err Write) = GivesUp contents remaining ops old new Write
+AskGives contents remaining taken value in_session ops old new (Err Write) =
+    GivesUp contents remaining ops old new Write
 AskGives contents remaining taken value in_session ops old new (Err Path) = ⊥
 AskGives contents remaining taken value in_session ops old new (Err Entry) = ⊥
 AskGives contents remaining taken value in_session ops old new (Err Failed) = ⊥
 
 -- The outcome of a command, unless its words are wrong: then no operation is asked. On a client
 -- that isn't usable no command runs. Memory may be refused before an operation is asked.
-abbrev pub Commanded : {S A X : Type 0} → (ToolFault → Type 0) → (Result X ToolFault → Type 0) → Client S A → Client S A → Result X ToolFault → Type 0
+abbrev pub Commanded : {S A X : Type 0} → (ToolFault → Type 0) → (Result X ToolFault → Type 0) → Client S A
+    → Client S A → Result X ToolFault → Type 0
 Commanded wrong gives old new (Err Failed) = (old.usable ≡ false) × (new ≡ old)
 Commanded wrong gives old new (Err Path) = wrong Path × (new ≡ old)
 Commanded wrong gives old new (Err Entry) = wrong Entry × (new ≡ old)

@@ -68,14 +68,20 @@ pub data Answer : Type 0 where
 -- After the last result no operation is left where that result is OK. Its status is the status of the COMPOUND.
 abbrev pub ended_by : List ℕ → ℕ → Outcome → Answer
 ended_by left status last =
-    if outcome_status last == status then (if status == 0 then (if length left == 0 then AllDone else NoReply) else LastRefused (outcome_number last) status) else NoReply
+    if outcome_status last == status
+    then (if status == 0 then (if length left == 0 then AllDone else NoReply)
+    else LastRefused (outcome_number last) status)
+    else NoReply
 
 -- The results are results of the first operations asked, at least of one, and all but the last are OK.
 abbrev pub answer_of : List ℕ → ℕ → List Outcome → Answer
 answer_of asked status [] = NoReply
 answer_of [] status (o ∷ os) = NoReply
 answer_of (n ∷ left) status (o ∷ os) =
-    if outcome_number o == n then (if length os == 0 then ended_by left status o else if outcome_status o == 0 then answer_of left status os else NoReply) else NoReply
+    if outcome_number o == n
+    then (if length os == 0 then ended_by left status o else if outcome_status o == 0
+    then answer_of left status os else NoReply)
+    else NoReply
 
 -- the results of a COMPOUND of the operations of these numbers, with their answer
 pub record Said : Type 0 where

@@ -1,5 +1,6 @@
 -- Numbers as hexadecimal and octal digits.
-use Rattle.std.specs.Prelude.{ℕ, ◌+◌, ◌-◌, ◌*◌, ◌/◌, ◌%◌, nat_lt, nat_le, ◌&&◌, if◌then◌else◌, List, [], ◌∷◌, Option, Some, None, option_and_then}
+use Rattle.std.specs.Prelude.{ℕ, ◌+◌, ◌-◌, ◌*◌, ◌/◌, ◌%◌, nat_lt, nat_le, ◌&&◌, if◌then◌else◌, List, [], ◌∷◌, Option}
+use Rattle.std.specs.Prelude.{Some, None, option_and_then}
 use Rattle.std.specs.Int.{w32, to_be_bytes}
 use Rattle.std.specs.List.{flat_map}
 
@@ -32,7 +33,12 @@ octal_in b = if nat_le 48 b && nat_le b 55 then Some (b - 48) else None
 
 abbrev pub four_in : ℕ → ℕ → ℕ → ℕ → Option ℕ
 four_in a b c d =
-    option_and_then (λ w. option_and_then (λ x. option_and_then (λ y. option_and_then (λ z. Some (((w * 8 + x) * 8 + y) * 8 + z)) (octal_in d)) (octal_in c)) (octal_in b)) (octal_in a)
+    option_and_then
+    (λ w. option_and_then
+    (λ x. option_and_then (λ y. option_and_then (λ z. Some (((w * 8 + x) * 8 + y) * 8 + z)) (octal_in d))
+    (octal_in c))
+    (octal_in b))
+    (octal_in a)
 
 -- a mode: one to four octal digits
 abbrev pub mode_in : List ℕ → Option ℕ

@@ -1,5 +1,6 @@
 -- Entries of lists as text, `TYPE:FLAGS:MASK:WHO`.
-use Rattle.std.specs.Prelude.{ℕ, ◌==◌, if◌then◌else◌, List, [], ◌∷◌, ◌++◌, Option, Some, None, option_and_then, option_map}
+use Rattle.std.specs.Prelude.{ℕ, ◌==◌, if◌then◌else◌, List, [], ◌∷◌, ◌++◌, Option, Some, None, option_and_then}
+use Rattle.std.specs.Prelude.{option_map}
 use Rattle.std.specs.Int.{w32, from_be_bytes}
 use Rattle.acl_list.specs.declared.entry.EntryKind.{EntryKind}
 use Rattle.acl_list.specs.declared.entry.EntryKind.TheVariants.{Allow, Deny, Audit, Alarm}
@@ -19,7 +20,12 @@ letter Audit = 85
 letter Alarm = 76
 
 abbrev pub kind_in : ℕ → Option EntryKind
-kind_in b = if b == 65 then Some Allow else if b == 68 then Some Deny else if b == 85 then Some Audit else if b == 76 then Some Alarm else None
+kind_in b =
+    if b == 65 then Some Allow
+    else if b == 68 then Some Deny
+    else if b == 85 then Some Audit
+    else if b == 76 then Some Alarm
+    else None
 
 -- two digits at the front, and the rest after them
 abbrev pub byte_at : List ℕ → Option (ℕ × List ℕ)
@@ -29,7 +35,13 @@ byte_at _ = None
 -- eight digits at the front, and the rest after them
 abbrev pub word_at : List ℕ → Option (ℕ × List ℕ)
 word_at text =
-    option_and_then (λ a. option_and_then (λ b. option_and_then (λ c. option_and_then (λ d. Some (from_be_bytes w32 (a.0 ∷ b.0 ∷ c.0 ∷ d.0 ∷ []), d.1)) (byte_at c.1)) (byte_at b.1)) (byte_at a.1)) (byte_at text)
+    option_and_then
+    (λ a. option_and_then
+    (λ b. option_and_then
+    (λ c. option_and_then (λ d. Some (from_be_bytes w32 (a.0 ∷ b.0 ∷ c.0 ∷ d.0 ∷ []), d.1)) (byte_at c.1))
+    (byte_at b.1))
+    (byte_at a.1))
+    (byte_at text)
 
 abbrev pub kind_at : List ℕ → Option (EntryKind × List ℕ)
 kind_at (b ∷ rest) = option_map (λ kind. (kind, rest)) (kind_in b)
@@ -45,7 +57,8 @@ abbrev pub entry_in : List ℕ → Option EntryLine
 entry_in text =
     option_and_then (λ kind. option_and_then (λ a.
     option_and_then (λ flags. option_and_then (λ b.
-    option_and_then (λ mask. option_and_then (λ who. Some (record { kind = kind.0; flags = flags.0; mask = mask.0; who = who }))
+    option_and_then
+    (λ mask. option_and_then (λ who. Some (record { kind = kind.0; flags = flags.0; mask = mask.0; who = who }))
     (behind_colon mask.1)) (word_at b)) (behind_colon flags.1)) (byte_at a)) (behind_colon kind.1)) (kind_at text)
 
 -- the text of an entry, in lower case

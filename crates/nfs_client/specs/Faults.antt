@@ -1,7 +1,8 @@
 -- The numbers of a client's faults.
 use Rattle.std.specs.Prelude.{ℕ}
 use Rattle.nfs_client.specs.declared.fault.ToolFault.{ToolFault}
-use Rattle.nfs_client.specs.declared.fault.ToolFault.TheVariants.{Path, Refused, Reply, Read, Write, Memory, Entry, Failed}
+use Rattle.nfs_client.specs.declared.fault.ToolFault.TheVariants.{Path, Refused, Reply, Read, Write, Memory, Entry}
+use Rattle.nfs_client.specs.declared.fault.ToolFault.TheVariants.{Failed}
 
 abbrev pub number_of : ToolFault → ℕ
 number_of Path = 1

@@ -4,4 +4,12 @@ use Rattle.nfs_client.specs.Lines as specs
 use Rattle.nfs_client.specs.declared.listing.Listed.{Listed}
 
 abbrev pub listed : Listed → specs.Listed
-listed l = record { kind = l.kind; mode = l.mode; owner = option_map (λ t. t.now) l.owner; group = option_map (λ t. t.now) l.group; size = l.size; name = l.name.now }
+listed l =
+    record {
+      kind = l.kind;
+      mode = l.mode;
+      owner = option_map (λ t. t.now) l.owner;
+      group = option_map (λ t. t.now) l.group;
+      size = l.size;
+      name = l.name.now;
+    }

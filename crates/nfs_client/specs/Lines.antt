@@ -1,5 +1,6 @@
 -- A line of a listing: kind, mode, owner, group, size, name.
-use Rattle.std.specs.Prelude.{ℕ, ◌<◌, ◌^◌, ◌==◌, Bool, false, ◌||◌, if◌then◌else◌, List, [], ◌∷◌, ◌++◌, Option, Some, None, option_and_then, option_map, decimal}
+use Rattle.std.specs.Prelude.{ℕ, ◌<◌, ◌^◌, ◌==◌, Bool, false, ◌||◌, if◌then◌else◌, List, [], ◌∷◌, ◌++◌, Option, Some}
+use Rattle.std.specs.Prelude.{None, option_and_then, option_map, decimal}
 use Rattle.std.specs.List.{list_any}
 use Rattle.nfs_client.specs.Digits.{mode_digits}
 use Rattle.nfs_client.specs.declared.listing.Ends.{Ends}
@@ -20,7 +21,8 @@ unknown = 63 ∷ []
 
 -- `-` for a file (1), `d` for a directory (2), `l` for a link (5)
 abbrev pub kind_text : Option ℕ → List ℕ
-kind_text (Some kind) = if kind == 1 then 45 ∷ [] else if kind == 2 then 100 ∷ [] else if kind == 5 then 108 ∷ [] else unknown
+kind_text (Some kind) =
+    if kind == 1 then 45 ∷ [] else if kind == 2 then 100 ∷ [] else if kind == 5 then 108 ∷ [] else unknown
 kind_text None = unknown
 
 abbrev pub mode_column : Option ℕ → List ℕ
@@ -37,7 +39,9 @@ size_column None = unknown
 
 -- with this byte between two columns
 abbrev pub columns : ℕ → Listed → List ℕ
-columns end l = kind_text l.kind ++ end ∷ mode_column l.mode ++ end ∷ text_column l.owner ++ end ∷ text_column l.group ++ end ∷ size_column l.size ++ end ∷ l.name
+columns end l =
+    kind_text l.kind ++ end ∷ mode_column l.mode ++ end ∷ text_column l.owner ++ end ∷ text_column l.group ++ end
+    ∷ size_column l.size ++ end ∷ l.name
 
 -- with a space between two columns
 abbrev pub line : Listed → List ℕ
@@ -77,7 +81,9 @@ lines_of end text (x ∷ xs) = option_and_then (λ t. option_map (λ rest. t ++ 
 
 -- an entry's columns
 abbrev pub columns_of : Listed → List (List ℕ)
-columns_of l = kind_text l.kind ∷ mode_column l.mode ∷ text_column l.owner ∷ text_column l.group ∷ size_column l.size ∷ l.name ∷ []
+columns_of l =
+    kind_text l.kind ∷ mode_column l.mode ∷ text_column l.owner ∷ text_column l.group ∷ size_column l.size ∷ l.name
+    ∷ []
 
 -- a text's parts, each of which has a zero byte after it; the first of them begins with bytes that
 -- stand before the text

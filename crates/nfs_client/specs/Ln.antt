@@ -12,7 +12,8 @@ link name = Known kinds.Link name
 
 -- the names of the old path and of the new path's directory, and the operation at the ends of both
 abbrev pub LnAsks : List ℕ → List ℕ → List (List ℕ) → List (List ℕ) → Operation → Type 0
-LnAsks old new names directory op = (name : List ℕ) × (names_in old ≡ Some names) × IsIn new directory name × (op ≡ link name)
+LnAsks old new names directory op =
+    (name : List ℕ) × (names_in old ≡ Some names) × IsIn new directory name × (op ≡ link name)
 
 abbrev pub WrongPaths : List ℕ → List ℕ → ToolFault → Type 0
 WrongPaths old new Path = (names_in old ≡ None) ⊎ HasNoName new

@@ -1,5 +1,6 @@
 -- ls, ls_zero: the entries of a directory as lines, page by page up to its end.
-use Rattle.std.specs.Prelude.{◌≡◌, ℕ, ◌==◌, ◌||◌, Bool, true, List, [], ◌∷◌, ◌++◌, map, replicate, Option, Some, None, option_map, option_and_then, Result, Ok, Err}
+use Rattle.std.specs.Prelude.{◌≡◌, ℕ, ◌==◌, ◌||◌, Bool, true, List, [], ◌∷◌, ◌++◌, map, replicate, Option, Some, None}
+use Rattle.std.specs.Prelude.{option_map, option_and_then, Result, Ok, Err}
 use Rattle.xdr_wire.specs.Xdr.{Value}
 use Rattle.xdr_wire.specs.declared.fault.XdrFault.{XdrFault}
 use Rattle.nfs_types.specs.Seen.{Seen, seen_of}
@@ -98,7 +99,8 @@ cookie_of [] = 0
 cookie_of (p ∷ before) = last_or (cookie_of before) p.cookies
 
 -- Each READDIR begins after the last entry of the pages so far.
-abbrev pub by_listings : {S A : Type 0} → (S → Option (List ℕ)) → (S → Option (List ℕ)) → Ends → Route → List ℕ → Paging S A Page
+abbrev pub by_listings : {S A : Type 0} → (S → Option (List ℕ)) → (S → Option (List ℕ)) → Ends → Route → List ℕ
+    → Paging S A Page
 by_listings contents remaining ends route set = record {
   contents = contents;
   remaining = remaining;
@@ -117,47 +119,64 @@ pub record GoesOn {A : Type 0} (old new : Listing A) (text cookies : List ℕ) :
 
 -- an entry's line, if it has one
 abbrev pub PutsEntry : {A : Type 0} → Listing A → Listing A → Value entry → Result (Unit {0}) ToolFault → Type 0
-PutsEntry old new e (Ok done) = (text : List ℕ) × (line_in old.ends e ≡ Some text) × GoesOn old new (text ++ line_end old.ends ∷ []) (entry_cookie e ∷ [])
+PutsEntry old new e (Ok done) =
+    (text : List ℕ) × (line_in old.ends e ≡ Some text)
+    × GoesOn old new (text ++ line_end old.ends ∷ []) (entry_cookie e ∷ [])
 PutsEntry old new e (Err Reply) = line_in old.ends e ≡ None
 PutsEntry old new e (Err Memory) = Unit {0}
 PutsEntry old new e (Err fault) = ⊥
 
-abbrev pub PutsEntries : {A : Type 0} → Listing A → Listing A → List (Value entry) → Result (Unit {0}) ToolFault → Type 0
-PutsEntries old new entries (Ok done) = (text : List ℕ) × (lines_in old.ends entries ≡ Some text) × GoesOn old new text (map entry_cookie entries)
+abbrev pub PutsEntries : {A : Type 0} → Listing A → Listing A → List (Value entry) → Result (Unit {0}) ToolFault
+    → Type 0
+PutsEntries old new entries (Ok done) =
+    (text : List ℕ) × (lines_in old.ends entries ≡ Some text) × GoesOn old new text (map entry_cookie entries)
 PutsEntries old new entries (Err Reply) = lines_in old.ends entries ≡ None
 PutsEntries old new entries (Err Memory) = Unit {0}
 PutsEntries old new entries (Err fault) = ⊥
 
 -- a page's lines, if there is one, and whether it is the last
 abbrev pub PutsPage : {A : Type 0} → Listing A → Listing A → Option Page → Result Bool ToolFault → Type 0
-PutsPage old new page (Ok eof) = (text : List ℕ) × (cookies : List ℕ) × (page ≡ Some (page_with text cookies eof)) × GoesOn old new text cookies
+PutsPage old new page (Ok eof) =
+    (text : List ℕ) × (cookies : List ℕ) × (page ≡ Some (page_with text cookies eof)) × GoesOn old new text cookies
 PutsPage old new page (Err Reply) = page ≡ None
 PutsPage old new page (Err Memory) = Unit {0}
 PutsPage old new page (Err fault) = ⊥
 
 -- the lines of the page in a reply
 abbrev pub PageTaken : {A : Type 0} → Said → Listing A → Listing A → Result Bool ToolFault → Type 0
-PageTaken said old new (Ok eof) = (text : List ℕ) × (cookies : List ℕ) × SaidGives (page_with text cookies) (page_in old.ends) said (Ok eof) × GoesOn old new text cookies
+PageTaken said old new (Ok eof) =
+    (text : List ℕ) × (cookies : List ℕ) × SaidGives (page_with text cookies) (page_in old.ends) said (Ok eof)
+    × GoesOn old new text cookies
 PageTaken said old new (Err fault) = SaidGives (page_with [] []) (page_in old.ends) said (Err fault)
 
 -- the exchange of a page, whose lines are put after those of the pages before it
-abbrev pub ListGives : {S A : Type 0} → (S → Option (List ℕ)) → (S → Option (List ℕ)) → Route → List ℕ → Listing A → Listing A → Client S A → Client S A → Result Bool ToolFault → Type 0
+abbrev pub ListGives : {S A : Type 0} → (S → Option (List ℕ)) → (S → Option (List ℕ)) → Route → List ℕ → Listing A
+    → Listing A → Client S A → Client S A → Result Bool ToolFault → Type 0
 ListGives contents remaining route set listing listing' old new (Ok eof) =
     (text : List ℕ) × (cookies : List ℕ)
-    × AskGives contents remaining (page_in listing.ends) itself true (list_from route set old listing.cookie) old new (Ok (page_with text cookies eof)) × GoesOn listing listing' text cookies
+    × AskGives contents remaining (page_in listing.ends) itself true (list_from route set old listing.cookie) old new
+    (Ok (page_with text cookies eof))
+    × GoesOn listing listing' text cookies
 ListGives contents remaining route set listing listing' old new (Err fault) =
-    AskGives {X = Page} contents remaining (page_in listing.ends) itself true (list_from route set old listing.cookie) old new (Err fault)
+    AskGives {X = Page} contents remaining (page_in listing.ends) itself true (list_from route set old listing.cookie)
+    old new (Err fault)
 
 -- the lines of all entries of the directory at the path; or the path is wrong, and no operation is asked
-abbrev pub LinesGive : {S A X : Type 0} → (S → Option (List ℕ)) → (S → Option (List ℕ)) → Ends → (X → List ℕ) → List ℕ → Client S A → Client S A → Result X ToolFault → Type 0
+abbrev pub LinesGive : {S A X : Type 0} → (S → Option (List ℕ)) → (S → Option (List ℕ)) → Ends → (X → List ℕ) → List ℕ
+    → Client S A → Client S A → Result X ToolFault → Type 0
 LinesGive contents remaining ends value path old new result =
-    Commanded (NoPath path) (λ told. (names : List (List ℕ)) × (set : List ℕ) × (names_in path ≡ Some names) × AreListed set
-    × Walked contents remaining most_names names (λ route mid r. PagesGive (by_listings contents remaining ends route set) value text_of mid new r) old new told) old new result
+    Commanded (NoPath path)
+    (λ told. (names : List (List ℕ)) × (set : List ℕ) × (names_in path ≡ Some names) × AreListed set
+    × Walked contents remaining most_names names
+    (λ route mid r. PagesGive (by_listings contents remaining ends route set) value text_of mid new r) old new
+    told) old new result
 
 -- with a space between two columns, and a newline after each line
-abbrev pub LsGives : {S A X : Type 0} → (S → Option (List ℕ)) → (S → Option (List ℕ)) → (X → List ℕ) → List ℕ → Client S A → Client S A → Result X ToolFault → Type 0
+abbrev pub LsGives : {S A X : Type 0} → (S → Option (List ℕ)) → (S → Option (List ℕ)) → (X → List ℕ) → List ℕ
+    → Client S A → Client S A → Result X ToolFault → Type 0
 LsGives contents remaining value path old new result = LinesGive contents remaining Blanks value path old new result
 
 -- with a zero byte after each column, which no column has
-abbrev pub LsZeroGives : {S A X : Type 0} → (S → Option (List ℕ)) → (S → Option (List ℕ)) → (X → List ℕ) → List ℕ → Client S A → Client S A → Result X ToolFault → Type 0
+abbrev pub LsZeroGives : {S A X : Type 0} → (S → Option (List ℕ)) → (S → Option (List ℕ)) → (X → List ℕ) → List ℕ
+    → Client S A → Client S A → Result X ToolFault → Type 0
 LsZeroGives contents remaining value path old new result = LinesGive contents remaining Zeros value path old new result

@@ -11,7 +11,8 @@ rename old new = Known kinds.Rename (old, new)
 
 -- the names of the old path's directory and of the new path's, and the operation at the ends of both
 abbrev pub MvAsks : List ℕ → List ℕ → List (List ℕ) → List (List ℕ) → Operation → Type 0
-MvAsks old new source target op = (before : List ℕ) × (after : List ℕ) × IsIn old source before × IsIn new target after × (op ≡ rename before after)
+MvAsks old new source target op =
+    (before : List ℕ) × (after : List ℕ) × IsIn old source before × IsIn new target after × (op ≡ rename before after)
 
 abbrev pub WrongNames : List ℕ → List ℕ → ToolFault → Type 0
 WrongNames old new Path = HasNoName old ⊎ HasNoName new

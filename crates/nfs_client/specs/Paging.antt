@@ -26,25 +26,31 @@ pub record Paging (S A V : Type 0) : Type 0 where
 module _ {S A V : Type 0} (paging : Paging S A V) where
   -- the outcome of the exchange after these pages
   abbrev pub PageGives : List V → Client S A → Client S A → Result V ToolFault → Type 0
-  PageGives before old new result = AskGives paging.contents paging.remaining paging.taken itself true (paging.asks old before) old new result
+  PageGives before old new result =
+      AskGives paging.contents paging.remaining paging.taken itself true (paging.asks old before) old new result
 
   -- an exchange for each of these pages, none of which is the last
   abbrev pub Goes : Client S A → List V → Client S A → Type 0
   Goes old [] new = new ≡ old
-  Goes old (v ∷ before) new = (mid : Client S A) × Goes old before mid × (paging.ends v ≡ false) × PageGives before mid new (Ok v)
+  Goes old (v ∷ before) new =
+      (mid : Client S A) × Goes old before mid × (paging.ends v ≡ false) × PageGives before mid new (Ok v)
 
   -- The exchange after some pages fails. Where memory was refused no other command runs.
   abbrev pub Stops : Client S A → Client S A → ToolFault → Type 0
   Stops old new fault =
-      (mid : Client S A) × (last : Client S A) × (before : List V) × Goes old before mid × (length before < most_calls) × PageGives before mid last (Err fault) × Spoils {X = V} (Err fault) last new
+      (mid : Client S A) × (last : Client S A) × (before : List V) × Goes old before mid
+      × (length before < most_calls) × PageGives before mid last (Err fault) × Spoils {X = V} (Err fault) last new
 
   -- the most pages came, and none of them was the last
   abbrev pub IsTooLong : Client S A → Client S A → Type 0
-  IsTooLong old new = (mid : Client S A) × (before : List V) × Goes old before mid × (length before ≡ most_calls) × (new ≡ record mid { usable = false })
+  IsTooLong old new =
+      (mid : Client S A) × (before : List V) × Goes old before mid × (length before ≡ most_calls)
+      × (new ≡ record mid { usable = false })
 
   -- All pages up to the last, which are no more than the most calls; or an exchange fails; or there are too many.
   abbrev pub PagesGive : {X W : Type 0} → (X → W) → (List V → W) → Client S A → Client S A → Result X ToolFault → Type 0
   PagesGive value whole old new (Ok x) =
-      (mid : Client S A) × (before : List V) × (last : V) × Goes old before mid × (length before < most_calls) × PageGives before mid new (Ok last) × (paging.ends last ≡ true) × (value x ≡ whole (last ∷ before))
+      (mid : Client S A) × (before : List V) × (last : V) × Goes old before mid × (length before < most_calls)
+      × PageGives before mid new (Ok last) × (paging.ends last ≡ true) × (value x ≡ whole (last ∷ before))
   PagesGive value whole old new (Err Reply) = Stops old new Reply ⊎ IsTooLong old new
   PagesGive value whole old new (Err fault) = Stops old new fault

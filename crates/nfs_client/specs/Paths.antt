@@ -1,5 +1,6 @@
 -- Paths: `/`, or names each with `/` in front.
-use Rattle.std.specs.Prelude.{ℕ, Bool, ◌==◌, not, if◌then◌else◌, List, [], ◌∷◌, length, Option, Some, None, option_and_then}
+use Rattle.std.specs.Prelude.{ℕ, Bool, ◌==◌, not, if◌then◌else◌, List, [], ◌∷◌, length, Option, Some, None}
+use Rattle.std.specs.Prelude.{option_and_then}
 use Rattle.std.specs.List.{slice_split, list_all, flat_map}
 
 abbrev pub is_slash : ℕ → Bool

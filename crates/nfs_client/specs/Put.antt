@@ -1,6 +1,8 @@
 -- put: a file is opened for writing. A text is written to it piece by piece, each with the size
 -- after it, and the file is closed.
-use Rattle.std.specs.Prelude.{◌≡◌, ◌⊎◌, ℕ, ◌+◌, nat_le, ◌==◌, ◌&&◌, true, if◌then◌else◌, sum, codes, List, [], ◌∷◌, ◌++◌, length, take, drop, Option, Some, None, option_and_then, option_map, Result, Ok, Err}
+use Rattle.std.specs.Prelude.{◌≡◌, ◌⊎◌, ℕ, ◌+◌, nat_le, ◌==◌, ◌&&◌, true, if◌then◌else◌, sum, codes, List, [], ◌∷◌}
+use Rattle.std.specs.Prelude.{◌++◌, length, take, drop, Option, Some, None, option_and_then, option_map, Result, Ok}
+use Rattle.std.specs.Prelude.{Err}
 use Rattle.std.proofs.Common.{inl, inr}
 use Rattle.xdr_wire.specs.Xdr.{Value}
 use Rattle.nfs_types.specs.Forms.{stateid}
@@ -30,14 +32,16 @@ owner = codes "nfsc"
 -- OPEN of the file of this name for writing (2), which denies others no access, with the set of
 -- these attributes and these values. The file is created where there is none (UNCHECKED4).
 abbrev pub open_by : Seen → List ℕ → ℕ → List ℕ → Operation
-open_by s values client name = Known kinds.Open (0, (2, (0, (client, (owner, (inr (inl (inl (shown_set s, values))), inl name))))))
+open_by s values client name =
+    Known kinds.Open (0, (2, (0, (client, (owner, (inr (inl (inl (shown_set s, values))), inl name))))))
 
 -- A file that exists keeps its bytes as it is opened, unless the text is empty: then its size becomes 0.
 abbrev pub size_at_open : List ℕ → Option ℕ
 size_at_open text = if length text == 0 then Some 0 else None
 
 abbrev pub open_sized : List ℕ → ℕ → List ℕ → Operation
-open_sized text client name = open_by (with_size (size_at_open text)) (shown_values (with_size (size_at_open text))) client name
+open_sized text client name =
+    open_by (with_size (size_at_open text)) (shown_values (with_size (size_at_open text))) client name
 
 abbrev pub put_handle : List ℕ → Operation
 put_handle handle = Known kinds.PutFh handle
@@ -91,7 +95,9 @@ open_along client route op = sequence client ∷ walk route ++ op ∷ get_handle
 
 -- WRITE, and the size that makes these bytes the file's last: so the file is never shorter than what was written to it.
 abbrev pub write_to : {S A : Type 0} → Client S A → Open → ℕ → List ℕ → List Operation
-write_to client o offset bytes = sequence client ∷ put_handle o.handle ∷ write o.stateid offset bytes ∷ set_size o.stateid (offset + length bytes) ∷ []
+write_to client o offset bytes =
+    sequence client ∷ put_handle o.handle ∷ write o.stateid offset bytes ∷ set_size o.stateid (offset + length bytes)
+    ∷ []
 
 abbrev pub close_it : {S A : Type 0} → Client S A → Open → List Operation
 close_it client o = sequence client ∷ put_handle o.handle ∷ close o.stateid ∷ []
@@ -110,7 +116,8 @@ told_behind op status (Err fault) = Err fault
 
 module _ {S A : Type 0} (contents remaining : S → Option (List ℕ)) (o : Open) where
   abbrev pub WriteGives : ℕ → List ℕ → Client S A → Client S A → Result ℕ ToolFault → Type 0
-  WriteGives offset bytes old new result = AskGives contents remaining (written_in (length bytes)) itself true (write_to old o offset bytes) old new result
+  WriteGives offset bytes old new result =
+      AskGives contents remaining (written_in (length bytes)) itself true (write_to old o offset bytes) old new result
 
   abbrev pub CloseGives : Client S A → Client S A → Result (Unit {0}) ToolFault → Type 0
   CloseGives old new result = AskGives contents remaining takes_nothing nothing true (close_it old o) old new result
@@ -118,40 +125,52 @@ module _ {S A : Type 0} (contents remaining : S → Option (List ℕ)) (o : Open
   -- Each WRITE begins after the bytes written so far. The counts of the WRITEs, the last first.
   abbrev pub Writes : List ℕ → Client S A → List ℕ → Client S A → Type 0
   Writes text old [] new = new ≡ old
-  Writes text old (n ∷ before) new = (mid : Client S A) × Writes text old before mid × WriteGives (sum before) (piece (drop (sum before) text)) mid new (Ok n)
+  Writes text old (n ∷ before) new =
+      (mid : Client S A) × Writes text old before mid
+      × WriteGives (sum before) (piece (drop (sum before) text)) mid new (Ok n)
 
   -- the whole text is written; or a WRITE fails after earlier ones
   abbrev pub TextGives : List ℕ → Client S A → Client S A → Result (Unit {0}) ToolFault → Type 0
   TextGives text old new (Ok done) = (counts : List ℕ) × Writes text old counts new × (sum counts ≡ length text)
   TextGives text old new (Err fault) =
-      (mid : Client S A) × (before : List ℕ) × Writes text old before mid × WriteGives (sum before) (piece (drop (sum before) text)) mid new (Err fault)
+      (mid : Client S A) × (before : List ℕ) × Writes text old before mid
+      × WriteGives (sum before) (piece (drop (sum before) text)) mid new (Err fault)
 
   -- The file is closed where the text is written, and where a WRITE was refused.
   abbrev pub ClosesBehind : Result (Unit {0}) ToolFault → Client S A → Client S A → Result (Unit {0}) ToolFault → Type 0
   ClosesBehind (Ok done) old new result = CloseGives old new result
-  ClosesBehind (Err (Refused op status)) old new result = (closed : Result (Unit {0}) ToolFault) × CloseGives old new closed × (result ≡ told_behind op status closed)
+  ClosesBehind (Err (Refused op status)) old new result =
+      (closed : Result (Unit {0}) ToolFault) × CloseGives old new closed × (result ≡ told_behind op status closed)
   ClosesBehind (Err fault) old new result = (new ≡ old) × (result ≡ Err fault)
 
   -- The text is written to the open file, which is closed. Where memory was refused no other command runs.
   abbrev pub FileGives : List ℕ → Client S A → Client S A → Result (Unit {0}) ToolFault → Type 0
   FileGives text old new result =
-      (told : Result (Unit {0}) ToolFault) × (mid : Client S A) × (last : Client S A) × TextGives text old mid told × ClosesBehind told mid last result × Spoils result last new
+      (told : Result (Unit {0}) ToolFault) × (mid : Client S A) × (last : Client S A) × TextGives text old mid told
+      × ClosesBehind told mid last result × Spoils result last new
 
 -- The file is opened, written and closed; or the OPEN fails, or a later exchange.
-abbrev pub PutFileGives : {S A : Type 0} → (S → Option (List ℕ)) → (S → Option (List ℕ)) → List ℕ → List Operation → Client S A → Client S A → Result (Unit {0}) ToolFault → Type 0
+abbrev pub PutFileGives : {S A : Type 0} → (S → Option (List ℕ)) → (S → Option (List ℕ)) → List ℕ → List Operation
+    → Client S A → Client S A → Result (Unit {0}) ToolFault → Type 0
 PutFileGives {S} {A} contents remaining text ops old new (Ok done) =
-    (mid : Client S A) × (o : Open) × AskGives contents remaining open_in itself true ops old mid (Ok o) × FileGives contents remaining o text mid new (Ok done)
+    (mid : Client S A) × (o : Open) × AskGives contents remaining open_in itself true ops old mid (Ok o)
+    × FileGives contents remaining o text mid new (Ok done)
 PutFileGives {S} {A} contents remaining text ops old new (Err fault) =
     AskGives {X = Open} contents remaining open_in itself true ops old new (Err fault)
-    ⊎ ((mid : Client S A) × (o : Open) × AskGives contents remaining open_in itself true ops old mid (Ok o) × FileGives contents remaining o text mid new (Err fault))
+    ⊎ ((mid : Client S A) × (o : Open) × AskGives contents remaining open_in itself true ops old mid (Ok o)
+    × FileGives contents remaining o text mid new (Err fault))
 
 -- The file is opened in a directory along these names.
-abbrev pub PutAlong : {S A : Type 0} → (S → Option (List ℕ)) → (S → Option (List ℕ)) → List (List ℕ) → Operation → List ℕ → Client S A → Client S A → Result (Unit {0}) ToolFault → Type 0
+abbrev pub PutAlong : {S A : Type 0} → (S → Option (List ℕ)) → (S → Option (List ℕ)) → List (List ℕ) → Operation
+    → List ℕ → Client S A → Client S A → Result (Unit {0}) ToolFault → Type 0
 PutAlong contents remaining names op text old new result =
-    Walked contents remaining most_before_two names (λ route mid r. PutFileGives contents remaining text (open_along mid route op) mid new r) old new result
+    Walked contents remaining most_before_two names
+    (λ route mid r. PutFileGives contents remaining text (open_along mid route op) mid new r) old new result
 
 -- The file is put in its directory; or the path is wrong, and no operation is asked.
-abbrev pub PutCommandGives : {S A : Type 0} → (S → Option (List ℕ)) → (S → Option (List ℕ)) → List ℕ → List ℕ → Client S A → Client S A → Result (Unit {0}) ToolFault → Type 0
+abbrev pub PutCommandGives : {S A : Type 0} → (S → Option (List ℕ)) → (S → Option (List ℕ)) → List ℕ → List ℕ
+    → Client S A → Client S A → Result (Unit {0}) ToolFault → Type 0
 PutCommandGives contents remaining path text old new result =
-    Commanded (WrongPath path) (λ told. (directory : List (List ℕ)) × (op : Operation) × OpenAsks old.client path text directory op
+    Commanded (WrongPath path)
+    (λ told. (directory : List (List ℕ)) × (op : Operation) × OpenAsks old.client path text directory op
     × PutAlong contents remaining directory op text old new told) old new result

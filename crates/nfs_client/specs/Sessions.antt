@@ -69,34 +69,47 @@ pub record IsNew {S A : Type 0} (stream : S) (uid gid : ℕ) (client : Client S 
   pub user : client.uid ≡ uid
   pub group : client.gid ≡ gid
 
-abbrev pub MadeKnown : {S A : Type 0} → (S → Option (List ℕ)) → (S → Option (List ℕ)) → List ℕ → List ℕ → Client S A → Client S A → Result Registration ToolFault → Type 0
-MadeKnown contents remaining owner verifier old new result = AskGives contents remaining record_in record_value false (exchange_id owner verifier ∷ []) old new result
+abbrev pub MadeKnown : {S A : Type 0} → (S → Option (List ℕ)) → (S → Option (List ℕ)) → List ℕ → List ℕ → Client S A
+    → Client S A → Result Registration ToolFault → Type 0
+MadeKnown contents remaining owner verifier old new result =
+    AskGives contents remaining record_in record_value false (exchange_id owner verifier ∷ []) old new result
 
-abbrev pub SessionMade : {S A : Type 0} → (S → Option (List ℕ)) → (S → Option (List ℕ)) → Registration → Client S A → Client S A → Result (List ℕ) ToolFault → Type 0
-SessionMade contents remaining r old new result = AskGives contents remaining session_in session_value false (create_session r.client r.number ∷ []) old new result
+abbrev pub SessionMade : {S A : Type 0} → (S → Option (List ℕ)) → (S → Option (List ℕ)) → Registration → Client S A
+    → Client S A → Result (List ℕ) ToolFault → Type 0
+SessionMade contents remaining r old new result =
+    AskGives contents remaining session_in session_value false (create_session r.client r.number ∷ []) old new result
 
 -- EXCHANGE_ID gives a client id, and CREATE_SESSION by its numbers a session, on which the client
 -- calls by number 1 then. Or the first exchange fails, or the second.
-abbrev pub OpenGives : {S A : Type 0} → (S → Option (List ℕ)) → (S → Option (List ℕ)) → S → ℕ → ℕ → List ℕ → List ℕ → Result (Client S A) ToolFault → Type 0
+abbrev pub OpenGives : {S A : Type 0} → (S → Option (List ℕ)) → (S → Option (List ℕ)) → S → ℕ → ℕ → List ℕ → List ℕ
+    → Result (Client S A) ToolFault → Type 0
 OpenGives {S} {A} contents remaining stream uid gid owner verifier (Ok client) =
-    (start : Client S A) × (known : Client S A) × (made : Client S A) × (r : Registration) × (session : List ℕ) × IsNew stream uid gid start
-    × MadeKnown contents remaining owner verifier start known (Ok r) × SessionMade contents remaining r known made (Ok session)
+    (start : Client S A) × (known : Client S A) × (made : Client S A) × (r : Registration) × (session : List ℕ)
+    × IsNew stream uid gid start
+    × MadeKnown contents remaining owner verifier start known (Ok r)
+    × SessionMade contents remaining r known made (Ok session)
     × (client ≡ record made { client = r.client; session = session; number = 1 })
 OpenGives {S} {A} contents remaining stream uid gid owner verifier (Err fault) =
     (start : Client S A) × (known : Client S A) × IsNew stream uid gid start
     × (MadeKnown contents remaining owner verifier start known (Err fault)
-    ⊎ ((made : Client S A) × (r : Registration) × MadeKnown contents remaining owner verifier start known (Ok r) × SessionMade contents remaining r known made (Err fault)))
+    ⊎ ((made : Client S A) × (r : Registration) × MadeKnown contents remaining owner verifier start known (Ok r)
+    × SessionMade contents remaining r known made (Err fault)))
 
-abbrev pub Ends : {S A : Type 0} → (S → Option (List ℕ)) → (S → Option (List ℕ)) → Operation → Client S A → Client S A → Result (Unit {0}) ToolFault → Type 0
-Ends contents remaining op old new result = AskGives contents remaining takes_nothing nothing false (op ∷ []) old new result
+abbrev pub Ends : {S A : Type 0} → (S → Option (List ℕ)) → (S → Option (List ℕ)) → Operation → Client S A → Client S A
+    → Result (Unit {0}) ToolFault → Type 0
+Ends contents remaining op old new result =
+    AskGives contents remaining takes_nothing nothing false (op ∷ []) old new result
 
 -- DESTROY_SESSION is OK, and then DESTROY_CLIENTID; or the first exchange fails, or the second.
 -- Where memory was refused for the second no other command runs.
-abbrev pub EndGives : {S A : Type 0} → (S → Option (List ℕ)) → (S → Option (List ℕ)) → Client S A → Client S A → Result (Unit {0}) ToolFault → Type 0
+abbrev pub EndGives : {S A : Type 0} → (S → Option (List ℕ)) → (S → Option (List ℕ)) → Client S A → Client S A
+    → Result (Unit {0}) ToolFault → Type 0
 EndGives {S} {A} contents remaining old new (Ok done) =
-    (mid : Client S A) × Ends contents remaining (destroy_session old.session) old mid (Ok tt) × Ends contents remaining (destroy_client old.client) mid new (Ok tt)
+    (mid : Client S A) × Ends contents remaining (destroy_session old.session) old mid (Ok tt)
+    × Ends contents remaining (destroy_client old.client) mid new (Ok tt)
 EndGives contents remaining old new (Err Failed) = (old.usable ≡ false) × (new ≡ old)
 EndGives {S} {A} contents remaining old new (Err fault) =
     Ends contents remaining (destroy_session old.session) old new (Err fault)
     ⊎ ((mid : Client S A) × (last : Client S A) × Ends contents remaining (destroy_session old.session) old mid (Ok tt)
-    × Ends contents remaining (destroy_client old.client) mid last (Err fault) × Spoils {X = Unit {0}} (Err fault) last new)
+    × Ends contents remaining (destroy_client old.client) mid last (Err fault)
+    × Spoils {X = Unit {0}} (Err fault) last new)

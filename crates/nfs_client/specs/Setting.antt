@@ -23,7 +23,18 @@ set_attributes s = set_by s (shown_values s)
 
 -- no attribute
 abbrev pub of_nothing : Seen
-of_nothing = record { kind = None; size = None; error = None; entries = None; mode = None; owner = None; group = None; dacl = None; sacl = None }
+of_nothing =
+    record {
+      kind = None;
+      size = None;
+      error = None;
+      entries = None;
+      mode = None;
+      owner = None;
+      group = None;
+      dacl = None;
+      sacl = None;
+    }
 
 -- the mode alone
 abbrev pub of_mode : ℕ → Seen

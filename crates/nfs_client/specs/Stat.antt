@@ -1,5 +1,6 @@
 -- Some attributes of an object, read from what a server gave (RFC 8881, section 3.3.9).
-use Rattle.std.specs.Prelude.{◌≡◌, ◌==◌, ◌||◌, ℕ, Bool, if◌then◌else◌, List, [], ◌∷◌, Option, Some, None, Result, Ok, Err}
+use Rattle.std.specs.Prelude.{◌≡◌, ◌==◌, ◌||◌, ℕ, Bool, if◌then◌else◌, List, [], ◌∷◌, Option, Some, None, Result, Ok}
+use Rattle.std.specs.Prelude.{Err}
 use Rattle.xdr_wire.specs.Xdr.{Value, uint, hyper}
 use Rattle.xdr_wire.specs.Reading.{◌>>=◌, Read}
 use Rattle.nfs_types.specs.Attributes.{text, is_within}
@@ -22,7 +23,9 @@ pub record StatValues : Type 0 where
 
 -- 1 type, 3 change, 4 size, 20 fileid, 33 mode, 35 numlinks, 36 owner, 37 owner_group, 52 time_metadata, 53 time_modify
 abbrev pub is_of_stat : ℕ → Bool
-is_of_stat n = (n == 1) || (n == 3) || (n == 4) || (n == 20) || (n == 33) || (n == 35) || (n == 36) || (n == 37) || (n == 52) || (n == 53)
+is_of_stat n =
+    (n == 1) || (n == 3) || (n == 4) || (n == 20) || (n == 33) || (n == 35) || (n == 36) || (n == 37) || (n == 52)
+    || (n == 53)
 
 -- the set of these attributes
 abbrev pub AreOfStat : List ℕ → Type 0
@@ -41,7 +44,21 @@ stat_at set bytes =
     chosen_at (has_number set 37) text g.1 >>= λ h.
     chosen_at (has_number set 52) time h.1 >>= λ i.
     chosen_at (has_number set 53) time i.1 >>= λ j.
-    Ok (record { kind = a.0; change = b.0; size = c.0; number = d.0; mode = e.0; links = f.0; owner = g.0; group = h.0; changed = i.0; modified = j.0 }, j.1)
+    Ok (
+      record {
+        kind = a.0;
+        change = b.0;
+        size = c.0;
+        number = d.0;
+        mode = e.0;
+        links = f.0;
+        owner = g.0;
+        group = h.0;
+        changed = i.0;
+        modified = j.0;
+      },
+      j.1,
+    )
 
 -- nothing stands after the values
 abbrev pub whole : Read StatValues → Option StatValues

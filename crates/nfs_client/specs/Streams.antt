@@ -53,13 +53,15 @@ RecordGives bytes left left' (Ok content) = ReadsRecord left left' (bytes conten
 RecordGives bytes left left' (Err fault) = (read : List ℕ) × Consumes left left' read × IsReadFault read fault
 
 -- bytes were written, and after them a record was read
-pub record Talked {S : Type 0} (contents remaining : S → Option (List ℕ)) (old new : S) (call content : List ℕ) : Type 0 where
+pub record Talked {S : Type 0} (contents remaining : S → Option (List ℕ)) (old new : S)
+    (call content : List ℕ) : Type 0 where
   pub mid : S
   pub wrote : Appends (contents old) (contents mid) call
   pub read : ReadsRecord (remaining mid) (remaining new) content
 
 -- bytes were written, and nothing after them; what was read then is no record, for this fault
-pub record Unheard {S : Type 0} (contents remaining : S → Option (List ℕ)) (old new : S) (call : List ℕ) (fault : ToolFault) : Type 0 where
+pub record Unheard {S : Type 0} (contents remaining : S → Option (List ℕ)) (old new : S) (call : List ℕ)
+    (fault : ToolFault) : Type 0 where
   pub mid : S
   pub wrote : Appends (contents old) (contents mid) call
   pub bytes : List ℕ
@@ -67,10 +69,12 @@ pub record Unheard {S : Type 0} (contents remaining : S → Option (List ℕ)) (
   pub no_record : IsReadFault bytes fault
 
 -- a front of the bytes was written and the stream failed; or all bytes were, and no record was read after them
-abbrev pub TalkFails : {S : Type 0} → (S → Option (List ℕ)) → (S → Option (List ℕ)) → S → S → List ℕ → ToolFault → Type 0
+abbrev pub TalkFails : {S : Type 0} → (S → Option (List ℕ)) → (S → Option (List ℕ)) → S → S → List ℕ → ToolFault
+    → Type 0
 TalkFails contents remaining old new call Write = WritesFront (contents old) (contents new) call
 TalkFails contents remaining old new call fault = Unheard contents remaining old new call fault
 
-abbrev pub TalkGives : {S X : Type 0} → (X → List ℕ) → (S → Option (List ℕ)) → (S → Option (List ℕ)) → S → S → List ℕ → Result X ToolFault → Type 0
+abbrev pub TalkGives : {S X : Type 0} → (X → List ℕ) → (S → Option (List ℕ)) → (S → Option (List ℕ)) → S → S → List ℕ
+    → Result X ToolFault → Type 0
 TalkGives bytes contents remaining old new call (Ok content) = Talked contents remaining old new call (bytes content)
 TalkGives bytes contents remaining old new call (Err fault) = TalkFails contents remaining old new call fault

@@ -31,7 +31,8 @@ TakeGives value taken (Err fault) = ⊥
 -- no such value is no reply.
 abbrev pub SaidGives : {X V : Type 0} → (X → V) → (List Outcome → Option V) → Said → Result X ToolFault → Type 0
 SaidGives value taken said (Ok x) = (said.answer ≡ AllDone) × (taken said.results ≡ Some (value x))
-SaidGives value taken said (Err Reply) = (said.answer ≡ NoReply) ⊎ ((said.answer ≡ AllDone) × (taken said.results ≡ None))
+SaidGives value taken said (Err Reply) =
+    (said.answer ≡ NoReply) ⊎ ((said.answer ≡ AllDone) × (taken said.results ≡ None))
 SaidGives value taken said (Err Memory) = Unit {0}
 SaidGives value taken said (Err fault) = FaultIs fault said.answer
 

@@ -24,30 +24,45 @@ along_both client first second op = sequence client ∷ walk first ++ save ∷ w
 module _ {S A : Type 0} (contents remaining : S → Option (List ℕ)) where
   -- The outcome of approaches until at most this many names are left, and then of a step with the
   -- route left; or an approach fails.
-  abbrev pub Walked : {X : Type 0} → ℕ → List (List ℕ) → (Route → Client S A → Result X ToolFault → Type 0) → Client S A → Client S A → Result X ToolFault → Type 0
+  abbrev pub Walked : {X : Type 0} → ℕ → List (List ℕ) → (Route → Client S A → Result X ToolFault → Type 0)
+      → Client S A → Client S A → Result X ToolFault → Type 0
   Walked most names does old new (Ok x) =
-      (mid : Client S A) × (route : Route) × WalkGives contents remaining itself most names old mid (Ok route) × does route mid (Ok x)
+      (mid : Client S A) × (route : Route) × WalkGives contents remaining itself most names old mid (Ok route)
+      × does route mid (Ok x)
   Walked most names does old new (Err fault) =
       WalkFails contents remaining most names old new fault
-      ⊎ ((mid : Client S A) × (route : Route) × WalkGives contents remaining itself most names old mid (Ok route) × does route mid (Err fault))
+      ⊎ ((mid : Client S A) × (route : Route) × WalkGives contents remaining itself most names old mid (Ok route)
+      × does route mid (Err fault))
 
   -- The outcome of a command that asks an operation at the end of a path, unless its words are
   -- wrong. It takes a value of the results.
-  abbrev pub CommandTells : {X V : Type 0} → (List Outcome → Option V) → (X → V) → (List (List ℕ) → Operation → Type 0) → (ToolFault → Type 0) → Client S A → Client S A → Result X ToolFault → Type 0
+  abbrev pub CommandTells : {X V : Type 0} → (List Outcome → Option V) → (X → V)
+      → (List (List ℕ) → Operation → Type 0) → (ToolFault → Type 0) → Client S A → Client S A → Result X ToolFault
+      → Type 0
   CommandTells taken value asks wrong old new result =
       Commanded wrong (λ told. (names : List (List ℕ)) × (op : Operation) × asks names op
-      × Walked most_names names (λ route mid r. AskGives contents remaining taken value true (along mid route op) mid new r) old new told) old new result
+      × Walked most_names names
+      (λ route mid r. AskGives contents remaining taken value true (along mid route op) mid new r) old new
+      told) old new result
 
   -- the outcome of a command that takes no value
-  abbrev pub CommandGives : (List (List ℕ) → Operation → Type 0) → (ToolFault → Type 0) → Client S A → Client S A → Result (Unit {0}) ToolFault → Type 0
+  abbrev pub CommandGives : (List (List ℕ) → Operation → Type 0) → (ToolFault → Type 0) → Client S A → Client S A
+      → Result (Unit {0}) ToolFault → Type 0
   CommandGives asks wrong old new result = CommandTells takes_nothing nothing asks wrong old new result
 
   -- The outcome of a command that asks an operation at the ends of two paths, and takes no value.
   -- It is that of the walk of the first, and after it of the second.
-  abbrev pub BothGive : (List (List ℕ) → List (List ℕ) → Operation → Type 0) → (ToolFault → Type 0) → Client S A → Client S A → Result (Unit {0}) ToolFault → Type 0
+  abbrev pub BothGive : (List (List ℕ) → List (List ℕ) → Operation → Type 0) → (ToolFault → Type 0) → Client S A
+      → Client S A → Result (Unit {0}) ToolFault → Type 0
   BothGive asks wrong old new result =
-      Commanded wrong (λ told. (names : List (List ℕ)) × (others : List (List ℕ)) × (op : Operation) × asks names others op
-      × Walked (left_of_first (length names) (length others)) names (λ first mid r. Walked most_of_both others (λ second last s. AskGives contents remaining takes_nothing nothing true (along_both last first second op) last new s) mid new r) old new told) old new result
+      Commanded wrong
+      (λ told. (names : List (List ℕ)) × (others : List (List ℕ)) × (op : Operation) × asks names others op
+      × Walked (left_of_first (length names) (length others)) names
+      (λ first mid r. Walked most_of_both others
+      (λ second last s. AskGives contents remaining takes_nothing nothing true
+      (along_both last first second op) last new s)
+      mid new r)
+      old new told) old new result
 
   -- after a walk memory is refused for the request
   pub record Unready (most : ℕ) (names : List (List ℕ)) (old new : Client S A) (fault : ToolFault) : Type 0 where
@@ -58,16 +73,25 @@ module _ {S A : Type 0} (contents remaining : S → Option (List ℕ)) where
   -- The request of an operation at the end of a path, which walks the names left. Or an approach
   -- fails, or memory is refused for the request.
   abbrev pub ReadyGives : List (List ℕ) → Operation → Client S A → Client S A → Result (Request A) ToolFault → Type 0
-  ReadyGives names op old new (Ok request) = (route : Route) × WalkGives contents remaining itself most_names names old new (Ok route) × Asks request (along new route op)
-  ReadyGives names op old new (Err fault) = WalkFails contents remaining most_names names old new fault ⊎ Unready most_names names old new fault
+  ReadyGives names op old new (Ok request) =
+      (route : Route) × WalkGives contents remaining itself most_names names old new (Ok route)
+      × Asks request (along new route op)
+  ReadyGives names op old new (Err fault) =
+      WalkFails contents remaining most_names names old new fault ⊎ Unready most_names names old new fault
 
   -- The request of an operation at the ends of two paths. Or an approach of the first or of the
   -- second fails, or memory is refused.
-  abbrev pub BothReady : List (List ℕ) → List (List ℕ) → Operation → Client S A → Client S A → Result (Request A) ToolFault → Type 0
+  abbrev pub BothReady : List (List ℕ) → List (List ℕ) → Operation → Client S A → Client S A
+      → Result (Request A) ToolFault → Type 0
   BothReady names others op old new (Ok request) =
-      (mid : Client S A) × (first : Route) × (second : Route) × WalkGives contents remaining itself (left_of_first (length names) (length others)) names old mid (Ok first)
-      × WalkGives contents remaining itself most_of_both others mid new (Ok second) × Asks request (along_both new first second op)
+      (mid : Client S A) × (first : Route) × (second : Route)
+      × WalkGives contents remaining itself (left_of_first (length names) (length others)) names old mid
+      (Ok first)
+      × WalkGives contents remaining itself most_of_both others mid new (Ok second)
+      × Asks request (along_both new first second op)
   BothReady names others op old new (Err fault) =
       WalkFails contents remaining (left_of_first (length names) (length others)) names old new fault
-      ⊎ ((mid : Client S A) × (first : Route) × WalkGives contents remaining itself (left_of_first (length names) (length others)) names old mid (Ok first) ×
+      ⊎ ((mid : Client S A) × (first : Route)
+      × WalkGives contents remaining itself (left_of_first (length names) (length others)) names old mid
+      (Ok first) ×
       (WalkFails contents remaining most_of_both others mid new fault ⊎ Unready most_of_both others mid new fault))

@@ -159,7 +159,10 @@ impl<S: Read + Write, A: Allocator + Copy> Client<S, A> {
 
     /// The exchange is over. A refused SEQUENCE doesn't take the slot's number.
     fn settle(&mut self, taken: bool)
-        ensures { self.new ≡ record self.old { usable = true; number = if taken then next self.old.number else self.old.number } }
+        ensures { self.new ≡ record self.old {
+          usable = true;
+          number = if taken then next self.old.number else self.old.number;
+        } }
     {
         self.usable = true;
         if taken {

@@ -1,11 +1,13 @@
 -- The bytes that serving one connection reads and writes.
-use Rattle.std.specs.Prelude.{◌≡◌, ◌≢◌, ◌≤◌, ◌<◌, ◌^◌, ◌⊎◌, ℕ, true, false, List, [], ◌∷◌, ◌++◌, length, Option, Some, None, IfSome, IsSome}
+use Rattle.std.specs.Prelude.{◌≡◌, ◌≢◌, ◌≤◌, ◌<◌, ◌^◌, ◌⊎◌, ℕ, true, false, List, [], ◌∷◌, ◌++◌, length, Option, Some}
+use Rattle.std.specs.Prelude.{None, IfSome, IsSome}
 use Rattle.std.specs.List.{flat_map}
 use Rattle.std.specs.Io.KnownBytes.{Appends, Consumes, IsAtEnd}
 use Rattle.nfs_types.specs.declared.moment.Moment.{Moment}
 use Rattle.nfs_hub.specs.declared.hub.Hub.{Hub}
 use Rattle.nfs_hub.specs.declared.serving.ServeEnd.{ServeEnd}
-use Rattle.nfs_hub.specs.declared.serving.ServeEnd.TheVariants.{Ended, Inside, Broken, Memory, TooMany, Read, Write, Turns as TurnsUsedUp}
+use Rattle.nfs_hub.specs.declared.serving.ServeEnd.TheVariants.{Ended, Inside, Broken, Memory, TooMany, Read, Write}
+use Rattle.nfs_hub.specs.declared.serving.ServeEnd.TheVariants.{Turns as TurnsUsedUp}
 use Rattle.nfs_hub.specs.Answer.{Served}
 use Rattle.nfs_hub.specs.Machine.{Connected, State, Event, Connect, Piece, Take, Close, CameToBreak, Step, Leads}
 use Rattle.nfs_hub.specs.Hub.{IsHub, LeadsTo, IsUnchanged, MAX_CONNECTIONS, broken_at, open_count, next_number}
@@ -44,11 +46,14 @@ Passes id piece old new out = (s : State) → IsHub old s → (t : State) × Tur
 -- the stream of a connection that was whole breaks in this piece, or a record of it does, after
 -- which these bytes are pending
 abbrev pub BreaksIn : Read_at → State → ℕ → Served → List ℕ → Type 0
-BreaksIn piece old id served out = IfSome (old.connection id) (λ c. CameToBreak piece.1 old.served c.pending (c.rest ++ piece.0) served out)
+BreaksIn piece old id served out =
+    IfSome (old.connection id) (λ c. CameToBreak piece.1 old.served c.pending (c.rest ++ piece.0) served out)
 
 -- the end of a turn: the connection can go on, or it is broken, or the writer failed
-abbrev pub PassGives : {A : Type 0} → Option ServeEnd → ℕ → Read_at → Hub A → Hub A → Option (List ℕ) → Option (List ℕ) → Type 0
-PassGives None id piece old new held held' = (out : List ℕ) × Passes id piece old new out × Appends held held' out × (broken_at new id ≡ Some false)
+abbrev pub PassGives : {A : Type 0} → Option ServeEnd → ℕ → Read_at → Hub A → Hub A → Option (List ℕ)
+    → Option (List ℕ) → Type 0
+PassGives None id piece old new held held' =
+    (out : List ℕ) × Passes id piece old new out × Appends held held' out × (broken_at new id ≡ Some false)
 PassGives (Some Broken) id piece old new held held' =
     (out : List ℕ) × Passes id piece old new out × Appends held held' out × (broken_at new id ≡ Some true)
     × ((s : State) → IsHub old s → BreaksIn piece s id new.service out)
@@ -66,7 +71,8 @@ PassGives (Some TurnsUsedUp) id piece old new held held' = ⊥
 abbrev pub Turns : ℕ → List Read_at → State → List ℕ → State → Type 0
 Turns id [] old written new = (written ≡ []) × (new ≡ old)
 Turns id (piece ∷ pieces) old written new =
-    (mid : State) × (out : List ℕ) × (others : List ℕ) × Turn id piece old out mid × Turns id pieces mid others new × (written ≡ out ++ others)
+    (mid : State) × (out : List ℕ) × (others : List ℕ) × Turn id piece old out mid × Turns id pieces mid others new
+    × (written ≡ out ++ others)
 
 abbrev pub bytes_of : List Read_at → List ℕ
 bytes_of pieces = flat_map (λ p. p.0) pieces
@@ -134,9 +140,11 @@ EndsFor TooMany id most left old pieces written new = ⊥
 EndsFor end id most left old pieces written new = Unit {0}
 
 -- this many turns at most, the bytes that they write, and why they ended
-abbrev pub TurnsEnd : {A : Type 0} → ℕ → ℕ → ServeEnd → State → Hub A → Option (List ℕ) → Option (List ℕ) → Option (List ℕ) → Option (List ℕ) → Type 0
+abbrev pub TurnsEnd : {A : Type 0} → ℕ → ℕ → ServeEnd → State → Hub A → Option (List ℕ) → Option (List ℕ)
+    → Option (List ℕ) → Option (List ℕ) → Type 0
 TurnsEnd id most end old hub left left' held held' =
-    (run : TurnsRun id most old hub left left') × Writes end held held' run.written × IsLeft end (run.state.connection id)
+    (run : TurnsRun id most old hub left left') × Writes end held held' run.written
+    × IsLeft end (run.state.connection id)
     × EndsFor end id most left' old run.pieces run.written run.state
 
 -- a connection is refused: the limit of open connections is reached, or no number is left; or memory is
@@ -159,7 +167,8 @@ refused_end fault.NoSuch = TooMany
 refused_end fault.Broken = TooMany
 
 -- nothing was read or written, since no connection was opened
-pub record IsRefused {A : Type 0} (first : Served) (end : ServeEnd) (events : List Event) (old new : Hub A) (left left' held held' : Option (List ℕ)) : Type 0 where
+pub record IsRefused {A : Type 0} (first : Served) (end : ServeEnd) (events : List Event) (old new : Hub A)
+    (left left' held held' : Option (List ℕ)) : Type 0 where
   pub same : IsUnchanged old new
   pub leads : LeadsTo first (Connect ∷ events) new
   pub read : Consumes left left' []
@@ -168,7 +177,8 @@ pub record IsRefused {A : Type 0} (first : Served) (end : ServeEnd) (events : Li
 
 -- After events that lead to the hub a connection is opened with the next number. Its turns read and
 -- write these bytes. Then it is closed, which leads to the hub.
-pub record IsServed {A : Type 0} (first : Served) (end : ServeEnd) (most : ℕ) (events : List Event) (old new : Hub A) (left left' held held' : Option (List ℕ)) : Type 0 where
+pub record IsServed {A : Type 0} (first : Served) (end : ServeEnd) (most : ℕ) (events : List Event) (old new : Hub A)
+    (left left' held held' : Option (List ℕ)) : Type 0 where
   pub start : State
   pub leads : Leads first (Connect ∷ events) start
   pub turned : Hub A
@@ -180,6 +190,8 @@ pub record IsServed {A : Type 0} (first : Served) (end : ServeEnd) (most : ℕ) 
   pub closes : Step (Close (next_number old)) run.state last
   pub is : IsHub new last
 
-abbrev pub Serves : {A : Type 0} → Served → ServeEnd → ℕ → List Event → Hub A → Hub A → Option (List ℕ) → Option (List ℕ) → Option (List ℕ) → Option (List ℕ) → Type 0
+abbrev pub Serves : {A : Type 0} → Served → ServeEnd → ℕ → List Event → Hub A → Hub A → Option (List ℕ)
+    → Option (List ℕ) → Option (List ℕ) → Option (List ℕ) → Type 0
 Serves first end most events old new left left' held held' =
-    IsRefused first end events old new left left' held held' ⊎ IsServed first end most events old new left left' held held'
+    IsRefused first end events old new left left' held held'
+    ⊎ IsServed first end most events old new left left' held held'

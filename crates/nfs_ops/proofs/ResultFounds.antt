@@ -1,6 +1,7 @@
 -- A result that is read is at the front of the bytes.
-use Rattle.std.proofs.Common.{◌≡◌, ◌≢◌, ℕ, true, cond, List, [], ◌∷◌, ◌++◌, Option, Some, None, Ok, Err, refl, sym, ap, subst, ◌∙◌, inl, inr, eq-eqb}
-use Rattle.std.proofs.lemmas.Bool.{ne_eqb, cases_eq}
+use Rattle.std.proofs.Common.{◌≡◌, ◌≢◌, ℕ, true, cond, List, [], ◌∷◌, ◌++◌, length, Option, Some, None, Ok, Err, refl, sym, ap, subst, ◌∙◌, inl, inr, eq-eqb, arith}
+use Rattle.std.specs.Prelude.{◌==◌}
+use Rattle.std.proofs.lemmas.Bool.{ne_eqb, cases_eq, eqb-true}
 use Rattle.xdr_wire.specs.Xdr.{Value, uint, pair}
 use Rattle.xdr_wire.specs.declared.fault.XdrFault.TheVariants.{BadChoice}
 use Rattle.xdr_wire.specs.Reading.{◌>>=◌, Read as ReadOf, read_at}
@@ -15,7 +16,7 @@ use Rattle.nfs_types.specs.declared.status.Status.{Status}
 use Rattle.nfs_ops.specs.Items.{Item, Spelled, done, plain, Stands}
 use Rattle.nfs_ops.specs.Rows.{row, kind_at}
 use Rattle.nfs_ops.specs.Results.{Outcome, Done, Refused, SetAttrRefused, outcome_item}
-use Rattle.nfs_ops.specs.ResultReading.{refusal_at, refused_from, refused_at, behind_status, result_at, outcome_conforms, conforming, spelled_of, done_at, done_of, done_from}
+use Rattle.nfs_ops.specs.ResultReading.{refusal_at, none_set, setattr_refused, refused_from, refused_at, behind_status, result_at, outcome_conforms, conforming, spelled_of, done_at, done_of, done_from}
 use Rattle.nfs_ops.specs.Readable.{IsResult}
 use Rattle.nfs_ops.specs.declared.op_kind.OpKind.{OpKind}
 use Rattle.nfs_ops.proofs.Numbers.{number_is, either}
@@ -86,19 +87,22 @@ refusal_same s t e =
     either (s ≡ t) s 0 None (option_map number_of (of_that_number all_statuses s)) (Some t) e (λ eq h. absurd cc)
     (λ h. of_status s t (of_that_number all_statuses s) refl h)
 
--- a refusal of SETATTR with the bitmap after it
-abbrev with_bitmap : ℕ → List ℕ → ReadOf Outcome
-with_bitmap s q = in_normal_form (Some trimmed) (read_at bitmap q) >>= λ x. Ok (SetAttrRefused s, x.1)
+-- a refusal of SETATTR with the empty bitmap after it
+no_word : (words : List ℕ) → (length words == 0) ≡ true → words ≡ []
+no_word [] e = refl
+no_word (w ∷ words) e = absurd (omega (arith, eqb-true (length (w ∷ words)) 0 e))
 
 setattr_found : (s : ℕ) (bytes r q rest : List ℕ) (o : Outcome) → IsResult (SetAttrRefused s) → read_at uint bytes ≡ Ok (34, r) → read_at uint r ≡ Ok (s, q)
-    → with_bitmap s q ≡ Ok (o, rest) → Found o bytes rest
+    → setattr_refused s q ≡ Ok (o, rest) → Found o bytes rest
 setattr_found s bytes r q rest o good number_is status_is e =
-    let a = bind_ok (in_normal_form (Some trimmed) (read_at bitmap q)) _ (o, rest) e in
-    let same : (SetAttrRefused s, a.0.1) ≡ (o, rest) = ok_is (SetAttrRefused s, a.0.1) (o, rest) a.2 in
+    let a = bind_ok (in_normal_form (Some trimmed) (read_at bitmap q)) (none_set s) (o, rest) e in
+    let t = check_ok (length a.0.0 == 0) BadChoice (Ok (SetAttrRefused s, a.0.1)) (o, rest) a.2 in
+    let same : (SetAttrRefused s, a.0.1) ≡ (o, rest) = ok_is (SetAttrRefused s, a.0.1) (o, rest) t.1 in
     let b = normal_ok (Some trimmed) (read_at bitmap q) a.0.0 a.0.1 a.1 in
+    let none : trimmed b.0 ≡ [] = b.2 ∙ no_word a.0.0 t.0 in
     let value_read : read_at (pair uint bitmap) r ≡ Ok ((s, b.0), a.0.1) = pair_from bitmap r q a.0.1 s b.0 status_is b.1 in
     let all_read : read_at (pair uint (pair uint bitmap)) bytes ≡ Ok ((34, (s, b.0)), a.0.1) = pair_from (pair uint bitmap) bytes r a.0.1 34 (s, b.0) number_is value_read in
-    let stands : Stands (outcome_item (SetAttrRefused s)) bytes a.0.1 = ((34, (s, b.0)), begins_from_read (pair uint (pair uint bitmap)) (34, (s, b.0)) bytes a.0.1 all_read, refl) in
+    let stands : Stands (outcome_item (SetAttrRefused s)) bytes a.0.1 = ((34, (s, b.0)), begins_from_read (pair uint (pair uint bitmap)) (34, (s, b.0)) bytes a.0.1 all_read, ap (λ (w : List ℕ). (34, (s, w))) none) in
     subst (λ (y : Outcome × List ℕ). Found y.0 bytes y.1) same (good, stands)
 
 known_found : (n s : ℕ) (bytes r q rest : List ℕ) (o : Outcome) → refusal_at s ≡ Some s → s ≢ 0 → read_at uint bytes ≡ Ok (n, r) → read_at uint r ≡ Ok (s, q)
@@ -106,7 +110,7 @@ known_found : (n s : ℕ) (bytes r q rest : List ℕ) (o : Outcome) → refusal_
 known_found n s bytes r q rest o known other number_is status_is e =
     elim (cases_eq n 34) [
       | inl eq ↦ setattr_found s bytes r q rest o (known, other) (number_is ∙ ap (λ (m : ℕ). Ok (m, r)) eq) status_is (sym (ap (λ (m : ℕ). refused_from m q (Some s)) eq) ∙ e)
-      | inr ne ↦ plain_found n s (Refused n s) bytes r q rest o refl (known, ne, other) number_is status_is (sym (ap (λ b. cond b (with_bitmap s q) (alone (Refused n s) q)) (ne_eqb n 34 ne)) ∙ e)
+      | inr ne ↦ plain_found n s (Refused n s) bytes r q rest o refl (known, ne, other) number_is status_is (sym (ap (λ b. cond b (setattr_refused s q) (alone (Refused n s) q)) (ne_eqb n 34 ne)) ∙ e)
     ]
 
 from_found : (n s : ℕ) (bytes r q rest : List ℕ) (o : Outcome) (found : Option ℕ) → refusal_at s ≡ found → s ≢ 0 → read_at uint bytes ≡ Ok (n, r) → read_at uint r ≡ Ok (s, q)

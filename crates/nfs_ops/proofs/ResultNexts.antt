@@ -1,5 +1,5 @@
 -- A result at the front is read.
-use Rattle.std.proofs.Common.{◌≡◌, ℕ, Bool, true, cond, List, ◌++◌, Some, None, Ok, Err, refl, sym, ap, ◌∙◌}
+use Rattle.std.proofs.Common.{◌≡◌, ℕ, Bool, true, cond, List, [], ◌++◌, Some, None, Ok, Err, refl, sym, ap, ◌∙◌}
 use Rattle.std.proofs.lemmas.Bool.{ne_eqb}
 use Rattle.xdr_wire.specs.Xdr.{Value, uint, pair}
 use Rattle.xdr_wire.specs.declared.fault.XdrFault.TheVariants.{BadChoice}
@@ -65,7 +65,8 @@ setattr_next s bytes rest known stands =
     let q = pair_parts bitmap p.0 rest stands.0.1 p.2 in
     let number_is : read_at uint bytes ≡ Ok (34, p.0) = p.1 ∙ ap (λ (x : ℕ × (ℕ × List ℕ)). Ok (x.0, p.0)) stands.2 in
     let status_is : read_at uint p.0 ≡ Ok (s, q.0) = q.1 ∙ ap (λ (x : ℕ × (ℕ × List ℕ)). Ok (x.1.0, q.0)) stands.2 in
-    let set_is : in_normal_form (Some trimmed) (read_at bitmap q.0) ≡ Ok (trimmed stands.0.1.1, rest) = to_normal (Some trimmed) (read_at bitmap q.0) stands.0.1.1 rest q.2 in
+    let set_is : in_normal_form (Some trimmed) (read_at bitmap q.0) ≡ Ok ([], rest) =
+    to_normal (Some trimmed) (read_at bitmap q.0) stands.0.1.1 rest q.2 ∙ ap (λ (x : ℕ × (ℕ × List ℕ)). Ok (x.1.1, rest)) stands.2 in
     two_read 34 s bytes p.0 q.0 number_is status_is ∙ rw (ne_eqb s 0 known.1) (rw known.0 (rw set_is refl))
 
 pub result_is : (o : Outcome) (bytes rest : List ℕ) → IsResult o → Stands (outcome_item o) bytes rest → result_at bytes ≡ Ok (o, rest)

@@ -126,7 +126,7 @@ pub open_short : (v : Value open_result) → length v.0.1 ≡ 12 → length v.1.
 open_short v whole few = omega (arith, two stateid (pair change_info behind_change) v, two change_info behind_change v.1, two (always 0) (pair bitmap (always 0)) v.1.1, two bitmap (always 0) v.1.1.1, stateid_is v.0 whole, change_info_is v.1.0, always_is 0 v.1.1.0, bitmap_is v.1.1.1.0, always_is 0 v.1.1.1.1, few)
 
 pub read_is : (v : Value read_result) → size Read v ≡ (row Read).most v
-read_is v = omega (arith, opaque_is 32768 v.1)
+read_is v = omega (arith, opaque_is 0xffff_ffff v.1)
 
 pub read_short : (v : Value read_result) → size Read v ≤ (row Read).most v
 read_short v = omega (arith, read_is v)
@@ -138,7 +138,7 @@ pub readdir_short : (v : Value readdir_result) → size ReadDir v ≤ (row ReadD
 readdir_short v = omega (arith, readdir_is v)
 
 pub readlink_is : (v : Value readlink_result) → size ReadLink v ≡ (row ReadLink).most v
-readlink_is v = omega (arith, opaque_is 1024 v)
+readlink_is v = omega (arith, opaque_is 0xffff_ffff v)
 
 pub readlink_short : (v : Value readlink_result) → size ReadLink v ≤ (row ReadLink).most v
 readlink_short v = omega (arith, readlink_is v)

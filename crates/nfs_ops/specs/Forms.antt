@@ -5,7 +5,8 @@
 use Rattle.std.specs.Prelude.{ℕ, Bool, ◌+◌, ◌*◌, List, [], ◌∷◌, length, map, codes}
 use Rattle.std.proofs.Common.{inl, inr}
 use Rattle.std.specs.List.{sum_by}
-use Rattle.xdr_wire.specs.Xdr.{Xdr, Value, padding, void, uint, hyper, boolean, fixed, opaque, array, chain, union, arm, no_more, fields}
+use Rattle.xdr_wire.specs.Xdr.{Xdr, Value, padding, void, uint, hyper, boolean, fixed, opaque, array, chain, union}
+use Rattle.xdr_wire.specs.Xdr.{arm, no_more, fields}
 use Rattle.nfs_types.specs.Forms.{handle, stateid, time, bitmap, attributes, trimmed, trimmed_set}
 
 -- opaque<> and string<>: names, link texts and data have no bound but the record's
@@ -90,7 +91,11 @@ device = fields (uint ∷ uint ∷ [])
 -- createtype4: file, directory, block and character device, symbolic link with its text, socket, fifo, attribute
 -- directory, named attribute
 abbrev pub create_type : Xdr
-create_type = union (arm 1 void (arm 2 void (arm 3 device (arm 4 device (arm 5 bytes (arm 6 void (arm 7 void (arm 8 void (arm 9 void no_more)))))))))
+create_type =
+    union
+    (arm 1 void
+    (arm 2 void
+    (arm 3 device (arm 4 device (arm 5 bytes (arm 6 void (arm 7 void (arm 8 void (arm 9 void no_more)))))))))
 
 -- CREATE (18.4): type, name, attributes; the directory's change, the attributes that were set
 abbrev pub create_args : Xdr
@@ -278,7 +283,7 @@ abbrev pub read_args : Xdr
 read_args = fields (stateid ∷ hyper ∷ uint ∷ [])
 
 abbrev pub read_result : Xdr
-read_result = fields (boolean ∷ opaque 32768 ∷ [])
+read_result = fields (boolean ∷ bytes ∷ [])
 
 -- of this many bytes of the file
 abbrev pub read_size : ℕ → ℕ
@@ -351,7 +356,7 @@ entry_attributes e = e.1.1
 
 -- READLINK (18.24): nothing; the link's text
 abbrev pub readlink_result : Xdr
-readlink_result = opaque 1024
+readlink_result = bytes
 
 -- of this many bytes of the text
 abbrev pub readlink_size : ℕ → ℕ

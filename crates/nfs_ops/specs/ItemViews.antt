@@ -16,7 +16,8 @@ use Rattle.nfs_ops.specs.declared.readdir.Entry.{Entry}
 use Rattle.nfs_ops.specs.declared.readdir.GivenEntry.{GivenEntry}
 
 abbrev pub authsys_value : AuthSys → Value authsys
-authsys_value s = (s.stamp, (s.machine.bytes.now, (s.uid, (s.gid, array_values uint None s.gids.count s.gids.bytes.now))))
+authsys_value s =
+    (s.stamp, (s.machine.bytes.now, (s.uid, (s.gid, array_values uint None s.gids.count s.gids.bytes.now))))
 
 abbrev pub gss_handles_value : GssHandles → Value gss_handles
 gss_handles_value h = (h.service, (h.server.bytes.now, h.client.bytes.now))

@@ -33,7 +33,8 @@ number n = record { form = uint; normal = None; value = n }
 
 -- a number, the status OK, and the value after them
 abbrev pub done : ℕ → (s : Spelled) → Value s.form → Item
-done n s v = record { form = fields (uint ∷ uint ∷ s.form ∷ []); normal = both None (both None s.normal); value = (n, (0, v)) }
+done n s v =
+    record { form = fields (uint ∷ uint ∷ s.form ∷ []); normal = both None (both None s.normal); value = (n, (0, v)) }
 
 -- a number and a status
 abbrev pub plain : ℕ → ℕ → Item

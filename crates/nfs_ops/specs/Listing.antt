@@ -1,6 +1,7 @@
 -- The entries that READDIR returns: the longest beginning of those above the cookie that stays
 -- within a limit (RFC 8881, section 18.23).
-use Rattle.std.specs.Prelude.{◌≡◌, ◌≤◌, ◌<◌, ◌⊎◌, ◌↔◌, ◌+◌, ◌-◌, ℕ, min, Bool, true, nat_le, nat_lt, if◌then◌else◌, List, [], ◌∷◌, ◌++◌, length, map, take, Option, Some, None, Result, Ok, Err}
+use Rattle.std.specs.Prelude.{◌≡◌, ◌≤◌, ◌<◌, ◌⊎◌, ◌↔◌, ◌+◌, ◌-◌, ℕ, min, Bool, true, nat_le, nat_lt, if◌then◌else◌}
+use Rattle.std.specs.Prelude.{List, [], ◌∷◌, ◌++◌, length, map, take, Option, Some, None, Result, Ok, Err}
 use Rattle.std.specs.List.{prefix_len, sum_by}
 use Rattle.xdr_wire.specs.Xdr.{Value, HasSpelling, spelling, link}
 use Rattle.xdr_wire.specs.Buffer.{Buffer, Appends}
@@ -69,7 +70,8 @@ some_fit limit (j ∷ others) = nat_lt 0 (fitting limit (j ∷ others))
 
 -- the entries that fit, and whether they are all
 abbrev pub those_fitting : {R : Type 0} → ℕ → List (Judged R) → Listing
-those_fitting limit all = record { entries = take (fitting limit all) (given_before all); eof = nat_le (length all) (fitting limit all) }
+those_fitting limit all =
+    record { entries = take (fitting limit all) (given_before all); eof = nat_le (length all) (fitting limit all) }
 
 abbrev pub listing_unless : {R : Type 0} → ℕ → List (Judged R) → Option R → Result Listing (ListFault R)
 listing_unless limit all (Some refusal) = Err (Refused refusal)
@@ -89,7 +91,8 @@ pub record IsLongest {R : Type 0} (limit : ℕ) (all : List (Judged R)) (given :
   pub parts : all ≡ map Ok given.entries ++ rest
   pub fits : listing_size given.entries ≤ limit
   pub granted : (refusal : R) (others : List (Judged R)) → rest ≡ Err refusal ∷ others → ⊥
-  pub longest : (e : Value entry) (others : List (Judged R)) → rest ≡ Ok e ∷ others → limit < listing_size (given.entries ++ e ∷ [])
+  pub longest : (e : Value entry) (others : List (Judged R)) → rest ≡ Ok e ∷ others
+      → limit < listing_size (given.entries ++ e ∷ [])
   pub some_or_all : given.entries ≡ [] → rest ≡ []
   pub ends : (given.eof ≡ true) ↔ (rest ≡ [])
 
@@ -123,7 +126,11 @@ IsSendable e = HasSpelling entry e × (entry_normal e ≡ e)
 
 -- the outcome of the next of the entries that are left
 abbrev pub NextGives : {R : Type 0} → List (Judged R) → Buffer → Next R → List (Judged R) → Buffer → Type 0
-NextGives left old next.Written rest new = (e : Value entry) × (left ≡ Ok e ∷ rest) × Appends old new (linked_bytes e) × IsSendable e
+NextGives left old next.Written rest new =
+    (e : Value entry) × (left ≡ Ok e ∷ rest) × Appends old new (linked_bytes e) × IsSendable e
 NextGives left old next.End rest new = (left ≡ []) × (new ≡ old)
-NextGives {R} left old (next.Refused refusal) rest new = (others : List (Judged R)) × (left ≡ Err refusal ∷ others) × (new ≡ old)
-NextGives {R} left old next.Full rest new = (e : Value entry) × (others : List (Judged R)) × (left ≡ Ok e ∷ others) × (old.room < length (linked_bytes e)) × (new ≡ old)
+NextGives {R} left old (next.Refused refusal) rest new =
+    (others : List (Judged R)) × (left ≡ Err refusal ∷ others) × (new ≡ old)
+NextGives {R} left old next.Full rest new =
+    (e : Value entry) × (others : List (Judged R)) × (left ≡ Ok e ∷ others) × (old.room < length (linked_bytes e))
+    × (new ≡ old)

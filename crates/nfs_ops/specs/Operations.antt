@@ -1,7 +1,8 @@
 -- An operation with its arguments as it stands in a COMPOUND, and how the next one is read
 -- (RFC 8881, sections 16.2 and 18). The names of the reading's steps and of how they go on
 -- (`.._from`, `or_bad`) are for the prover alone.
-use Rattle.std.specs.Prelude.{ℕ, Bool, true, false, ◌&&◌, ◌||◌, nat_le, if◌then◌else◌, List, [], ◌∷◌, Option, Some, None, Ok, Err, is_ok}
+use Rattle.std.specs.Prelude.{ℕ, Bool, true, false, ◌&&◌, ◌||◌, nat_le, if◌then◌else◌, List, [], ◌∷◌, Option, Some}
+use Rattle.std.specs.Prelude.{None, Ok, Err, is_ok}
 use Rattle.std.specs.Option.{option_map}
 use Rattle.xdr_wire.specs.Xdr.{Xdr, Value, uint}
 use Rattle.xdr_wire.specs.Reading.{Read as ReadOf, read_at}
@@ -62,7 +63,8 @@ any_stands (t ∷ s ∷ others) bytes = is_ok (read_at t bytes) || any_stands (s
 -- the arguments, or that they aren't supported, whatever follows the unsupported word
 abbrev pub supported : (k : OpKind) → List ℕ → ReadOf (Value (row k).takes.form) → ReadOf Operation
 supported k bytes (Ok x) = Ok (Known k x.0, x.1)
-supported k bytes (Err fault) = if any_stands (row k).unsupported bytes then Ok (Unsupported (row k).number, bytes) else Err fault
+supported k bytes (Err fault) =
+    if any_stands (row k).unsupported bytes then Ok (Unsupported (row k).number, bytes) else Err fault
 
 -- the arguments of this operation
 unfoldable pub arguments_of : OpKind → List ℕ → ReadOf Operation

@@ -1,5 +1,5 @@
 -- The reading of a result (RFC 8881, sections 15.1, 16.2 and 18).
-use Rattle.std.specs.Prelude.{ℕ, Bool, true, ◌==◌, ◌&&◌, if◌then◌else◌, List, Option, Some, None, Ok, Err}
+use Rattle.std.specs.Prelude.{ℕ, Bool, true, ◌==◌, ◌&&◌, if◌then◌else◌, List, length, Option, Some, None, Ok, Err}
 use Rattle.std.specs.Option.{option_map}
 use Rattle.std.specs.Str.{bytes_eq}
 use Rattle.xdr_wire.specs.declared.fault.XdrFault.TheVariants.{BadChoice}
@@ -53,10 +53,18 @@ done_from bytes None = Err BadChoice
 unfoldable pub done_at : ℕ → List ℕ → ReadOf Outcome
 done_at n bytes = done_from bytes (kind_at n)
 
--- After another status than OK: nothing, or the bitmap of SETATTR, which means nothing then.
+-- A SETATTR sets all attributes or none, so the bitmap of a refused one is empty (RFC 8881, section
+-- 18.30.3).
+abbrev pub none_set : ℕ → List ℕ × List ℕ → ReadOf Outcome
+none_set status x = if length x.0 == 0 then Ok (SetAttrRefused status, x.1) else Err BadChoice
+
+abbrev pub setattr_refused : ℕ → List ℕ → ReadOf Outcome
+setattr_refused status bytes = in_normal_form (Some trimmed) (read_at bitmap bytes) >>= none_set status
+
+-- After another status than OK: nothing, or the bitmap of SETATTR.
 abbrev pub refused_from : ℕ → List ℕ → Option ℕ → ReadOf Outcome
 refused_from n bytes (Some status) =
-    if n == (row SetAttr).number then (in_normal_form (Some trimmed) (read_at bitmap bytes) >>= λ x. Ok (SetAttrRefused status, x.1)) else Ok (Refused n status, bytes)
+    if n == (row SetAttr).number then setattr_refused status bytes else Ok (Refused n status, bytes)
 refused_from n bytes None = Err BadChoice
 
 unfoldable pub refused_at : ℕ → ℕ → List ℕ → ReadOf Outcome

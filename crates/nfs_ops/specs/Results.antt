@@ -2,7 +2,7 @@
 -- its number, its status and, where that is OK, the value of its form.
 use Rattle.std.specs.Prelude.{ℕ, ◌==◌, Bool, true, false, if◌then◌else◌, [], ◌∷◌, Some}
 use Rattle.xdr_wire.specs.Xdr.{Value, uint, fields}
-use Rattle.nfs_types.specs.Forms.{bitmap}
+use Rattle.nfs_types.specs.Forms.{bitmap, trimmed}
 use Rattle.nfs_types.specs.Status as statuses
 use Rattle.nfs_types.specs.declared.status.Status.{Status}
 use Rattle.nfs_types.specs.declared.status.Status.TheVariants.{ServerFault}
@@ -26,7 +26,7 @@ outcome_item (Done k v) = done (row k).number (row k).gives v
 outcome_item (Refused n status) = plain n status
 outcome_item (SetAttrRefused status) = record {
   form = fields (uint ∷ uint ∷ bitmap ∷ []);
-  normal = Some (λ v. (v.0, (v.1.0, [])));
+  normal = Some (λ v. (v.0, (v.1.0, trimmed v.1.1)));
   value = ((row SetAttr).number, (status, []));
 }
 

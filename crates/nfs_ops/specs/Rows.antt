@@ -1,13 +1,31 @@
 -- The table of the operations (RFC 8881, section 18): a row each, in the order of their numbers.
-use Rattle.std.specs.Prelude.{ℕ, Bool, true, false, ◌==◌, if◌then◌else◌, List, [], ◌∷◌, length, codes, Option, Some, None}
+use Rattle.std.specs.Prelude.{ℕ, Bool, true, false, ◌==◌, if◌then◌else◌, List, [], ◌∷◌, length, codes, Option, Some}
+use Rattle.std.specs.Prelude.{None}
 use Rattle.xdr_wire.specs.Xdr.{Xdr, Value}
 use Rattle.nfs_types.specs.Forms.{trimmed, trimmed_set}
 use Rattle.nfs_ops.specs.Items.{Spelled, alone, normally, nothing}
-use Rattle.nfs_ops.specs.Forms.{access_args, access_result, access_size, close_args, close_result, close_size, commit_args, commit_result, commit_size, create_args, create_normal, create_result, create_result_normal, create_size, getattr_args, getattr_result, getattr_size, getfh_result, getfh_size, link_args, link_result, link_size, lookup_args, plain_size, nverify_args, open_args, open_normal, open_result, open_result_normal, open_exclusive, open_by_other_claim, open_size, putfh_args, read_args, read_result, read_size, readdir_args, readdir_normal, readdir_result, readdir_result_normal, readdir_size, readlink_result, readlink_size, remove_args, remove_result, remove_size, rename_args, rename_result, rename_size, setattr_args, setattr_normal, setattr_result, setattr_size, verify_args, write_args, write_result, write_size, exchange_id_args, exchange_id_result, exchange_id_protected, exchange_id_size, create_session_args, create_session_result, create_session_size, destroy_session_args, sequence_args, sequence_result, sequence_size, destroy_clientid_args, reclaim_complete_args}
+use Rattle.nfs_ops.specs.Forms.{access_args, access_result, access_size, close_args, close_result, close_size}
+use Rattle.nfs_ops.specs.Forms.{commit_args, commit_result, commit_size, create_args, create_normal, create_result}
+use Rattle.nfs_ops.specs.Forms.{create_result_normal, create_size, getattr_args, getattr_result, getattr_size}
+use Rattle.nfs_ops.specs.Forms.{getfh_result, getfh_size, link_args, link_result, link_size, lookup_args, plain_size}
+use Rattle.nfs_ops.specs.Forms.{nverify_args, open_args, open_normal, open_result, open_result_normal, open_exclusive}
+use Rattle.nfs_ops.specs.Forms.{open_by_other_claim, open_size, putfh_args, read_args, read_result, read_size}
+use Rattle.nfs_ops.specs.Forms.{readdir_args, readdir_normal, readdir_result, readdir_result_normal, readdir_size}
+use Rattle.nfs_ops.specs.Forms.{readlink_result, readlink_size, remove_args, remove_result, remove_size, rename_args}
+use Rattle.nfs_ops.specs.Forms.{rename_result, rename_size, setattr_args, setattr_normal, setattr_result}
+use Rattle.nfs_ops.specs.Forms.{setattr_size, verify_args, write_args, write_result, write_size, exchange_id_args}
+use Rattle.nfs_ops.specs.Forms.{exchange_id_result, exchange_id_protected, exchange_id_size, create_session_args}
+use Rattle.nfs_ops.specs.Forms.{create_session_result, create_session_size, destroy_session_args, sequence_args}
+use Rattle.nfs_ops.specs.Forms.{sequence_result, sequence_size, destroy_clientid_args, reclaim_complete_args}
 use Rattle.nfs_ops.specs.declared.op_kind.OpKind.{OpKind}
 use Rattle.nfs_ops.specs.declared.op_kind.Placement.{Placement}
 use Rattle.nfs_ops.specs.declared.op_kind.Placement.TheVariants.{Anywhere, InSession, First, Alone}
-use Rattle.nfs_ops.specs.declared.op_kind.OpKind.TheVariants.{Access, Close, Commit, Create, GetAttr, GetFh, Link, Lookup, LookupP, NVerify, Open, PutFh, PutRootFh, Read, ReadDir, ReadLink, Remove, Rename, RestoreFh, SaveFh, SetAttr, Verify, Write, ExchangeId, CreateSession, DestroySession, Sequence, DestroyClientId, ReclaimComplete}
+use Rattle.nfs_ops.specs.declared.op_kind.OpKind.TheVariants.{Access, Close, Commit, Create, GetAttr, GetFh, Link}
+use Rattle.nfs_ops.specs.declared.op_kind.OpKind.TheVariants.{Lookup, LookupP, NVerify, Open, PutFh, PutRootFh, Read}
+use Rattle.nfs_ops.specs.declared.op_kind.OpKind.TheVariants.{ReadDir, ReadLink, Remove, Rename, RestoreFh, SaveFh}
+use Rattle.nfs_ops.specs.declared.op_kind.OpKind.TheVariants.{SetAttr, Verify, Write, ExchangeId, CreateSession}
+use Rattle.nfs_ops.specs.declared.op_kind.OpKind.TheVariants.{DestroySession, Sequence, DestroyClientId}
+use Rattle.nfs_ops.specs.declared.op_kind.OpKind.TheVariants.{ReclaimComplete}
 
 pub record Row : Type 0 where
   pub number : ℕ
@@ -381,8 +399,11 @@ row ReclaimComplete = record {
 }
 
 abbrev pub all_kinds : List OpKind
-all_kinds = Access ∷ Close ∷ Commit ∷ Create ∷ GetAttr ∷ GetFh ∷ Link ∷ Lookup ∷ LookupP ∷ NVerify ∷ Open ∷ PutFh ∷ PutRootFh ∷ Read ∷ ReadDir
-    ∷ ReadLink ∷ Remove ∷ Rename ∷ RestoreFh ∷ SaveFh ∷ SetAttr ∷ Verify ∷ Write ∷ ExchangeId ∷ CreateSession ∷ DestroySession ∷ Sequence ∷ DestroyClientId ∷ ReclaimComplete ∷ []
+all_kinds =
+    Access ∷ Close ∷ Commit ∷ Create ∷ GetAttr ∷ GetFh ∷ Link ∷ Lookup ∷ LookupP ∷ NVerify ∷ Open ∷ PutFh ∷ PutRootFh
+    ∷ Read ∷ ReadDir
+    ∷ ReadLink ∷ Remove ∷ Rename ∷ RestoreFh ∷ SaveFh ∷ SetAttr ∷ Verify ∷ Write ∷ ExchangeId ∷ CreateSession
+    ∷ DestroySession ∷ Sequence ∷ DestroyClientId ∷ ReclaimComplete ∷ []
 
 -- the first of the operations that has the number
 abbrev pub with_number : List OpKind → ℕ → Option OpKind

@@ -5,7 +5,9 @@ use Rattle.nfs_ops.specs.Forms.{exclusive, other_claim, protection}
 use Rattle.nfs_ops.specs.declared.unsupported.Exclusive.{Exclusive}
 use Rattle.nfs_ops.specs.declared.unsupported.Exclusive.TheVariants.{Plain, WithAttributes}
 use Rattle.nfs_ops.specs.declared.unsupported.OtherClaim.{OtherClaim}
-use Rattle.nfs_ops.specs.declared.unsupported.OtherClaim.TheVariants.{Previous, DelegateCurrent, DelegatePrevious, DelegateCurrentByHandle, DelegatePreviousByHandle}
+use Rattle.nfs_ops.specs.declared.unsupported.OtherClaim.TheVariants.{Previous, DelegateCurrent, DelegatePrevious}
+use Rattle.nfs_ops.specs.declared.unsupported.OtherClaim.TheVariants.{DelegateCurrentByHandle}
+use Rattle.nfs_ops.specs.declared.unsupported.OtherClaim.TheVariants.{DelegatePreviousByHandle}
 use Rattle.nfs_ops.specs.declared.unsupported.Protection.{Protection}
 use Rattle.nfs_ops.specs.declared.unsupported.Protection.TheVariants.{Machine, Ssv}
 

@@ -5,7 +5,16 @@ use Rattle.xdr_wire.specs.Xdr.{Value}
 use Rattle.xdr_wire.specs.Wire.{at_most_one, array_values, chain_values}
 use Rattle.nfs_types.specs.Status.{number_of}
 use Rattle.nfs_types.specs.Views.{handle_value, stateid_value, bitmap_value, attributes_value}
-use Rattle.nfs_ops.specs.Forms.{zeros, change_info, create_type, open_how, open_claim, entry, entry_normal, stable_how, implementation, channel, callback_security, access_args, access_result, close_args, close_result, commit_args, create_args, create_result, getattr_args, getattr_result, getfh_result, link_args, link_result, lookup_args, nverify_args, open_args, open_result, putfh_args, read_args, read_result, readdir_args, readdir_result, readlink_result, remove_args, remove_result, rename_args, rename_result, setattr_args, setattr_result, verify_args, write_args, write_result, exchange_id_args, exchange_id_result, create_session_args, create_session_result, destroy_session_args, sequence_args, sequence_result, destroy_clientid_args, reclaim_complete_args}
+use Rattle.nfs_ops.specs.Forms.{zeros, change_info, create_type, open_how, open_claim, entry, entry_normal}
+use Rattle.nfs_ops.specs.Forms.{stable_how, implementation, channel, callback_security, access_args, access_result}
+use Rattle.nfs_ops.specs.Forms.{close_args, close_result, commit_args, create_args, create_result, getattr_args}
+use Rattle.nfs_ops.specs.Forms.{getattr_result, getfh_result, link_args, link_result, lookup_args, nverify_args}
+use Rattle.nfs_ops.specs.Forms.{open_args, open_result, putfh_args, read_args, read_result, readdir_args}
+use Rattle.nfs_ops.specs.Forms.{readdir_result, readlink_result, remove_args, remove_result, rename_args}
+use Rattle.nfs_ops.specs.Forms.{rename_result, setattr_args, setattr_result, verify_args, write_args, write_result}
+use Rattle.nfs_ops.specs.Forms.{exchange_id_args, exchange_id_result, create_session_args, create_session_result}
+use Rattle.nfs_ops.specs.Forms.{destroy_session_args, sequence_args, sequence_result, destroy_clientid_args}
+use Rattle.nfs_ops.specs.Forms.{reclaim_complete_args}
 use Rattle.nfs_ops.specs.Operations.{Operation, Known, Unsupported, Illegal, Bad}
 use Rattle.nfs_ops.specs.Results.{Outcome, Done, refused, refusal}
 use Rattle.nfs_ops.specs.declared.op.Op.{Op}
@@ -100,7 +109,10 @@ abbrev pub implementation_value : Implementation → Value implementation
 implementation_value i = (i.domain.bytes.now, (i.name.bytes.now, (i.date.0, i.date.1)))
 
 abbrev pub channel_value : Channel → Value channel
-channel_value c = (c.padding, (c.request_size, (c.reply_size, (c.cached_size, (c.operations, (c.slots, at_most_one (λ n. n) c.rdma))))))
+channel_value c = (
+  c.padding,
+  (c.request_size, (c.reply_size, (c.cached_size, (c.operations, (c.slots, at_most_one (λ n. n) c.rdma))))),
+)
 
 abbrev pub access_args_value : AccessArgs → Value access_args
 access_args_value a = a.asked
@@ -145,7 +157,8 @@ abbrev pub nverify_args_value : NVerifyArgs → Value nverify_args
 nverify_args_value a = attributes_value a.attributes
 
 abbrev pub open_args_value : OpenArgs → Value open_args
-open_args_value a = (a.seqid, (a.access, (a.deny, (a.client, (a.owner.bytes.now, (open_how_value a.how, open_claim_value a.claim))))))
+open_args_value a =
+    (a.seqid, (a.access, (a.deny, (a.client, (a.owner.bytes.now, (open_how_value a.how, open_claim_value a.claim))))))
 
 abbrev pub open_result_value : OpenResult → Value open_result
 open_result_value r = (stateid_value r.stateid, (change_info_value r.change, (inl tt, (bitmap_value r.set, inl tt))))
@@ -196,13 +209,30 @@ abbrev pub write_result_value : WriteResult → Value write_result
 write_result_value r = (r.count, (inl tt, zeros_value))
 
 abbrev pub exchange_id_args_value : ExchangeIdArgs → Value exchange_id_args
-exchange_id_args_value a = (a.verifier, (a.owner.bytes.now, (a.flags, (inl tt, at_most_one implementation_value a.implementation))))
+exchange_id_args_value a =
+    (a.verifier, (a.owner.bytes.now, (a.flags, (inl tt, at_most_one implementation_value a.implementation))))
 
 abbrev pub exchange_id_result_value : ExchangeIdResult → Value exchange_id_result
-exchange_id_result_value r = (r.client, (r.sequence, (r.flags, (inl tt, (zeros_value, (r.server.bytes.now, (r.scope.bytes.now, inl tt)))))))
+exchange_id_result_value r =
+    (r.client, (r.sequence, (r.flags, (inl tt, (zeros_value, (r.server.bytes.now, (r.scope.bytes.now, inl tt)))))))
 
 abbrev pub create_session_args_value : CreateSessionArgs → Value create_session_args
-create_session_args_value a = (a.client, (a.sequence, (a.flags, (channel_value a.fore, (channel_value a.back, (a.program, array_values callback_security None a.security.count a.security.bytes.now))))))
+create_session_args_value a = (
+  a.client,
+  (
+    a.sequence,
+    (
+      a.flags,
+      (
+        channel_value a.fore,
+        (
+          channel_value a.back,
+          (a.program, array_values callback_security None a.security.count a.security.bytes.now),
+        ),
+      ),
+    ),
+  ),
+)
 
 abbrev pub create_session_result_value : CreateSessionResult → Value create_session_result
 create_session_result_value r = (r.session, (r.sequence, (r.flags, (channel_value r.fore, channel_value r.back))))
@@ -265,7 +295,7 @@ after op rest = (op_view op, rest)
 abbrev pub result_view : OpResult → Outcome
 result_view (results.Access r) = Done kinds.Access (access_result_value r)
 result_view (results.Close r) = Done kinds.Close (close_result_value r)
-result_view results.Commit = Done kinds.Commit zeros_value
+result_view (results.Commit r) = Done kinds.Commit zeros_value
 result_view (results.Create r) = Done kinds.Create (create_result_value r)
 result_view (results.GetAttr r) = Done kinds.GetAttr (getattr_result_value r)
 result_view (results.GetFh r) = Done kinds.GetFh (getfh_result_value r)

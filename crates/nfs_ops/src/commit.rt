@@ -1,4 +1,5 @@
 //! COMMIT (RFC 8881, section 18.3): its arguments and its result.
+use crate::always::Zeros;
 use std::alloc::Allocator;
 use xdr_wire::{Full, Reader, Spell, Wire, Writer, XdrFault};
 
@@ -34,5 +35,33 @@ impl<'a> Wire<'a> for CommitArgs {
     fn read(reader: &mut Reader<'a>) -> Result<Self, XdrFault> {
         let (offset, count) = Wire::read(reader)?;
         Ok(CommitArgs { offset, count })
+    }
+}
+
+/// The verifier of this server, which has no meaning: data that were written are stable. The result
+/// of COMMIT (RFC 8881, section 18.3).
+#[derive(Clone, Copy)]
+pub struct CommitResult;
+
+impl Spell for CommitResult {
+    ghost use Rattle.std.specs.Prelude.{None};
+    ghost use Rattle.nfs_ops.specs.Forms.{commit_result};
+    ghost use Rattle.nfs_ops.specs.Views.{zeros_value};
+
+    ghost form = { commit_result };
+
+    ghost view = { λ _. zeros_value };
+
+    ghost normal = { None };
+
+    fn write<A: Allocator>(self, writer: &mut Writer<A>) -> Result<(), Full> {
+        Zeros.write(writer)
+    }
+}
+
+impl<'a> Wire<'a> for CommitResult {
+    fn read(reader: &mut Reader<'a>) -> Result<Self, XdrFault> {
+        let Zeros = Wire::read(reader)?;
+        Ok(CommitResult)
     }
 }

@@ -59,7 +59,7 @@ pub use writing::write_op;
 // Each operation's arguments and result.
 pub use access::{AccessArgs, AccessResult, OP_ACCESS};
 pub use close::{CloseArgs, CloseResult, OP_CLOSE};
-pub use commit::{CommitArgs, OP_COMMIT};
+pub use commit::{CommitArgs, CommitResult, OP_COMMIT};
 pub use create::{CreateArgs, CreateResult, CreateType, OP_CREATE};
 pub use create_session::{CreateSessionArgs, CreateSessionResult, OP_CREATE_SESSION};
 pub use destroy_clientid::{DestroyClientIdArgs, OP_DESTROY_CLIENTID};
@@ -77,7 +77,7 @@ pub use putfh::{OP_PUTFH, PutFhArgs};
 pub use putrootfh::OP_PUTROOTFH;
 pub use read::{MAX_READ, OP_READ, ReadArgs, ReadResult, write_read};
 pub use readdir::{Entry, GivenEntry, OP_READDIR, ReadDirArgs, ReadDirResult};
-pub use readlink::{MAX_TEXT, OP_READLINK, ReadLinkResult};
+pub use readlink::{OP_READLINK, ReadLinkResult};
 pub use reclaim_complete::{OP_RECLAIM_COMPLETE, ReclaimCompleteArgs};
 pub use remove::{OP_REMOVE, RemoveArgs, RemoveResult};
 pub use rename::{OP_RENAME, RenameArgs, RenameResult};

@@ -89,7 +89,7 @@ macro_rules! rows {
             $($with),*;
             Access(arguments) OP_ACCESS b"ACCESS" Anywhere (given),
             Close(arguments) OP_CLOSE b"CLOSE" Anywhere (given),
-            Commit(arguments) OP_COMMIT b"COMMIT" Anywhere,
+            Commit(arguments) OP_COMMIT b"COMMIT" Anywhere (given),
             Create(arguments) OP_CREATE b"CREATE" Anywhere (given),
             GetAttr(arguments) OP_GETATTR b"GETATTR" Anywhere (given),
             GetFh OP_GETFH b"GETFH" Anywhere (given),

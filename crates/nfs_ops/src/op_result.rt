@@ -5,8 +5,8 @@ ghost use Rattle.nfs_ops.specs.Results.{outcome_number, outcome_status};
 ghost use Rattle.nfs_ops.specs.ResultViews.{read_view};
 
 use crate::access::AccessResult;
-use crate::always::Zeros;
 use crate::close::CloseResult;
+use crate::commit::CommitResult;
 use crate::create::CreateResult;
 use crate::create_session::CreateSessionResult;
 use crate::exchange_id::ExchangeIdResult;
@@ -33,7 +33,7 @@ pub enum OpResult<'a> {
     /// CLOSE.
     Close(CloseResult),
     /// COMMIT.
-    Commit,
+    Commit(CommitResult),
     /// CREATE.
     Create(CreateResult),
     /// GETATTR.

@@ -11,7 +11,7 @@ ghost use Rattle.nfs_ops.specs.Results.{outcome_item};
 use crate::bytes::Bytes;
 use nfs_types::StateId;
 use std::alloc::Allocator;
-use xdr_wire::{Full, Opaque, Reader, Source, Spell, Wire, Writer, XdrFault};
+use xdr_wire::{Full, Reader, Source, Spell, Wire, Writer, XdrFault};
 
 /// The number of READ.
 pub const OP_READ: u32 = 25;
@@ -54,7 +54,7 @@ impl<'a> Wire<'a> for ReadArgs {
     }
 }
 
-/// The most bytes that a READ gives.
+/// The most bytes that this server gives for a READ.
 pub const MAX_READ: u32 = 32_768;
 
 /// Bytes of the file. The result of READ (RFC 8881, section 18.22).
@@ -62,8 +62,8 @@ pub const MAX_READ: u32 = 32_768;
 pub struct ReadResult<'a> {
     /// Whether the file ends after the bytes.
     pub eof: bool,
-    /// The bytes, at most 32,768.
-    pub data: Opaque<'a, MAX_READ>,
+    /// The bytes, of which this server gives at most 32,768.
+    pub data: Bytes<'a>,
 }
 
 impl<'a> Spell for ReadResult<'a> {

@@ -1,18 +1,16 @@
 //! READLINK (RFC 8881, section 18.24): its arguments and its result.
+use crate::bytes::Bytes;
 use std::alloc::Allocator;
-use xdr_wire::{Full, Opaque, Reader, Spell, Wire, Writer, XdrFault};
+use xdr_wire::{Full, Reader, Spell, Wire, Writer, XdrFault};
 
 /// The number of READLINK.
 pub const OP_READLINK: u32 = 27;
 
-/// The most bytes of a symbolic link's text.
-pub const MAX_TEXT: u32 = 1_024;
-
 /// The text of a symbolic link. The result of READLINK (RFC 8881, section 18.24).
 #[derive(Clone, Copy)]
 pub struct ReadLinkResult<'a> {
-    /// The text, at most 1,024 bytes.
-    pub text: Opaque<'a, MAX_TEXT>,
+    /// The text.
+    pub text: Bytes<'a>,
 }
 
 impl<'a> Spell for ReadLinkResult<'a> {

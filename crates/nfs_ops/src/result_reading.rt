@@ -1,14 +1,13 @@
 //! Reading results.
-ghost use Rattle.std.specs.Prelude.{◌≡◌, option_map, Some};
+ghost use Rattle.std.specs.Prelude.{◌≡◌, ◌==◌, option_map, Some, length};
 ghost use Rattle.xdr_wire.specs.Reading.{Gives};
 ghost use Rattle.nfs_types.specs.Status.{number_of};
+ghost use Rattle.nfs_types.specs.Views.{bitmap_value};
 ghost use Rattle.nfs_ops.specs.ResultReading.{result_at, done_at, done_of, spelled_of, outcome_conforms};
-ghost use Rattle.nfs_ops.specs.ResultReading.{refused_from, refused_at, refusal_at, behind_status};
-ghost use Rattle.nfs_ops.specs.ResultReading as specs;
+ghost use Rattle.nfs_ops.specs.ResultReading.{setattr_refused, refused_from, refused_at, refusal_at, behind_status};
 ghost use Rattle.nfs_ops.specs.Views.{read_view};
 
 use crate::OP_SETATTR;
-use crate::always::Zeros;
 use crate::exchange_id::SERVER_NAME;
 use crate::op_kind::{OpKind, rows};
 use crate::op_result::OpResult;
@@ -26,12 +25,8 @@ fn refusal_of(number: u32) -> Option<Status>
     Status::of_number(number)
 }
 
-/// Reads the result in a row, if it has one. COMMIT has a verifier without meaning.
+/// Reads the result in a row, if it has one.
 macro_rules! given {
-    (Commit, $reader:expr) => {{
-        let Zeros = Wire::read($reader)?;
-        Ok(OpResult::Commit)
-    }};
     ($row:ident $given:ident, $reader:expr) => { Ok(OpResult::$row(Wire::read($reader)?)) };
     ($row:ident, $reader:expr) => { Ok(OpResult::$row) };
 }
@@ -91,7 +86,30 @@ fn read_numbered<'a>(number: u32, reader: &mut Reader<'a>) -> Result<OpResult<'a
     }
 }
 
-/// Reads the rest of a refusal: the bitmap of SETATTR, which means nothing then, else nothing.
+/// Whether a set has no number.
+fn is_empty(set: &Bitmap) -> bool
+    ensures { result ≡ (length (bitmap_value set.now) == 0) }
+{
+    *set == Bitmap::empty()
+}
+
+/// Reads the bitmap of a SETATTR that is refused, which is empty.
+fn read_refused_setattr<'a>(
+    status: Status,
+    reader: &mut Reader<'a>,
+) -> Result<OpResult<'a>, XdrFault>
+    ensures { Gives read_view reader.old reader.new result (setattr_refused (number_of status) reader.old) }
+{
+    let mut ahead = reader.fork();
+    let set: Bitmap = Wire::read(&mut ahead)?;
+    if !is_empty(&set) {
+        return Err(XdrFault::BadChoice);
+    }
+    *reader = ahead;
+    Ok(OpResult::Refused(OP_SETATTR, status))
+}
+
+/// Reads the rest of a refusal: the bitmap of SETATTR, else nothing.
 fn read_behind_refusal<'a>(
     number: u32,
     status: Status,
@@ -100,10 +118,7 @@ fn read_behind_refusal<'a>(
     ensures { Gives read_view reader.old reader.new result (refused_from number reader.old (Some (number_of status))) }
 {
     match number {
-        OP_SETATTR => {
-            let _set: Bitmap = Wire::read(reader)?;
-            Ok(OpResult::Refused(OP_SETATTR, status))
-        }
+        OP_SETATTR => read_refused_setattr(status, reader),
         _ => Ok(OpResult::Refused(number, status)),
     }
 }
@@ -143,7 +158,10 @@ fn read_behind_status<'a>(
 /// - no operation has the number of a result that is OK, or no status that of one that isn't;
 /// - CLOSE returns another stateid than the invalid one (section 18.2.4);
 /// - EXCHANGE_ID returns another server owner or another scope than this server's (2.5, 2.10.4);
-/// - SEQUENCE returns another target than the highest slot that it grants (18.46.3).
+/// - SEQUENCE returns another target than the highest slot that it grants (18.46.3);
+/// - SETATTR is refused, and its bitmap isn't empty (18.30.3).
+///
+/// The bytes of READ and the text of READLINK have no bound but the record's.
 #[tactic(auto, unfolding(crate::specs::ResultReading::result_at))]
 pub fn read_result<'a>(reader: &mut Reader<'a>) -> Result<OpResult<'a>, XdrFault>
     ensures { Gives read_view reader.old reader.new result (result_at reader.old) }

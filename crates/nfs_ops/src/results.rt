@@ -7,7 +7,6 @@ ghost use Rattle.nfs_ops.specs.Results as specs;
 ghost use Rattle.nfs_ops.specs.Views.{result_view};
 
 use crate::OP_SETATTR;
-use crate::always::Zeros;
 use crate::op_kind::rows;
 use crate::op_result::OpResult;
 use nfs_types::{Bitmap, Status};
@@ -75,13 +74,12 @@ macro_rules! whole {
     }};
 }
 
-/// Writes number, status OK and the result in a row, if it has one. COMMIT has a verifier without meaning.
+/// Writes number, status OK and the result in a row, if it has one.
 macro_rules! done {
     (Close $number:ident $given:ident, $writer:expr) => { whole!($given.stateid.other, $number $given, $writer) };
     (Open $number:ident $given:ident, $writer:expr) => { whole!($given.stateid.other, $number $given, $writer) };
     (CreateSession $number:ident $given:ident, $writer:expr) => { whole!($given.session, $number $given, $writer) };
     (Sequence $number:ident $given:ident, $writer:expr) => { whole!($given.session, $number $given, $writer) };
-    (Commit $number:ident, $writer:expr) => { ($crate::$number, (0u32, Zeros)).write($writer) };
     ($row:ident $number:ident $($given:ident)?, $writer:expr) => { ($crate::$number, (0u32, ($($given)?))).write($writer) };
 }
 

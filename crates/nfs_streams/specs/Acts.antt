@@ -1,6 +1,7 @@
 -- The acts of serving, each at its place in one list. They ask something of the streams and of the
 -- disk of the store, or give something to the hub.
-use Rattle.std.specs.Prelude.{◌≡◌, ◌≤◌, ◌⊎◌, ◌+◌, ◌-◌, ◌==◌, ℕ, Bool, true, false, List, [], ◌∷◌, ◌++◌, length, Option, Some, None, take, drop, if◌then◌else◌}
+use Rattle.std.specs.Prelude.{◌≡◌, ◌≤◌, ◌⊎◌, ◌+◌, ◌-◌, ◌==◌, ℕ, Bool, true, false, List, [], ◌∷◌, ◌++◌, length}
+use Rattle.std.specs.Prelude.{Option, Some, None, take, drop, if◌then◌else◌}
 use Rattle.who_book.specs.Content.{Content}
 use Rattle.journal.specs.Disk.{Act as DiskAct}
 use Rattle.compound_run.specs.State.{State as ServerState}
@@ -136,7 +137,8 @@ abbrev pub ahead : List Act → ℕ → List ℕ
 ahead [] place = []
 ahead (Admitted at id ∷ acts) place = if place == at then [] else ahead acts place
 ahead (Heard at bytes ∷ acts) place = if place == at then ahead acts place ++ bytes else ahead acts place
-ahead (Given at bytes fault ∷ acts) place = if place == at then drop (length bytes) (ahead acts place) else ahead acts place
+ahead (Given at bytes fault ∷ acts) place =
+    if place == at then drop (length bytes) (ahead acts place) else ahead acts place
 ahead (act ∷ acts) place = ahead acts place
 
 -- the most bytes of a piece
@@ -147,7 +149,8 @@ MAX_PIECE = 4096
 abbrev pub left_of_piece : List Act → ℕ → ℕ
 left_of_piece [] place = 0
 left_of_piece (Begun at ∷ acts) place = if place == at then MAX_PIECE else left_of_piece acts place
-left_of_piece (Given at bytes fault ∷ acts) place = if place == at then left_of_piece acts place - length bytes else left_of_piece acts place
+left_of_piece (Given at bytes fault ∷ acts) place =
+    if place == at then left_of_piece acts place - length bytes else left_of_piece acts place
 left_of_piece (act ∷ acts) place = left_of_piece acts place
 
 -- the turns of the connection at a place: reads of its stream that gave bytes

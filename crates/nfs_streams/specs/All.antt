@@ -34,7 +34,9 @@ EndsSo Memory limits start acts s = acts ≡ []
 -- the streams and of the disk, and no others, are the acts of the streams. They lead to the state
 -- of the hub. Where there is a store, a crash after each of the acts leaves all of which a reply
 -- was written.
-pub record ServesAll {A : Type 0} (first : ServedState) (events : List Event) (store : Option TreeStore) (history : List DiskAct) (end : AllEnd) (limits : Limits) (new : Hub A) (before after : Option (List Act)) : Type 0 where
+pub record ServesAll {A : Type 0} (first : ServedState) (events : List Event) (store : Option TreeStore)
+    (history : List DiskAct) (end : AllEnd) (limits : Limits) (new : Hub A)
+    (before after : Option (List Act)) : Type 0 where
   pub start : State
   pub leads : Leads first events start
   pub acts : List Act

@@ -45,27 +45,34 @@ IsShown limits (act ∷ acts) start s run kept =
 -- the calls that came on a slot since then have changed nothing else that is kept.
 abbrev pub WasSo : (limits : Limits) (acts : List Act) (start s : State) → Runs limits acts start s → Kept → Type 0
 WasSo limits [] start s run kept = IsAs (kept_of s.served.state) kept
-WasSo limits (act ∷ acts) start s run kept = IsAs (kept_of s.served.state) kept ⊎ WasSo limits acts start run.0 run.1 kept
+WasSo limits (act ∷ acts) start s run kept =
+    IsAs (kept_of s.served.state) kept ⊎ WasSo limits acts start run.0 run.1 kept
 
 -- a content that holds such a thing
-abbrev pub HoldsShown : (limits : Limits) (acts : List Act) (start s : State) → Runs limits acts start s → Option Content → Type 0
+abbrev pub HoldsShown : (limits : Limits) (acts : List Act) (start s : State) → Runs limits acts start s
+    → Option Content → Type 0
 HoldsShown limits acts start s run content =
-    (c : Content) × (kept : Kept) × (content ≡ Some c) × Holds c kept × IsShown limits acts start s run kept × WasSo limits acts start s run kept
+    (c : Content) × (kept : Kept) × (content ≡ Some c) × Holds c kept × IsShown limits acts start s run kept
+    × WasSo limits acts start s run kept
 
 -- A crash at the end of a run leaves such a thing in the files, which had this history before the run.
-abbrev pub Survives : ℕ → List DiskAct → (limits : Limits) (acts : List Act) (start s : State) → Runs limits acts start s → Type 0
+abbrev pub Survives : ℕ → List DiskAct → (limits : Limits) (acts : List Act) (start s : State)
+    → Runs limits acts start s → Type 0
 Survives key history limits acts start s run = Leaves key (disk_of acts ++ history) (HoldsShown limits acts start s run)
 
 -- and so does a crash after each of the acts
-abbrev pub AlwaysSurvives : ℕ → List DiskAct → (limits : Limits) (acts : List Act) (start s : State) → Runs limits acts start s → Type 0
+abbrev pub AlwaysSurvives : ℕ → List DiskAct → (limits : Limits) (acts : List Act) (start s : State)
+    → Runs limits acts start s → Type 0
 AlwaysSurvives key history limits [] start s run = Survives key history limits [] start s run
 AlwaysSurvives key history limits (act ∷ acts) start s run =
     Survives key history limits (act ∷ acts) start s run × AlwaysSurvives key history limits acts start run.0 run.1
 
 -- so it is where there is a store
-abbrev pub SurvivesIn : Option TreeStore → List DiskAct → (limits : Limits) (acts : List Act) (start s : State) → Runs limits acts start s → Type 0
+abbrev pub SurvivesIn : Option TreeStore → List DiskAct → (limits : Limits) (acts : List Act) (start s : State)
+    → Runs limits acts start s → Type 0
 SurvivesIn None history limits acts start s run = Unit {0}
-SurvivesIn (Some store) history limits acts start s run = AlwaysSurvives store.journal.key history limits acts start s run
+SurvivesIn (Some store) history limits acts start s run =
+    AlwaysSurvives store.journal.key history limits acts start s run
 
 -- A store that serving begins with. After this history it stands for what is kept, from where the
 -- notes of the world lead. That is what outlives a restart of the server.

@@ -1,5 +1,6 @@
 -- Acts of serving as steps of the written machine, each allowed at its turn.
-use Rattle.std.specs.Prelude.{◌≡◌, ◌≢◌, ◌⊎◌, ◌≤◌, ◌<◌, ℕ, true, false, List, [], ◌∷◌, ◌++◌, length, take, Option, Some, None, min}
+use Rattle.std.specs.Prelude.{◌≡◌, ◌≢◌, ◌⊎◌, ◌≤◌, ◌<◌, ℕ, true, false, List, [], ◌∷◌, ◌++◌, length, take, Option}
+use Rattle.std.specs.Prelude.{Some, None, min}
 use Rattle.nfs_types.specs.declared.moment.Moment.{Moment}
 use Rattle.rpc_record.specs.Records.{IsRecord}
 use Rattle.access_guard.specs.declared.line.Line.{Line}
@@ -7,11 +8,14 @@ use Rattle.compound_run.specs.State.{State as ServerState}
 use Rattle.node_tree.specs.Notes.{cleared}
 use Rattle.nfs_hub.specs.declared.fault.HubFault.{HubFault}
 use Rattle.nfs_hub.specs.declared.fault.HubFault.TheVariants as fault
-use Rattle.nfs_hub.specs.Machine.{Connected, State, Event, Connect, Piece, Take, Close, Reload, Note, LetGo, Step, CameToBreak, fresh}
+use Rattle.nfs_hub.specs.Machine.{Connected, State, Event, Connect, Piece, Take, Close, Reload, Note, LetGo, Step}
+use Rattle.nfs_hub.specs.Machine.{CameToBreak, fresh}
 use Rattle.nfs_streams.specs.declared.streams.StreamEnd.{StreamEnd}
 use Rattle.nfs_streams.specs.declared.streams.StreamEnd.TheVariants as end
 use Rattle.nfs_streams.specs.declared.serving.Limits.{Limits}
-use Rattle.nfs_streams.specs.Acts.{Act, Knocked, Admitted, Closed, Heard, Ended, Unread, Loaded, Begun, Given, Kept, Stored, Expired, Told, Unwritten, Has, Just, IsLooked, IsSettled, IsStored, conn_at, open_in, ahead, left_of_piece, turns_at, fault_at}
+use Rattle.nfs_streams.specs.Acts.{Act, Knocked, Admitted, Closed, Heard, Ended, Unread, Loaded, Begun, Given, Kept}
+use Rattle.nfs_streams.specs.Acts.{Stored, Expired, Told, Unwritten, Has, Just, IsLooked, IsSettled, IsStored}
+use Rattle.nfs_streams.specs.Acts.{conn_at, open_in, ahead, left_of_piece, turns_at, fault_at}
 
 -- the most bytes of one read
 abbrev pub MAX_READ : ℕ
@@ -51,14 +55,17 @@ AnswersOne rest bytes old new = (new.served ≡ old.served) ⊎ ((content : List
 abbrev pub FaultIs : Option HubFault → List Act → ℕ → List ℕ → Moment → State → State → Type 0
 FaultIs None earlier place bytes now old new = On earlier place new (λ c. c.broken ≡ false)
 FaultIs (Some fault.Broken) earlier place bytes now old new =
-    On earlier place new (λ d. (d.broken ≡ true) × On earlier place old (λ c. CameToBreak now old.served c.pending (c.rest ++ bytes) new.served d.pending))
+    On earlier place new
+    (λ d. (d.broken ≡ true)
+    × On earlier place old (λ c. CameToBreak now old.served c.pending (c.rest ++ bytes) new.served d.pending))
 FaultIs (Some other) earlier place bytes now old new = On earlier place new (λ c. c.broken ≡ true)
 
 -- Bytes are given. They are a piece of the connection at the place, at some moment, in which at
 -- most one record is answered, with their last byte.
 abbrev pub Gives : List Act → ℕ → List ℕ → Option HubFault → State → State → Type 0
 Gives earlier place bytes fault old new =
-    (now : Moment) × StepAt earlier place (λ id. Piece id bytes now) old new × On earlier place old (λ c. AnswersOne c.rest bytes old new) × FaultIs fault earlier place bytes now old new
+    (now : Moment) × StepAt earlier place (λ id. Piece id bytes now) old new
+    × On earlier place old (λ c. AnswersOne c.rest bytes old new) × FaultIs fault earlier place bytes now old new
 
 -- The step of the machine by an act after earlier acts. A stream that is admitted is the connection
 -- of the next number, which is open then. The bytes that are given are a piece of the connection at
@@ -72,7 +79,8 @@ Does earlier (Admitted place id) old new = (id ≡ old.next) × Step Connect old
 Does earlier (Closed place end) old new = StepAt earlier place Close old new
 Does earlier (Given place bytes fault) old new = Gives earlier place bytes fault old new
 Does earlier (Told place bytes) old new =
-    On earlier place old (λ c. bytes ≡ take (length bytes) c.pending) × StepAt earlier place (λ id. Take id (length bytes)) old new
+    On earlier place old (λ c. bytes ≡ take (length bytes) c.pending)
+    × StepAt earlier place (λ id. Take id (length bytes)) old new
 Does earlier (Loaded book) old new = Step (Reload book) old new
 Does earlier (Expired client) old new = Step (LetGo client) old new
 Does earlier (Stored state) old new = Step (Note (cleared state.realm.world.notes)) old new
@@ -113,12 +121,18 @@ IsInside c = c.rest ≢ []
 abbrev pub MayClose : Limits → List Act → ℕ → StreamEnd → State → Type 0
 MayClose limits earlier place end.Ended s = Just (Ended place) earlier × On earlier place s IsBetween
 MayClose limits earlier place end.Inside s = Just (Ended place) earlier × On earlier place s IsInside
-MayClose limits earlier place end.Broken s = IsSettled earlier × (fault_at earlier place ≡ Some fault.Broken) × On earlier place s IsSpent
-MayClose limits earlier place end.Memory s = IsSettled earlier × ((why : HubFault) × (fault_at earlier place ≡ Some why) × (why ≢ fault.Broken)) × On earlier place s IsSpent
+MayClose limits earlier place end.Broken s =
+    IsSettled earlier × (fault_at earlier place ≡ Some fault.Broken) × On earlier place s IsSpent
+MayClose limits earlier place end.Memory s =
+    IsSettled earlier × ((why : HubFault) × (fault_at earlier place ≡ Some why) × (why ≢ fault.Broken))
+    × On earlier place s IsSpent
 MayClose limits earlier place end.Read s = Just (Unread place) earlier
 MayClose limits earlier place end.Write s = Just (Unwritten place) earlier
-MayClose limits earlier place end.Turns s = IsSettled earlier × (limits.reads ≤ turns_at earlier place) × (ahead earlier place ≡ []) × On earlier place s CanHear
-MayClose limits earlier place end.Quiet s = Just Knocked earlier × (limits.makes_room ≡ true) × (most_open limits ≤ open_in earlier)
+MayClose limits earlier place end.Turns s =
+    IsSettled earlier × (limits.reads ≤ turns_at earlier place) × (ahead earlier place ≡ [])
+    × On earlier place s CanHear
+MayClose limits earlier place end.Quiet s =
+    Just Knocked earlier × (limits.makes_room ≡ true) × (most_open limits ≤ open_in earlier)
 MayClose limits earlier place end.Stopped s = ⊥
 
 -- a stream may be read: its connection is whole, no bytes are pending on it, and all that was read before is given
@@ -149,17 +163,23 @@ IsKept earlier s = HasKept s.served.state.trail s.served.state.total earlier
 -- of the server in its present state has been kept, after a book too, and all that outlives a
 -- restart of the server in its present state is stored.
 abbrev pub Allowed : Limits → List Act → Act → State → Type 0
-Allowed limits earlier (Admitted place id) s = Just Knocked earlier × (conn_at earlier place ≡ None) × (open_in earlier < most_open limits) × (place < MOST_PLACES)
+Allowed limits earlier (Admitted place id) s =
+    Just Knocked earlier × (conn_at earlier place ≡ None) × (open_in earlier < most_open limits)
+    × (place < MOST_PLACES)
 Allowed limits earlier (Closed place end) s = MayClose limits earlier place end s
-Allowed limits earlier (Heard place bytes) s = MayHear earlier place s × (length bytes ≤ MAX_READ) × (turns_at earlier place < limits.reads)
+Allowed limits earlier (Heard place bytes) s =
+    MayHear earlier place s × (length bytes ≤ MAX_READ) × (turns_at earlier place < limits.reads)
 Allowed limits earlier (Ended place) s = MayHear earlier place s
 Allowed limits earlier (Unread place) s = MayHear earlier place s
 Allowed limits earlier (Begun place) s = IsSettled earlier × On earlier place s CanBegin
 Allowed limits earlier (Given place bytes fault) s =
     IsSettled earlier × IsLooked earlier × IsKept earlier s × On earlier place s IsWhole
     × (length bytes ≤ left_of_piece earlier place) × (bytes ≡ take (length bytes) (ahead earlier place))
-Allowed limits earlier (Told place bytes) s = IsSettled earlier × (length bytes ≤ MAX_WRITTEN) × IsKept earlier s × On earlier place s IsWaiting × IsStored earlier s.served.state
-Allowed limits earlier (Unwritten place) s = IsSettled earlier × IsKept earlier s × On earlier place s IsWaiting × IsStored earlier s.served.state
+Allowed limits earlier (Told place bytes) s =
+    IsSettled earlier × (length bytes ≤ MAX_WRITTEN) × IsKept earlier s × On earlier place s IsWaiting
+    × IsStored earlier s.served.state
+Allowed limits earlier (Unwritten place) s =
+    IsSettled earlier × IsKept earlier s × On earlier place s IsWaiting × IsStored earlier s.served.state
 Allowed limits earlier (Expired client) s = IsSettled earlier × (limits.leases ≡ true)
 Allowed limits earlier (Kept state) s = IsSettled earlier × (state ≡ s.served.state)
 Allowed limits earlier (Stored state) s = IsSettled earlier × (state ≡ s.served.state)
@@ -168,10 +188,12 @@ Allowed limits earlier act s = IsSettled earlier
 -- Acts, the newest first, each of them allowed at its turn, lead from one state to another.
 abbrev pub Runs : Limits → List Act → State → State → Type 0
 Runs limits [] old new = new ≡ old
-Runs limits (act ∷ earlier) old new = (mid : State) × Runs limits earlier old mid × Allowed limits earlier act mid × Does earlier act mid new
+Runs limits (act ∷ earlier) old new =
+    (mid : State) × Runs limits earlier old mid × Allowed limits earlier act mid × Does earlier act mid new
 
 -- after earlier acts streams are let go since serving has ended, and no other acts come
 abbrev pub Ends : List Act → List Act → State → State → Type 0
 Ends earlier [] old new = new ≡ old
 Ends earlier (act ∷ acts) old new =
-    (place : ℕ) × (mid : State) × (act ≡ Closed place end.Stopped) × Ends earlier acts old mid × StepAt (acts ++ earlier) place Close mid new
+    (place : ℕ) × (mid : State) × (act ≡ Closed place end.Stopped) × Ends earlier acts old mid
+    × StepAt (acts ++ earlier) place Close mid new

@@ -37,13 +37,15 @@ Seat start id at now = IsHere id at now ⊎ IsElsewhere start id at now
 -- these are known of a place: the bytes that were read there and aren't given yet, the turns of its
 -- connection, and the fault at its bytes that were given last
 abbrev pub Knows : {A : Type 0} → List Act → ℕ → Peer A → Type 0
-Knows acts index peer = (ahead acts index ≡ peer.ahead) × (turns_at acts index ≡ peer.turns) × (fault_at acts index ≡ peer.fault)
+Knows acts index peer =
+    (ahead acts index ≡ peer.ahead) × (turns_at acts index ≡ peer.turns) × (fault_at acts index ≡ peer.fault)
 
 -- after these acts the connection of a place is the connection that was admitted there, which is at
 -- no other place
 abbrev pub IsSeated : {A : Type 0} → (ℕ → ℕ) → List Act → ℕ → Option (Peer A) → Type 0
 IsSeated owner acts index None = conn_at acts index ≡ None
-IsSeated owner acts index (Some peer) = (conn_at acts index ≡ Some peer.conn) × (owner peer.conn ≡ index) × Knows acts index peer
+IsSeated owner acts index (Some peer) =
+    (conn_at acts index ≡ Some peer.conn) × (owner peer.conn ≡ index) × Knows acts index peer
 
 -- no connection has a number still to come
 abbrev pub IsFresh : State → Type 0
@@ -51,7 +53,8 @@ IsFresh state = (id : ℕ) → state.next ≤ id → state.connection id ≡ Non
 
 -- After these acts the hub is in this state of the machine, and its connections since the start are
 -- those at the places.
-pub record Stands {A : Type 0} (start : ℕ) (hub : Hub A) (places : List (Option (Peer A))) (acts : List Act) (machine : State) : Type 0 where
+pub record Stands {A : Type 0} (start : ℕ) (hub : Hub A) (places : List (Option (Peer A))) (acts : List Act)
+    (machine : State) : Type 0 where
   pub is : IsHub hub machine
   pub fresh : IsFresh machine
   -- the place of a number's connection, if there is one

@@ -1,5 +1,6 @@
 -- The stages of serving, and the parts of serving as steps between them.
-use Rattle.std.specs.Prelude.{◌≡◌, ◌≢◌, ◌≤◌, ◌<◌, ◌+◌, ℕ, Bool, true, false, List, [], ◌∷◌, ◌++◌, length, Option, Some, None, Result, Ok, Err, set}
+use Rattle.std.specs.Prelude.{◌≡◌, ◌≢◌, ◌≤◌, ◌<◌, ◌+◌, ℕ, Bool, true, false, List, [], ◌∷◌, ◌++◌, length, Option}
+use Rattle.std.specs.Prelude.{Some, None, Result, Ok, Err, set}
 use Rattle.journal.specs.Disk.{Act as DiskAct}
 use Rattle.tree_store.specs.Running.{Store as TreeStore}
 use Rattle.tree_store.specs.Kept.{Kept, Covers, Follows}
@@ -25,7 +26,8 @@ use Rattle.nfs_streams.specs.declared.serving.Halt.{Halt}
 use Rattle.nfs_streams.specs.declared.serving.Halt.TheVariants as halt
 use Rattle.nfs_streams.specs.declared.serving.AllEnd.TheVariants.{Served, Turns, Wait, Keep, Store, Memory}
 use Rattle.nfs_streams.specs.declared.streams.Wait.{Wait as Pause}
-use Rattle.nfs_streams.specs.Acts.{Act, Waited, Knocked, Heard, Ended, Unread, Lost, Unstored, Adds, Just, IsLooked, IsSettled, IsStored, of_streams, open_in, waits, admitted, left_of_piece}
+use Rattle.nfs_streams.specs.Acts.{Act, Waited, Knocked, Heard, Ended, Unread, Lost, Unstored, Adds, Just, IsLooked}
+use Rattle.nfs_streams.specs.Acts.{IsSettled, IsStored, of_streams, open_in, waits, admitted, left_of_piece}
 use Rattle.nfs_streams.specs.Runs.{Runs, Ends, IsKept, most_open}
 use Rattle.nfs_streams.specs.Seats.{Stands, taken}
 use Rattle.nfs_streams.specs.Keeping.{disk_of, IsShown, WasSo, AlwaysSurvives, SurvivesIn}
@@ -83,18 +85,27 @@ abbrev pub Way : Stage → Origin → List Act → State → Type 0
 Way (Listening n) o acts s = Runs o.limits acts o.start s × (waits acts ≡ n) × IsSettled acts
 Way (Knocking n) o acts s = Runs o.limits acts o.start s × (waits acts ≡ n) × Just Knocked acts
 Way (Looking n) o acts s = Runs o.limits acts o.start s × (waits acts ≡ n) × IsSettled acts × IsLooked acts
-Way (Unkept n place left) o acts s = Runs o.limits acts o.start s × (waits acts ≡ n) × IsSettled acts × IsLooked acts × (left ≤ left_of_piece acts place)
-Way (Giving n) o acts s = Runs o.limits acts o.start s × (waits acts ≡ n) × IsSettled acts × IsKept acts s × IsLooked acts
-Way (Piecing n place left) o acts s = Runs o.limits acts o.start s × (waits acts ≡ n) × IsSettled acts × IsKept acts s × IsLooked acts × (left ≤ left_of_piece acts place)
-Way (Full n) o acts s = Runs o.limits acts o.start s × (waits acts ≡ n) × Just Knocked acts × (o.limits.makes_room ≡ true) × (most_open o.limits ≤ open_in acts)
-Way (Answering n) o acts s = Runs o.limits acts o.start s × (waits acts ≡ n) × IsSettled acts × IsKept acts s × IsStored acts s.served.state
+Way (Unkept n place left) o acts s =
+    Runs o.limits acts o.start s × (waits acts ≡ n) × IsSettled acts × IsLooked acts
+    × (left ≤ left_of_piece acts place)
+Way (Giving n) o acts s =
+    Runs o.limits acts o.start s × (waits acts ≡ n) × IsSettled acts × IsKept acts s × IsLooked acts
+Way (Piecing n place left) o acts s =
+    Runs o.limits acts o.start s × (waits acts ≡ n) × IsSettled acts × IsKept acts s × IsLooked acts
+    × (left ≤ left_of_piece acts place)
+Way (Full n) o acts s =
+    Runs o.limits acts o.start s × (waits acts ≡ n) × Just Knocked acts × (o.limits.makes_room ≡ true)
+    × (most_open o.limits ≤ open_in acts)
+Way (Answering n) o acts s =
+    Runs o.limits acts o.start s × (waits acts ≡ n) × IsSettled acts × IsKept acts s × IsStored acts s.served.state
 Way (Stopped end n) o acts s = Runs o.limits acts o.start s × (waits acts ≡ n) × StopsSo end acts
 Way (Ending served at) o acts s = (endings : List Act) × (acts ≡ endings ++ served) × Ends served endings at s
 
 -- After a run the store stands for what is kept. That has all of which a reply was written, it
 -- covers the state that was stored last, and the notes of the world lead on from it. A crash at any
 -- moment so far left such a thing.
-pub record Storing (key : ℕ) (store : TreeStore) (o : Origin) (acts : List Act) (machine : State) (run : Runs o.limits acts o.start machine) : Type 0 where
+pub record Storing (key : ℕ) (store : TreeStore) (o : Origin) (acts : List Act) (machine : State)
+    (run : Runs o.limits acts o.start machine) : Type 0 where
   pub kept : Kept
   pub stands : StandsFor key (disk_of acts ++ o.history) store kept
   pub follows : Follows kept machine.served.state.realm.world
@@ -104,14 +115,16 @@ pub record Storing (key : ℕ) (store : TreeStore) (o : Origin) (acts : List Act
   pub always : AlwaysSurvives key o.history o.limits acts o.start machine run
 
 -- the store that serving began with goes on, if there was one
-abbrev pub StoringIn : Option TreeStore → Option TreeStore → (o : Origin) (acts : List Act) (machine : State) → Runs o.limits acts o.start machine → Type 0
+abbrev pub StoringIn : Option TreeStore → Option TreeStore → (o : Origin) (acts : List Act) (machine : State)
+    → Runs o.limits acts o.start machine → Type 0
 StoringIn None None o acts machine run = Unit {0}
 StoringIn None (Some store) o acts machine run = ⊥
 StoringIn (Some first) None o acts machine run = ⊥
 StoringIn (Some first) (Some store) o acts machine run = Storing first.journal.key store o acts machine run
 
 -- this is known of the store at a stage
-abbrev pub Keeping : (stage : Stage) (o : Origin) (acts : List Act) (machine : State) → Way stage o acts machine → Option TreeStore → Type 0
+abbrev pub Keeping : (stage : Stage) (o : Origin) (acts : List Act) (machine : State) → Way stage o acts machine
+    → Option TreeStore → Type 0
 Keeping (Listening n) o acts machine way store = StoringIn o.store store o acts machine way.0
 Keeping (Knocking n) o acts machine way store = StoringIn o.store store o acts machine way.0
 Keeping (Full n) o acts machine way store = StoringIn o.store store o acts machine way.0
@@ -125,7 +138,8 @@ Keeping (Ending served at) o acts machine way store = Unit {0}
 
 -- Acts have led to this stage, and to the present hub, places and store; this many connections may
 -- still come.
-pub record Standing {A : Type 0} (stage : Stage) (o : Origin) (hub : Hub A) (places : List (Option (Peer A))) (left : Left) (now : Option (List Act)) : Type 0 where
+pub record Standing {A : Type 0} (stage : Stage) (o : Origin) (hub : Hub A) (places : List (Option (Peer A)))
+    (left : Left) (now : Option (List Act)) : Type 0 where
   pub acts : List Act
   pub machine : State
   pub way : Way stage o acts machine
@@ -135,13 +149,17 @@ pub record Standing {A : Type 0} (stage : Stage) (o : Origin) (hub : Hub A) (pla
   pub fewer : left.more + admitted acts ≡ o.limits.connections
 
 -- from one stage to another, with these limits
-abbrev pub Moves : {A : Type 0} → Stage → Stage → Limits → Hub A → List (Option (Peer A)) → Left → Hub A → List (Option (Peer A)) → Left → Option (List Act) → Option (List Act) → Type 0
+abbrev pub Moves : {A : Type 0} → Stage → Stage → Limits → Hub A → List (Option (Peer A)) → Left → Hub A
+    → List (Option (Peer A)) → Left → Option (List Act) → Option (List Act) → Type 0
 Moves stage stage' limits old places left new places' left' before after =
-    (o : Origin) → o.limits ≡ limits → Standing stage o old places left before → Standing stage' o new places' left' after
+    (o : Origin) → o.limits ≡ limits → Standing stage o old places left before
+    → Standing stage' o new places' left' after
 
 -- a book that has come is loaded, or none has come, for any connections at the places
 abbrev pub Loads : {A : Type 0} → Hub A → Hub A → Option (List Act) → Option (List Act) → Type 0
-Loads {A} old new before after = (n : ℕ) (left : Left) (limits : Limits) (places : List (Option (Peer A))) → Moves (Listening n) (Looking n) limits old places left new places left before after
+Loads {A} old new before after =
+    (n : ℕ) (left : Left) (limits : Limits) (places : List (Option (Peer A)))
+    → Moves (Listening n) (Looking n) limits old places left new places left before after
 
 -- The stage after the keeping of the trail. The bytes that were read may be given, or serving
 -- stops.
@@ -150,10 +168,12 @@ kept_stage true n = Giving n
 kept_stage false n = Stopped Keep n
 
 -- whatever is at the other places, the connection of this place becomes another one, or goes
-abbrev pub Changes : {A : Type 0} → Stage → Stage → Limits → ℕ → Hub A → Option (Peer A) → Hub A → Option (Peer A) → Option (List Act) → Option (List Act) → Type 0
+abbrev pub Changes : {A : Type 0} → Stage → Stage → Limits → ℕ → Hub A → Option (Peer A) → Hub A → Option (Peer A)
+    → Option (List Act) → Option (List Act) → Type 0
 Changes {A} stage stage' limits place old peer new peer' before after =
     (o : Origin) (left : Left) (places : List (Option (Peer A))) → o.limits ≡ limits → place < length places
-    → Standing stage o old (set places place peer) left before → Standing stage' o new (set places place peer') left after
+    → Standing stage o old (set places place peer) left before
+    → Standing stage' o new (set places place peer') left after
 
 -- a read of the stream of a place, and what was read
 abbrev pub ReadGives : ℕ → Moved → List ℕ → Option (List Act) → Option (List Act) → Type 0
@@ -170,7 +190,8 @@ ends_at end.Inside c = c.rest ≢ []
 ends_at why c = ⊥
 
 abbrev pub StreamEnds : {A : Type 0} → StreamEnd → Hub A → ℕ → Type 0
-StreamEnds why hub id = (s : State) → IsHub hub s → (c : Connected) → s.connection id ≡ Some c → c.broken ≡ false → ends_at why c
+StreamEnds why hub id =
+    (s : State) → IsHub hub s → (c : Connected) → s.connection id ≡ Some c → c.broken ≡ false → ends_at why c
 
 -- the end of a connection that the hub broke
 abbrev pub broken_end : HubFault → StreamEnd
@@ -206,7 +227,9 @@ stored_stage false n = Stopped Store n
 
 -- what outlives a restart is stored, or it couldn't be, for any connections at the places
 abbrev pub Stores : {A : Type 0} → Bool → Hub A → Left → Hub A → Left → Option (List Act) → Option (List Act) → Type 0
-Stores {A} result old left new left' before after = (n : ℕ) (limits : Limits) (places : List (Option (Peer A))) → Moves (Giving n) (stored_stage result n) limits old places left new places left' before after
+Stores {A} result old left new left' before after =
+    (n : ℕ) (limits : Limits) (places : List (Option (Peer A)))
+    → Moves (Giving n) (stored_stage result n) limits old places left new places left' before after
 
 -- the stage after a turn, by the length of the next wait, or by why no replies may be written
 abbrev pub turned_stage : Result Pause Halt → ℕ → Stage
@@ -230,6 +253,8 @@ LeavesSo Store turns n left places = Unit {0}
 LeavesSo Memory turns n left places = ⊥
 
 -- from the beginning, after this many turns at most
-abbrev pub RunGives : {A : Type 0} → AllEnd → Limits → Hub A → List (Option (Peer A)) → Left → Hub A → List (Option (Peer A)) → Left → Option (List Act) → Option (List Act) → Type 0
+abbrev pub RunGives : {A : Type 0} → AllEnd → Limits → Hub A → List (Option (Peer A)) → Left → Hub A
+    → List (Option (Peer A)) → Left → Option (List Act) → Option (List Act) → Type 0
 RunGives end limits old places left new places' left' before after =
-    (n : ℕ) × (n ≤ limits.turns) × LeavesSo end limits.turns n left' places' × Moves (Listening 0) (Stopped end n) limits old places left new places' left' before after
+    (n : ℕ) × (n ≤ limits.turns) × LeavesSo end limits.turns n left' places'
+    × Moves (Listening 0) (Stopped end n) limits old places left new places' left' before after

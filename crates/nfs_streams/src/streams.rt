@@ -121,5 +121,6 @@ pub trait Streams<A: Allocator + Copy>: Disk {
         ensures { Adds (acts self.old) (acts self.new) (kept result server.now) };
 
     // an act of the disk is one of the acts
-    ghost disk_acts: { (old new : Self) (act : DiskAct) → Self.adds old act new → Adds (acts old) (acts new) (OnDisk act ∷ []) };
+    ghost disk_acts: { (old new : Self) (act : DiskAct) → Self.adds old act new
+        → Adds (acts old) (acts new) (OnDisk act ∷ []) };
 }

@@ -1,6 +1,7 @@
 -- The errors of a stream over a hub.
 use Rattle.std.specs.declared.io.ErrorKind.{ErrorKind}
-use Rattle.std.specs.declared.io.ErrorKind.TheVariants.{NotConnected, BrokenPipe, OutOfMemory, QuotaExceeded, AddrNotAvailable}
+use Rattle.std.specs.declared.io.ErrorKind.TheVariants.{NotConnected, BrokenPipe, OutOfMemory, QuotaExceeded}
+use Rattle.std.specs.declared.io.ErrorKind.TheVariants.{AddrNotAvailable}
 use Rattle.nfs_hub.specs.declared.fault.HubFault.{HubFault}
 use Rattle.nfs_hub.specs.declared.fault.HubFault.TheVariants.{TooMany, NoSuch, Broken, Memory, Exhausted}
 

@@ -1,5 +1,6 @@
 -- A stream over a connection of a hub: a write is one piece of the connection, and a read is one taking.
-use Rattle.std.specs.Prelude.{◌≡◌, ◌≢◌, ◌↔◌, ℕ, true, false, List, ◌∷◌, length, Option, Some, None, IsNone, IfOk, IsErrOf, is_err, option_map, Result, Ok, Err}
+use Rattle.std.specs.Prelude.{◌≡◌, ◌≢◌, ◌↔◌, ℕ, true, false, List, ◌∷◌, length, Option, Some, None, IsNone, IfOk}
+use Rattle.std.specs.Prelude.{IsErrOf, is_err, option_map, Result, Ok, Err}
 use Rattle.std.specs.IoError.{error_kind}
 use Rattle.std.specs.declared.io.Error.{Error}
 use Rattle.nfs_types.specs.declared.moment.Moment.{Moment}
@@ -63,6 +64,7 @@ pub record Fed {A : Type 0} (old new : Local A) (piece : List ℕ) (result : Res
   pub no_such : IsErrOf told NoSuch ↔ IsNone (broken_at old.hub.now old.conn)
   pub broken : broken_at new.hub.now old.conn ≡ option_map (λ was. is_err told) (broken_at old.hub.now old.conn)
   pub stays : broken_at old.hub.now old.conn ≡ Some true → told ≡ Err Broken
-  pub breaks : told ≡ Err Broken → broken_at old.hub.now old.conn ≡ Some false → BreaksSo old.conn piece moment old.hub.now new.hub.now
+  pub breaks : told ≡ Err Broken → broken_at old.hub.now old.conn ≡ Some false
+      → BreaksSo old.conn piece moment old.hub.now new.hub.now
   pub faults : (told ≢ Err TooMany) × (told ≢ Err Exhausted)
   pub tells : ToldAs (λ done. length piece) told result

@@ -26,7 +26,8 @@ lent hub texts = record { hub = hub; texts = texts }
 abbrev pub BookGives : {T : Type 0} → Giving T → List ℕ → T → T → Result Content LoadFault → Type 0
 BookGives gives name old new (Ok book) = (text : List ℕ) × gives old name (Some text) new × Answers text (Ok book)
 BookGives gives name old new (Err NoText) = gives old name None new
-BookGives gives name old new (Err (NoBook fault)) = (text : List ℕ) × gives old name (Some text) new × Answers text (Err fault)
+BookGives gives name old new (Err (NoBook fault)) =
+    (text : List ℕ) × gives old name (Some text) new × Answers text (Err fault)
 BookGives gives name old new (Err Exhausted) = ⊥
 
 -- a hub loads a book, with this result
@@ -37,8 +38,11 @@ pub record Comes {A : Type 0} (book : Content) (told : Result Content Unloaded) 
 -- The hub takes the book, or has no epoch for it; where there is no book, the hub stays.
 abbrev pub Loads : {A T : Type 0} → Giving T → List ℕ → Lent A T → Lent A T → Result (Unit {0}) LoadFault → Type 0
 Loads gives name old new (Ok done) =
-    (book : Content) × (earlier : Content) × BookGives gives name old.texts new.texts (Ok book) × Comes book (Ok earlier) old.hub new.hub
+    (book : Content) × (earlier : Content) × BookGives gives name old.texts new.texts (Ok book)
+    × Comes book (Ok earlier) old.hub new.hub
 Loads gives name old new (Err NoText) = BookGives gives name old.texts new.texts (Err NoText) × (new.hub ≡ old.hub)
-Loads gives name old new (Err (NoBook fault)) = BookGives gives name old.texts new.texts (Err (NoBook fault)) × (new.hub ≡ old.hub)
+Loads gives name old new (Err (NoBook fault)) =
+    BookGives gives name old.texts new.texts (Err (NoBook fault)) × (new.hub ≡ old.hub)
 Loads gives name old new (Err Exhausted) =
-    (book : Content) × (unloaded : Unloaded) × BookGives gives name old.texts new.texts (Ok book) × Comes book (Err unloaded) old.hub new.hub
+    (book : Content) × (unloaded : Unloaded) × BookGives gives name old.texts new.texts (Ok book)
+    × Comes book (Err unloaded) old.hub new.hub

@@ -1,5 +1,6 @@
 -- The effects and the answers of a script: the answer to each line, and after the last line the trail.
-use Rattle.std.specs.Prelude.{◌≡◌, ◌⊎◌, ℕ, ◌-◌, ◌≤◌, ◌==◌, ◌&&◌, not, Bool, true, false, List, [], ◌∷◌, ◌++◌, length, codes, decimal, Option, Some, None, Result, Ok, Err}
+use Rattle.std.specs.Prelude.{◌≡◌, ◌⊎◌, ℕ, ◌-◌, ◌≤◌, ◌==◌, ◌&&◌, not, Bool, true, false, List, [], ◌∷◌, ◌++◌, length}
+use Rattle.std.specs.Prelude.{codes, decimal, Option, Some, None, Result, Ok, Err}
 use Rattle.std.specs.List.{All, concat, flat_map, list_all}
 use Rattle.std.specs.Io.KnownBytes.{Appends, Consumes, IsAtEnd}
 use Rattle.access_guard.specs.Text.{line_text}
@@ -33,10 +34,15 @@ abbrev pub owner : List ℕ
 owner = codes "nfsc"
 
 -- the command of a client with a session of its own, over a stream; or no session is opened
-abbrev pub RunsOver : {S A : Type 0} → (S → Option (List ℕ)) → (S → Option (List ℕ)) → S → Said → List ℕ → Result (Answer A) ToolFault → Type 0
+abbrev pub RunsOver : {S A : Type 0} → (S → Option (List ℕ)) → (S → Option (List ℕ)) → S → Said → List ℕ
+    → Result (Answer A) ToolFault → Type 0
 RunsOver {S} {A} contents remaining stream said verifier told =
-    ((fault : ToolFault) × OpenGives {S = S} {A = A} contents remaining stream said.uid said.gid owner verifier (Err fault) × (told ≡ Err fault))
-    ⊎ ((old : Client S A) × (new : Client S A) × OpenGives contents remaining stream said.uid said.gid owner verifier (Ok old) × Runs contents remaining said.command old new told)
+    ((fault : ToolFault)
+    × OpenGives {S = S} {A = A} contents remaining stream said.uid said.gid owner verifier (Err fault)
+    × (told ≡ Err fault))
+    ⊎ ((old : Client S A) × (new : Client S A)
+    × OpenGives contents remaining stream said.uid said.gid owner verifier (Ok old)
+    × Runs contents remaining said.command old new told)
 
 -- a client whose connection isn't opened can't write to it
 abbrev pub unconnected : HubFault → ToolFault
@@ -105,7 +111,8 @@ pub record Asked {A T : Type 0} (old new : Lent A T) (line out : List ℕ) (good
   pub stays : new.texts ≡ old.texts
 
 -- another book is loaded, or isn't, and that is printed
-pub record Reloaded {A T : Type 0} (gives : Giving T) (old new : Lent A T) (line out : List ℕ) (good : Bool) : Type 0 where
+pub record Reloaded {A T : Type 0} (gives : Giving T) (old new : Lent A T) (line out : List ℕ)
+    (good : Bool) : Type 0 where
   pub asks : is_skipped line ≡ false
   pub name : List ℕ
   pub is : line_in line ≡ Some (Reload name)
@@ -129,7 +136,8 @@ LinePrints gives old new line out good =
 abbrev pub Print : {A T : Type 0} → Giving T → Lent A T → Lent A T → List (List ℕ) → List ℕ → Bool → Type 0
 Print gives old new [] out good = (new ≡ old) × (out ≡ []) × (good ≡ true)
 Print {A = A} {T = T} gives old new (line ∷ before) out good =
-    (mid : Lent A T) × (earlier : List ℕ) × (was_good : Bool) × (printed : List ℕ) × (is_good : Bool) × Print gives old mid before earlier was_good
+    (mid : Lent A T) × (earlier : List ℕ) × (was_good : Bool) × (printed : List ℕ) × (is_good : Bool)
+    × Print gives old mid before earlier was_good
     × LinePrints gives mid new line printed is_good × (out ≡ earlier ++ printed) × (good ≡ (was_good && is_good))
 
 abbrev pub is_within : ℕ → Bool
@@ -173,7 +181,8 @@ IsScriptFault Memory = Unit {0}
 IsScriptFault fault = ⊥
 
 -- the state of a script with this hub and these texts after this text, with the printed text
-pub record Stands {A T : Type 0} (gives : Giving T) (old new : Lent A T) (p : Progress A) (text out : List ℕ) : Type 0 where
+pub record Stands {A T : Type 0} (gives : Giving T) (old new : Lent A T) (p : Progress A)
+    (text out : List ℕ) : Type 0 where
   pub whole : List (List ℕ)
   pub cut : IsCut text whole p.line.items
   pub printed : Print gives old new whole out p.is_good
@@ -197,24 +206,30 @@ Tells text good held held' (Ok told) = (told ≡ good) × Appends held held' tex
 Tells text good held held' (Err fault) = fault ≡ Write
 
 -- the text of a line is written
-abbrev pub LineWrites : {A T : Type 0} → Giving T → Lent A T → Lent A T → List ℕ → Option (List ℕ) → Option (List ℕ) → Result Bool ToolFault → Type 0
-LineWrites gives old new line held held' (Ok good) = (printed : List ℕ) × LinePrints gives old new line printed good × Appends held held' printed
+abbrev pub LineWrites : {A T : Type 0} → Giving T → Lent A T → Lent A T → List ℕ → Option (List ℕ) → Option (List ℕ)
+    → Result Bool ToolFault → Type 0
+LineWrites gives old new line held held' (Ok good) =
+    (printed : List ℕ) × LinePrints gives old new line printed good × Appends held held' printed
 LineWrites gives old new line held held' (Err fault) = IsScriptFault fault
 
 -- the line that was read so far is answered after these lines, and stays
-pub record Answered {A T : Type 0} (gives : Giving T) (first new : Lent A T) (p q : Progress A) (held held' : Option (List ℕ)) (whole : List (List ℕ)) (out : List ℕ) : Type 0 where
+pub record Answered {A T : Type 0} (gives : Giving T) (first new : Lent A T) (p q : Progress A)
+    (held held' : Option (List ℕ)) (whole : List (List ℕ)) (out : List ℕ) : Type 0 where
   pub printed : List ℕ
   pub wrote : Appends held held' printed
   pub prints : Print gives first new (p.line.items ∷ whole) (out ++ printed) q.is_good
   pub line : q.line ≡ p.line
 
-abbrev pub Answers : {A T : Type 0} → Giving T → Lent A T → Lent A T → Progress A → Progress A → Option (List ℕ) → Option (List ℕ) → Result (Unit {0}) ToolFault → Type 0
+abbrev pub Answers : {A T : Type 0} → Giving T → Lent A T → Lent A T → Progress A → Progress A → Option (List ℕ)
+    → Option (List ℕ) → Result (Unit {0}) ToolFault → Type 0
 Answers {A = A} {T = T} gives old new p q held held' (Ok done) =
-    (first : Lent A T) → (whole : List (List ℕ)) → (out : List ℕ) → Print gives first old whole out p.is_good → Answered gives first new p q held held' whole out
+    (first : Lent A T) → (whole : List (List ℕ)) → (out : List ℕ) → Print gives first old whole out p.is_good
+    → Answered gives first new p q held held' whole out
 Answers gives old new p q held held' (Err fault) = IsScriptFault fault
 
 -- the script goes on after this piece, and the text printed for it is written
-abbrev pub GoesOn : {A T : Type 0} → Giving T → Lent A T → Lent A T → Progress A → Progress A → List ℕ → Option (List ℕ) → Option (List ℕ) → Result (Unit {0}) ToolFault → Type 0
+abbrev pub GoesOn : {A T : Type 0} → Giving T → Lent A T → Lent A T → Progress A → Progress A → List ℕ
+    → Option (List ℕ) → Option (List ℕ) → Result (Unit {0}) ToolFault → Type 0
 GoesOn {A = A} {T = T} gives old new p q piece held held' (Ok done) =
     (first : Lent A T) → (text : List ℕ) → (out : List ℕ) → Stands gives first old p text out
     → (printed : List ℕ) × Appends held held' printed × Stands gives first new q (text ++ piece) (out ++ printed)
@@ -226,7 +241,8 @@ WritesTrail hub held held' (Ok x) = (text : List ℕ) × IsTrailOf hub text × A
 WritesTrail hub held held' (Err fault) = fault ≡ Write
 
 -- the last line is answered, and after it comes the trail of the hub in its state then
-pub record Finished {A T : Type 0} (gives : Giving T) (first new : Lent A T) (p : Progress A) (good : Bool) (held held' : Option (List ℕ)) (text out : List ℕ) : Type 0 where
+pub record Finished {A T : Type 0} (gives : Giving T) (first new : Lent A T) (p : Progress A) (good : Bool)
+    (held held' : Option (List ℕ)) (text out : List ℕ) : Type 0 where
   pub whole : List (List ℕ)
   pub cut : IsCut text whole p.line.items
   pub printed : List ℕ
@@ -235,9 +251,11 @@ pub record Finished {A T : Type 0} (gives : Giving T) (first new : Lent A T) (p 
   pub is_trail : IsTrailOf new.hub trail
   pub wrote : Appends held held' (printed ++ trail)
 
-abbrev pub Finishes : {A T : Type 0} → Giving T → Lent A T → Lent A T → Progress A → Option (List ℕ) → Option (List ℕ) → Result Bool ToolFault → Type 0
+abbrev pub Finishes : {A T : Type 0} → Giving T → Lent A T → Lent A T → Progress A → Option (List ℕ) → Option (List ℕ)
+    → Result Bool ToolFault → Type 0
 Finishes {A = A} {T = T} gives old new p held held' (Ok good) =
-    (first : Lent A T) → (text : List ℕ) → (out : List ℕ) → Stands gives first old p text out → Finished gives first new p good held held' text out
+    (first : Lent A T) → (text : List ℕ) → (out : List ℕ) → Stands gives first old p text out
+    → Finished gives first new p good held held' text out
 Finishes gives old new p held held' (Err fault) = IsScriptFault fault
 
 -- the most reads of a script
@@ -253,7 +271,8 @@ pub record Reads (most : ℕ) (left left' : Option (List ℕ)) : Type 0 where
 
 -- All of the reader was read, and each of its lines was answered; after them comes the trail of the
 -- hub in its state then. The read that finds the end is one of the most reads.
-pub record Ended {A T : Type 0} (gives : Giving T) (old new : Lent A T) (good : Bool) (left left' held held' : Option (List ℕ)) : Type 0 where
+pub record Ended {A T : Type 0} (gives : Giving T) (old new : Lent A T) (good : Bool)
+    (left left' held held' : Option (List ℕ)) : Type 0 where
   pub reads : Reads (MOST_READS - 1) left left'
   pub at_end : IsAtEnd left'
   pub whole : List (List ℕ)
@@ -265,6 +284,7 @@ pub record Ended {A T : Type 0} (gives : Giving T) (old new : Lent A T) (good : 
   pub is_trail : IsTrailOf new.hub trail
   pub wrote : Appends held held' (printed ++ trail)
 
-abbrev pub ScriptGives : {A T : Type 0} → Giving T → Lent A T → Lent A T → Option (List ℕ) → Option (List ℕ) → Option (List ℕ) → Option (List ℕ) → Result Bool ToolFault → Type 0
+abbrev pub ScriptGives : {A T : Type 0} → Giving T → Lent A T → Lent A T → Option (List ℕ) → Option (List ℕ)
+    → Option (List ℕ) → Option (List ℕ) → Result Bool ToolFault → Type 0
 ScriptGives gives old new left left' held held' (Ok good) = Ended gives old new good left left' held held'
 ScriptGives gives old new left left' held held' (Err fault) = IsScriptFault fault × Reads MOST_READS left left'

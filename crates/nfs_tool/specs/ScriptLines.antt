@@ -1,5 +1,6 @@
 -- The lines of a script, and the wish of each: a command, or another book.
-use Rattle.std.specs.Prelude.{ℕ, ◌==◌, ◌&&◌, ◌||◌, nat_lt, not, Bool, false, length, if◌then◌else◌, List, [], ◌∷◌, codes, filter, Option, Some, None, option_and_then, option_map}
+use Rattle.std.specs.Prelude.{ℕ, ◌==◌, ◌&&◌, ◌||◌, nat_lt, not, Bool, false, length, if◌then◌else◌, List, [], ◌∷◌}
+use Rattle.std.specs.Prelude.{codes, filter, Option, Some, None, option_and_then, option_map}
 use Rattle.std.specs.List.{list_all, slice_split}
 use Rattle.std.specs.Str.{bytes_eq, all_ascii_digits, is_utf8}
 use Rattle.who_book.specs.Spelling.{value_after}
@@ -7,7 +8,8 @@ use Rattle.nfs_client.specs.Words.{CommandLine, command_in}
 
 -- the number of 32 bits of decimal digits, also with zeros in front
 abbrev pub number_in : List ℕ → Option ℕ
-number_in word = if all_ascii_digits word && nat_lt (value_after 0 word) 4294967296 then Some (value_after 0 word) else None
+number_in word =
+    if all_ascii_digits word && nat_lt (value_after 0 word) 4294967296 then Some (value_after 0 word) else None
 
 abbrev pub is_space : ℕ → Bool
 is_space b = b == 32
@@ -36,7 +38,8 @@ said_by uid gid command = record { uid = uid; gid = gid; command = command }
 
 abbrev pub said_as : List ℕ → List ℕ → List (List ℕ) → Option Said
 said_as uid gid rest =
-    option_and_then (λ u. option_and_then (λ g. option_map (said_by u g) (command_in rest)) (number_in gid)) (number_in uid)
+    option_and_then (λ u. option_and_then (λ g. option_map (said_by u g) (command_in rest)) (number_in gid))
+    (number_in uid)
 
 -- the command of words: `as`, a uid, a gid and a command
 abbrev pub said_in : List (List ℕ) → Option Said

@@ -1,5 +1,6 @@
 -- When the file of the book is read again, and which book follows the one before.
-use Rattle.std.specs.Prelude.{◌&&◌, ◌||◌, ◌==◌, ◌-ℤ◌, ℤ, Bool, true, not, unsigned_abs, nat_le, if◌then◌else◌, Option, Some, None}
+use Rattle.std.specs.Prelude.{◌&&◌, ◌||◌, ◌==◌, ◌-ℤ◌, ℤ, Bool, true, not, unsigned_abs, nat_le, if◌then◌else◌, Option}
+use Rattle.std.specs.Prelude.{Some, None}
 use Rattle.std.specs.Ordering.{int_eq}
 use Rattle.nfsd.specs.declared.book_rule.Change.{Change}
 use Rattle.nfsd.specs.declared.book_rule.Change.TheVariants.{Moved, Written}
@@ -14,7 +15,8 @@ is_one_file a b = (a.device == b.device) && (a.node == b.node)
 
 -- nothing of the file has changed since it had this stamp
 abbrev pub is_unchanged : Stamp → Stamp → Bool
-is_unchanged a b = is_one_file a.id b.id && (int_eq a.seconds b.seconds && int_eq a.nanoseconds b.nanoseconds) && (a.len == b.len)
+is_unchanged a b =
+    is_one_file a.id b.id && (int_eq a.seconds b.seconds && int_eq a.nanoseconds b.nanoseconds) && (a.len == b.len)
 
 -- The last write isn't two seconds ago yet, by whole seconds of the clock. A time further ahead of
 -- the clock is another clock's.

@@ -1,6 +1,7 @@
 -- The text that is appended for the lines of a trail after the first of them. Each line begins with
 -- the same bytes: none, or a moment.
-use Rattle.std.specs.Prelude.{ℕ, ◌-◌, ◌==◌, if◌then◌else◌, List, [], ◌∷◌, ◌++◌, length, drop, codes, decimal, Option, Some, None}
+use Rattle.std.specs.Prelude.{ℕ, ◌-◌, ◌==◌, if◌then◌else◌, List, [], ◌∷◌, ◌++◌, length, drop, codes, decimal, Option}
+use Rattle.std.specs.Prelude.{Some, None}
 use Rattle.std.specs.List.{flat_map}
 use Rattle.access_guard.specs.Log.{Log}
 use Rattle.access_guard.specs.Text.{line_text}

@@ -1,5 +1,6 @@
 -- Dates of the Gregorian calendar from 1970 on, and the text of a moment in UTC, as in 2026-11-26T20:28:01Z.
-use Rattle.std.specs.Prelude.{◌≡◌, ◌≤◌, ◌+◌, ◌-◌, ◌/◌, ◌%◌, ◌==◌, ◌&&◌, ◌||◌, not, ℕ, ℤ, pos, negsuc, Bool, zero, suc, if◌then◌else◌, List, [], ◌∷◌, ◌++◌, min}
+use Rattle.std.specs.Prelude.{◌≡◌, ◌≤◌, ◌+◌, ◌-◌, ◌/◌, ◌%◌, ◌==◌, ◌&&◌, ◌||◌, not, ℕ, ℤ, pos, negsuc, Bool, zero, suc}
+use Rattle.std.specs.Prelude.{if◌then◌else◌, List, [], ◌∷◌, ◌++◌, min}
 use Rattle.trail_keeper.specs.declared.date.Date.{Date}
 
 abbrev pub is_leap : ℕ → Bool
@@ -33,7 +34,9 @@ pub record IsDate (days : ℕ) (date : Date) : Type 0 where
   pub last_month : date.month ≤ 12
   pub first_day : 1 ≤ date.day
   pub last_day : date.day ≤ month_length (is_leap date.year) date.month
-  pub counted : (years_length (date.year - 1970) + months_length (is_leap date.year) (date.month - 1)) + (date.day - 1) ≡ days
+  pub counted : (years_length (date.year - 1970) + months_length (is_leap date.year) (date.month - 1))
+      + (date.day - 1)
+      ≡ days
 
 -- two decimal digits
 abbrev pub two : ℕ → List ℕ
@@ -42,7 +45,8 @@ two n = (48 + n / 10) ∷ (48 + n % 10) ∷ []
 -- the text of a second of a day, with a space after it
 abbrev pub moment_text : Date → ℕ → List ℕ
 moment_text date second =
-    two (date.year / 100) ++ two (date.year % 100) ++ 45 ∷ two date.month ++ 45 ∷ two date.day ++ 84 ∷ two (second / 3600) ++ 58 ∷ two (second / 60 % 60)
+    two (date.year / 100) ++ two (date.year % 100) ++ 45 ∷ two date.month ++ 45 ∷ two date.day ++ 84
+    ∷ two (second / 3600) ++ 58 ∷ two (second / 60 % 60)
     ++ 58 ∷ two (second % 60) ++ 90 ∷ 32 ∷ []
 
 -- the seconds since 1970 that are written: none for a moment before, and at most those before day

@@ -9,7 +9,8 @@ use Rattle.trail_keeper.specs.Written.{WritesFront}
 use Rattle.trail_keeper.specs.declared.keeper.TrailKeeper.{TrailKeeper}
 
 -- The lines after the seen ones are appended to the bytes of the writer, and are seen.
-pub record Kept {W : Type 0} (contents : W → Option (List ℕ)) (front : List ℕ) (log : Log) (old new : TrailKeeper W) : Type 0 where
+pub record Kept {W : Type 0} (contents : W → Option (List ℕ)) (front : List ℕ) (log : Log)
+    (old new : TrailKeeper W) : Type 0 where
   pub written : Appends (contents old.out) (contents new.out) (new_text front old.seen log)
   pub seen : new.seen ≡ max old.seen log.total
   pub going : new.has_failed ≡ false
@@ -22,7 +23,8 @@ pub record Stops {W : Type 0} (contents : W → Option (List ℕ)) (bytes : List
 
 -- By whether the keeper had failed before, and its answer now. A keeper that has failed answers so
 -- again, and stays unchanged.
-abbrev pub KeepsSo : {W : Type 0} → (W → Option (List ℕ)) → List ℕ → Log → Bool → Bool → TrailKeeper W → TrailKeeper W → Type 0
+abbrev pub KeepsSo : {W : Type 0} → (W → Option (List ℕ)) → List ℕ → Log → Bool → Bool → TrailKeeper W → TrailKeeper W
+    → Type 0
 KeepsSo contents front log true true old new = ⊥
 KeepsSo contents front log true false old new = new ≡ old
 KeepsSo contents front log false true old new = Kept contents front log old new
@@ -48,4 +50,5 @@ KeptOnce {W = W} contents =
     (front : List ℕ) (earlier later : List Line) (log : Log) (old new : TrailKeeper W)
     → IsLogOf (earlier ++ later) log → old.seen ≡ length earlier → Kept contents front log old new
     → let missing = length later - 4096 in
-    Appends (contents old.out) (contents new.out) (lost_text front missing ++ text_of front (drop missing later)) × (new.seen ≡ length (earlier ++ later))
+    Appends (contents old.out) (contents new.out) (lost_text front missing ++ text_of front (drop missing later))
+    × (new.seen ≡ length (earlier ++ later))

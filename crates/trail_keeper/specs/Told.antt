@@ -21,4 +21,5 @@ TellsEach =
 -- an operation that ends puts its lines after the others, as long as 64 bits count them
 abbrev pub SettlingAdds : Type 0
 SettlingAdds =
-    (lines : List Line) (log : Log) → IsLogOf lines log → length lines + length log.held < 2 ^ 64 → IsLogOf (lines ++ log.held) (settled true log)
+    (lines : List Line) (log : Log) → IsLogOf lines log → length lines + length log.held < 2 ^ 64
+    → IsLogOf (lines ++ log.held) (settled true log)

@@ -15,7 +15,8 @@ use Rattle.journal.specs.Frames.{Bytes}
 use Rattle.tree_store.specs.declared.fault.StoreFault.{StoreFault}
 use Rattle.tree_store.specs.declared.fault.StoreFault.TheVariants.{Failed, Version, Damaged, Memory}
 use Rattle.tree_store.specs.declared.piece.Piece.{Piece}
-use Rattle.tree_store.specs.Folded.{FOLDED, piece, pieces, with_piece, with_pieces, whole_of_pieces, whole_read, whole_after, whole_of, piece_value, piece_values, ComeTo, Adds, AddsAgain, StandsAt, Unfolded, AreFolded}
+use Rattle.tree_store.specs.Folded.{FOLDED, piece, pieces, with_piece, with_pieces, whole_of_pieces, whole_read, whole_after, whole_of}
+use Rattle.tree_store.specs.FoldingSteps.{piece_value, piece_values, ComeTo, Adds, AddsAgain, StandsAt, Unfolded, AreFolded}
 use Rattle.tree_store.specs.Reading.{FindsSo}
 
 -- a piece after others

@@ -86,14 +86,16 @@ StartsSo adds base aim result old new =
 
 -- What is to be kept is the world, and what is known of clients.
 abbrev pub Starts : {D : Type 0} → Adding D → Base → World → Known → Result Store StoreFault → D → D → Type 0
-Starts adds base w now result old new = (known : Known) × AreSame known now × StartsSo adds base (kept_with w known) result old new
+Starts adds base w now result old new =
+    (known : Known) × AreSame known now × StartsSo adds base (kept_with w known) result old new
 
 -- ---- keeping
 
 -- A store that has kept all stands for what was kept before, or for what was to be kept, and that covers what is now.
 -- Where the disk has failed, the newest act has; and after a fault the store isn't called again.
 abbrev pub KeptSo : ℕ → List Act → Result (Unit {0}) StoreFault → Store → Kept → Kept → Kept → Type 0
-KeptSo key history (Ok done) store old aim now = (kept : Kept) × Stands key history store kept × ((kept ≡ old) ⊎ (kept ≡ aim)) × Covers now kept
+KeptSo key history (Ok done) store old aim now =
+    (kept : Kept) × Stands key history store kept × ((kept ≡ old) ⊎ (kept ≡ aim)) × Covers now kept
 KeptSo key history (Err Failed) store old aim now = HasFailed history × (store.journal.has_failed ≡ true)
 KeptSo key history (Err Version) store old aim now = ⊥
 KeptSo key history (Err Damaged) store old aim now = ⊥
@@ -101,11 +103,14 @@ KeptSo key history (Err Memory) store old aim now = store.journal.has_failed ≡
 
 -- Of a store that stands for what is kept, from where the notes of the world lead. A crash at any
 -- moment leaves that, or what was to be kept. At the end the store stands for one of them.
-abbrev pub KeepsSo : {D : Type 0} → Adding D → Store → World → Known → Known → Result (Unit {0}) StoreFault → Store → D → D → Type 0
+abbrev pub KeepsSo : {D : Type 0} → Adding D → Store → World → Known → Known → Result (Unit {0}) StoreFault → Store
+    → D → D → Type 0
 KeepsSo adds store w known now result store' old new =
     (history : List Act) (kept : Kept) → Stands store.journal.key history store kept → Follows kept w
     → Does adds store.journal.key history (IsHeldOr kept (kept_with w known))
     (λ acts. KeptSo store.journal.key acts result store' kept (kept_with w known) (kept_with w now)) old new
 
-abbrev pub Keeps : {D : Type 0} → Adding D → Store → World → Known → Result (Unit {0}) StoreFault → Store → D → D → Type 0
-Keeps adds store w now result store' old new = (known : Known) × AreSame known now × KeepsSo adds store w known now result store' old new
+abbrev pub Keeps : {D : Type 0} → Adding D → Store → World → Known → Result (Unit {0}) StoreFault → Store → D → D
+    → Type 0
+Keeps adds store w now result store' old new =
+    (known : Known) × AreSame known now × KeepsSo adds store w known now result store' old new

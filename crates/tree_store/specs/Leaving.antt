@@ -3,7 +3,8 @@
 use Rattle.std.specs.Prelude.{ℕ, ◌≡◌, ◌⊎◌, ◌≤◌, ◌+◌, Bool, true, List, [], ◌∷◌, ◌++◌, length, Option}
 use Rattle.journal.specs.declared.disk.Slot.{Slot}
 use Rattle.journal.specs.declared.disk.Slot.TheVariants.{A, B}
-use Rattle.journal.specs.Disk.{Act, Found, Unfound, Appended, Tore, Synced, Unsynced, Emptied, Unemptied, on_disk, MayLeave, IsGoing}
+use Rattle.journal.specs.Disk.{Act, Found, Unfound, Appended, Tore, Synced, Unsynced, Emptied, Unemptied, on_disk}
+use Rattle.journal.specs.Disk.{MayLeave, IsGoing}
 use Rattle.journal.specs.Frames.{Bytes, Frame, all_framed}
 use Rattle.journal.specs.Files.{Content}
 use Rattle.journal.specs.Opening.{Chooses, Refuses, in_slot}
@@ -78,7 +79,8 @@ HasFailed (act ∷ acts) = IsGoing act → ⊥
 
 -- Acts were done after a history: a crash at any moment of them leaves what is so, and after them this holds of all
 -- acts.
-pub record Does {D : Type 0} (adds : Adding D) (key : ℕ) (history : List Act) (is : Option Content → Type 0) (after : List Act → Type 0) (old new : D) : Type 0 where
+pub record Does {D : Type 0} (adds : Adding D) (key : ℕ) (history : List Act) (is : Option Content → Type 0)
+    (after : List Act → Type 0) (old new : D) : Type 0 where
   pub acts : List Act
   pub chain : Chain adds acts old new
   pub leaves : AlwaysLeaves key acts history is

@@ -2,6 +2,7 @@ pub mod Said
 pub mod Running
 pub mod Kept
 pub mod Folded
+pub mod FoldingSteps
 pub mod Holds
 pub mod Leaving
 pub mod Standing

@@ -34,7 +34,8 @@ abbrev pub FindsSo : {X : Type 0} → (X → Bytes) → Option Bytes → Result 
 FindsSo bytes_in sought result = AnswersSo (λ x. sought ≡ Some (bytes_in x)) (sought ≡ None) result
 
 abbrev pub LeadsWholeSo : Known → Bytes → Result (Unit {0}) StoreFault → Known → Type 0
-LeadsWholeSo old bytes result new = AnswersSo (λ done. LeadsWhole old bytes new) ((known : Known) → LeadsWhole old bytes known → ⊥) result
+LeadsWholeSo old bytes result new =
+    AnswersSo (λ done. LeadsWhole old bytes new) ((known : Known) → LeadsWhole old bytes known → ⊥) result
 
 abbrev pub BeginsClientsSo : Bytes → Bytes → Bytes → Result Known StoreFault → Type 0
 BeginsClientsSo first second third result =

@@ -34,7 +34,8 @@ abbrev pub framed_of : Journal → Bytes → Bytes
 framed_of j bytes = framed j.key j.generation j.number (frame_of j bytes)
 
 -- A record was appended and then synced, or the disk has failed, now or before, or nothing was done.
-abbrev pub RecordGives : {D : Type 0} → Adding D → Journal → Bytes → Result (Unit {0}) StoreFault → Journal → D → D → Type 0
+abbrev pub RecordGives : {D : Type 0} → Adding D → Journal → Bytes → Result (Unit {0}) StoreFault → Journal → D → D
+    → Type 0
 RecordGives adds j bytes (Ok done) j' old new =
     Twice adds (Appended j.slot (framed_of j bytes)) (Synced j.slot) old new
     × IsFit j.key j.generation j.number (frame_of j bytes)
@@ -55,10 +56,12 @@ part_frames parts = map (frame_with PART 0) parts
 
 -- A checkpoint is being written into the other file than this one, which counts with its generation and content: these
 -- parts were appended.
-pub record IsBegun (key generation : ℕ) (s : Slot) (content : Option Content) (c : Checkpoint) (parts : List Bytes) (history : List Act) : Type 0 where
+pub record IsBegun (key generation : ℕ) (s : Slot) (content : Option Content) (c : Checkpoint) (parts : List Bytes)
+    (history : List Act) : Type 0 where
   pub replaced : IsReplaced key generation s content (part_frames parts) true history
   pub written : written_since (other s) history ≡ all_framed key (generation + 1) 0 (part_frames parts)
-  pub checkpoint_is : c ≡ record { key = key; slot = other s; generation = generation + 1; number = length parts; has_failed = false }
+  pub checkpoint_is : c
+      ≡ record { key = key; slot = other s; generation = generation + 1; number = length parts; has_failed = false }
 
 -- this stands after the acts of a step, where it has succeeded; where the disk has failed, the
 -- newest act has
@@ -71,7 +74,8 @@ IfDone so acts (Err Memory) = Unit {0}
 
 -- Of a checkpoint that is being written: more parts are appended, and a crash at any moment leaves what the old file
 -- has.
-abbrev pub Appends : {D : Type 0} → Adding D → Checkpoint → List Bytes → Result (Unit {0}) StoreFault → Checkpoint → D → D → Type 0
+abbrev pub Appends : {D : Type 0} → Adding D → Checkpoint → List Bytes → Result (Unit {0}) StoreFault → Checkpoint → D
+    → D → Type 0
 Appends adds c more result c' old new =
     (key generation : ℕ) (s : Slot) (content : Option Content) (parts : List Bytes) (history : List Act)
     → IsBegun key generation s content c parts history
@@ -125,7 +129,8 @@ written_store w = record { journal = w.journal; known = w.known }
 
 -- Over a file that counts. A crash at any moment leaves what it has, or what was to be kept. At the
 -- end a store of what was written stands for what was to be kept.
-abbrev pub Checkpoints : {A D : Type 0} → Adding D → ℕ → Slot → ℕ → Kept → Result (Written A) StoreFault → D → D → Type 0
+abbrev pub Checkpoints : {A D : Type 0} → Adding D → ℕ → Slot → ℕ → Kept → Result (Written A) StoreFault → D → D
+    → Type 0
 Checkpoints adds key s generation aim result old new =
     (content : Option Content) (history : List Act) → Counts key generation s content history
     → Does adds key history (IsFoundOr content aim)
@@ -135,7 +140,8 @@ Checkpoints adds key s generation aim result old new =
 
 -- Of a store that stands for what is kept. A crash at any moment leaves that, or what was to be
 -- kept. At the end the store stands for the latter, or it has failed.
-abbrev pub GoesOn : {D : Type 0} → Adding D → Store → Kept → Kept → Result (Unit {0}) StoreFault → Store → D → D → Type 0
+abbrev pub GoesOn : {D : Type 0} → Adding D → Store → Kept → Kept → Result (Unit {0}) StoreFault → Store → D → D
+    → Type 0
 GoesOn adds store kept aim result store' old new =
     (history : List Act) → Stands store.journal.key history store kept
     → Does adds store.journal.key history (IsHeldOr kept aim)

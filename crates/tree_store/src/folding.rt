@@ -1,7 +1,8 @@
 //! A record is folded: the data of a WRITE stand in the arguments of a call that a slot keeps, and
 //! so they aren't written again with the notes of the tree.
 ghost use Rattle.std.specs.Prelude.{◌≡◌, ◌≤◌, ◌↔◌, ◌++◌, Some, IfOk, IfSome, IsTrue, OnOk, OnErr};
-ghost use Rattle.tree_store.specs.Folded.{Adds, AddsAgain, StandsAt, Unfolded, whole_of};
+ghost use Rattle.tree_store.specs.Folded.{whole_of};
+ghost use Rattle.tree_store.specs.FoldingSteps.{Adds, AddsAgain, StandsAt, Unfolded};
 
 use crate::piece::{Piece, record_of_pieces};
 use std::alloc::{AllocError, Allocator};
@@ -100,7 +101,7 @@ pub(crate) struct Folding<'a, A: Allocator> {
 }
 
 impl<'a, A: Allocator> Model for Folding<'a, A> {
-    ghost use Rattle.tree_store.specs.Folded.{Unfolded, AreFolded};
+    ghost use Rattle.tree_store.specs.FoldingSteps.{Unfolded, AreFolded};
 
     ghost Value = { Unfolded };
 

@@ -1,6 +1,7 @@
 //! The pieces of a record that is folded.
 ghost use Rattle.std.specs.Prelude.{◌≡◌, IfOk};
-ghost use Rattle.tree_store.specs.Folded.{piece_values, whole_of, whole_of_pieces};
+ghost use Rattle.tree_store.specs.Folded.{whole_of, whole_of_pieces};
+ghost use Rattle.tree_store.specs.FoldingSteps.{piece_values};
 
 use std::alloc::{AllocError, Allocator};
 use xdr_wire::{Full, Opaque, Reader, Spell, Wire, Writer, XdrFault};
@@ -20,7 +21,8 @@ pub(crate) enum Piece<'a> {
 
 impl<'a> Spell for Piece<'a> {
     ghost use Rattle.std.specs.Prelude.{None};
-    ghost use Rattle.tree_store.specs.Folded.{piece, piece_value};
+    ghost use Rattle.tree_store.specs.Folded.{piece};
+    ghost use Rattle.tree_store.specs.FoldingSteps.{piece_value};
 
     ghost form = { piece };
 

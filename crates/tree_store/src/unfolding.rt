@@ -1,7 +1,8 @@
 //! The whole of a record.
 ghost use Rattle.std.specs.Prelude.{◌≡◌, None};
 ghost use Rattle.xdr_wire.specs.Wire.{array_values};
-ghost use Rattle.tree_store.specs.Folded.{piece, piece_value, with_piece, whole_of_pieces, whole_of};
+ghost use Rattle.tree_store.specs.Folded.{piece, with_piece, whole_of_pieces, whole_of};
+ghost use Rattle.tree_store.specs.FoldingSteps.{piece_value};
 ghost use Rattle.tree_store.specs.Reading.{FindsSo};
 
 use crate::fault::StoreFault;

@@ -1,7 +1,7 @@
 use Rattle.std.proofs.Common.{List, ℕ, ◌++◌, take, drop, subst, sym}
 use Rattle.tree_store.specs.declared.piece.Piece.{Piece}
 use Rattle.tree_store.specs.declared.piece.Piece.TheVariants.{Again}
-use Rattle.tree_store.specs.Folded.{ComeTo}
+use Rattle.tree_store.specs.FoldingSteps.{ComeTo}
 use Rattle.tree_store.proofs.Pieces.{one_more, taken_again}
 use Rattle.tree_store.proofs.folding.put_again.Goals as goal
 

@@ -1,7 +1,7 @@
 use Rattle.std.proofs.Common.{List, ℕ, ◌++◌, Some, ap, subst, sym}
 use Rattle.tree_store.specs.declared.piece.Piece.{Piece}
 use Rattle.tree_store.specs.declared.piece.Piece.TheVariants.{Plain}
-use Rattle.tree_store.specs.Folded.{ComeTo}
+use Rattle.tree_store.specs.FoldingSteps.{ComeTo}
 use Rattle.tree_store.proofs.Pieces.{one_more}
 use Rattle.tree_store.proofs.folding.put_plain.Goals as goal
 

@@ -1,6 +1,7 @@
 use Rattle.std.proofs.Common.{None, Vec, ℕ}
 use Rattle.xdr_wire.specs.Wire.{array_values}
-use Rattle.tree_store.specs.Folded.{piece, piece_value, whole_of_pieces}
+use Rattle.tree_store.specs.Folded.{piece, whole_of_pieces}
+use Rattle.tree_store.specs.FoldingSteps.{piece_value}
 use Rattle.tree_store.proofs.Pieces.{found_fault}
 use Rattle.tree_store.proofs.unfolding.joined.Goals as goal
 

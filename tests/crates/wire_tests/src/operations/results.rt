@@ -1,7 +1,8 @@
 //! Results by hand (RFC 8881, section 18, and RFC 5662).
 use nfs_ops::{
-    AccessResult, ChangeInfo, Channel, CloseResult, CreateResult, CreateSessionResult, LinkResult,
-    OpResult, OpenResult, RemoveResult, RenameResult, SequenceResult, SetAttrResult, WriteResult,
+    AccessResult, ChangeInfo, Channel, CloseResult, CommitResult, CreateResult,
+    CreateSessionResult, LinkResult, OpResult, OpenResult, RemoveResult, RenameResult,
+    SequenceResult, SetAttrResult, WriteResult,
 };
 use nfs_types::{Bitmap, StateId, Status};
 
@@ -90,7 +91,7 @@ pub fn result_of(index: u32) -> OpResult<'static> {
         1 => OpResult::Close(CloseResult {
             stateid: StateId::closed(),
         }),
-        2 => OpResult::Commit,
+        2 => OpResult::Commit(CommitResult),
         3 => OpResult::Create(CreateResult {
             change: change(),
             set: mode(),

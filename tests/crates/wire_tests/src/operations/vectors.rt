@@ -216,7 +216,7 @@ static OTHERS: [(&[u8], Kind); 34] = [
 ];
 
 /// Bytes that are no result.
-static NO_RESULTS: [&[u8]; 9] = [
+static NO_RESULTS: [&[u8]; 10] = [
     b"",
     b"\0\0\0\x0f",
     b"\0\0\x27\x3c\0\0\0\0",
@@ -229,6 +229,8 @@ static NO_RESULTS: [&[u8]; 9] = [
     b"\0\0\0*\0\0\0\0\0\0\0\0\0\0\0\x01\0\0\0\x01\0\x01\0\0\0\0\0\0\0\0\0\0\0\0\0\0\0\0\0\x0bnfs41-lists\0\0\0\0\x0anfs41-list\0\0\0\0\0\0",
     // SEQUENCE with a target below the highest slot
     b"\0\0\05\0\0\0\0\0\0\0\0\0\0\0\0\0\0\0\0\0\0\0\x01\0\0\0\x01\0\0\0\0\0\0\0\x07\0\0\0\x06\0\0\0\0",
+    // a refused SETATTR that set the mode
+    b"\0\0\0\x22\0\0'4\0\0\0\x02\0\0\0\0\0\0\0\x02",
 ];
 
 pub fn operations() -> &'static [&'static [u8]] {

@@ -1,6 +1,6 @@
 use Rattle.std.proofs.Common.{List, subst}
 use Rattle.tree_store.specs.declared.piece.Piece.{Piece}
-use Rattle.tree_store.specs.Folded.{Adds}
+use Rattle.tree_store.specs.FoldingSteps.{Adds}
 use Rattle.tree_store.proofs.Pieces.{changes_folded}
 use Rattle.tree_store.proofs.folding.Folding.new.Goals as goal
 

@@ -1,6 +1,6 @@
 use Rattle.std.proofs.Common.{◌≡◌, ◌≤◌, ◌+◌, ℕ, List, length, arith, subst, sym}
 use Rattle.tree_store.specs.declared.piece.Piece.{Piece}
-use Rattle.tree_store.specs.Folded.{AreFolded, AddsAgain}
+use Rattle.tree_store.specs.FoldingSteps.{AreFolded, AddsAgain}
 use Rattle.tree_store.proofs.Pieces.{plain_folded, again_folded}
 use Rattle.tree_store.proofs.folding.Folding.take_again.Goals as goal
 
