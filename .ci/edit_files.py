@@ -194,16 +194,81 @@ TEXT_OR_BLANKS = re.compile(TEXT + r"|\s+")
 USE_OF_SOME = re.compile(r"((?:\b(?:ghost|pub) )*\buse [^;{}\"]*)\{([^;{}\"]*)\};")
 # a line of definitions or of a proof that is a comment
 COMMENT_LINE = re.compile(r"(?m)^[ \t]*--(?: .*)?\n")
+# where definitions begin in a source
+GHOST = re.compile(r"\b(?:requires|ensures)(?: \w+)? \{|\bghost \w+ = \{")
+QUOTED_OR_BRACE = re.compile(r'"(?:[^"\\]|\\.)*"|[{}]')
+# what has a block of lines below it, and what else has a line of its own
+OPENER = re.compile(r"\b(?:where|do)$|^(?:\w+ )*mutual$")
+LINED = re.compile(r"\b(?:where|do|mutual|unfolding|deriving)\b|--")
+# a text of definitions, which stays; blanks inside of brackets, with the mark behind the last of what stands there, which says nothing; and other blanks
+QUOTED_OR_BLANKS = re.compile(r'("(?:[^"\\]|\\.)*")|(?<=[({])\s+|[;,]\s*(?=[)}])|\s+(?=[)}])|(\s+)')
+# a line of definitions that brings several names, without another such list inside
+BRINGS_SOME = re.compile(r"((?:pub )?use [^{}]*)\{([^{}]*)\}")
+
+
+def tight(text):
+    """Definitions with single blanks, and none inside of brackets."""
+    return QUOTED_OR_BLANKS.sub(lambda it: it[1] or it[2] and " " or "", text)
+
+
+def on_one_line(lines):
+    """Lines of definitions as one, or with a line for each name that they bring."""
+    text = tight(" ".join(lines)).strip()
+    some = BRINGS_SOME.fullmatch(text)
+    return [f"{some[1]}{{{name.strip()}}}" for name in some[2].split(",") if name.strip()] if some else [text]
+
+
+def without_breaks(lines):
+    """Lines of definitions without the breaks and blanks that say nothing. A line that is further in than the first of its block goes on from the one before,
+    as does a closer. Below one that ends in `where` or `do` another block begins. Where anything else may say something by its line, all stays as it is."""
+    parts, said = [], []
+    for line in lines:
+        if parts and (line[0].isspace() or line[0] in ")}"):
+            parts[-1].append(line)
+        else:
+            parts.append([line])
+    for part in parts:
+        head = next((at + 1 for at, line in enumerate(part) if OPENER.search(line)), len(part))
+        block = part[head:]
+        indent = len(block[0]) - len(block[0].lstrip()) if block else 0
+        if LINED.search(OPENER.sub("", " ".join(part[:head]))) or any(line[:indent].strip() for line in block):
+            said += part
+        else:
+            said += on_one_line(part[:head]) + [f"  {line}" for line in without_breaks([line[indent:] for line in block])]
+    return said
+
+
+def blank(it):
+    """What blanks of a source say: one, and nothing inside of brackets."""
+    return "" if it.string[it.start() - 1 : it.start()] in ("(", "{") or it.string[it.end() : it.end() + 1] in (")", "}") else " "
+
+
+def with_tight_clauses(code):
+    """A source on one line, with the definitions in it made `tight`."""
+    parts, at = [], 0
+    for found in GHOST.finditer(code):
+        if found.start() < at:
+            continue
+        depth, end = 1, len(code)
+        for it in QUOTED_OR_BRACE.finditer(code, found.end()):
+            depth += (it[0] == "{") - (it[0] == "}")
+            if depth == 0:
+                end = it.end()
+                break
+        parts += [code[at : found.end()], tight(code[found.end() : end])]
+        at = end
+    return "".join(parts) + code[at:]
 
 
 def code_of(path, text):
     """A source without comments, and without line breaks and blanks that say nothing, each name of a `use` line in a line of its own; or definitions without lines
-    of comments, where lines say something."""
+    of comments, and without the line breaks that say nothing."""
     if not path.endswith(".rt"):
-        return text if "{-" in text else COMMENT_LINE.sub("", text)
+        lines = [line.rstrip() for line in COMMENT_LINE.sub("", text).split("\n")]
+        return text if "{-" in text else "\n".join(without_breaks([*filter(None, lines)]))
     bare = TEXT_OR_COMMENT.sub(lambda it: " " if it[0].lstrip().startswith("//") else it[0], text)
-    code = TEXT_OR_BLANKS.sub(lambda it: " " if it[0].isspace() else it[0], bare).strip()
-    return USE_OF_SOME.sub(lambda it: " ".join(f"{it[1]}{name.strip()};" for name in it[2].split(",")), code)
+    code = TEXT_OR_BLANKS.sub(lambda it: blank(it) if it[0].isspace() else it[0], bare).strip()
+    return with_tight_clauses(USE_OF_SOME.sub(lambda it: " ".join(f"{it[1]}{name.strip()};" for name in it[2].split(",")), code))
 
 
 def without_bodies(text):

@@ -24,14 +24,18 @@ use nfs_types::Bitmap;
 /// | READDIR | LIST_DIRECTORY (its entries are judged as they are listed) |
 /// | READ, READLINK | READ_DATA |
 /// | WRITE | within the file, or nothing: WRITE_DATA; at its end: APPEND_DATA; across or past it: both |
-/// | OPEN by name | EXECUTE on the directory; then of a file that is there READ_DATA to read, APPEND_DATA to write, WRITE_DATA to truncate; of a new file ADD_FILE on the directory |
-/// | OPEN by filehandle | the demands on the file alone |
+/// | OPEN by name, a file that is there | EXECUTE on the directory; then on the file as by filehandle |
+/// | OPEN by name, a new file | EXECUTE on the directory, then ADD_FILE |
+/// | OPEN by filehandle | READ_DATA to read, APPEND_DATA to write, WRITE_DATA to truncate |
 /// | CREATE | EXECUTE with ADD_FILE (a link) or ADD_SUBDIRECTORY (a directory) |
 /// | LINK | EXECUTE with ADD_FILE on the target directory |
 /// | REMOVE | EXECUTE; then the removal of the name |
-/// | RENAME | EXECUTE on the source's directory, then on the target's if it is another; then the removal of the source, ADD_FILE or ADD_SUBDIRECTORY on the target's directory, the removal of a replaced target |
+/// | RENAME | EXECUTE on the source's directory, then on the target's if it is another; then |
+/// | | the removal of the source, ADD_FILE or ADD_SUBDIRECTORY on the target's directory, |
+/// | | the removal of a replaced target |
 /// | GETATTR, VERIFY, NVERIFY | READ_ATTRIBUTES for 3, 4, 33, 35, 36, 37, 52 and 53; READ_ACL for 12, 58 and 59 |
-/// | SETATTR | for a size WRITE_DATA, with APPEND_DATA where the file grows; for mode, acl, dacl and sacl WRITE_ACL; for owner and group WRITE_OWNER |
+/// | SETATTR | for a size WRITE_DATA, with APPEND_DATA where the file grows |
+/// | | for mode, acl, dacl and sacl WRITE_ACL; for owner and group WRITE_OWNER |
 /// | all others, ACCESS among them | nothing |
 ///
 /// The demands after a "then" are those of `second_demands`. Bits of one object in one phase are

@@ -6,13 +6,15 @@ use std::alloc::{AllocError, Global};
 const ABOUT: &str = "\
 Answers questions on access control lists, one a line of standard input, with a line of standard output each:
 
-    judge KIND OWNER GROUP UID GID,GID.. MASK LIST   granted, denied or missing, and the bits that an ALLOW entry mentions first
+    judge KIND OWNER GROUP UID GID,GID.. MASK LIST   granted, denied or missing, and the bits that an
+                                                     ALLOW entry mentions first
     why KIND OWNER GROUP UID GID,GID.. MASK LIST     granted, denied N BIT or missing BIT
     mode KIND OWNER GROUP LIST                       the mode
     chmod KIND OCTAL LIST                            the list that a mode makes of a list
     inherit CHILDKIND LIST                           the list that a child inherits
 
-A list is its entries with commas between them, or '-'. An entry is TYPE:FLAGS:MASK:WHO, as in A:00:00000001:1001. KIND is d, f or l. For example:
+A list is its entries with commas between them, or '-'. An entry is TYPE:FLAGS:MASK:WHO, as in
+A:00:00000001:1001. KIND is d, f or l. For example:
 
     echo 'judge f 0 0 1001 100 1 D:00:00000001:1001,A:00:00000001:EVERYONE@' | acl_lines";
 

@@ -1,5 +1,6 @@
 -- The entry of a list that decides a bit (RFC 8881, section 6.2.1).
-use Rattle.std.specs.Prelude.{ℕ, Bool, true, false, not, ◌==◌, ◌&&◌, if◌then◌else◌, List, Option, Some, None, find, bit_and}
+use Rattle.std.specs.Prelude.{ℕ, Bool, true, false, not, ◌==◌, ◌&&◌, if◌then◌else◌, List, Option, Some, None, find}
+use Rattle.std.specs.Prelude.{bit_and}
 use Rattle.std.specs.List.{enumerate_from}
 use Rattle.acl_list.specs.Mask.{has_bit}
 use Rattle.acl_list.specs.Places.{inherit_only}
@@ -67,7 +68,8 @@ mention names entries bit = find (λ p. counts_for names bit p.1) (enumerate_fro
 
 -- the first entry that applies and has a bit of the mask, with its index: of a mask of one bit its first mention
 abbrev pub mention_of_mask : (Who → Bool) → List Entry → ℕ → Option (ℕ × Entry)
-mention_of_mask names entries mask = find (λ p. applies names p.1 && not (bit_and p.1.mask mask == 0)) (enumerate_from 0 entries)
+mention_of_mask names entries mask =
+    find (λ p. applies names p.1 && not (bit_and p.1.mask mask == 0)) (enumerate_from 0 entries)
 
 -- the mention by the entry that was found
 abbrev pub mentioned : Option (ℕ × Entry) → Mention

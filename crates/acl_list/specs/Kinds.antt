@@ -12,4 +12,5 @@ kind_number Alarm = 3
 -- the type of this number, if there is one
 abbrev pub kind_of : ℕ → Option EntryKind
 kind_of number =
-    if number == 0 then Some Allow else if number == 1 then Some Deny else if number == 2 then Some Audit else if number == 3 then Some Alarm else None
+    if number == 0 then Some Allow else if number == 1 then Some Deny else if number == 2 then Some Audit else if number
+    == 3 then Some Alarm else None

@@ -68,7 +68,8 @@ synchronize = 20
 -- the bits that have a meaning
 abbrev pub defined : List ℕ
 defined =
-    read_data ∷ write_data ∷ append_data ∷ read_named_attrs ∷ write_named_attrs ∷ execute ∷ delete_child ∷ read_attributes ∷ write_attributes
+    read_data ∷ write_data ∷ append_data ∷ read_named_attrs ∷ write_named_attrs ∷ execute ∷ delete_child
+    ∷ read_attributes ∷ write_attributes
     ∷ write_retention ∷ write_retention_hold ∷ delete ∷ read_acl ∷ write_acl ∷ write_owner ∷ synchronize ∷ []
 
 -- the constants of the code are the bits of these places
@@ -125,7 +126,9 @@ inherited = 7
 
 -- the flags that have a meaning
 abbrev pub defined_flags : List ℕ
-defined_flags = file_inherit ∷ directory_inherit ∷ no_propagate ∷ inherit_only ∷ successful ∷ failed ∷ identifier_group ∷ inherited ∷ []
+defined_flags =
+    file_inherit ∷ directory_inherit ∷ no_propagate ∷ inherit_only ∷ successful ∷ failed ∷ identifier_group ∷ inherited
+    ∷ []
 
 -- the constants of the code are the bits of these places
 pub record FlagBits : Type 0 where

@@ -1,6 +1,7 @@
 -- The verdict of a list on a mask (RFC 8881, section 6.2.1): each bit is decided alone. A relation says which verdict
 -- is right, and a function gives it.
-use Rattle.std.specs.Prelude.{◌≡◌, ℕ, ◌^◌, ◌≤◌, true, min, Bool, if◌then◌else◌, is_none, List, [], ◌∷◌, Option, Some, None, filter, IsSomeAnd}
+use Rattle.std.specs.Prelude.{◌≡◌, ℕ, ◌^◌, ◌≤◌, true, min, Bool, if◌then◌else◌, is_none, List, [], ◌∷◌, Option, Some}
+use Rattle.std.specs.Prelude.{None, filter, IsSomeAnd}
 use Rattle.std.specs.List.{filter_map, reduce}
 use Rattle.acl_list.specs.Mask.{has_bit, places}
 use Rattle.acl_list.specs.Deciding.{mention, is_deny}

@@ -11,7 +11,9 @@ use Rattle.acl_list.specs.declared.answer.Mention.TheVariants.{Unmentioned, Allo
 use Rattle.acl_list.specs.declared.answer.Verdict.{Verdict}
 use Rattle.acl_list.specs.declared.answer.Verdict.TheVariants as verdicts
 use Rattle.acl_reasons.specs.declared.removal.RemovalReason.{RemovalReason}
-use Rattle.acl_reasons.specs.declared.removal.RemovalReason.TheVariants.{ByDelete, ByDeleteChild, ByAddFile, DeleteChildDenied, DeleteDenied, AddFileDenied, AddFileMissing}
+use Rattle.acl_reasons.specs.declared.removal.RemovalReason.TheVariants.{ByDelete, ByDeleteChild, ByAddFile}
+use Rattle.acl_reasons.specs.declared.removal.RemovalReason.TheVariants.{DeleteChildDenied, DeleteDenied, AddFileDenied}
+use Rattle.acl_reasons.specs.declared.removal.RemovalReason.TheVariants.{AddFileMissing}
 
 -- an object's list, owner and group, by which access to it is decided
 pub record Side : Type 0 where

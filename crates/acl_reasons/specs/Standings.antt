@@ -7,7 +7,8 @@ use Rattle.acl_list.specs.declared.entry.Entry.{Entry}
 use Rattle.acl_list.specs.declared.entry.Who.{Who}
 use Rattle.acl_list.specs.declared.entry.Who.TheVariants.{Owner, Group, Everyone, User, GroupOf}
 use Rattle.acl_reasons.specs.declared.standing.Standing.{Standing}
-use Rattle.acl_reasons.specs.declared.standing.Standing.TheVariants.{Applies, Watches, InheritOnly, AnotherUser, NoMember}
+use Rattle.acl_reasons.specs.declared.standing.Standing.TheVariants.{Applies, Watches, InheritOnly, AnotherUser}
+use Rattle.acl_reasons.specs.declared.standing.Standing.TheVariants.{NoMember}
 
 -- why a who isn't true of the requester; EVERYONE@ is true of everyone
 abbrev pub other_than : Who → Standing

@@ -1,6 +1,7 @@
 -- The list that is set where a client asks for one, or for a part of one (RFC 8881, sections 6.2.1
 -- to 6.2.3 and 6.4.1.2).
-use Rattle.std.specs.Prelude.{◌==◌, nat_lt, not, ◌||◌, is_none, if◌then◌else◌, List, length, Option, Some, None, slice_get}
+use Rattle.std.specs.Prelude.{◌==◌, nat_lt, not, ◌||◌, is_none, if◌then◌else◌, List, length, Option, Some, None}
+use Rattle.std.specs.Prelude.{slice_get}
 use Rattle.std.specs.List.{filter_map, list_all}
 use Rattle.acl_list.specs.Kinds.{kind_of}
 use Rattle.acl_list.specs.Mask.{has_bit}
@@ -34,13 +35,19 @@ first_fault raws = if nat_lt 59 (length raws) then Some NoSpc else slice_get (fi
 
 -- the entry that is set on an object of this kind: only a directory has entries to be inherited
 abbrev pub settled_on : Kind → Entry → Option Entry
-settled_on kind e = if is_directory kind then Some e else if has_bit e.flags inherit_only then None else Some (settled e)
+settled_on kind e =
+    if is_directory kind then Some e else if has_bit e.flags inherit_only then None else Some (settled e)
 
 -- the entry that was sent, where its type and its who are known
 abbrev pub entry_with : Raw → Kind → Option EntryKind → Option Who → Option Entry
 entry_with raw kind None who = None
 entry_with raw kind (Some entry_kind) None = None
-entry_with raw kind (Some entry_kind) (Some who) = settled_on kind (record { kind = entry_kind; flags = raw.flags; mask = raw.mask; who = who })
+entry_with raw kind (Some entry_kind) (Some who) = settled_on kind (record {
+  kind = entry_kind;
+  flags = raw.flags;
+  mask = raw.mask;
+  who = who;
+})
 
 abbrev pub entry_of : Kind → Raw → Option Entry
 entry_of kind raw = entry_with raw kind (kind_of raw.kind) raw.who
@@ -58,4 +65,5 @@ first_of (Some fault) later = Some fault
 
 -- the fault of a part, if any: its fault as a list, else that an entry which is set is of the other part
 abbrev pub part_fault : Part → Kind → List Raw → Option AdmitFault
-part_fault part kind raws = first_of (first_fault raws) (if list_all (is_of part) (admitted kind raws) then None else Some Inval)
+part_fault part kind raws =
+    first_of (first_fault raws) (if list_all (is_of part) (admitted kind raws) then None else Some Inval)

@@ -9,7 +9,9 @@ use Rattle.acl_list.specs.declared.entry.Entry.{Entry}
 -- Whether a new mode keeps the entry, perhaps changed. It keeps all but the ALLOW and DENY entries
 -- of OWNER@, GROUP@ and EVERYONE@ that are for the object alone.
 abbrev pub keeps : Entry → Bool
-keeps e = not (allows_or_denies e.kind) || has_bit e.flags inherit_only || not (is_special e.who) || has_bit e.flags file_inherit || has_bit e.flags directory_inherit
+keeps e =
+    not (allows_or_denies e.kind) || has_bit e.flags inherit_only || not (is_special e.who)
+    || has_bit e.flags file_inherit || has_bit e.flags directory_inherit
 
 -- at most 64 entries, of which a new mode keeps at most 59: so there is room for the five that it adds
 pub record IsBounded (entries : List Entry) : Type 0 where

@@ -29,7 +29,8 @@ passed_on e = record e { flags = bit_and e.flags (bit_not w32 flag.INHERIT_ONLY)
 -- passed on, so NO_PROPAGATE leaves nothing of it.
 abbrev pub directory_child : Entry → Option Entry
 directory_child e =
-    if has_bit e.flags directory_inherit then (if has_bit e.flags no_propagate then Some (settled e) else Some (passed_on e))
+    if has_bit e.flags directory_inherit
+    then (if has_bit e.flags no_propagate then Some (settled e) else Some (passed_on e))
     else if has_bit e.flags file_inherit then (if has_bit e.flags no_propagate then None else Some (set_aside e))
     else None
 

@@ -1,10 +1,12 @@
 -- A list as a mode (RFC 8881, section 6.3.2), and a mode as a list (section 6.4.1.1).
-use Rattle.std.specs.Prelude.{ℕ, ◌+◌, ◌-◌, ◌*◌, ◌/◌, ◌%◌, Bool, ◌==◌, not, ◌&&◌, ◌||◌, if◌then◌else◌, List, [], ◌∷◌, ◌++◌, Option, Some, None, bit_and, bit_or}
+use Rattle.std.specs.Prelude.{ℕ, ◌+◌, ◌-◌, ◌*◌, ◌/◌, ◌%◌, Bool, ◌==◌, not, ◌&&◌, ◌||◌, if◌then◌else◌, List, [], ◌∷◌}
+use Rattle.std.specs.Prelude.{◌++◌, Option, Some, None, bit_and, bit_or}
 use Rattle.std.specs.Int.{bit_not, w32}
 use Rattle.std.specs.List.{filter_map}
 use Rattle.rpc_record.specs.Identity.{Identity, is_member}
 use Rattle.acl_list.specs.Mask.{has_bit}
-use Rattle.acl_list.specs.Places.{read_data, write_data, append_data, execute, file_inherit, directory_inherit, inherit_only}
+use Rattle.acl_list.specs.Places.{read_data, write_data, append_data, execute, file_inherit, directory_inherit}
+use Rattle.acl_list.specs.Places.{inherit_only}
 use Rattle.acl_list.specs.Whos.{is_special}
 use Rattle.acl_list.specs.Deciding.{allows, allows_or_denies, is_allow, is_class}
 use Rattle.acl_list.specs.declared.entry.Entry.{Entry}
@@ -23,13 +25,15 @@ use Rattle.acl_list.specs.declared.flag.TheConstants as flag
 -- where WRITE_DATA and APPEND_DATA both are; 1 to execute, where EXECUTE is.
 abbrev pub digit_of : (ℕ → Bool) → ℕ
 digit_of allowed =
-    4 * (if allowed read_data then 1 else 0) + 2 * (if allowed write_data && allowed append_data then 1 else 0) + (if allowed execute then 1 else 0)
+    4 * (if allowed read_data then 1 else 0) + 2 * (if allowed write_data && allowed append_data then 1 else 0)
+    + (if allowed execute then 1 else 0)
 
 -- The mode of a list: the bits of OWNER@, GROUP@ and EVERYONE@, each by its own entries and those
 -- of EVERYONE@ alone. A bit is allowed where the first of them that has it is an ALLOW.
 abbrev pub mode_of : List Entry → ℕ
 mode_of entries =
-    64 * digit_of (allows (is_class Owner) entries) + 8 * digit_of (allows (is_class Group) entries) + digit_of (allows (is_class Everyone) entries)
+    64 * digit_of (allows (is_class Owner) entries) + 8 * digit_of (allows (is_class Group) entries)
+    + digit_of (allows (is_class Everyone) entries)
 
 -- ---- the bits of a mask that the bits of a mode stand for (section 6.3.2, read from the mode to the list)
 
@@ -42,7 +46,8 @@ write_mask Link = mask.WRITE_DATA + mask.APPEND_DATA
 -- the class bits of three bits of a mode: bit 2 reads, bit 1 writes, bit 0 executes
 unfoldable pub class_mask : Kind → ℕ → ℕ
 class_mask kind digit =
-    (if has_bit digit 2 then mask.READ_DATA else 0) + (if has_bit digit 1 then write_mask kind else 0) + (if has_bit digit 0 then mask.EXECUTE else 0)
+    (if has_bit digit 2 then mask.READ_DATA else 0) + (if has_bit digit 1 then write_mask kind else 0)
+    + (if has_bit digit 0 then mask.EXECUTE else 0)
 
 -- the three bits of the owner, of the group and of the others
 abbrev pub owner_digit : ℕ → ℕ
@@ -57,7 +62,8 @@ others_digit mode = mode % 8
 -- the three bits of the caller's class: the owner's, else the group's for a member, else those of the others
 abbrev pub class_digit : ℕ → ℕ → Identity → ℕ → ℕ
 class_digit owner group caller mode =
-    if caller.uid == owner then owner_digit mode else if is_member caller group then group_digit mode else others_digit mode
+    if caller.uid == owner then owner_digit mode else if is_member caller group then group_digit mode
+    else others_digit mode
 
 -- ---- the entries that a new mode keeps (section 6.4.1.1)
 
@@ -77,7 +83,8 @@ set_aside e = record e { flags = bit_or e.flags flag.INHERIT_ONLY }
 abbrev pub kept : ℕ → Entry → Option Entry
 kept lacking e =
     if not (allows_or_denies e.kind) || has_bit e.flags inherit_only then Some e
-    else if is_special e.who then (if has_bit e.flags file_inherit || has_bit e.flags directory_inherit then Some (set_aside e) else None)
+    else if is_special e.who
+    then (if has_bit e.flags file_inherit || has_bit e.flags directory_inherit then Some (set_aside e) else None)
     else if is_allow e.kind then Some (record e { mask = without e.mask lacking })
     else Some e
 
@@ -93,7 +100,8 @@ plain kind mask who = record { kind = kind; flags = 0; mask = mask; who = who }
 
 -- the bits that the owner is always allowed, whatever the mode
 abbrev pub owner_always : ℕ
-owner_always = mask.READ_ATTRIBUTES + mask.WRITE_ATTRIBUTES + mask.READ_ACL + mask.WRITE_ACL + mask.WRITE_OWNER + mask.SYNCHRONIZE
+owner_always =
+    mask.READ_ATTRIBUTES + mask.WRITE_ATTRIBUTES + mask.READ_ACL + mask.WRITE_ACL + mask.WRITE_OWNER + mask.SYNCHRONIZE
 
 -- the bits that everyone is always allowed, whatever the mode
 abbrev pub everyone_always : ℕ

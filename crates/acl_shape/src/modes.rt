@@ -111,8 +111,8 @@ fn plain(kind: EntryKind, mask: u32, who: Who) -> Entry
 /// |---|---|---|---|---|
 /// | AUDIT, ALARM | any | as it is | as it is | as it is |
 /// | ALLOW, DENY | OWNER@, GROUP@, EVERYONE@ | as it is | with 8 set | dropped |
-/// | ALLOW | a user or a group of its own | as it is | without the class bits that the group's three bits lack | likewise, also where no bit is left |
-/// | DENY | a user or a group of its own | as it is | as it is | as it is |
+/// | ALLOW | another user or group | as it is | without class bits that the group lacks | so too, even if none is left |
+/// | DENY | another user or group | as it is | as it is | as it is |
 ///
 /// Bits of a mask that the standard doesn't define stay. From a list within the bounds of
 /// [`crate::is_bounded`] it makes a list within them. `Err`: there is no memory for the list.

@@ -1,5 +1,6 @@
 -- The letters of an entry as words: those of nfs4_setfacl and nfs4_getfacl (nfs4_acl(5) of nfs4-acl-tools).
-use Rattle.std.specs.Prelude.{ℕ, ◌+◌, ◌*◌, ◌==◌, nat_lt, if◌then◌else◌, List, [], ◌∷◌, ◌++◌, codes, Option, Some, None, option_map, option_and_then, bit_and, bit_or}
+use Rattle.std.specs.Prelude.{ℕ, ◌+◌, ◌*◌, ◌==◌, nat_lt, if◌then◌else◌, List, [], ◌∷◌, ◌++◌, codes, Option, Some, None}
+use Rattle.std.specs.Prelude.{option_map, option_and_then, bit_and, bit_or}
 use Rattle.std.specs.List.{find}
 use Rattle.std.specs.Option.{option_or}
 use Rattle.hex.specs.Hex.{hex_digit_value}
@@ -90,7 +91,8 @@ letters_after letters aliases bits (byte ∷ more) =
 -- a number with one more hexadecimal digit, as far as it has 32 bits
 abbrev pub number_with : ℕ → ℕ → Option ℕ
 number_with number byte =
-    option_and_then (λ digit. if nat_lt number 268435456 then Some (16 * number + digit) else None) (hex_digit_value byte)
+    option_and_then (λ digit. if nat_lt number 268435456 then Some (16 * number + digit) else None)
+    (hex_digit_value byte)
 
 -- The bits so far with the number so far and with those that follow, each after a + (43). A number isn't 0.
 abbrev pub numbers_after : ℕ → ℕ → List ℕ → Option ℕ

@@ -1,5 +1,6 @@
 -- Entries as words, `TYPE:FLAGS:PRINCIPAL:PERMISSIONS`, with the principal as text.
-use Rattle.std.specs.Prelude.{ℕ, ◌==◌, Bool, ◌&&◌, if◌then◌else◌, is_none, List, [], ◌∷◌, ◌++◌, slice_index, Option, Some, None, option_and_then, option_map, Result, Ok, Err, bit_and}
+use Rattle.std.specs.Prelude.{ℕ, ◌==◌, Bool, ◌&&◌, if◌then◌else◌, is_none, List, [], ◌∷◌, ◌++◌, slice_index, Option}
+use Rattle.std.specs.Prelude.{Some, None, option_and_then, option_map, Result, Ok, Err, bit_and}
 use Rattle.std.specs.Int.{w32, from_be_bytes, to_be_bytes}
 use Rattle.hex.specs.Hex.{decode_sized, encode_lower}
 use Rattle.acl_list.specs.declared.mask.TheConstants as mask
@@ -99,7 +100,8 @@ third_field who = front_or who (split_at 58 who)
 -- Letters say the entry: each bit of the mask has a text, and the text isn't one of the hexadecimal form.
 unfoldable pub is_lettered : Said → Bool
 is_lettered e =
-    (bit_and e.mask mask.DEFINED == e.mask) && is_none (numbers_in (letters_text flag_letters e.flags) (third_field e.who))
+    (bit_and e.mask mask.DEFINED == e.mask)
+    && is_none (numbers_in (letters_text flag_letters e.flags) (third_field e.who))
 
 abbrev pub letters_front : Said → List ℕ
 letters_front e = letter_of e.kind ∷ 58 ∷ letters_text flag_letters e.flags ++ 58 ∷ []

@@ -65,7 +65,8 @@ fn unknown(alloc: Global, table: &Table) -> Result<Option<String>, AllocError> {
         let name = key.as_str();
         if !is_known(name) {
             let words = format!(in alloc;
-                "{name}: no key of a book, which has domain, root_owner, root_group, root_mode, users and groups, and perhaps members"
+                "{name}: no key of a book, which has domain, root_owner, root_group, root_mode, users and groups, \
+                 and perhaps members"
             )?;
             return Ok(Some(words));
         }

@@ -21,7 +21,10 @@ impl Spell for Channel {
 
     ghost form = { channel };
 
-    ghost view = { λ c. (c.padding, (c.request_size, (c.reply_size, (c.cached_size, (c.operations, (c.slots, at_most_one (λ n. n) c.rdma)))))) };
+    ghost view = { λ c. (
+      c.padding,
+      (c.request_size, (c.reply_size, (c.cached_size, (c.operations, (c.slots, at_most_one (λ n. n) c.rdma))))),
+    ) };
 
     ghost normal = { None };
 

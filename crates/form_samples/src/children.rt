@@ -30,7 +30,8 @@ impl<'a> Entries for Children<'a> {
 
     type Refusal = u32;
 
-    ghost left = { λ c. map (λ (k : Child). judged_as c.book.now c.facts.now k.cookie k.name.bytes.now k.judged) c.left.now };
+    ghost left = { λ c.
+        map (λ (k : Child). judged_as c.book.now c.facts.now k.cookie k.name.bytes.now k.judged) c.left.now };
 
     ghost Kept = { Content };
 

@@ -40,7 +40,8 @@ pub record Fluke (key generation number : ℕ) (later : List Frame) (more : Byte
 -- the head is that of one of these frames, the first of them with this number
 abbrev pub IsHeadOf : ℕ → ℕ → ℕ → List Frame → Head → Type 0
 IsHeadOf key generation number [] h = ⊥
-IsHeadOf key generation number (f ∷ frames) h = (h ≡ head_for key generation number f) ⊎ IsHeadOf key generation (number + 1) frames h
+IsHeadOf key generation number (f ∷ frames) h =
+    (h ≡ head_for key generation number f) ⊎ IsHeadOf key generation (number + 1) frames h
 
 -- Torn bytes have come out as a head by chance. It is a head of no lesser generation whose digest
 -- fits, and it is that of no frame that was appended.
@@ -54,7 +55,9 @@ pub record HeadFluke (key generation least : ℕ) (all : List Frame) (more : Byt
 -- **A crash leaves a front of the frames that were appended, and all that are kept**, unless there is a fluke in bytes
 -- that weren't synced.
 abbrev pub CrashLaw : Type 0
-CrashLaw = (key generation : ℕ) (kept later : List Frame) (going : Bool) (d : Disk) → IsWritten key generation kept later going d
+CrashLaw =
+    (key generation : ℕ) (kept later : List Frame) (going : Bool) (d : Disk)
+    → IsWritten key generation kept later going d
     → (left : Bytes) (frames : List Frame) (rest : Bytes) → (m : MayLeave d left)
     → Holds key generation 0 left frames rest
     → (IsFront kept frames × IsFront frames (kept ++ later)) ⊎ ((d.loose ≡ true)

@@ -13,4 +13,5 @@ unfoldable pub head_digest : ℕ → Head → ℕ
 head_digest key h =
     let version = sip.write (sip.write sip.initial (to_le_bytes w64 key)) (to_le_bytes w64 h.version) in
     let place = sip.write (sip.write version (to_le_bytes w64 h.generation)) (to_le_bytes w64 h.number) in
-    sip.finish (sip.write (sip.write (sip.write place (to_le_bytes w64 h.safe)) (to_le_bytes w64 h.kind)) (to_le_bytes w64 h.body))
+    sip.finish
+    (sip.write (sip.write (sip.write place (to_le_bytes w64 h.safe)) (to_le_bytes w64 h.kind)) (to_le_bytes w64 h.body))

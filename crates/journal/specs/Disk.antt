@@ -1,5 +1,6 @@
 -- Two files that are only appended to and emptied: what is on the disk, and what a crash may leave.
-use Rattle.std.specs.Prelude.{◌≡◌, ◌≢◌, ◌≤◌, ◌+◌, ℕ, Bool, true, false, List, [], ◌∷◌, ◌++◌, length, drop, slice_index, Option, Some, None}
+use Rattle.std.specs.Prelude.{◌≡◌, ◌≢◌, ◌≤◌, ◌+◌, ℕ, Bool, true, false, List, [], ◌∷◌, ◌++◌, length, drop, slice_index}
+use Rattle.std.specs.Prelude.{Option, Some, None}
 use Rattle.journal.specs.declared.disk.Slot.{Slot}
 use Rattle.journal.specs.declared.disk.Slot.TheVariants.{A, B}
 

@@ -1,5 +1,6 @@
 -- A file has a generation and frames, and in these a checkpoint and the records after it.
-use Rattle.std.specs.Prelude.{◌≡◌, ◌≢◌, ◌==◌, ◌≤◌, ◌<◌, ◌*◌, ℕ, Bool, true, false, List, [], ◌∷◌, ◌++◌, length, drop, if◌then◌else◌, Option, Some, None}
+use Rattle.std.specs.Prelude.{◌≡◌, ◌≢◌, ◌==◌, ◌≤◌, ◌<◌, ◌*◌, ℕ, Bool, true, false, List, [], ◌∷◌, ◌++◌, length, drop}
+use Rattle.std.specs.Prelude.{if◌then◌else◌, Option, Some, None}
 use Rattle.journal.specs.declared.head.Head.{Head}
 use Rattle.journal.specs.Frames.{Bytes, Frame, VERSION, END, head_at, Holds}
 
@@ -39,7 +40,8 @@ with_part part (Some x) = Some (record { parts = part ∷ x.parts; records = x.r
 -- whole, and there is none.
 abbrev pub contents : List Frame → Option Content
 contents [] = None
-contents (f ∷ frames) = if f.kind == END then Some (record { parts = []; records = bodies frames }) else with_part f.body (contents frames)
+contents (f ∷ frames) =
+    if f.kind == END then Some (record { parts = []; records = bodies frames }) else with_part f.body (contents frames)
 
 abbrev pub rank_of : ℕ → Option Content → ℕ
 rank_of generation None = 0
@@ -95,7 +97,8 @@ if_whole false parts records = None
 
 -- This is what a file has: its generation, as many frames, the rest, whether its checkpoint is whole, and then its
 -- parts and records.
-pub record IsRead (key : ℕ) (bytes : Bytes) (generation number : ℕ) (rest : Bytes) (whole : Bool) (parts records : List Bytes) : Type 0 where
+pub record IsRead (key : ℕ) (bytes : Bytes) (generation number : ℕ) (rest : Bytes) (whole : Bool)
+    (parts records : List Bytes) : Type 0 where
   pub frames : List Frame
   pub has : Has key bytes (record { generation = generation; frames = frames; rest = rest })
   pub count : number ≡ length frames

@@ -1,6 +1,7 @@
 -- The frames of a file, one after the other: each is a struct of a head, its digest and a body
 -- (RFC 4506, section 4.14).
-use Rattle.std.specs.Prelude.{◌≡◌, ◌==◌, ◌+◌, ℕ, Bool, false, List, [], ◌∷◌, ◌++◌, length, if◌then◌else◌, Option, Some, None, Ok, Err}
+use Rattle.std.specs.Prelude.{◌≡◌, ◌==◌, ◌+◌, ℕ, Bool, false, List, [], ◌∷◌, ◌++◌, length, if◌then◌else◌, Option, Some}
+use Rattle.std.specs.Prelude.{None, Ok, Err}
 use Rattle.xdr_wire.specs.Xdr.{Xdr, Value, hyper, opaque, pair, HasSpelling, spelling}
 use Rattle.xdr_wire.specs.Reading.{Read, read_at}
 use Rattle.journal.specs.declared.head.Head.{Head}
@@ -35,7 +36,14 @@ abbrev pub head_value : Head → Value head_form
 head_value h = (h.version, (h.generation, (h.number, (h.safe, (h.kind, h.body)))))
 
 abbrev pub head_of : Value head_form → Head
-head_of v = record { version = v.0; generation = v.1.0; number = v.1.1.0; safe = v.1.1.1.0; kind = v.1.1.1.1.0; body = v.1.1.1.1.1 }
+head_of v = record {
+  version = v.0;
+  generation = v.1.0;
+  number = v.1.1.0;
+  safe = v.1.1.1.0;
+  kind = v.1.1.1.1.0;
+  body = v.1.1.1.1.1;
+}
 
 -- a head stands before this
 abbrev pub tail_form : Xdr
@@ -60,7 +68,14 @@ lent f = record { kind = f.kind; safe = f.safe; body = f.body.now }
 -- the head of the frame of a number, which counts the frames before it, in a file of a generation
 abbrev pub head_for : ℕ → ℕ → ℕ → Frame → Head
 head_for key generation number f =
-    record { version = VERSION; generation = generation; number = number; safe = f.safe; kind = f.kind; body = digest key f.body }
+    record {
+      version = VERSION;
+      generation = generation;
+      number = number;
+      safe = f.safe;
+      kind = f.kind;
+      body = digest key f.body;
+    }
 
 abbrev pub frame_value : ℕ → ℕ → ℕ → Frame → Value form
 frame_value key generation number f =
@@ -77,7 +92,8 @@ IsFit key generation number f = HasSpelling form (frame_value key generation num
 -- these frames as they stand in their file, the first of them with this number
 abbrev pub all_framed : ℕ → ℕ → ℕ → List Frame → Bytes
 all_framed key generation number [] = []
-all_framed key generation number (f ∷ frames) = framed key generation number f ++ all_framed key generation (number + 1) frames
+all_framed key generation number (f ∷ frames) =
+    framed key generation number f ++ all_framed key generation (number + 1) frames
 
 -- each of them can be written
 abbrev pub AreFit : ℕ → ℕ → ℕ → List Frame → Type 0
@@ -109,7 +125,8 @@ frame_of h body = record { kind = h.kind; safe = h.safe; body = body }
 
 abbrev pub fitting : ℕ → ℕ → ℕ → Read (Value form) → Option (Frame × Bytes)
 fitting key generation number (Ok x) =
-    if in_place key generation number (head_of x.0.0) x.0.1.0 x.0.1.1 then Some (frame_of (head_of x.0.0) x.0.1.1, x.1) else None
+    if in_place key generation number (head_of x.0.0) x.0.1.0 x.0.1.1 then Some (frame_of (head_of x.0.0) x.0.1.1, x.1)
+    else None
 fitting key generation number (Err e) = None
 
 -- The frame of this place at the front of the bytes, and the bytes after it. There is none where no whole frame of this

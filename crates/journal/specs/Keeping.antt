@@ -3,7 +3,8 @@ use Rattle.std.specs.Prelude.{◌≡◌, ◌⊎◌, ◌<◌, ◌+◌, ℕ, Bool,
 use Rattle.journal.specs.declared.disk.Slot.{Slot}
 use Rattle.journal.specs.declared.disk.Slot.TheVariants.{A, B}
 use Rattle.journal.specs.declared.opening.OpenFault.{OpenFault}
-use Rattle.journal.specs.declared.opening.OpenFault.TheVariants.{Failed as NotRead, Version, Damaged, Memory as NoMemory}
+use Rattle.journal.specs.declared.opening.OpenFault.TheVariants.{Failed as NotRead, Version, Damaged}
+use Rattle.journal.specs.declared.opening.OpenFault.TheVariants.{Memory as NoMemory}
 use Rattle.journal.specs.Disk.{Act, Appended, Tore, Synced, Unsynced, Emptied, Unemptied, Found, Unfound, other}
 use Rattle.journal.specs.Frames.{Frame, END, MAX_BODY, framed, frame_with, IsFit}
 use Rattle.journal.specs.declared.journal.Checkpoint.{Checkpoint}
@@ -23,13 +24,15 @@ pub record Twice {D : Type 0} (adds : Adding D) (first second : Act) (old new : 
 
 -- The frame is appended. Or it is too long, or memory is refused or no number is left, and nothing
 -- has changed. Or the disk has failed: before, or now, and then a crash may leave the frame.
-abbrev pub FrameGives : {D : Type 0} → Adding D → Slot → ℕ → ℕ → ℕ → Frame → Bool → ℕ → Bool → Result (Unit {0}) JournalFault → D → D → Type 0
+abbrev pub FrameGives : {D : Type 0} → Adding D → Slot → ℕ → ℕ → ℕ → Frame → Bool → ℕ → Bool
+    → Result (Unit {0}) JournalFault → D → D → Type 0
 FrameGives adds slot key generation number f failed number' failed' (Ok done) old new =
     adds old (Appended slot (framed key generation number f)) new × IsFit key generation number f
     × (failed ≡ false) × (number' ≡ number + 1) × (failed' ≡ false)
 FrameGives adds slot key generation number f failed number' failed' (Err TooLong) old new =
     (MAX_BODY < length f.body) × (new ≡ old) × (number' ≡ number) × (failed' ≡ failed)
-FrameGives adds slot key generation number f failed number' failed' (Err Memory) old new = (new ≡ old) × (number' ≡ number) × (failed' ≡ failed)
+FrameGives adds slot key generation number f failed number' failed' (Err Memory) old new =
+    (new ≡ old) × (number' ≡ number) × (failed' ≡ failed)
 FrameGives adds slot key generation number f failed number' failed' (Err Full) old new =
     (number ≡ 18446744073709551615) × (new ≡ old) × (number' ≡ number) × (failed' ≡ failed)
 FrameGives adds slot key generation number f failed number' failed' (Err Failed) old new =
@@ -65,7 +68,14 @@ abbrev pub FinishGives : {D : Type 0} → Adding D → Checkpoint → Result Jou
 FinishGives adds c (Ok j) old new =
     Twice adds (Appended c.slot (framed c.key c.generation c.number end_frame)) (Synced c.slot) old new
     × IsFit c.key c.generation c.number end_frame × (c.has_failed ≡ false)
-    × (j ≡ record { key = c.key; slot = c.slot; generation = c.generation; number = c.number + 1; safe = c.number + 1; has_failed = false })
+    × (j ≡ record {
+      key = c.key;
+      slot = c.slot;
+      generation = c.generation;
+      number = c.number + 1;
+      safe = c.number + 1;
+      has_failed = false;
+    })
 FinishGives adds c (Err TooLong) old new = ⊥
 FinishGives adds c (Err Memory) old new = new ≡ old
 FinishGives adds c (Err Full) old new = (c.number ≡ 18446744073709551615) × (new ≡ old)

@@ -13,18 +13,21 @@ use Rattle.journal.specs.Crash.{IsFront, IsWritten, Fluke, HeadFluke}
 -- something is wrong
 pub record IsPassed (key generation : ℕ) (bytes : Bytes) : Type 0 where
   pub lesser : (x : File) → Has key bytes x → rank x < generation
-  pub quiet : (x : File) → Has key bytes x → (unknown : Bool) → Alarm key generation (length x.frames) unknown x.rest → ⊥
+  pub quiet : (x : File) → Has key bytes x → (unknown : Bool) → Alarm key generation (length x.frames) unknown x.rest
+      → ⊥
 
 -- After these acts this file counts. Its checkpoint and the first records are kept, and later ones
 -- were appended. Whatever a crash leaves of the other file is passed by.
-pub record IsLive (key generation : ℕ) (s : Slot) (kept later : List Frame) (going : Bool) (checkpoint : Content) (acts : List Act) : Type 0 where
+pub record IsLive (key generation : ℕ) (s : Slot) (kept later : List Frame) (going : Bool) (checkpoint : Content)
+    (acts : List Act) : Type 0 where
   pub written : IsWritten key generation kept later going (on_disk s acts)
   pub whole : contents kept ≡ Some checkpoint
   pub some : 0 < generation
   pub passed : (old : Bytes) → MayLeave (on_disk (other s) acts) old → IsPassed key generation old
 
 -- This file counts, with its checkpoint, all records that are kept, and a front of the later ones.
-pub record IsKept (s : Slot) (generation : ℕ) (later : List Frame) (checkpoint : Content) (slot : Slot) (number : ℕ) (content : Option Content) : Type 0 where
+pub record IsKept (s : Slot) (generation : ℕ) (later : List Frame) (checkpoint : Content) (slot : Slot) (number : ℕ)
+    (content : Option Content) : Type 0 where
   pub slot_is : slot ≡ s
   pub generation_is : number ≡ generation
   pub front : List Frame
@@ -46,7 +49,8 @@ Survives key generation s kept later checkpoint d more a b =
     × ((unknown : Bool) → Refuses key a b unknown → Chance key generation kept later d more)
 
 abbrev pub LiveLaw : Type 0
-LiveLaw = (key generation : ℕ) (s : Slot) (kept later : List Frame) (going : Bool) (checkpoint : Content) (acts : List Act)
+LiveLaw =
+    (key generation : ℕ) (s : Slot) (kept later : List Frame) (going : Bool) (checkpoint : Content) (acts : List Act)
     → IsLive key generation s kept later going checkpoint acts
     → (a b : Bytes) → (m : MayLeave (on_disk A acts) a) → (n : MayLeave (on_disk B acts) b)
     → Survives key generation s kept later checkpoint (on_disk s acts) (in_slot s m.more n.more) a b

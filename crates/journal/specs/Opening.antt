@@ -1,5 +1,6 @@
 -- Which of two files counts.
-use Rattle.std.specs.Prelude.{◌≡◌, ◌≢◌, ◌⊎◌, ℕ, Bool, true, false, [], length, nat_lt, if◌then◌else◌, Option, Result, Ok, Err}
+use Rattle.std.specs.Prelude.{◌≡◌, ◌≢◌, ◌⊎◌, ℕ, Bool, true, false, [], length, nat_lt, if◌then◌else◌, Option, Result}
+use Rattle.std.specs.Prelude.{Ok, Err}
 use Rattle.journal.specs.declared.disk.Slot.{Slot}
 use Rattle.journal.specs.declared.disk.Slot.TheVariants.{A, B}
 use Rattle.journal.specs.declared.opening.OpenFault.{OpenFault}
@@ -35,7 +36,8 @@ IsWrongAt key unknown least count_a rest_a count_b rest_b b =
     ⊎ ((unknown ≡ false) × (least ≡ 0) × (b ≢ [])))
 
 abbrev pub IsWrong : ℕ → Bool → File → File → Bytes → Type 0
-IsWrong key unknown x y b = IsWrongAt key unknown (greater (rank x) (rank y)) (length x.frames) x.rest (length y.frames) y.rest b
+IsWrong key unknown x y b =
+    IsWrongAt key unknown (greater (rank x) (rank y)) (length x.frames) x.rest (length y.frames) y.rest b
 
 -- Nothing is wrong, and this file counts, with its generation and its content; neither, of generation 0, where the
 -- journal is new.
@@ -67,8 +69,11 @@ ChecksSo key least count rest (Err Memory) = ⊥
 
 -- a look at both files answers this
 abbrev pub ExaminesSo : ℕ → ℕ → ℕ → Bytes → ℕ → Bytes → Bytes → Result (Unit {0}) OpenFault → Type 0
-ExaminesSo key least count_a rest_a count_b rest_b b (Ok done) = (unknown : Bool) → IsWrongAt key unknown least count_a rest_a count_b rest_b b → ⊥
+ExaminesSo key least count_a rest_a count_b rest_b b (Ok done) =
+    (unknown : Bool) → IsWrongAt key unknown least count_a rest_a count_b rest_b b → ⊥
 ExaminesSo key least count_a rest_a count_b rest_b b (Err Failed) = ⊥
-ExaminesSo key least count_a rest_a count_b rest_b b (Err Version) = IsWrongAt key true least count_a rest_a count_b rest_b b
-ExaminesSo key least count_a rest_a count_b rest_b b (Err Damaged) = IsWrongAt key false least count_a rest_a count_b rest_b b
+ExaminesSo key least count_a rest_a count_b rest_b b (Err Version) =
+    IsWrongAt key true least count_a rest_a count_b rest_b b
+ExaminesSo key least count_a rest_a count_b rest_b b (Err Damaged) =
+    IsWrongAt key false least count_a rest_a count_b rest_b b
 ExaminesSo key least count_a rest_a count_b rest_b b (Err Memory) = ⊥

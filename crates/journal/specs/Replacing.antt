@@ -15,12 +15,14 @@ use Rattle.journal.specs.Living.{IsLive}
 pub record IsBase (key generation : ℕ) (s : Slot) (content : Option Content) (bytes : Bytes) : Type 0 where
   pub rank_is : (x : File) → Has key bytes x → rank x ≡ generation
   pub content_is : (x : File) → Has key bytes x → contents x.frames ≡ content
-  pub quiet : (x : File) → Has key bytes x → (unknown : Bool) → Alarm key generation (length x.frames) unknown x.rest → ⊥
+  pub quiet : (x : File) → Has key bytes x → (unknown : Bool) → Alarm key generation (length x.frames) unknown x.rest
+      → ⊥
   pub new_is : generation ≡ 0 → (s ≡ B) × (bytes ≡ [])
 
 -- After these acts this file counts, whatever a crash leaves of it, and frames of a checkpoint of the next generation
 -- were appended to the other one.
-pub record IsReplaced (key generation : ℕ) (s : Slot) (content : Option Content) (later : List Frame) (going : Bool) (acts : List Act) : Type 0 where
+pub record IsReplaced (key generation : ℕ) (s : Slot) (content : Option Content) (later : List Frame) (going : Bool)
+    (acts : List Act) : Type 0 where
   pub counts : (old : Bytes) → MayLeave (on_disk s acts) old → IsBase key generation s content old
   pub written : IsWritten key (generation + 1) [] later going (on_disk (other s) acts)
 
@@ -30,13 +32,15 @@ ChanceInNew key generation later d more =
     (d.loose ≡ true) × (Fluke key (generation + 1) 0 later more ⊎ HeadFluke key (generation + 1) generation later more)
 
 -- the old file counts, with its content
-pub record IsOld (s : Slot) (generation : ℕ) (content : Option Content) (slot : Slot) (number : ℕ) (chosen : Option Content) : Type 0 where
+pub record IsOld (s : Slot) (generation : ℕ) (content : Option Content) (slot : Slot) (number : ℕ)
+    (chosen : Option Content) : Type 0 where
   pub slot_is : slot ≡ s
   pub generation_is : number ≡ generation
   pub content_is : chosen ≡ content
 
 -- the new file counts, with a whole checkpoint and what comes after it, of a front of its frames
-pub record IsNew (s : Slot) (generation : ℕ) (later : List Frame) (slot : Slot) (number : ℕ) (chosen : Option Content) : Type 0 where
+pub record IsNew (s : Slot) (generation : ℕ) (later : List Frame) (slot : Slot) (number : ℕ)
+    (chosen : Option Content) : Type 0 where
   pub slot_is : slot ≡ other s
   pub generation_is : number ≡ generation + 1
   pub front : List Frame
@@ -47,7 +51,8 @@ pub record IsNew (s : Slot) (generation : ℕ) (later : List Frame) (slot : Slot
 -- **Unless a digest fits by chance, two things hold after a crash. What is chosen is the old file,
 -- as it was, or the new one, with its whole checkpoint. Nothing is refused.**
 abbrev pub ReplacingLaw : Type 0
-ReplacingLaw = (key generation : ℕ) (s : Slot) (content : Option Content) (later : List Frame) (going : Bool) (acts : List Act)
+ReplacingLaw =
+    (key generation : ℕ) (s : Slot) (content : Option Content) (later : List Frame) (going : Bool) (acts : List Act)
     → IsReplaced key generation s content later going acts
     → (a b : Bytes) → (m : MayLeave (on_disk A acts) a) → (n : MayLeave (on_disk B acts) b)
     → ((slot : Slot) (number : ℕ) (chosen : Option Content) → Chooses key a b slot number chosen
@@ -59,18 +64,24 @@ ReplacingLaw = (key generation : ℕ) (s : Slot) (content : Option Content) (lat
 
 -- a sync of the new file, whose checkpoint is whole, makes it the one that counts
 abbrev pub FinishLaw : Type 0
-FinishLaw = (key generation : ℕ) (s : Slot) (content : Option Content) (later : List Frame) (checkpoint : Content) (acts : List Act)
+FinishLaw =
+    (key generation : ℕ) (s : Slot) (content : Option Content) (later : List Frame) (checkpoint : Content)
+    (acts : List Act)
     → IsReplaced key generation s content later true acts → contents later ≡ Some checkpoint
     → IsLive key (generation + 1) (other s) later [] true checkpoint (Synced (other s) ∷ acts)
 
 -- Two files that were found, of which one is chosen, are a base for a checkpoint in the other one.
 -- That one is emptied and then synced.
 abbrev pub StartLaw : Type 0
-StartLaw = (key : ℕ) (a b : Bytes) (s : Slot) (generation : ℕ) (content : Option Content) → Chooses key a b s generation content
+StartLaw =
+    (key : ℕ) (a b : Bytes) (s : Slot) (generation : ℕ) (content : Option Content)
+    → Chooses key a b s generation content
     → IsReplaced key generation s content [] true (Synced (other s) ∷ Emptied (other s) ∷ Found B b ∷ Found A a ∷ [])
 
 -- So is a file that counts, all of whose frames are kept.
 abbrev pub RenewLaw : Type 0
-RenewLaw = (key generation : ℕ) (s : Slot) (kept : List Frame) (content : Content) (checkpoint : Content) (acts : List Act)
-    → IsLive key generation s kept [] true checkpoint acts → (on_disk s acts).loose ≡ false → contents kept ≡ Some content
+RenewLaw =
+    (key generation : ℕ) (s : Slot) (kept : List Frame) (content : Content) (checkpoint : Content) (acts : List Act)
+    → IsLive key generation s kept [] true checkpoint acts → (on_disk s acts).loose ≡ false
+    → contents kept ≡ Some content
     → IsReplaced key generation s (Some content) [] true (Synced (other s) ∷ Emptied (other s) ∷ acts)

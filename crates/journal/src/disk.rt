@@ -33,7 +33,8 @@ pub trait Disk {
 
     /// Syncs a file, and reads all its bytes. A file that isn't there has none.
     fn load<A: Allocator>(&mut self, alloc: A, slot: Slot) -> Result<Vec<u8, A>, LoadFault>
-        ensures { MatchResult result (λ bytes. adds self.old (Found slot bytes.items) self.new) (λ fault. adds self.old (Unfound slot) self.new) };
+        ensures { MatchResult result (λ bytes. adds self.old (Found slot bytes.items) self.new)
+            (λ fault. adds self.old (Unfound slot) self.new) };
 
     /// Appends bytes to a file. `false`: that failed, and any part of them may stand in it.
     fn append(&mut self, slot: Slot, bytes: &[u8]) -> bool

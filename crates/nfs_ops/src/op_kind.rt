@@ -124,7 +124,10 @@ pub(crate) use rows;
 
 /// The number in the row of a kind.
 macro_rules! number {
-    ($kind:expr; $($row:ident $(($arguments:ident))? $number:ident $name:literal $place:ident $(($given:ident))?,)*) => {
+    (
+        $kind:expr;
+        $($row:ident $(($arguments:ident))? $number:ident $name:literal $place:ident $(($given:ident))?,)*
+    ) => {
         match $kind {
             $(OpKind::$row => $crate::$number,)*
         }
@@ -133,7 +136,10 @@ macro_rules! number {
 
 /// The kind in the row of a number, if there is one.
 macro_rules! kind {
-    ($of:expr; $($row:ident $(($arguments:ident))? $number:ident $name:literal $place:ident $(($given:ident))?,)*) => {
+    (
+        $of:expr;
+        $($row:ident $(($arguments:ident))? $number:ident $name:literal $place:ident $(($given:ident))?,)*
+    ) => {
         match $of {
             $($crate::$number => Some(OpKind::$row),)*
             _ => None,
@@ -143,7 +149,10 @@ macro_rules! kind {
 
 /// The name in the row of a kind.
 macro_rules! name {
-    ($kind:expr; $($row:ident $(($arguments:ident))? $number:ident $name:literal $place:ident $(($given:ident))?,)*) => {
+    (
+        $kind:expr;
+        $($row:ident $(($arguments:ident))? $number:ident $name:literal $place:ident $(($given:ident))?,)*
+    ) => {
         match $kind {
             $(OpKind::$row => $name,)*
         }
@@ -152,7 +161,10 @@ macro_rules! name {
 
 /// The place in the row of a kind.
 macro_rules! placement {
-    ($kind:expr; $($row:ident $(($arguments:ident))? $number:ident $name:literal $place:ident $(($given:ident))?,)*) => {
+    (
+        $kind:expr;
+        $($row:ident $(($arguments:ident))? $number:ident $name:literal $place:ident $(($given:ident))?,)*
+    ) => {
         match $kind {
             $(OpKind::$row => Placement::$place,)*
         }

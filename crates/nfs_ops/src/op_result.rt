@@ -92,7 +92,10 @@ pub enum OpResult<'a> {
 
 /// The number in the row of a result, or that of a refusal.
 macro_rules! number {
-    ($outcome:expr; $($row:ident $(($arguments:ident))? $number:ident $name:literal $place:ident $(($given:ident))?,)*) => {
+    (
+        $outcome:expr;
+        $($row:ident $(($arguments:ident))? $number:ident $name:literal $place:ident $(($given:ident))?,)*
+    ) => {
         match $outcome {
             $(OpResult::$row { .. } => $crate::$number,)*
             OpResult::Refused(number, _) => *number,

@@ -56,7 +56,10 @@ macro_rules! arguments {
 
 /// Reads the arguments in the row of a kind.
 macro_rules! arguments_of {
-    ($kind:expr, $reader:expr; $($row:ident $(($arguments:ident))? $number:ident $name:literal $place:ident $(($given:ident))?,)*) => {
+    (
+        $kind:expr, $reader:expr;
+        $($row:ident $(($arguments:ident))? $number:ident $name:literal $place:ident $(($given:ident))?,)*
+    ) => {
         match $kind {
             $(OpKind::$row => arguments!($row $($arguments)?, $reader),)*
         }

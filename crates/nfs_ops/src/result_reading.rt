@@ -33,7 +33,10 @@ macro_rules! given {
 
 /// Reads the result in the row of a kind.
 macro_rules! given_of {
-    ($kind:expr, $reader:expr; $($row:ident $(($arguments:ident))? $number:ident $name:literal $place:ident $(($given:ident))?,)*) => {
+    (
+        $kind:expr, $reader:expr;
+        $($row:ident $(($arguments:ident))? $number:ident $name:literal $place:ident $(($given:ident))?,)*
+    ) => {
         match $kind {
             $(OpKind::$row => given!($row $($given)?, $reader),)*
         }

@@ -80,12 +80,17 @@ macro_rules! done {
     (Open $number:ident $given:ident, $writer:expr) => { whole!($given.stateid.other, $number $given, $writer) };
     (CreateSession $number:ident $given:ident, $writer:expr) => { whole!($given.session, $number $given, $writer) };
     (Sequence $number:ident $given:ident, $writer:expr) => { whole!($given.session, $number $given, $writer) };
-    ($row:ident $number:ident $($given:ident)?, $writer:expr) => { ($crate::$number, (0u32, ($($given)?))).write($writer) };
+    ($row:ident $number:ident $($given:ident)?, $writer:expr) => {
+        ($crate::$number, (0u32, ($($given)?))).write($writer)
+    };
 }
 
 /// Writes the result in the row of an operation that is OK, or a refusal.
 macro_rules! done_of {
-    ($outcome:expr, $writer:expr; $($row:ident $(($arguments:ident))? $number:ident $name:literal $place:ident $(($given:ident))?,)*) => {
+    (
+        $outcome:expr, $writer:expr;
+        $($row:ident $(($arguments:ident))? $number:ident $name:literal $place:ident $(($given:ident))?,)*
+    ) => {
         match $outcome {
             $(OpResult::$row$(($given))? => done!($row $number $($given)?, $writer),)*
             OpResult::Refused(number, status) => write_refusal(number, status, $writer),

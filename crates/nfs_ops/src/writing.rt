@@ -12,7 +12,10 @@ use xdr_wire::{Full, Spell, Writer};
 
 /// The number in the row of an operation with its arguments, or the number of an entry without operation.
 macro_rules! written {
-    ($op:expr, $writer:expr; $($row:ident $(($arguments:ident))? $number:ident $name:literal $place:ident $(($given:ident))?,)*) => {
+    (
+        $op:expr, $writer:expr;
+        $($row:ident $(($arguments:ident))? $number:ident $name:literal $place:ident $(($given:ident))?,)*
+    ) => {
         match $op {
             $(Op::$row$(($arguments))? => ($crate::$number, ($($arguments)?)).write($writer),)*
             Op::Unsupported(number) => number.write($writer),

@@ -5,7 +5,13 @@ use Rattle.xdr_wire.specs.Xdr.{Xdr, uint, hyper, boolean, opaque, fields, array}
 use Rattle.nfs_types.specs.Forms.{bitmap, handle, time}
 use Rattle.nfs_types.specs.Sets.{has_number}
 use Rattle.nfs_types.specs.declared.attribute.Attribute.{Attribute}
-use Rattle.nfs_types.specs.declared.attribute.Attribute.TheVariants.{SupportedAttrs, ObjectType, FhExpireType, Change, Size, LinkSupport, SymlinkSupport, NamedAttr, Fsid, UniqueHandles, LeaseTime, RdattrError, Acl, AclSupport, FileHandle, FileId, MaxFileSize, MaxName, MaxRead, MaxWrite, Mode, NumLinks, Owner, OwnerGroup, TimeMetadata, TimeModify, MountedOnFileId, Dacl, Sacl, SuppattrExclcreat}
+use Rattle.nfs_types.specs.declared.attribute.Attribute.TheVariants.{SupportedAttrs, ObjectType, FhExpireType, Change}
+use Rattle.nfs_types.specs.declared.attribute.Attribute.TheVariants.{Size, LinkSupport, SymlinkSupport, NamedAttr, Fsid}
+use Rattle.nfs_types.specs.declared.attribute.Attribute.TheVariants.{UniqueHandles, LeaseTime, RdattrError, Acl}
+use Rattle.nfs_types.specs.declared.attribute.Attribute.TheVariants.{AclSupport, FileHandle, FileId, MaxFileSize}
+use Rattle.nfs_types.specs.declared.attribute.Attribute.TheVariants.{MaxName, MaxRead, MaxWrite, Mode, NumLinks, Owner}
+use Rattle.nfs_types.specs.declared.attribute.Attribute.TheVariants.{OwnerGroup, TimeMetadata, TimeModify}
+use Rattle.nfs_types.specs.declared.attribute.Attribute.TheVariants.{MountedOnFileId, Dacl, Sacl, SuppattrExclcreat}
 
 -- utf8str_mixed
 abbrev pub text : Xdr
@@ -79,9 +85,11 @@ form_of a = (row a).form
 -- all attributes, by rising number
 abbrev pub all : List Attribute
 all =
-    SupportedAttrs ∷ ObjectType ∷ FhExpireType ∷ Change ∷ Size ∷ LinkSupport ∷ SymlinkSupport ∷ NamedAttr ∷ Fsid ∷ UniqueHandles
+    SupportedAttrs ∷ ObjectType ∷ FhExpireType ∷ Change ∷ Size ∷ LinkSupport ∷ SymlinkSupport ∷ NamedAttr ∷ Fsid
+    ∷ UniqueHandles
     ∷ LeaseTime ∷ RdattrError ∷ Acl ∷ AclSupport ∷ FileHandle ∷ FileId ∷ MaxFileSize ∷ MaxName ∷ MaxRead ∷ MaxWrite
-    ∷ Mode ∷ NumLinks ∷ Owner ∷ OwnerGroup ∷ TimeMetadata ∷ TimeModify ∷ MountedOnFileId ∷ Dacl ∷ Sacl ∷ SuppattrExclcreat ∷ []
+    ∷ Mode ∷ NumLinks ∷ Owner ∷ OwnerGroup ∷ TimeMetadata ∷ TimeModify ∷ MountedOnFileId ∷ Dacl ∷ Sacl
+    ∷ SuppattrExclcreat ∷ []
 
 -- the words of the set of all attributes, and of the set of those that can be set
 abbrev pub supported_words : List ℕ

@@ -20,7 +20,13 @@ use Rattle.nfs_types.specs.MomentView.{moment_value}
 use Rattle.nfs_types.specs.Name.{MAX_NAME}
 use Rattle.nfs_types.specs.Attributes.{ace, number_of, form_of, all, supported_words}
 use Rattle.nfs_types.specs.declared.attribute.Attribute.{Attribute}
-use Rattle.nfs_types.specs.declared.attribute.Attribute.TheVariants.{SupportedAttrs, ObjectType, FhExpireType, Change, Size, LinkSupport, SymlinkSupport, NamedAttr, Fsid, UniqueHandles, LeaseTime, RdattrError, Acl, AclSupport, FileHandle, FileId, MaxFileSize, MaxName, MaxRead, MaxWrite, Mode, NumLinks, Owner, OwnerGroup, TimeMetadata, TimeModify, MountedOnFileId, Dacl, Sacl, SuppattrExclcreat}
+use Rattle.nfs_types.specs.declared.attribute.Attribute.TheVariants.{SupportedAttrs, ObjectType, FhExpireType, Change}
+use Rattle.nfs_types.specs.declared.attribute.Attribute.TheVariants.{Size, LinkSupport, SymlinkSupport, NamedAttr, Fsid}
+use Rattle.nfs_types.specs.declared.attribute.Attribute.TheVariants.{UniqueHandles, LeaseTime, RdattrError, Acl}
+use Rattle.nfs_types.specs.declared.attribute.Attribute.TheVariants.{AclSupport, FileHandle, FileId, MaxFileSize}
+use Rattle.nfs_types.specs.declared.attribute.Attribute.TheVariants.{MaxName, MaxRead, MaxWrite, Mode, NumLinks, Owner}
+use Rattle.nfs_types.specs.declared.attribute.Attribute.TheVariants.{OwnerGroup, TimeMetadata, TimeModify}
+use Rattle.nfs_types.specs.declared.attribute.Attribute.TheVariants.{MountedOnFileId, Dacl, Sacl, SuppattrExclcreat}
 use Rattle.nfs_types.specs.declared.facts.ObjectFacts.{ObjectFacts}
 
 -- nfs_ftype4

@@ -11,4 +11,5 @@ object_handle number = replicate 8 0 ++ to_be_bytes w64 number
 
 -- the number of the object of a handle
 abbrev pub object_of : List ℕ → Result ℕ Status
-object_of bytes = if (length bytes == 16) && are_zero (take 8 bytes) then Ok (from_be_bytes w64 (drop 8 bytes)) else Err BadHandle
+object_of bytes =
+    if (length bytes == 16) && are_zero (take 8 bytes) then Ok (from_be_bytes w64 (drop 8 bytes)) else Err BadHandle

@@ -10,7 +10,8 @@ use Rattle.nfs_types.specs.Sets.{has_number}
 use Rattle.nfs_types.specs.Attributes.{text, ace, acl, acl41, is_within}
 use Rattle.nfs_types.specs.Sent.{chosen_at}
 use Rattle.nfs_types.specs.declared.attribute.Attribute.{Attribute}
-use Rattle.nfs_types.specs.declared.attribute.Attribute.TheVariants.{ObjectType, Size, RdattrError, Acl, Mode, Owner, OwnerGroup, Dacl, Sacl}
+use Rattle.nfs_types.specs.declared.attribute.Attribute.TheVariants.{ObjectType, Size, RdattrError, Acl, Mode, Owner}
+use Rattle.nfs_types.specs.declared.attribute.Attribute.TheVariants.{OwnerGroup, Dacl, Sacl}
 
 -- the values, each if it is there
 pub record Seen : Type 0 where
@@ -41,7 +42,20 @@ seen_at set bytes =
     chosen_at (has_number set 37) text f.1 >>= λ g.
     chosen_at (has_number set 58) acl41 g.1 >>= λ h.
     chosen_at (has_number set 59) acl41 h.1 >>= λ i.
-    Ok (record { kind = a.0; size = b.0; error = c.0; entries = d.0; mode = e.0; owner = f.0; group = g.0; dacl = h.0; sacl = i.0 }, i.1)
+    Ok (
+      record {
+        kind = a.0;
+        size = b.0;
+        error = c.0;
+        entries = d.0;
+        mode = e.0;
+        owner = f.0;
+        group = g.0;
+        dacl = h.0;
+        sacl = i.0;
+      },
+      i.1,
+    )
 
 -- nothing stands after the values
 abbrev pub ended : Read Seen → Result Seen XdrFault
@@ -87,4 +101,5 @@ bit_if value bit = if is_some value then bit else 0
 abbrev pub shown_set : Seen → List ℕ
 shown_set s =
     trimmed ((bit_if s.kind 0x2 + bit_if s.size 0x10 + bit_if s.error 0x800 + bit_if s.entries 0x1000)
-    ∷ (bit_if s.mode 0x2 + bit_if s.owner 0x10 + bit_if s.group 0x20 + bit_if s.dacl 0x400_0000 + bit_if s.sacl 0x800_0000) ∷ [])
+    ∷ (bit_if s.mode 0x2 + bit_if s.owner 0x10 + bit_if s.group 0x20 + bit_if s.dacl 0x400_0000
+    + bit_if s.sacl 0x800_0000) ∷ [])

@@ -1,5 +1,6 @@
 -- Attributes that an operation sets, as they are sent (RFC 8881, sections 5.8, 5.9 and 6.2).
-use Rattle.std.specs.Prelude.{ℕ, nat_lt, ◌==◌, Bool, true, false, not, ◌&&◌, ◌||◌, if◌then◌else◌, List, [], ◌∷◌, map, Option, Some, None, is_some, Result, Ok, Err}
+use Rattle.std.specs.Prelude.{ℕ, nat_lt, ◌==◌, Bool, true, false, not, ◌&&◌, ◌||◌, if◌then◌else◌, List, [], ◌∷◌, map}
+use Rattle.std.specs.Prelude.{Option, Some, None, is_some, Result, Ok, Err}
 use Rattle.xdr_wire.specs.Xdr.{Xdr, Value, uint, hyper}
 use Rattle.xdr_wire.specs.Reading.{◌>>=◌, Read, read_at}
 use Rattle.acl_list.specs.declared.entry.Entry.{Entry}
@@ -71,7 +72,8 @@ pub record Wanted : Type 0 where
 abbrev pub nothing : Wanted
 nothing = record { size = None; list = None; mode = None; owner = None; group = None; dacl = None; sacl = None }
 
-abbrev pub made : Option ℕ → Option (List Entry) → Option ℕ → Option ℕ → Option ℕ → Option (List Entry) → Option (List Entry) → Wanted
+abbrev pub made : Option ℕ → Option (List Entry) → Option ℕ → Option ℕ → Option ℕ → Option (List Entry)
+    → Option (List Entry) → Wanted
 made size list mode owner group dacl sacl =
     record { size = size; list = list; mode = mode; owner = owner; group = group; dacl = dacl; sacl = sacl }
 
@@ -99,7 +101,8 @@ unless (Some fault) list = Err (status_of fault)
 
 abbrev pub taken_list : Content → Kind → Option (List (Value ace)) → Result (Option (List Entry)) Status
 taken_list book kind None = Ok None
-taken_list book kind (Some entries) = unless (first_fault (map (raw_of book) entries)) (admitted kind (map (raw_of book) entries))
+taken_list book kind (Some entries) =
+    unless (first_fault (map (raw_of book) entries)) (admitted kind (map (raw_of book) entries))
 
 -- 4095 is 07777 in octal
 abbrev pub taken_mode : Option ℕ → Result (Option ℕ) Status
@@ -129,7 +132,8 @@ group_of plain = plain.1.1
 
 abbrev pub taken_plain : Content → Option ℕ → Option (List ℕ) → Option (List ℕ) → Result Plain Status
 taken_plain book mode owner group =
-    taken_mode mode >> λ m. taken_name book kinds.User owner >> λ o. taken_name book kinds.Group group >> λ g. Ok (m, (o, g))
+    taken_mode mode >> λ m. taken_name book kinds.User owner >> λ o. taken_name book kinds.Group group
+    >> λ g. Ok (m, (o, g))
 
 -- A part of a list. There is no automatic inheritance, so no flag of the ACL is known (section
 -- 6.4.3.2). After the flags comes the fault of its entries.

@@ -1,7 +1,17 @@
 -- The outcomes of operations (RFC 8881, section 15.1).
 use Rattle.std.specs.Prelude.{ℕ, ◌==◌, if◌then◌else◌, List, [], ◌∷◌, Option, Some, None, codes}
 use Rattle.nfs_types.specs.declared.status.Status.{Status}
-use Rattle.nfs_types.specs.declared.status.Status.TheVariants.{Ok, Perm, NoEnt, Access, Exist, NotDir, IsDir, Inval, FBig, NoSpc, MLink, NameTooLong, NotEmpty, Stale, BadHandle, BadCookie, NotSupp, TooSmall, ServerFault, BadType, Delay, Same, ClidInUse, NoFileHandle, MinorVersMismatch, StaleClientId, OldStateId, BadStateId, NotSame, Symlink, AttrNotSupp, BadXdr, OpenMode, BadOwner, BadChar, BadName, OpIllegal, BadSession, BadSlot, CompleteAlready, SeqMisordered, SequencePos, ReqTooBig, RepTooBig, RepTooBigToCache, TooManyOps, OpNotInSession, ClientIdBusy, SeqFalseRetry, BadHighSlot, NotOnlyOp, WrongType}
+use Rattle.nfs_types.specs.declared.status.Status.TheVariants.{Ok, Perm, NoEnt, Access, Exist, NotDir, IsDir, Inval}
+use Rattle.nfs_types.specs.declared.status.Status.TheVariants.{FBig, NoSpc, MLink, NameTooLong, NotEmpty, Stale}
+use Rattle.nfs_types.specs.declared.status.Status.TheVariants.{BadHandle, BadCookie, NotSupp, TooSmall, ServerFault}
+use Rattle.nfs_types.specs.declared.status.Status.TheVariants.{BadType, Delay, Same, ClidInUse, NoFileHandle}
+use Rattle.nfs_types.specs.declared.status.Status.TheVariants.{MinorVersMismatch, StaleClientId, OldStateId, BadStateId}
+use Rattle.nfs_types.specs.declared.status.Status.TheVariants.{NotSame, Symlink, AttrNotSupp, BadXdr, OpenMode}
+use Rattle.nfs_types.specs.declared.status.Status.TheVariants.{BadOwner, BadChar, BadName, OpIllegal, BadSession}
+use Rattle.nfs_types.specs.declared.status.Status.TheVariants.{BadSlot, CompleteAlready, SeqMisordered, SequencePos}
+use Rattle.nfs_types.specs.declared.status.Status.TheVariants.{ReqTooBig, RepTooBig, RepTooBigToCache, TooManyOps}
+use Rattle.nfs_types.specs.declared.status.Status.TheVariants.{OpNotInSession, ClientIdBusy, SeqFalseRetry, BadHighSlot}
+use Rattle.nfs_types.specs.declared.status.Status.TheVariants.{NotOnlyOp, WrongType}
 
 -- the number of nfsstat4
 abbrev pub number_of : Status → ℕ

@@ -52,7 +52,15 @@ pub struct Attrs<A: Allocator = Global> {
 impl<A: Allocator> Attrs<A> {
     /// No value is set.
     pub fn none() -> Self
-        ensures { result ≡ record { size = None; list = None; mode = None; owner = None; group = None; dacl = None; sacl = None } }
+        ensures { result ≡ record {
+          size = None;
+          list = None;
+          mode = None;
+          owner = None;
+          group = None;
+          dacl = None;
+          sacl = None;
+        } }
     {
         Attrs {
             size: None,
@@ -114,8 +122,13 @@ fn admit_all<'a, A: Allocator>(
     ensures refused { (fault : AdmitFault) →
         first_fault (map (specs.raw_of book.now) (array_values ace None entries.entry.count entries.entry.bytes.now)) ≡
         Some fault → result ≡ Err fault }
-    ensures taken { first_fault (map (specs.raw_of book.now) (array_values ace None entries.entry.count entries.entry.bytes.now)) ≡ None →
-        MatchResult result (λ new. new ≡ admitted kind (map (specs.raw_of book.now) (array_values ace None entries.entry.count entries.entry.bytes.now))) (λ fault. fault ≡ faults.Memory) }
+    ensures taken { first_fault
+        (map (specs.raw_of book.now) (array_values ace None entries.entry.count entries.entry.bytes.now)) ≡ None →
+        MatchResult result
+        (λ new. new
+        ≡ admitted kind
+        (map (specs.raw_of book.now) (array_values ace None entries.entry.count entries.entry.bytes.now)))
+        (λ fault. fault ≡ faults.Memory) }
     ensures bounded { IfOk result IsBounded }
 {
     let Some(asked) = Asked::of(book, entries) else {

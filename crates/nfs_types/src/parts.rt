@@ -32,8 +32,13 @@ fn admit_part_of<'a, A: Allocator>(
     ensures refused { (fault : AdmitFault) →
         part_fault part kind (map (specs.raw_of book.now)
         (array_values ace None entries.entry.count entries.entry.bytes.now)) ≡ Some fault → result ≡ Err fault }
-    ensures taken { part_fault part kind (map (specs.raw_of book.now) (array_values ace None entries.entry.count entries.entry.bytes.now)) ≡ None →
-        MatchResult result (λ new. new ≡ admitted kind (map (specs.raw_of book.now) (array_values ace None entries.entry.count entries.entry.bytes.now))) (λ fault. fault ≡ faults.Memory) }
+    ensures taken { part_fault part kind
+        (map (specs.raw_of book.now) (array_values ace None entries.entry.count entries.entry.bytes.now)) ≡ None →
+        MatchResult result
+        (λ new. new
+        ≡ admitted kind
+        (map (specs.raw_of book.now) (array_values ace None entries.entry.count entries.entry.bytes.now)))
+        (λ fault. fault ≡ faults.Memory) }
 {
     let Some(asked) = Asked::of(book, entries) else {
         return Err(AdmitFault::NoSpc);

@@ -169,10 +169,12 @@ impl Fault {
             Fault::Entry(_, field) => field.help(),
             Fault::NoSuch => "the list has no entry of this number; getfacl shows them from 1 on",
             Fault::NoRight => {
-                "a right is read, write, list, execute, delete, or a name or letters of 'nfsc help lists', with commas between names"
+                "a right is read, write, list, execute, delete, or a name or letters of 'nfsc help lists', \
+                 with commas between names"
             }
             Fault::NoUser => {
-                "a user is a name of --book FILE, or a number; with groups, as in 1002:100,200, where no book has members"
+                "a user is a name of --book FILE, or a number; with groups, as in 1002:100,200, \
+                 where no book has members"
             }
             Fault::NoBook => "the users are those of a book: name it with --book FILE",
             Fault::Stranger(_) => {
@@ -183,7 +185,8 @@ impl Fault {
             }
             Fault::NoObject => "no object of this number is below what this user can list",
             Fault::Locked => {
-                "this list would leave you without the right to read it or to change it again (c, C); with --force after the command it is set"
+                "this list would leave you without the right to read it or to change it again (c, C); \
+                 with --force after the command it is set"
             }
             Fault::NoneLeft => "a list has at least one entry",
             Fault::TooMany => "there are more than 1,000,000 objects below it; nothing was changed",

@@ -32,25 +32,27 @@ Commands for files and lists in words:
 const DEEP_COMMANDS: &str = "\
 Commands with a flag, over an object and all below it, which '--dry-run' only lists, and over many commands:
 
-    list -R P                         lists what is below a directory, each with its path      list -R /docs
-    mkdir -p P                        makes a directory, and those above it that aren't there  mkdir -p /docs/2026/may
-    ln -s TEXT P                      makes a symbolic link with this text                     ln -s notes /latest
-    chmod -R [--dry-run] OCTAL P      sets the modes                                           chmod -R 0750 /docs
-    setfacl -R [--dry-run] P ENTRY..  sets the lists                                           setfacl -R /docs A::OWNER@:RWX
-    rm -R [--dry-run] P               removes them                                             rm -R --dry-run /docs
-    batch                             runs the commands of standard input, a line a command    batch
+    list -R P                         lists all below a directory, each with its path   list -R /docs
+    mkdir -p P                        makes a directory, and those missing above it     mkdir -p /docs/2026/may
+    ln -s TEXT P                      makes a symbolic link with this text              ln -s notes /latest
+    chmod -R [--dry-run] OCTAL P      sets the modes                                    chmod -R 0750 /docs
+    setfacl -R [--dry-run] P ENTRY..  sets the lists                                    setfacl -R /docs A::OWNER@:RWX
+    rm -R [--dry-run] P               removes them                                      rm -R --dry-run /docs
+    batch                             runs the commands of standard input, a line each  batch
 
-A list that its user can't read or change back is set by setfacl, addfacl and delfacl only with '--force' after the command's name, also
-with '-R'.
-'nfsc help lists' says what the words of an entry are, and 'nfsc COMMAND --help' what a command wants.
+A list that its user can't read or change back is set by setfacl, addfacl and delfacl only with
+'--force' after the command's name, also with '-R'. 'nfsc help lists' says what the words of an
+entry are, and 'nfsc COMMAND --help' what a command wants.
 ";
 
 /// The words of lists.
 const LISTS: &str = "\
-An entry is TYPE:FLAGS:PRINCIPAL:PERMISSIONS, as in A:fd:alice@lab.example:rxtncy. The first entry that speaks of a right decides it.
+An entry is TYPE:FLAGS:PRINCIPAL:PERMISSIONS, as in A:fd:alice@lab.example:rxtncy.
+The first entry that speaks of a right decides it.
 
 TYPE          A allow    D deny    U audit    L alarm
-PRINCIPAL     OWNER@, GROUP@, EVERYONE@, a name and the domain of the server's book, or a number; a group's with the flag g
+PRINCIPAL     OWNER@, GROUP@, EVERYONE@, a name and the domain of the server's book, or a number;
+              a group's with the flag g
 FLAGS         f files inherit it            d directories inherit it       n only the next level inherits it
               i it is for inheriting alone  g the principal is a group     h it was inherited
               S watches what is granted     F watches what is refused

@@ -74,7 +74,8 @@ book_rule = text_rule (codes "book")
 
 abbrev pub nfsc : App
 nfsc =
-    let asked = with_rule (with_rule (with_rule (with_rule (new_app (codes "nfsc")) port_rule) uid_rule) gid_rule) command_rule in
+    let asked =
+    with_rule (with_rule (with_rule (with_rule (new_app (codes "nfsc")) port_rule) uid_rule) gid_rule) command_rule in
     with_rule (with_rule (with_rule (with_rule asked timeout_rule) groups_rule) as_rule) book_rule
 
 abbrev pub nfslab : App

@@ -21,8 +21,9 @@ Commands, where P, OLD and NEW are paths: '/', or names each with '/' in front:
     setsacl P ENTRY..  sets these alone, one or more                              setsacl /notes U:30:00000001:1001
     access P           prints which rights have a meaning, and which you have     access /notes
 
-An entry is TYPE:FLAGS:MASK:WHO. TYPE is A (allow), D (deny), U (audit) or L (alarm); FLAGS are two and MASK is eight hexadecimal digits; WHO is
-OWNER@, GROUP@, EVERYONE@, a number, or a name and the domain of the book, as alice@example.org. A command whose answer has no text prints 'ok'.
+An entry is TYPE:FLAGS:MASK:WHO. TYPE is A (allow), D (deny), U (audit) or L (alarm); FLAGS are two
+and MASK is eight hexadecimal digits; WHO is OWNER@, GROUP@, EVERYONE@, a number, or a name and the
+domain of the book, as alice@example.org. A command whose answer has no text prints 'ok'.
 What the server refuses prints 'refused OP STATUS', and any other fault 'failed N':
 1 a path, 3 a reply, 4 reading, 5 writing, 6 memory, 7 a mode or an entry, 8 an earlier failure.";
 

@@ -11,10 +11,11 @@ use std::alloc::{AllocError, Global};
 const ABOUT: &str = "\
 Runs a script of commands on an NFS version 4.1 server in memory, and prints their answers and then the audit trail.
 
-The script is read from standard input, a line a command: 'as UID GID COMMAND ..', with words split at spaces. A line 'reload FILE' takes
-another book: 'ok', 'book N' where the file is no book, by the number of its fault, or 'bad line' where it can't be read. Blank lines and lines
-that begin with '#' are skipped. The files are an empty root at first, which belongs to whom the book says; the line's number is the time in
-seconds. For example:
+The script is read from standard input, a line a command: 'as UID GID COMMAND ..', with words split
+at spaces. A line 'reload FILE' takes another book: 'ok', 'book N' where the file is no book, by the
+number of its fault, or 'bad line' where it can't be read. Blank lines and lines that begin with '#'
+are skipped. The files are an empty root at first, which belongs to whom the book says; the line's
+number is the time in seconds. For example:
 
     # a file that only its owner reads
     as 0 0 put /notes hi

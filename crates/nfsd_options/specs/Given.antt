@@ -1,5 +1,6 @@
 -- The words of `nfsd`: the files, the flags and the numbers that `clap`'s reading gives for them.
-use Rattle.std.specs.Prelude.{◌≡◌, ◌&&◌, ◌||◌, ℕ, Bool, false, not, List, Option, Some, None, codes, if◌then◌else◌, is_some, option_map, option_to_list, pos}
+use Rattle.std.specs.Prelude.{◌≡◌, ◌&&◌, ◌||◌, ℕ, Bool, false, not, List, Option, Some, None, codes, if◌then◌else◌}
+use Rattle.std.specs.Prelude.{is_some, option_map, option_to_list, pos}
 use Rattle.std.specs.Str.{bytes_eq}
 use Rattle.std.specs.Str.Parse.{signed_digits_value}
 use Rattle.clap.specs.Kinds.{Kinds, or_else}
@@ -32,7 +33,8 @@ pub record OptionsOf (words : List Text) (o : Options) : Type 0 where
   pub book : option_map (λ file. file.now) o.book ≡ given (codes "book") words
   pub bare : o.bare ≡ is_set (given (codes "bare") words)
   pub port : IsNumber 2049 1 65535 (given (codes "port") words) o.port
-  pub connections : IsNumber (connections_unsaid (o.concurrent || is_some o.home)) 0 4294967295 (given (codes "connections") words) o.connections
+  pub connections : IsNumber (connections_unsaid (o.concurrent || is_some o.home)) 0 4294967295
+      (given (codes "connections") words) o.connections
   pub concurrent : o.concurrent ≡ is_set (given (codes "concurrent") words)
   pub trail : option_map (λ file. file.now) o.trail ≡ given (codes "trail") words
   pub stamped : o.stamped ≡ is_set (given (codes "stamped") words)

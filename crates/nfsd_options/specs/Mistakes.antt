@@ -2,7 +2,8 @@
 use Rattle.clap.specs.declared.error.kind.ErrorKind.{ErrorKind}
 use Rattle.clap.specs.declared.error.kind.ErrorKind.TheVariants.{ArgumentConflict, MissingRequiredArgument}
 use Rattle.nfsd_options.specs.declared.mistake.Mistake.{Mistake}
-use Rattle.nfsd_options.specs.declared.mistake.Mistake.TheVariants.{HomeWithOthers, TrailOfBare, PortsOfBare, StoreOfBare, NothingToStamp}
+use Rattle.nfsd_options.specs.declared.mistake.Mistake.TheVariants.{HomeWithOthers, TrailOfBare, PortsOfBare}
+use Rattle.nfsd_options.specs.declared.mistake.Mistake.TheVariants.{StoreOfBare, NothingToStamp}
 
 abbrev pub kind_at : Mistake → ErrorKind
 kind_at HomeWithOthers = ArgumentConflict

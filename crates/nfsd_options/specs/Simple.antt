@@ -23,7 +23,12 @@ bare_rule = flag_rule (codes "bare")
 
 -- `--port N`: a number from 1 to 65535
 abbrev pub port_rule : Rule
-port_rule = record (new_rule (codes "port")) { long = Some (codes "port"); value_names = 1; parser = Some (vp.Signed (pos 1) (pos 65535)) }
+port_rule =
+    record (new_rule (codes "port")) {
+      long = Some (codes "port");
+      value_names = 1;
+      parser = Some (vp.Signed (pos 1) (pos 65535));
+    }
 
 -- `--connections N`: a number from 0 to 4294967295
 abbrev pub connections_rule : Rule

@@ -12,14 +12,15 @@ use std::alloc::{AllocError, Global};
 const ABOUT: &str = "\
 Serves files over NFS version 4.1, and means what their access control lists say.
 
-It listens on 127.0.0.1, prints 'listening on 127.0.0.1:PORT', serves its connections, one after the other unless told else, and ends.
-The files are kept in memory: an empty root at first, which belongs to whom the book says. With '--store FOLDER' they are kept in that folder
-too, and outlive the server: nothing that was answered is lost, whatever ends it.";
+It listens on 127.0.0.1, prints 'listening on 127.0.0.1:PORT', serves its connections, one after the
+other unless told else, and ends. The files are kept in memory: an empty root at first, which
+belongs to whom the book says. With '--store FOLDER' they are kept in that folder too, and outlive
+the server: nothing that was answered is lost, whatever ends it.";
 
 /// The form of a book, with an example.
 const BOOK: &str = "\
-A book gives users and groups their names, and may say which users are in which groups. It is a file in TOML with these seven keys,
-of which 'members' may be missing, and no others:
+A book gives users and groups their names, and may say which users are in which groups. It is a file
+in TOML with these seven keys, of which 'members' may be missing, and no others:
 
     domain = \"example.org\"
     root_owner = 0
@@ -29,17 +30,22 @@ of which 'members' may be missing, and no others:
     groups = { wheel = 0, staff = 100 }
     members = { wheel = [\"root\"], staff = [\"alice\"] }
 
-Without a book there are no names, the domain is 'localdomain', and the root belongs to user 0 and group 0, with mode 0o755.
+Without a book there are no names, the domain is 'localdomain', and the root belongs to user 0 and
+group 0, with mode 0o755.
 
-With 'members' a user is in the groups whose array names it, at most 17, and in no others; without it, in those that its calls say.
+With 'members' a user is in the groups whose array names it, at most 17, and in no others; without
+it, in those that its calls say.
 
-Where the file of the book changes, it is loaded anew: with the next call where another file was moved into its place, else once the file
-hasn't changed for two seconds. Where it can't be read or isn't a book, or has no 'members' while the book before has them, a line on
-standard error says so, and the book before stays.
+Where the file of the book changes, it is loaded anew: with the next call where another file was
+moved into its place, else once the file hasn't changed for two seconds. Where it can't be read or
+isn't a book, or has no 'members' while the book before has them, a line on standard error says so,
+and the book before stays.
 
-Nobody overrides a list, root neither: an object whose list grants nobody to change it (WRITE_ACL) is locked, for its owner too, as long
-as the server runs, and with '--store' for good. Sticky, setuid and setgid bits are kept and shown, and have no effect. A change of the mode cuts the entries of named
-users and groups: those that allow keep no right to read, write or execute that the group's bits lack.
+Nobody overrides a list, root neither: an object whose list grants nobody to change it (WRITE_ACL)
+is locked, for its owner too, as long as the server runs, and with '--store' for good. Sticky,
+setuid and setgid bits are kept and shown, and have no effect. A change of the mode cuts the entries
+of named users and groups: those that allow keep no right to read, write or execute that the group's
+bits lack.
 
 For example, two connections on port 12049:
 
@@ -162,7 +168,8 @@ fn stamped<'a>(alloc: Global) -> Arg<'a>
     flag(
         alloc,
         "stamped",
-        "Begins each line of the trail's file with its moment, in UTC, and writes a line START at each start; only with --trail",
+        "Begins each line of the trail's file with its moment, in UTC, and writes a line START at each start; \
+         only with --trail",
     )
 }
 
@@ -183,7 +190,8 @@ fn store<'a>(alloc: Global) -> Arg<'a>
         .long("store")
         .value_name("FOLDER")
         .help(
-            "Keeps the files in this folder, which is made where it isn't there, before the replies go out; not with --bare",
+            "Keeps the files in this folder, which is made where it isn't there, before the replies go out; \
+             not with --bare",
         )
 }
 
@@ -193,7 +201,8 @@ fn leases<'a>(alloc: Global) -> Arg<'a>
     flag(
         alloc,
         "leases",
-        "Lets a client go of which nothing was heard for more than 90 seconds, where more than half of the clients, sessions or open files that may be there are",
+        "Lets a client go of which nothing was heard for more than 90 seconds, where more than half of the clients, \
+         sessions or open files that may be there are",
     )
 }
 
@@ -204,6 +213,7 @@ fn home<'a>(alloc: Global) -> Arg<'a>
         .long("home")
         .value_name("FOLDER")
         .help(
-            "One folder for all: stands for '--concurrent --leases --store FOLDER/store --trail FOLDER/trail.txt --stamped', and '--book FOLDER/book.toml' where that file is there",
+            "One folder for all: stands for '--concurrent --leases --store FOLDER/store --trail FOLDER/trail.txt \
+             --stamped', and '--book FOLDER/book.toml' where that file is there",
         )
 }

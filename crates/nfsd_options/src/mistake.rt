@@ -73,7 +73,8 @@ impl Mistake {
     fn text(self) -> &'static str {
         match self {
             Mistake::HomeWithOthers => {
-                "the argument '--home <FOLDER>' stands for '--concurrent', '--leases', '--store', '--trail', '--stamped' and '--book', and goes with none of them, nor with '--bare'"
+                "the argument '--home <FOLDER>' stands for '--concurrent', '--leases', '--store', '--trail', \
+                 '--stamped' and '--book', and goes with none of them, nor with '--bare'"
             }
             Mistake::TrailOfBare => {
                 "the argument '--trail <FILE>' cannot be used with '--bare', whose trail goes to no file"

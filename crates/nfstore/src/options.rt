@@ -5,11 +5,12 @@ use std::alloc::{AllocError, Global};
 
 /// The command does this.
 const ABOUT: &str = "\
-Says what the store in a folder has, which 'nfsd --store FOLDER' keeps, and changes nothing; or, with '--import', makes a new one.
+Says what the store in a folder has, which 'nfsd --store FOLDER' keeps, and changes nothing; or,
+with '--import', makes a new one.
 
-Without an option it says a name and a value on each line: the file that counts, its generation, version and frames, the records after its
-checkpoint, the bytes that a crash tore, the counters, the next numbers of clients, sessions and opens, and how many objects and names there
-are.
+Without an option it says a name and a value on each line: the file that counts, its generation,
+version and frames, the records after its checkpoint, the bytes that a crash tore, the counters, the
+next numbers of clients, sessions and opens, and how many objects and names there are.
 
 A store that a server has is refused, and a server is refused while this has it.";
 

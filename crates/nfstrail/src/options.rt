@@ -4,10 +4,12 @@ use std::alloc::{AllocError, Global};
 
 /// The text of help.
 const ABOUT: &str = "\
-Prints the trail of a home, which 'nfsd --home FOLDER' keeps, for people: users by the names of the book, objects by their paths in the store as
-it is now, rights by their names, and why. It writes nothing, and takes no lock: the server may run.
+Prints the trail of a home, which 'nfsd --home FOLDER' keeps, for people: users by the names of the
+book, objects by their paths in the store as it is now, rights by their names, and why. It writes
+nothing, and takes no lock: the server may run.
 
-A line that can't be read is printed as it is, after 'not understood: ', whatever is asked for; a last line without its end after 'not ended: '.
+A line that can't be read is printed as it is, after 'not understood: ', whatever is asked for; a
+last line without its end after 'not ended: '.
 
     nfstrail office --user carol --since 2026-11-26";
 

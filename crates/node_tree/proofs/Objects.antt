@@ -61,6 +61,9 @@ removed number (e ∷ es) sorted =
       | false ↦ λ at. ap (λ l. e ∷ l) (removed number es (sorted_tail nat_cmp _ _ sorted))
     ] refl
 
+-- an object that is removed, or isn't there
+pub ruleset removal_facts = (removed, without_none)
+
 -- the object of a number after a change of one object
 pub lookup-changed : (number q : ℕ) (f : Object → Object) (es : List (ℕ × Object))
     → lookup (is_at (nat_cmp q)) (changed number f es) ≡ cond (is_at (nat_cmp number) q) (option_map f (lookup (is_at (nat_cmp number)) es)) (lookup (is_at (nat_cmp q)) es)

@@ -1,7 +1,8 @@
 -- The changes of the world (RFC 8881, sections 5.8, 18.4, 18.9, 18.25, 18.26, 18.30 and 18.32). A
 -- change takes a tick, and each object that it changes gets the tick; the changes of one operation
 -- share it. Each change is noted.
-use Rattle.std.specs.Prelude.{ℕ, pos, ◌+◌, ◌-◌, not, ◌&&◌, nat_le, nat_lt, if◌then◌else◌, max, List, [], ◌∷◌, ◌++◌, length, map, filter, take, replicate, slice_index, Option}
+use Rattle.std.specs.Prelude.{ℕ, pos, ◌+◌, ◌-◌, not, ◌&&◌, nat_le, nat_lt, if◌then◌else◌, max, List, [], ◌∷◌, ◌++◌}
+use Rattle.std.specs.Prelude.{length, map, filter, take, replicate, slice_index, Option}
 use Rattle.std.proofs.Common.{lit<}
 use Rattle.std.specs.List.{range_with_len}
 use Rattle.std.specs.Option.{option_map_or}
@@ -23,7 +24,9 @@ use Rattle.node_tree.specs.World.{World, Object, Name, child_named, is_one, is_n
 
 -- the objects after a change f of the object of a number
 abbrev pub changed : ℕ → (Object → Object) → List (ℕ × Object) → List (ℕ × Object)
-changed number f objects = option_map_or (λ o. set_value (is_at (nat_cmp number)) objects (f o)) (lookup (is_at (nat_cmp number)) objects) objects
+changed number f objects =
+    option_map_or (λ o. set_value (is_at (nat_cmp number)) objects (f o))
+    (lookup (is_at (nat_cmp number)) objects) objects
 
 -- the objects of other numbers
 abbrev pub without : ℕ → List (ℕ × Object) → List (ℕ × Object)
@@ -71,13 +74,22 @@ root_of owner group list high = new_object Directory [] owner group list high 1 
 
 -- a root and no other object
 abbrev pub alone : Object → World
-alone root = record { objects = (1, root) ∷ []; names = []; next_number = 2; next_tick = 2; next_stamp = 2; next_cookie = 3; notes = no_notes }
+alone root = record {
+  objects = (1, root) ∷ [];
+  names = [];
+  next_number = 2;
+  next_tick = 2;
+  next_stamp = 2;
+  next_cookie = 3;
+  notes = no_notes;
+}
 
 -- ---- names
 
 -- the names with one more name, by the next cookie
 abbrev pub named : World → ℕ → List ℕ → ℕ → List Name → List Name
-named w directory name child names = names ++ record { cookie = w.next_cookie; directory = directory; name = name; child = child } ∷ []
+named w directory name child names =
+    names ++ record { cookie = w.next_cookie; directory = directory; name = name; child = child } ∷ []
 
 -- the names without this name
 abbrev pub other_names : ℕ → List ℕ → List Name → List Name
@@ -85,7 +97,8 @@ other_names directory name names = filter (λ n. not (is_named directory name n)
 
 -- An object that has lost a name. An object that has lost its last name goes.
 abbrev pub released : List Name → ℕ → At → List (ℕ × Object) → List (ℕ × Object)
-released names number at objects = if has_name names number then changed number (retold at) objects else without number objects
+released names number at objects =
+    if has_name names number then changed number (retold at) objects else without number objects
 
 -- a new object under a new name (CREATE, OPEN)
 abbrev pub with_new : World → ℕ → List ℕ → Object → At → World
@@ -121,14 +134,18 @@ without_name w directory name child at =
     }
 
 abbrev pub unlinked : World → ℕ → List ℕ → At → World
-unlinked w directory name at = option_map_or (λ child. without_name w directory name child at) (child_named w directory name) w
+unlinked w directory name at =
+    option_map_or (λ child. without_name w directory name child at) (child_named w directory name) w
 
 -- with another name for a child; a target of that name loses it (RENAME)
 abbrev pub with_move : World → ℕ → List ℕ → ℕ → List ℕ → ℕ → Option ℕ → At → World
 with_move w from old to new child target at =
     let names = other_names to new (other_names from old w.names) in
     record w {
-      objects = changed to (touched at) (changed from (touched at) (changed child (retold at) (option_map_or (λ t. released names t at w.objects) target w.objects)));
+      objects =
+          changed to (touched at)
+          (changed from (touched at)
+          (changed child (retold at) (option_map_or (λ t. released names t at w.objects) target w.objects)));
       names = named w to new child names;
       next_tick = at.tick + 1;
       next_cookie = w.next_cookie + 1;
@@ -146,7 +163,9 @@ renamed w from old to new at =
 -- each byte of data in its range, else the old byte, else 0
 abbrev pub written : List ℕ → ℕ → List ℕ → List ℕ
 written bytes offset more =
-    map (λ i. if nat_le offset i && nat_lt i (offset + length more) then slice_index more (i - offset) else slice_index bytes i)
+    map
+    (λ i. if nat_le offset i && nat_lt i (offset + length more) then slice_index more (i - offset)
+    else slice_index bytes i)
     (range_with_len 0 (max (length bytes) (offset + length more)))
 
 -- bytes are written into a file

@@ -96,8 +96,10 @@ step_value (Unlink directory name at) = inr (inr (inl (directory, (name, at_valu
 step_value (Rename from old to new at) = inr (inr (inr (inl (from, (old, (to, (new, at_value at)))))))
 step_value (Write file offset more at) = inr (inr (inr (inr (inl (file, (offset, (more, at_value at)))))))
 step_value (Resize file size at) = inr (inr (inr (inr (inr (inl (file, (size, at_value at)))))))
-step_value (SetList number list high at) = inr (inr (inr (inr (inr (inr (inl (number, (list_value list, (high, at_value at)))))))))
-step_value (SetOwner number owner group at) = inr (inr (inr (inr (inr (inr (inr (inl (number, (owner, (group, at_value at))))))))))
+step_value (SetList number list high at) =
+    inr (inr (inr (inr (inr (inr (inl (number, (list_value list, (high, at_value at)))))))))
+step_value (SetOwner number owner group at) =
+    inr (inr (inr (inr (inr (inr (inr (inl (number, (owner, (group, at_value at))))))))))
 
 -- the bytes of a change
 abbrev pub spelled : Step → List ℕ

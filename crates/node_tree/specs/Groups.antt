@@ -22,7 +22,8 @@ keyed names = map (λ n. (n.cookie, n)) names
 
 -- Names are kept by their cookies, which rise from 3 on. A directory has the cookies of the names
 -- in it, and a child those of its names.
-pub record IsListed (entries : List (ℕ × Name)) (by_directory by_child : BTreeMap ℕ (BTreeSet ℕ)) (names : List Name) : Type 0 where
+pub record IsListed (entries : List (ℕ × Name)) (by_directory by_child : BTreeMap ℕ (BTreeSet ℕ))
+    (names : List Name) : Type 0 where
   pub next : ℕ
   pub keyed_so : entries ≡ keyed names
   pub rises : Rises (λ n. n.cookie) 3 names next

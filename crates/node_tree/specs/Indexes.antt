@@ -15,11 +15,14 @@ cookie_of names name = lookup (is_at (λ k. slice_cmp nat_cmp name k.items)) nam
 
 -- the cookie of a name in a directory
 abbrev pub cookie_at : {A : Type 0} → BTreeMap ℕ (BTreeMap (Vec ℕ A) ℕ A) A → ℕ → List ℕ → Option ℕ
-cookie_at index directory name = option_map_or (λ names. cookie_of names name) (lookup (is_at (nat_cmp directory)) index.entries) None
+cookie_at index directory name =
+    option_map_or (λ names. cookie_of names name) (lookup (is_at (nat_cmp directory)) index.entries) None
 
 -- each name leads to the cookie that it has among the names
 abbrev pub IsIndexed : {A : Type 0} → BTreeMap ℕ (BTreeMap (Vec ℕ A) ℕ A) A → List Name → Type 0
-IsIndexed index names = (directory : ℕ) (name : List ℕ) → cookie_at index directory name ≡ option_map (λ n. n.cookie) (find (is_named directory name) names)
+IsIndexed index names =
+    (directory : ℕ) (name : List ℕ)
+    → cookie_at index directory name ≡ option_map (λ n. n.cookie) (find (is_named directory name) names)
 
 -- The names are found, their cookies rise from 3 on, and no name is there twice.
 pub record IsKept {A : Type 0} (index : BTreeMap ℕ (BTreeMap (Vec ℕ A) ℕ A) A) (names : List Name) : Type 0 where

@@ -21,4 +21,5 @@ judged_of w number = option_map judged (object w number)
 -- decided by a stamp is decided as before.
 pub record KeepsJudged (old new : World) : Type 0 where
   pub stamps_rise : old.next_stamp ≤ new.next_stamp
-  pub same : (number : ℕ) (j : Judged) → judged_of new number ≡ Some j → j.stamp < old.next_stamp → judged_of old number ≡ Some j
+  pub same : (number : ℕ) (j : Judged) → judged_of new number ≡ Some j → j.stamp < old.next_stamp
+      → judged_of old number ≡ Some j

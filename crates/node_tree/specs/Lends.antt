@@ -10,5 +10,7 @@ use Rattle.node_tree.specs.contracts.node.Node as node
 use Rattle.node_tree.specs.contracts.node_table.NodeTable.{the_row}
 
 -- once the borrow ends, the number has the last object written through it, and where there is none all is as it was
-abbrev pub lends_object : (A : RattleType) → Ghosts A.Denot → MutBor (List (ℕ × Object)) → ℕ → Option (MutBor Object) → Fml
-lends_object A alloc t number r = LendsIf (the_row A alloc) (node.the_row A alloc) t r (λ o. set_value (is_at (nat_cmp number)) t.now o) t.now
+abbrev pub lends_object : (A : RattleType) → Ghosts A.Denot → MutBor (List (ℕ × Object)) → ℕ → Option (MutBor Object)
+    → Fml
+lends_object A alloc t number r =
+    LendsIf (the_row A alloc) (node.the_row A alloc) t r (λ o. set_value (is_at (nat_cmp number)) t.now o) t.now

@@ -14,6 +14,8 @@ any_after w cookie = find (λ n. nat_lt cookie n.cookie) w.names
 -- Whoever asks for the part after each part that was found, and first for the one after 0, is given all parts in order.
 pub record IsReadInOrder (w : World) : Type 0 where
   pub first_object : number_after w 0 ≡ option_map (λ e. e.0) (slice_get w.objects 0)
-  pub next_object : (before after : List (ℕ × Object)) (number : ℕ) (o : Object) → w.objects ≡ before ++ (number, o) ∷ after → number_after w number ≡ option_map (λ e. e.0) (slice_get after 0)
+  pub next_object : (before after : List (ℕ × Object)) (number : ℕ) (o : Object)
+      → w.objects ≡ before ++ (number, o) ∷ after → number_after w number ≡ option_map (λ e. e.0) (slice_get after 0)
   pub first_name : any_after w 0 ≡ slice_get w.names 0
-  pub next_name : (before after : List Name) (n : Name) → w.names ≡ before ++ n ∷ after → any_after w n.cookie ≡ slice_get after 0
+  pub next_name : (before after : List Name) (n : Name) → w.names ≡ before ++ n ∷ after
+      → any_after w n.cookie ≡ slice_get after 0

@@ -26,5 +26,6 @@ placed nodes places = map (λ e. (e.0, in_place nodes e.1)) places
 pub record IsPlaced (nodes : Slab Object) (places : List (ℕ × ℕ)) : Type 0 where
   pub ordered : IsStrictlySortedBy nat_cmp (keys_of places)
   pub held : (number place : ℕ) → lookup (is_at (nat_cmp number)) places ≡ Some place → IsSome (get nodes place)
-  pub apart : (j k place : ℕ) → lookup (is_at (nat_cmp j)) places ≡ Some place → lookup (is_at (nat_cmp k)) places ≡ Some place → j ≡ k
+  pub apart : (j k place : ℕ) → lookup (is_at (nat_cmp j)) places ≡ Some place
+      → lookup (is_at (nat_cmp k)) places ≡ Some place → j ≡ k
   pub counted : slab_len nodes ≡ length places

@@ -1,5 +1,6 @@
 -- Whether the parts of a change are within the ranges of their forms. Those of the program's numbers always are.
-use Rattle.std.specs.Prelude.{ℕ, zero, suc, ◌+◌, ◌*◌, ◌^◌, ℤ, pos, negsuc, Bool, true, ◌==◌, ◌&&◌, nat_le, nat_lt, List, length}
+use Rattle.std.specs.Prelude.{ℕ, zero, suc, ◌+◌, ◌*◌, ◌^◌, ℤ, pos, negsuc, Bool, true, ◌==◌, ◌&&◌, nat_le, nat_lt, List}
+use Rattle.std.specs.Prelude.{length}
 use Rattle.std.specs.Int.{w64, int_wrap}
 use Rattle.std.specs.List.{list_all}
 use Rattle.acl_list.specs.declared.entry.Entry.{Entry}
@@ -47,7 +48,8 @@ is_at at = is_hyper at.tick && is_signed at.moment.seconds
 
 abbrev pub in_range : Step → Bool
 in_range (Add directory name kind bytes owner group list high at) =
-    is_hyper directory && is_name name && is_data bytes && is_uint owner && is_uint group && is_list list && is_uint high && is_at at
+    is_hyper directory && is_name name && is_data bytes && is_uint owner && is_uint group && is_list list
+    && is_uint high && is_at at
 in_range (Link directory name number at) = is_hyper directory && is_name name && is_hyper number && is_at at
 in_range (Unlink directory name at) = is_hyper directory && is_name name && is_at at
 in_range (Rename from old to new at) = is_hyper from && is_name old && is_hyper to && is_name new && is_at at

@@ -1,13 +1,15 @@
 -- Why a change is refused, or that it isn't: the first reason in the order of the standard's
 -- operations (RFC 8881, section 18). Each test is of the parts that it looks at, so that it means
 -- the same of a world and of a view of one.
-use Rattle.std.specs.Prelude.{ℕ, ◌+◌, ◌^◌, ◌==◌, Bool, true, ◌&&◌, ◌||◌, not, nat_lt, if◌then◌else◌, List, length, Option, Some, None, is_some}
+use Rattle.std.specs.Prelude.{ℕ, ◌+◌, ◌^◌, ◌==◌, Bool, true, ◌&&◌, ◌||◌, not, nat_lt, if◌then◌else◌, List, length}
+use Rattle.std.specs.Prelude.{Option, Some, None, is_some}
 use Rattle.std.specs.Option.{option_map_or}
 use Rattle.acl_list.specs.declared.entry.Kind.{Kind}
 use Rattle.node_tree.specs.declared.fault.TreeFault.{TreeFault}
 use Rattle.node_tree.specs.declared.fault.TreeFault.TheVariants.{Exist, NoEnt, NotEmpty, FBig, MLink, NoSpc}
 use Rattle.node_tree.specs.Limits.{MAX_BYTES, MAX_NAMES, MAX_OBJECTS, MAX_LINKS}
-use Rattle.node_tree.specs.World.{World, child_named, is_one, kind_of, name_count, link_count, has_entries, parent_of, is_directory_in}
+use Rattle.node_tree.specs.World.{World, child_named, is_one, kind_of, name_count, link_count, has_entries, parent_of}
+use Rattle.node_tree.specs.World.{is_directory_in}
 use Rattle.node_tree.specs.Ways.{is_met}
 
 -- ---- space
@@ -42,14 +44,16 @@ may_add names objects next_number next_stamp next_cookie =
 
 -- whether a child is a directory that another directory is, or lies below
 abbrev pub is_below : (ℕ → Option Kind) → (ℕ → Option ℕ) → (next_number child directory : ℕ) → Bool
-is_below kinds parents next_number child directory = is_directory_in kinds child && is_met parents next_number child directory
+is_below kinds parents next_number child directory =
+    is_directory_in kinds child && is_met parents next_number child directory
 
 -- Whether a child may replace a target, which may be absent. Only an empty directory can be
 -- replaced by a directory, and a directory can't be replaced by any other object.
 abbrev pub may_replace : (ℕ → Option Kind) → (ℕ → Bool) → ℕ → Option ℕ → Bool
 may_replace kinds has_entries child None = true
 may_replace kinds has_entries child (Some target) =
-    if is_directory_in kinds child then is_directory_in kinds target && not (has_entries target) else not (is_directory_in kinds target)
+    if is_directory_in kinds child then is_directory_in kinds target
+    && not (has_entries target) else not (is_directory_in kinds target)
 
 -- Whether there is space for a child's new name, of a target that may be absent, in a directory
 -- with this many names. A directory that loses a name for it is never too full.
@@ -77,11 +81,13 @@ link_refusal w directory name number =
 -- REMOVE
 abbrev pub unlink_refusal : World → ℕ → List ℕ → Option TreeFault
 unlink_refusal w directory name =
-    option_map_or (λ child. if has_entries w.names child then Some NotEmpty else None) (child_named w directory name) (Some NoEnt)
+    option_map_or (λ child. if has_entries w.names child then Some NotEmpty else None) (child_named w directory name)
+    (Some NoEnt)
 
 -- WRITE
 abbrev pub write_refusal : ℕ → List ℕ → Option TreeFault
-write_refusal offset more = if nat_lt 0 (length more) && nat_lt MAX_BYTES (offset + length more) then Some FBig else None
+write_refusal offset more =
+    if nat_lt 0 (length more) && nat_lt MAX_BYTES (offset + length more) then Some FBig else None
 
 -- a size is set (SETATTR, OPEN)
 abbrev pub resize_refusal : ℕ → Option TreeFault

@@ -1,6 +1,7 @@
 -- A tree that is put together again from what a checkpoint says. It says the tree's counters, its
 -- objects by rising number and its names by rising cookie, each object before its names.
-use Rattle.std.specs.Prelude.{ℕ, zero, suc, ◌+◌, ◌^◌, ◌≤◌, ◌≡◌, ◌≢◌, ◌==◌, Bool, true, false, ◌&&◌, ◌||◌, not, nat_le, nat_lt, if◌then◌else◌, List, [], ◌∷◌, ◌++◌, length, map, Option, Some, is_some, IsSome}
+use Rattle.std.specs.Prelude.{ℕ, zero, suc, ◌+◌, ◌^◌, ◌≤◌, ◌≡◌, ◌≢◌, ◌==◌, Bool, true, false, ◌&&◌, ◌||◌, not, nat_le}
+use Rattle.std.specs.Prelude.{nat_lt, if◌then◌else◌, List, [], ◌∷◌, ◌++◌, length, map, Option, Some, is_some, IsSome}
 use Rattle.std.specs.List.{list_any, list_all}
 use Rattle.std.specs.Option.{option_map_or}
 use Rattle.std.specs.Ordering.{nat_cmp}
@@ -12,7 +13,8 @@ use Rattle.node_tree.specs.declared.node.NewObject.{NewObject}
 use Rattle.node_tree.specs.declared.node.Kept.{Kept}
 use Rattle.node_tree.specs.Limits.{ROOT, MAX_NAME, MAX_OBJECTS}
 use Rattle.node_tree.specs.Notes.{no_notes}
-use Rattle.node_tree.specs.World.{World, Object, Name, object, kind_of, child_named, is_directory_at, has_name, name_count, link_count, parent_of}
+use Rattle.node_tree.specs.World.{World, Object, Name, object, kind_of, child_named, is_directory_at, has_name}
+use Rattle.node_tree.specs.World.{name_count, link_count, parent_of}
 use Rattle.node_tree.specs.Refusals.{has_room, may_link}
 use Rattle.node_tree.specs.Sound.{IsIn, IsStamped, IsFit, IsLimited, IsCounted, Rises, stamp_of, most_bytes}
 
@@ -43,7 +45,15 @@ kept_object new kept = record {
 -- no objects and no names
 abbrev pub begun : (next_number next_tick next_stamp next_cookie : ℕ) → Begun
 begun next_number next_tick next_stamp next_cookie = record {
-  world = record { objects = []; names = []; next_number = next_number; next_tick = next_tick; next_stamp = next_stamp; next_cookie = next_cookie; notes = no_notes };
+  world = record {
+    objects = [];
+    names = [];
+    next_number = next_number;
+    next_tick = next_tick;
+    next_stamp = next_stamp;
+    next_cookie = next_cookie;
+    notes = no_notes;
+  };
   number = ROOT;
   cookie = 3;
 }
@@ -65,7 +75,8 @@ with_name b n = record { world = put_name b.world n; number = b.number; cookie =
 -- the counters of some tree
 abbrev pub counters_fit : (next_number next_tick next_stamp next_cookie : ℕ) → Bool
 counters_fit next_number next_tick next_stamp next_cookie =
-    nat_le ROOT next_number && nat_le 3 next_cookie && nat_le next_number (2 ^ 63) && nat_le next_tick (2 ^ 63) && nat_le next_stamp (2 ^ 63) && nat_le next_cookie (2 ^ 63)
+    nat_le ROOT next_number && nat_le 3 next_cookie && nat_le next_number (2 ^ 63) && nat_le next_tick (2 ^ 63)
+    && nat_le next_stamp (2 ^ 63) && nat_le next_cookie (2 ^ 63)
 
 -- whether an object has the stamp
 abbrev pub has_stamp : List (ℕ × Object) → ℕ → Bool
@@ -84,23 +95,28 @@ object_fits b number o =
 
 -- whether the object may have one more name: a directory only one
 abbrev pub child_fits : World → ℕ → Bool
-child_fits w child = if is_directory_at w child then not (has_name w.names child) else is_some (object w child) && may_link (link_count w.names child)
+child_fits w child =
+    if is_directory_at w child then not (has_name w.names child) else is_some (object w child)
+    && may_link (link_count w.names child)
 
 -- whether a name may come next
 abbrev pub name_fits : Begun → Name → Bool
 name_fits b n =
     (nat_le b.cookie n.cookie && nat_lt n.cookie b.world.next_cookie && nat_le (length n.name) MAX_NAME)
     && (not (n.child == ROOT) && child_fits b.world n.child)
-    && (is_directory_at b.world n.directory && has_room (name_count b.world.names n.directory) && not (is_some (child_named b.world n.directory n.name)))
+    && (is_directory_at b.world n.directory && has_room (name_count b.world.names n.directory)
+    && not (is_some (child_named b.world n.directory n.name)))
 
 -- whether the way up leads to the root in less than this many steps
 unfoldable pub leads_up : (ℕ → Option ℕ) → ℕ → ℕ → Bool
 leads_up parents zero from = false
-leads_up parents (suc steps) from = (from == ROOT) || option_map_or (λ parent. leads_up parents steps parent) (parents from) false
+leads_up parents (suc steps) from =
+    (from == ROOT) || option_map_or (λ parent. leads_up parents steps parent) (parents from) false
 
 -- whether the object has a place in the tree
 abbrev pub is_placed : World → ℕ → Bool
-is_placed w number = if is_directory_at w number then leads_up (parent_of w) (length w.objects) number else has_name w.names number
+is_placed w number =
+    if is_directory_at w number then leads_up (parent_of w) (length w.objects) number else has_name w.names number
 
 -- whether there is a root, and each object has a place
 abbrev pub is_whole : World → Bool
@@ -113,7 +129,8 @@ pub record IsHung (kinds : ℕ → Option Kind) (names : List Name) : Type 0 whe
   pub root_has_no_name : (n : Name) → IsIn n names → n.child ≢ ROOT
   pub ends : (n : Name) → IsIn n names → (kinds n.directory ≡ Some Directory) × IsSome (kinds n.child)
   pub one_child : (m n : Name) → IsIn m names → IsIn n names → m.directory ≡ n.directory → m.name ≡ n.name → m ≡ n
-  pub one_parent : (m n : Name) → IsIn m names → IsIn n names → m.child ≡ n.child → kinds n.child ≡ Some Directory → m ≡ n
+  pub one_parent : (m n : Name) → IsIn m names → IsIn n names → m.child ≡ n.child → kinds n.child ≡ Some Directory
+      → m ≡ n
 
 -- the world as far as it is put together, with its numbers and its stamps
 pub record IsBegun (w : World) (number cookie : ℕ) (numbers stamps : List ℕ) : Type 0 where

@@ -1,5 +1,6 @@
 -- A sound world is a tree of directories, within the limits.
-use Rattle.std.specs.Prelude.{ℕ, zero, suc, ◌+◌, ◌^◌, ◌<◌, ◌≤◌, ◌≡◌, ◌≢◌, ◌⊎◌, List, [], ◌∷◌, length, Option, Some, IsSome}
+use Rattle.std.specs.Prelude.{ℕ, zero, suc, ◌+◌, ◌^◌, ◌<◌, ◌≤◌, ◌≡◌, ◌≢◌, ◌⊎◌, List, [], ◌∷◌, length, Option, Some}
+use Rattle.std.specs.Prelude.{IsSome}
 use Rattle.std.specs.Option.{option_map}
 use Rattle.acl_list.specs.declared.entry.Kind.{Kind}
 use Rattle.acl_list.specs.declared.entry.Kind.TheVariants.{File, Directory, Link}
@@ -23,7 +24,8 @@ pub record IsRooted (kinds : ℕ → Option Kind) (names : List Name) : Type 0 w
   pub root_has_no_name : (n : Name) → IsIn n names → n.child ≢ ROOT
   pub ends : (n : Name) → IsIn n names → (kinds n.directory ≡ Some Directory) × IsSome (kinds n.child)
   pub one_child : (m n : Name) → IsIn m names → IsIn n names → m.directory ≡ n.directory → m.name ≡ n.name → m ≡ n
-  pub one_parent : (m n : Name) → IsIn m names → IsIn n names → m.child ≡ n.child → kinds n.child ≡ Some Directory → m ≡ n
+  pub one_parent : (m n : Name) → IsIn m names → IsIn n names → m.child ≡ n.child → kinds n.child ≡ Some Directory
+      → m ≡ n
   pub held : (number : ℕ) → IsSome (kinds number) → number ≢ ROOT → (n : Name) × IsIn n names × (n.child ≡ number)
   pub reaches_root : (number : ℕ) → kinds number ≡ Some Directory → (steps : ℕ) × Climbs names steps number
 

@@ -8,7 +8,8 @@ use Rattle.node_tree.specs.Sound.{IsIn}
 -- endless.
 unfoldable pub is_met : (ℕ → Option ℕ) → ℕ → ℕ → ℕ → Bool
 is_met parents zero directory from = true
-is_met parents (suc steps) directory from = (from == directory) || option_map_or (λ parent. is_met parents steps directory parent) (parents from) false
+is_met parents (suc steps) directory from =
+    (from == directory) || option_map_or (λ parent. is_met parents steps directory parent) (parents from) false
 
 -- Whether an object is the directory or lies below it. There are fewer directories than numbers
 -- were given, so no way is longer.

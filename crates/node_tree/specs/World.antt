@@ -1,7 +1,8 @@
 -- The world of a file server: objects by number, names by cookie, and the counters (RFC 8881,
 -- sections 4.2, 5.8 and 18.23). An object has no path. A directory holds no names itself: they are
 -- kept beside the objects.
-use Rattle.std.specs.Prelude.{◌≡◌, ℕ, Bool, false, ◌==◌, ◌&&◌, nat_lt, nat_eq, if◌then◌else◌, List, [], length, count_by, filter, find, take, drop, Option, Some, None}
+use Rattle.std.specs.Prelude.{◌≡◌, ℕ, Bool, false, ◌==◌, ◌&&◌, nat_lt, nat_eq, if◌then◌else◌, List, [], length}
+use Rattle.std.specs.Prelude.{count_by, filter, find, take, drop, Option, Some, None}
 use Rattle.std.specs.List.{list_any}
 use Rattle.std.specs.Option.{option_map, option_map_or}
 use Rattle.std.specs.Map.{lookup}
@@ -102,7 +103,8 @@ name_after w directory cookie = find (λ n. (n.directory == directory) && nat_lt
 
 -- a name that is found by its cookie is any that a directory lists with this cookie
 abbrev pub FindsAgain : World → ℕ → Option Name → Type 0
-FindsAgain w cookie found = (directory last : ℕ) (n : Name) → name_after w directory last ≡ Some n → n.cookie ≡ cookie → found ≡ Some n
+FindsAgain w cookie found =
+    (directory last : ℕ) (n : Name) → name_after w directory last ≡ Some n → n.cookie ≡ cookie → found ≡ Some n
 
 -- how many names a directory has
 abbrev pub name_count : List Name → ℕ → ℕ
@@ -122,4 +124,5 @@ has_name names number = list_any (λ n. n.child == number) names
 
 -- the parent of a directory
 abbrev pub parent_of : World → ℕ → Option ℕ
-parent_of w number = if is_directory_at w number then option_map (λ n. n.directory) (find (λ n. n.child == number) w.names) else None
+parent_of w number =
+    if is_directory_at w number then option_map (λ n. n.directory) (find (λ n. n.child == number) w.names) else None

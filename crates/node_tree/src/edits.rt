@@ -30,7 +30,7 @@ pub fn retell<A: Allocator>(objects: &mut NodeTable<A>, number: u64, at: At)
 }
 
 /// An object has lost a name. It stays if it has another name, or goes.
-#[tactic(auto, using(crate::proofs::Objects::removed, crate::proofs::Objects::without_none, std::proofs::lemmas::Map::Steps::set_value_same))]
+#[tactic(auto, using(crate::proofs::Objects::removal_facts, std::proofs::lemmas::Map::Steps::set_value_same))]
 pub fn release<A: Allocator>(objects: &mut NodeTable<A>, number: u64, stays: bool, at: At)
     ensures { objects.new ≡ (if stays then changed number (retold at) objects.old else without number objects.old) }
 {

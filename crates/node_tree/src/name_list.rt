@@ -181,7 +181,9 @@ impl<A: Allocator + Copy> NameList<A> {
         child: u64,
     ) -> Result<(), AllocError>
         requires { Rises (λ n. n.cookie) 3 self.old cookie }
-        ensures ok { OnOk result (self.new ≡ self.old ++ record { cookie = cookie; directory = directory; name = name.items; child = child } ∷ []) }
+        ensures ok { OnOk result
+            (self.new
+            ≡ self.old ++ record { cookie = cookie; directory = directory; name = name.items; child = child } ∷ []) }
         ensures err { OnErr result (self.new ≡ self.old) }
     {
         cookie_sets::put(&mut self.by_directory, alloc, directory, cookie)?;

@@ -137,7 +137,9 @@ impl<A: Allocator + Copy> NameTable<A> {
     ) -> Result<(), AllocError>
         requires absent { option_map (λ n. n.child) (find (is_named directory name.now) self.old) ≡ None }
         requires last { Rises (λ n. n.cookie) 3 self.old cookie }
-        ensures ok { OnOk result (self.new ≡ self.old ++ record { cookie = cookie; directory = directory; name = name.now; child = child } ∷ []) }
+        ensures ok { OnOk result
+            (self.new
+            ≡ self.old ++ record { cookie = cookie; directory = directory; name = name.now; child = child } ∷ []) }
         ensures err { OnErr result (self.new ≡ self.old) }
     {
         let key = Vec::from_slice(alloc, name)?;
@@ -171,7 +173,10 @@ impl<A: Allocator + Copy> NameTable<A> {
         child: u64,
     ) -> Result<(), AllocError>
         requires { Rises (λ n. n.cookie) 3 self.old cookie }
-        ensures ok { OnOk result (self.new ≡ other_names to new.now (other_names from old.now self.old) ++ record { cookie = cookie; directory = to; name = new.now; child = child } ∷ []) }
+        ensures ok { OnOk result
+            (self.new
+            ≡ other_names to new.now (other_names from old.now self.old)
+            ++ record { cookie = cookie; directory = to; name = new.now; child = child } ∷ []) }
         ensures err { OnErr result (self.new ≡ self.old) }
     {
         let key = Vec::from_slice(alloc, new)?;

@@ -162,7 +162,12 @@ impl<A: Allocator + Copy> Restoring<A> {
 
     /// Whether a name may come next.
     fn name_fits(&self, cookie: u64, directory: u64, name: &[u8], child: u64) -> bool
-        ensures { result ≡ name_fits self.now (record { cookie = cookie; directory = directory; name = name.now; child = child }) }
+        ensures { result ≡ name_fits self.now (record {
+          cookie = cookie;
+          directory = directory;
+          name = name.now;
+          child = child;
+        }) }
     {
         (self.cookie <= cookie && cookie < self.store.next_cookie() && name.len() <= MAX_NAME)
             && (child != ROOT && self.store.child_fits(child))
@@ -179,9 +184,18 @@ impl<A: Allocator + Copy> Restoring<A> {
         name: &[u8],
         child: u64,
     ) -> Result<Self, RestoreFault>
-        ensures refused { name_fits self (record { cookie = cookie; directory = directory; name = name.now; child = child }) ≡ false → result ≡ Err RestoreFault.Unsound }
-        ensures taken { name_fits self (record { cookie = cookie; directory = directory; name = name.now; child = child }) ≡ true → IsOkUnless result RestoreFault.Memory }
-        ensures ok { IfOk result (λ r. r ≡ with_name self (record { cookie = cookie; directory = directory; name = name.now; child = child })) }
+        ensures refused { name_fits self
+            (record { cookie = cookie; directory = directory; name = name.now; child = child }) ≡ false
+            → result ≡ Err RestoreFault.Unsound }
+        ensures taken { name_fits self
+            (record { cookie = cookie; directory = directory; name = name.now; child = child }) ≡ true
+            → IsOkUnless result RestoreFault.Memory }
+        ensures ok { IfOk result (λ r. r ≡ with_name self (record {
+          cookie = cookie;
+          directory = directory;
+          name = name.now;
+          child = child;
+        })) }
     {
         if !self.name_fits(cookie, directory, name, child) {
             return Err(RestoreFault::Unsound);

@@ -323,7 +323,15 @@ impl<A: Allocator + Copy> Store<A> {
         next: u64,
         next_cookie: u64,
     ) -> Self
-        ensures { result ≡ record { objects = objects; names = names; next_number = next; next_tick = next; next_stamp = next; next_cookie = next_cookie; notes = no_notes } }
+        ensures { result ≡ record {
+          objects = objects;
+          names = names;
+          next_number = next;
+          next_tick = next;
+          next_stamp = next;
+          next_cookie = next_cookie;
+          notes = no_notes;
+        } }
     {
         Store {
             alloc,
@@ -515,7 +523,15 @@ impl<A: Allocator + Copy> Store<A> {
         next_stamp: u64,
         next_cookie: u64,
     ) -> Self
-        ensures { result ≡ record { objects = []; names = []; next_number = next_number; next_tick = next_tick; next_stamp = next_stamp; next_cookie = next_cookie; notes = no_notes } }
+        ensures { result ≡ record {
+          objects = [];
+          names = [];
+          next_number = next_number;
+          next_tick = next_tick;
+          next_stamp = next_stamp;
+          next_cookie = next_cookie;
+          notes = no_notes;
+        } }
     {
         Store {
             alloc,
@@ -569,7 +585,12 @@ impl<A: Allocator + Copy> Store<A> {
     ) -> Result<(), AllocError>
         requires absent { child_named self.old directory name.now ≡ None }
         requires last { Rises (λ n. n.cookie) 3 self.old.names cookie }
-        ensures { OnOk result (self.new ≡ put_name self.old (record { cookie = cookie; directory = directory; name = name.now; child = child })) }
+        ensures { OnOk result (self.new ≡ put_name self.old (record {
+          cookie = cookie;
+          directory = directory;
+          name = name.now;
+          child = child;
+        })) }
     {
         self.names.push(self.alloc, cookie, directory, name, child)
     }
@@ -657,7 +678,16 @@ impl<A: Allocator + Copy> Store<A> {
         requires name { length name.now ≤ 255 }
         requires bytes { length new.now.bytes.items ≤ 1048576 }
         requires list { length new.now.list ≤ 64 }
-        ensures noted { self.new ≡ record self.old { notes = note self.old.notes (in_range (Add directory name.now new.now.kind new.now.bytes.items new.now.owner new.now.group new.now.list new.now.high at)) (spelled (Add directory name.now new.now.kind new.now.bytes.items new.now.owner new.now.group new.now.list new.now.high at)) } }
+        ensures noted { self.new
+            ≡ record self.old {
+              notes = note self.old.notes
+                  (in_range
+                  (Add directory name.now new.now.kind new.now.bytes.items new.now.owner new.now.group new.now.list
+                  new.now.high at))
+                  (spelled
+                  (Add directory name.now new.now.kind new.now.bytes.items new.now.owner new.now.group new.now.list
+                  new.now.high at));
+            } }
         ensures mark { (result.len ≡ length self.old.notes.bytes) × (result.was_lost ≡ self.old.notes.is_lost) }
     {
         let mark = self.notes.mark();
@@ -676,7 +706,11 @@ impl<A: Allocator + Copy> Store<A> {
     /// Notes that an object got a further name.
     pub fn note_link(&mut self, directory: u64, name: &[u8], number: u64, at: At)
         requires { length name.now ≤ 255 }
-        ensures { self.new ≡ record self.old { notes = note self.old.notes (in_range (Link directory name.now number at)) (spelled (Link directory name.now number at)) } }
+        ensures { self.new
+            ≡ record self.old {
+              notes = note self.old.notes (in_range (Link directory name.now number at))
+                  (spelled (Link directory name.now number at));
+            } }
     {
         self.notes.link(directory, name, number, at);
     }
@@ -684,7 +718,11 @@ impl<A: Allocator + Copy> Store<A> {
     /// Notes that a name was taken away.
     pub fn note_unlink(&mut self, directory: u64, name: &[u8], at: At)
         requires { length name.now ≤ 255 }
-        ensures { self.new ≡ record self.old { notes = note self.old.notes (in_range (Unlink directory name.now at)) (spelled (Unlink directory name.now at)) } }
+        ensures { self.new
+            ≡ record self.old {
+              notes = note self.old.notes (in_range (Unlink directory name.now at))
+                  (spelled (Unlink directory name.now at));
+            } }
     {
         self.notes.unlink(directory, name, at);
     }
@@ -693,7 +731,11 @@ impl<A: Allocator + Copy> Store<A> {
     pub fn note_rename(&mut self, from: u64, old: &[u8], to: u64, new: &[u8], at: At)
         requires old { length old.now ≤ 255 }
         requires new { length new.now ≤ 255 }
-        ensures { self.new ≡ record self.old { notes = note self.old.notes (in_range (Rename from old.now to new.now at)) (spelled (Rename from old.now to new.now at)) } }
+        ensures { self.new
+            ≡ record self.old {
+              notes = note self.old.notes (in_range (Rename from old.now to new.now at))
+                  (spelled (Rename from old.now to new.now at));
+            } }
     {
         self.notes.rename(from, old, to, new, at);
     }
@@ -701,14 +743,22 @@ impl<A: Allocator + Copy> Store<A> {
     /// Notes that data were written.
     pub fn note_write(&mut self, file: u64, offset: u64, more: &[u8], at: At)
         requires { length more.now ≤ 1048576 }
-        ensures { self.new ≡ record self.old { notes = note self.old.notes (in_range (Write file offset more.now at)) (spelled (Write file offset more.now at)) } }
+        ensures { self.new
+            ≡ record self.old {
+              notes = note self.old.notes (in_range (Write file offset more.now at))
+                  (spelled (Write file offset more.now at));
+            } }
     {
         self.notes.write(file, offset, more, at);
     }
 
     /// Notes that a size was set.
     pub fn note_resize(&mut self, file: u64, size: u64, at: At)
-        ensures { self.new ≡ record self.old { notes = note self.old.notes (in_range (Resize file size at)) (spelled (Resize file size at)) } }
+        ensures { self.new
+            ≡ record self.old {
+              notes = note self.old.notes (in_range (Resize file size at))
+                  (spelled (Resize file size at));
+            } }
     {
         self.notes.resize(file, size, at);
     }
@@ -716,14 +766,22 @@ impl<A: Allocator + Copy> Store<A> {
     /// Notes that a list was set.
     pub fn note_set_list(&mut self, number: u64, list: &[Entry], high: u32, at: At)
         requires { length list.now ≤ 64 }
-        ensures { self.new ≡ record self.old { notes = note self.old.notes (in_range (SetList number list.now high at)) (spelled (SetList number list.now high at)) } }
+        ensures { self.new
+            ≡ record self.old {
+              notes = note self.old.notes (in_range (SetList number list.now high at))
+                  (spelled (SetList number list.now high at));
+            } }
     {
         self.notes.set_list(number, list, high, at);
     }
 
     /// Notes that an owner and a group were set.
     pub fn note_set_owner(&mut self, number: u64, owner: u32, group: u32, at: At)
-        ensures { self.new ≡ record self.old { notes = note self.old.notes (in_range (SetOwner number owner group at)) (spelled (SetOwner number owner group at)) } }
+        ensures { self.new
+            ≡ record self.old {
+              notes = note self.old.notes (in_range (SetOwner number owner group at))
+                  (spelled (SetOwner number owner group at));
+            } }
     {
         self.notes.set_owner(number, owner, group, at);
     }

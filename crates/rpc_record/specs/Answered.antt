@@ -5,7 +5,9 @@ use Rattle.xdr_wire.specs.Xdr.{Xdr, Value, uint, union, arm, no_more, fields}
 use Rattle.xdr_wire.specs.Reading.{Read, read_at}
 use Rattle.rpc_record.specs.Reply.{accept_data, accepted_reply, rejected_reply}
 use Rattle.rpc_record.specs.declared.answered.ReplyFault.{ReplyFault}
-use Rattle.rpc_record.specs.declared.answered.ReplyFault.TheVariants.{Header, Another, ProgUnavail, ProgMismatch, ProcUnavail, GarbageArgs, SystemErr, RpcMismatch, AuthError}
+use Rattle.rpc_record.specs.declared.answered.ReplyFault.TheVariants.{Header, Another, ProgUnavail, ProgMismatch}
+use Rattle.rpc_record.specs.declared.answered.ReplyFault.TheVariants.{ProcUnavail, GarbageArgs, SystemErr, RpcMismatch}
+use Rattle.rpc_record.specs.declared.answered.ReplyFault.TheVariants.{AuthError}
 
 -- rpc_msg of a reply up to the type of the message: the transaction and that type
 abbrev pub beginning : Xdr

@@ -1,9 +1,13 @@
 -- The result of `read_reply`, without where the bytes lie; and how a client reads a server's reply.
 use Rattle.std.specs.Prelude.{ℕ, List, Result, Ok, Err}
 use Rattle.rpc_record.specs.declared.answered.ReplyFault.{ReplyFault}
-use Rattle.rpc_record.specs.declared.answered.ReplyFault.TheVariants.{ProgUnavail, ProgMismatch, ProcUnavail, GarbageArgs, RpcMismatch, AuthError}
+use Rattle.rpc_record.specs.declared.answered.ReplyFault.TheVariants.{ProgUnavail, ProgMismatch, ProcUnavail}
+use Rattle.rpc_record.specs.declared.answered.ReplyFault.TheVariants.{GarbageArgs, RpcMismatch, AuthError}
 use Rattle.rpc_record.specs.declared.reply.Reply.{Reply}
-use Rattle.rpc_record.specs.declared.reply.Reply.TheVariants.{Success, ProgUnavail as Unavailable, ProgMismatch as Mismatch, ProcUnavail as NoProcedure, GarbageArgs as Garbage, RpcMismatch as NotSpoken, AuthError as NotTaken}
+use Rattle.rpc_record.specs.declared.reply.Reply.TheVariants.{Success, ProgUnavail as Unavailable}
+use Rattle.rpc_record.specs.declared.reply.Reply.TheVariants.{ProgMismatch as Mismatch, ProcUnavail as NoProcedure}
+use Rattle.rpc_record.specs.declared.reply.Reply.TheVariants.{GarbageArgs as Garbage, RpcMismatch as NotSpoken}
+use Rattle.rpc_record.specs.declared.reply.Reply.TheVariants.{AuthError as NotTaken}
 use Rattle.rpc_record.specs.Reply.{auth_stat}
 use Rattle.rpc_record.specs.Answered.{ReplyResult, without_results}
 

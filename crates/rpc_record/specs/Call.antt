@@ -4,7 +4,8 @@ use Rattle.xdr_wire.specs.Xdr.{Xdr, Value, uint, opaque, array, fields}
 use Rattle.xdr_wire.specs.Reading.{Read, read_at}
 use Rattle.rpc_record.specs.Identity.{Identity, identity}
 use Rattle.rpc_record.specs.declared.call.CallFault.{CallFault}
-use Rattle.rpc_record.specs.declared.call.CallFault.TheVariants.{Header, RpcVersion, Flavor, BadCred, Program, Version, Procedure}
+use Rattle.rpc_record.specs.declared.call.CallFault.TheVariants.{Header, RpcVersion, Flavor, BadCred, Program, Version}
+use Rattle.rpc_record.specs.declared.call.CallFault.TheVariants.{Procedure}
 
 -- rpc_msg and call_body up to the version of the protocol: the transaction, the type of the message, the version
 abbrev pub opening : Xdr

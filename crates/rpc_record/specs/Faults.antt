@@ -1,10 +1,12 @@
 -- The faults of calls: their numbers, and how each is answered.
 use Rattle.std.specs.Prelude.{ℕ, Option, Some, None}
 use Rattle.rpc_record.specs.declared.call.CallFault.{CallFault}
-use Rattle.rpc_record.specs.declared.call.CallFault.TheVariants.{Header, RpcVersion, Flavor, BadCred, Program, Version, Procedure}
+use Rattle.rpc_record.specs.declared.call.CallFault.TheVariants.{Header, RpcVersion, Flavor, BadCred, Program, Version}
+use Rattle.rpc_record.specs.declared.call.CallFault.TheVariants.{Procedure}
 use Rattle.rpc_record.specs.declared.reply.AuthStat.TheVariants.{BadCred as AuthBadCred, TooWeak}
 use Rattle.rpc_record.specs.declared.reply.Reply.{Reply}
-use Rattle.rpc_record.specs.declared.reply.Reply.TheVariants.{ProgUnavail, ProgMismatch, ProcUnavail, RpcMismatch, AuthError}
+use Rattle.rpc_record.specs.declared.reply.Reply.TheVariants.{ProgUnavail, ProgMismatch, ProcUnavail, RpcMismatch}
+use Rattle.rpc_record.specs.declared.reply.Reply.TheVariants.{AuthError}
 
 abbrev pub number_of : CallFault → ℕ
 number_of Header = 1

@@ -40,8 +40,10 @@ pub record Stands (f : Frame) (content bytes : List ℕ) : Type 0 where
 
 -- The answer of a step on the record that was begun with these bytes, where the piece goes on at `at`.
 abbrev pub StepGives : Step → Frame → List ℕ → List ℕ → List ℕ → ℕ → Type 0
-StepGives (Part from to) new content bytes piece at = Stands new (content ++ slice_range piece from to) (bytes ++ slice_range piece at to)
-StepGives (Record from to) new content bytes piece at = IsRecord (content ++ slice_range piece from to) (bytes ++ slice_range piece at to) × Stands new [] []
+StepGives (Part from to) new content bytes piece at =
+    Stands new (content ++ slice_range piece from to) (bytes ++ slice_range piece at to)
+StepGives (Record from to) new content bytes piece at =
+    IsRecord (content ++ slice_range piece from to) (bytes ++ slice_range piece at to) × Stands new [] []
 StepGives NeedMore new content bytes piece at = Stands new content (bytes ++ drop at piece)
 StepGives Broken new content bytes piece at = Breaks (bytes ++ drop at piece)
 

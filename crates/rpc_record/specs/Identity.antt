@@ -24,7 +24,8 @@ pub record IsSetOf (groups sent : List ℕ) : Type 0 where
 -- the groups with one more at its place, unless it is there
 abbrev pub with_group : ℕ → List ℕ → List ℕ
 with_group group [] = group ∷ []
-with_group group (g ∷ gs) = if nat_lt group g then group ∷ g ∷ gs else if group == g then g ∷ gs else g ∷ with_group group gs
+with_group group (g ∷ gs) =
+    if nat_lt group g then group ∷ g ∷ gs else if group == g then g ∷ gs else g ∷ with_group group gs
 
 -- the set of the groups that were sent
 abbrev pub group_set : List ℕ → List ℕ

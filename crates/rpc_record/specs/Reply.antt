@@ -6,7 +6,8 @@ use Rattle.rpc_record.specs.Call.{auth}
 use Rattle.rpc_record.specs.declared.reply.AuthStat.{AuthStat}
 use Rattle.rpc_record.specs.declared.reply.AuthStat.TheVariants.{BadCred, TooWeak}
 use Rattle.rpc_record.specs.declared.reply.Reply.{Reply}
-use Rattle.rpc_record.specs.declared.reply.Reply.TheVariants.{Success, ProgUnavail, ProgMismatch, ProcUnavail, GarbageArgs, RpcMismatch, AuthError}
+use Rattle.rpc_record.specs.declared.reply.Reply.TheVariants.{Success, ProgUnavail, ProgMismatch, ProcUnavail}
+use Rattle.rpc_record.specs.declared.reply.Reply.TheVariants.{GarbageArgs, RpcMismatch, AuthError}
 
 -- mismatch_info: the lowest and the highest version
 abbrev pub versions : Xdr

@@ -62,7 +62,9 @@ pub fn write_call<A: Allocator>(
     ensures spelled { Spells call_message (call_of xid caller) (call_bytes xid caller) }
     ensures len { length (call_bytes xid caller) ≡ call_len caller }
     ensures limit { call_len caller ≤ CALL_HEADER_LIMIT }
-    ensures read_again { (arguments : List ℕ) → asked (call_bytes xid caller ++ arguments) ≡ Ok (record { xid = xid; arguments = arguments; caller = caller }) }
+    ensures read_again { (arguments : List ℕ)
+        → asked (call_bytes xid caller ++ arguments)
+        ≡ Ok (record { xid = xid; arguments = arguments; caller = caller }) }
     ensures puts { Puts writer.old writer.new (call_bytes xid caller) result }
 {
     match caller {

@@ -50,7 +50,14 @@ impl Model for Framer {
 
     ghost Value = { Frame };
 
-    ghost view = { λ f. record { header = take f.have f.header; left = f.left; last = f.last; joined = f.joined; begun = f.begun; broken = f.broken } };
+    ghost view = { λ f. record {
+      header = take f.have f.header;
+      left = f.left;
+      last = f.last;
+      joined = f.joined;
+      begun = f.begun;
+      broken = f.broken;
+    } };
 
     ghost invariant = { λ f. (f.have < 4) × (f.joined + f.left ≤ 131072) };
 }
@@ -177,7 +184,8 @@ pub fn record_mark(len: usize) -> [u8; 4]
 
 /// A stream is cut into records in one way, so it makes no difference in which pieces it came.
 pub fn a_stream_has_one_cut()
-    ensures { (stream : List ℕ) (records others : List (List ℕ)) (rest behind : List ℕ) → Cuts stream records rest → Cuts stream others behind
+    ensures { (stream : List ℕ) (records others : List (List ℕ)) (rest behind : List ℕ) → Cuts stream records rest
+        → Cuts stream others behind
         → IsEnd rest → IsEnd behind → (records ≡ others) × (rest ≡ behind) }
 {}
 

@@ -44,7 +44,10 @@ impl Model for GroupSet {
     ghost inverse = { λ groups. record { places = groups ++ replicate (17 - length groups) 0; len = length groups } };
 
     ghost inverse_ok = { λ r h i. let held = length-take-le r.len r.places (omega (arith, h.few, h.whole)) in record {
-      places = (ap (λ (n : ℕ). take r.len r.places ++ replicate (17 - n) 0) held ∙ ap (λ (zeros : List ℕ). take r.len r.places ++ zeros) (sym h.zeros) ∙ take-append-drop r.len r.places) i;
+      places =
+          (ap (λ (n : ℕ). take r.len r.places ++ replicate (17 - n) 0) held
+          ∙ ap (λ (zeros : List ℕ). take r.len r.places ++ zeros) (sym h.zeros)
+          ∙ take-append-drop r.len r.places) i;
       len = held i;
     } };
 }

@@ -1,4 +1,5 @@
--- Where no calls of a turn lead back to a world that was changed, a turn that ends with its first world left it at each call.
+-- Where no calls of a turn lead back to a world that was changed, a turn that ends with its first world left it
+-- at each call.
 use Rattle.std.proofs.Common.{◌≡◌, ℕ, ◌<◌, ◌≤◌, Bool, true, false, List, [], ◌∷◌, length, suc, refl, sym, ◌∙◌, ap, subst, arith}
 use Rattle.session_slots.specs.declared.slot.Turn.{Turn}
 use Rattle.session_slots.specs.declared.slot.Turn.TheVariants as turns

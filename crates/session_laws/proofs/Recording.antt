@@ -9,7 +9,8 @@ use Rattle.session_slots.specs.Orderly.{is_kept_result, has_creation_form, has_f
 use Rattle.session_slots.specs.Registry.{Client, Registry}
 use Rattle.session_slots.proofs.Histories.{stands_for, same_number}
 
--- a result that is kept is that of a call that was accepted (`_` is `Status` of `nfs_types`, which this crate does not use)
+-- a result that is kept is that of a call that was accepted (`_` is `Status` of `nfs_types`, which this crate does
+-- not use)
 kept_is_accepted : (result : Result Created _) → is_kept_result result ≡ true → is_accepted result ≡ true
 kept_is_accepted result h = grind (arith, h)
 

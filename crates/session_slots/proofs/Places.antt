@@ -58,6 +58,9 @@ has_room_for_arguments granted slots slot n h few = room_at (λ p. p.most_argume
 pub has_room_for_results : (granted : Channel) (slots : List Place) (slot n : ℕ) → HasSlots granted slots → n ≤ kept_size granted → IfSome (slice_get slots slot) (λ p. n ≤ p.most_results)
 has_room_for_results granted slots slot n h few = room_at (λ p. p.most_results) slots slot n (kept_size granted) (slice_get slots slot) refl h.results few
 
+-- slots with a call that is restored, and their room
+pub ruleset restored_slot_facts = (restored_has_slots, has_room_for_arguments, has_room_for_results)
+
 argument_size_at : (slots : List Place) (slot most : ℕ) (o : Option Place) → slice_get slots slot ≡ o → All (λ p. p.most_arguments ≡ most) slots → IfSome o (λ p. p.most_arguments ≡ most)
 argument_size_at slots slot most None e h = tt
 argument_size_at slots slot most (Some p) e h = All-slice_get (λ p. p.most_arguments ≡ most) slots slot p e h

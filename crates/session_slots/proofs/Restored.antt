@@ -202,6 +202,9 @@ fits_results None slot k h = tt
 fits_results (Some s) slot k h =
     at_most (length k.results) (kept_size s.granted) (both (nat_le (length k.call.arguments) s.granted.request_size) _ (both (nat_lt slot s.granted.slots) _ h).1).1
 
+-- what of a session a kept call that fits a slot is below
+pub ruleset slot_fit_facts = (fits_slot, fits_arguments, fits_results)
+
 pub slot_orderly : (r : Registry) (session slot : ℕ) (k : Kept) → IsOrderly r → IsOrderly (with_kept r session slot k)
 slot_orderly r session slot k o = with_session_orderly r session (with_place slot (restored k)) (λ s. refl) (λ s. refl) o
 

@@ -1,6 +1,7 @@
 -- Calls on many slots that change one world, and restarts between them: what changes the world acts
 -- once (RFC 8881, section 2.10.6.5).
-use Rattle.std.specs.Prelude.{◌≡◌, ◌≢◌, ◌⊎◌, ℕ, ◌==◌, Bool, true, false, if◌then◌else◌, List, [], ◌∷◌, ◌++◌, length, Option, Some, None}
+use Rattle.std.specs.Prelude.{◌≡◌, ◌≢◌, ◌⊎◌, ℕ, ◌==◌, Bool, true, false, if◌then◌else◌, List, [], ◌∷◌, ◌++◌, length}
+use Rattle.std.specs.Prelude.{Option, Some, None}
 use Rattle.session_slots.specs.declared.slot.Turn.{Turn}
 use Rattle.session_slots.specs.declared.slot.Turn.TheVariants as turns
 use Rattle.session_slots.specs.Counting.{due, is_written}
@@ -51,23 +52,32 @@ pub record Sends (slot : ℕ) (calls : List Entry) (number : ℕ) (before : List
 
 -- A new call on a slot is run, and kept with its results. The slot is written after it where the
 -- call changes the world, and after each call whose number is a multiple of 2^20.
-pub record RunsOn {World : Type 0} (run : Call → World → List ℕ → World → Type 0) (slot : ℕ) (call : Call) (old new : State World) : Type 0 where
+pub record RunsOn {World : Type 0} (run : Call → World → List ℕ → World → Type 0) (slot : ℕ) (call : Call)
+    (old new : State World) : Type 0 where
   pub results : List ℕ
   pub changes : Bool
   pub before : List Entry
   pub sent : Sends slot old.calls call.number before
   pub ran : run call old.world results new.world
   pub stays : changes ≡ false → new.world ≡ old.world
-  pub stands : new.calls ≡ record { slot = slot; kept = record { call = call; results = results }; written = is_written call.number changes } ∷ before
+  pub stands : new.calls
+      ≡ record {
+        slot = slot;
+        kept = record { call = call; results = results };
+        written = is_written call.number changes;
+      } ∷ before
   pub memory : new.slots slot ≡ record {
     lags = false;
     kept = Some (record { call = call; results = results });
-    stored = if is_written call.number changes then Some (record { call = call; results = results }) else (old.slots slot).stored;
+    stored =
+        if is_written call.number changes then Some (record { call = call; results = results })
+        else (old.slots slot).stored;
   }
   pub others : (other : ℕ) → other ≢ slot → new.slots other ≡ old.slots other
 
 -- a call by its turn: only a new one is run
-abbrev pub TakesBy : {World : Type 0} → (Call → World → List ℕ → World → Type 0) → Turn → ℕ → Call → State World → State World → Type 0
+abbrev pub TakesBy : {World : Type 0} → (Call → World → List ℕ → World → Type 0) → Turn → ℕ → Call → State World
+    → State World → Type 0
 TakesBy run turns.New slot call old new = RunsOn run slot call old new
 TakesBy run turns.Repeat slot call old new = new ≡ old
 TakesBy run (turns.Refused status) slot call old new = new ≡ old
@@ -80,11 +90,14 @@ pub data Event : Type 0 where
 abbrev pub begun_again : Memory → Memory
 begun_again m = record m { lags = true; kept = m.stored }
 
-abbrev pub Step : {World : Type 0} → (Call → World → List ℕ → World → Type 0) → Event → State World → State World → Type 0
-Step run (Comes slot call) old new = TakesBy run (turn_of (old.slots slot).lags (old.slots slot).kept call) slot call old new
+abbrev pub Step : {World : Type 0} → (Call → World → List ℕ → World → Type 0) → Event → State World → State World
+    → Type 0
+Step run (Comes slot call) old new =
+    TakesBy run (turn_of (old.slots slot).lags (old.slots slot).kept call) slot call old new
 Step run Restarts old new = new ≡ record old { slots = λ slot. begun_again (old.slots slot) }
 
-abbrev pub Steps : {World : Type 0} → (Call → World → List ℕ → World → Type 0) → List Event → State World → State World → Type 0
+abbrev pub Steps : {World : Type 0} → (Call → World → List ℕ → World → Type 0) → List Event → State World → State World
+    → Type 0
 Steps run [] old new = new ≡ old
 Steps {World} run (event ∷ events) old new = (mid : State World) × Step run event old mid × Steps run events mid new
 
@@ -97,12 +110,16 @@ AreNumbered (call ∷ before) = (call.call.number ≡ due (length before)) × Ar
 -- wasn't written left the world as it was
 abbrev pub Ran : {World : Type 0} → (Call → World → List ℕ → World → Type 0) → World → List Entry → World → Type 0
 Ran run first [] last = last ≡ first
-Ran {World} run first (e ∷ before) last = (mid : World) × Ran run first before mid × run e.kept.call mid e.kept.results last × (e.written ≡ false → last ≡ mid)
+Ran {World} run first (e ∷ before) last =
+    (mid : World) × Ran run first before mid × run e.kept.call mid e.kept.results last
+    × (e.written ≡ false → last ≡ mid)
 
 -- The world is made of the first one by the calls that stand, of all slots, each run once, in turn.
 -- Of each slot no number comes twice. The next number of a slot is new, however long ago the slot
 -- was written.
-pub record ActsOnce {World : Type 0} (run : Call → World → List ℕ → World → Type 0) (first : World) (last : State World) : Type 0 where
+pub record ActsOnce {World : Type 0} (run : Call → World → List ℕ → World → Type 0) (first : World)
+    (last : State World) : Type 0 where
   pub ran : Ran run first last.calls last.world
   pub numbered : (slot : ℕ) → AreNumbered (of_slot slot last.calls)
-  pub goes_on : (slot : ℕ) (call : Call) → call.number ≡ due (length (of_slot slot last.calls)) → turn_of (last.slots slot).lags (last.slots slot).kept call ≡ turns.New
+  pub goes_on : (slot : ℕ) (call : Call) → call.number ≡ due (length (of_slot slot last.calls))
+      → turn_of (last.slots slot).lags (last.slots slot).kept call ≡ turns.New

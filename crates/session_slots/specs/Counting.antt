@@ -1,7 +1,8 @@
 -- Sequence IDs, on a slot and for the sessions of a client. Each call that is accepted has the
 -- number after the number of the call before it, from 1 on, modulo 2^32 (RFC 8881, sections
 -- 2.10.6.1 and 18.36.4).
-use Rattle.std.specs.Prelude.{◌≡◌, ℕ, ◌+◌, ◌-◌, ◌%◌, ◌^◌, ◌==◌, ◌&&◌, ◌||◌, Bool, true, false, nat_le, if◌then◌else◌, List, [], ◌∷◌, length, Option, Some, None}
+use Rattle.std.specs.Prelude.{◌≡◌, ℕ, ◌+◌, ◌-◌, ◌%◌, ◌^◌, ◌==◌, ◌&&◌, ◌||◌, Bool, true, false, nat_le, if◌then◌else◌}
+use Rattle.std.specs.Prelude.{List, [], ◌∷◌, length, Option, Some, None}
 use Rattle.session_slots.specs.Limits.{MOST_AHEAD, WRITTEN_EVERY}
 
 -- the number after a number
@@ -41,6 +42,7 @@ last_number number_of (Some kept) = number_of kept
 
 -- The last call that was accepted, as it is kept, stands for each history that gives it, and its
 -- number for how many were accepted.
-pub record StandsFor {X : Type 0} (number_of : X → ℕ) (keeps : X → Bool) (last : Option X) (history : List X) : Type 0 where
+pub record StandsFor {X : Type 0} (number_of : X → ℕ) (keeps : X → Bool) (last : Option X)
+    (history : List X) : Type 0 where
   pub kept : last ≡ newest (accepted number_of keeps history)
   pub number : last_number number_of last ≡ length (accepted number_of keeps history) % 2 ^ 32

@@ -1,5 +1,6 @@
 -- CREATE_SESSION (RFC 8881, section 18.36), by its arguments and by the history of a client's calls.
-use Rattle.std.specs.Prelude.{◌≡◌, ◌⊎◌, ℕ, ◌+◌, ◌%◌, ◌^◌, ◌==◌, ◌&&◌, ◌||◌, Bool, true, false, not, nat_lt, nat_le, min, max, if◌then◌else◌, List, [], ◌∷◌, length, find, Option, Some, None, Result, Ok, Err}
+use Rattle.std.specs.Prelude.{◌≡◌, ◌⊎◌, ℕ, ◌+◌, ◌%◌, ◌^◌, ◌==◌, ◌&&◌, ◌||◌, Bool, true, false, not, nat_lt, nat_le, min}
+use Rattle.std.specs.Prelude.{max, if◌then◌else◌, List, [], ◌∷◌, length, find, Option, Some, None, Result, Ok, Err}
 use Rattle.std.specs.Option.{option_map}
 use Rattle.std.specs.Map.{values_of}
 use Rattle.std.specs.BTreeMap.{insert_entry}
@@ -15,7 +16,8 @@ use Rattle.session_slots.specs.declared.creating.Judged.{Judged}
 use Rattle.session_slots.specs.declared.creating.Judged.TheVariants.{Answers, Refuses, Makes}
 use Rattle.session_slots.specs.Limits.{MOST_SESSIONS, MOST_SLOTS, MOST_BYTES, LEAST_REPLY, MOST_OPERATIONS, END}
 use Rattle.session_slots.specs.Counting.{due, accepted, last_number, StandsFor}
-use Rattle.session_slots.specs.Registry.{Client, Registry, client_at, is_confirmed_of, changed_client, new_session, without_record, without_sessions}
+use Rattle.session_slots.specs.Registry.{Client, Registry, client_at, is_confirmed_of, changed_client, new_session}
+use Rattle.session_slots.specs.Registry.{without_record, without_sessions}
 
 abbrev pub number_of : Creation → ℕ
 number_of c = c.number
@@ -46,7 +48,13 @@ creation_fault c r a =
 
 -- the session: its slots are said to persist where it was asked for, and the server keeps them over a restart
 abbrev pub created_of : Registry → Create → Created
-created_of r a = record { session = r.next_session; sequence = a.sequence; persist = a.persist && a.lasting; fore = granted a.fore; back = a.back }
+created_of r a = record {
+  session = r.next_session;
+  sequence = a.sequence;
+  persist = a.persist && a.lasting;
+  fore = granted a.fore;
+  back = a.back;
+}
 
 -- the call is accepted, with this result
 abbrev pub accepts : Create → Result Created Status → Client → Client
@@ -65,8 +73,11 @@ other_record owner number clients = option_map (λ c. c.number) (find (is_other 
 -- the record is confirmed, and the owner's other confirmed record goes with its sessions
 abbrev pub with_creation : Registry → Create → Option ℕ → Registry
 with_creation r a other = record r {
-  clients = changed_client a.client (λ c. record (accepts a (Ok (created_of r a)) c) { confirmed = true }) (without_record other r.clients);
-  sessions = without_sessions other (insert_entry nat_cmp r.sessions r.next_session (new_session a.client (granted a.fore)));
+  clients =
+      changed_client a.client (λ c. record (accepts a (Ok (created_of r a)) c) { confirmed = true })
+      (without_record other r.clients);
+  sessions =
+      without_sessions other (insert_entry nat_cmp r.sessions r.next_session (new_session a.client (granted a.fore)));
   next_session = r.next_session + 1;
 }
 
@@ -81,7 +92,8 @@ judged_due None c r a = Makes (other_record c.owner a.client r.clients)
 abbrev pub judged_unless : Option (Result Created Status) → Client → Registry → Create → Judged
 judged_unless (Some kept) c r a = Answers (record { result = kept; gone = None })
 judged_unless None c r a =
-    if a.sequence == due (last_number number_of c.created) then judged_due (creation_fault c r a) c r a else Answers (refusing statuses.SeqMisordered)
+    if a.sequence == due (last_number number_of c.created) then judged_due (creation_fault c r a) c r a
+    else Answers (refusing statuses.SeqMisordered)
 
 abbrev pub judged_for : Option Client → Registry → Create → Judged
 judged_for None r a = Answers (refusing statuses.StaleClientId)
@@ -148,7 +160,8 @@ Agrees (Gets given) result = result ≡ given
 -- stands for the history with the call.
 pub record CreatesByHistory (old new : Option Creation) (number : ℕ) (result : Result Created Status) : Type 0 where
   pub fate : (history : List Creation) → RecordStandsFor old history → Agrees (fate history number) result
-  pub stands : (history : List Creation) → RecordStandsFor old history → RecordStandsFor new (record { number = number; result = result } ∷ history)
+  pub stands : (history : List Creation) → RecordStandsFor old history
+      → RecordStandsFor new (record { number = number; result = result } ∷ history)
 
 -- if the client has a record
 pub record CreatesAt (old new : Registry) (a : Create) (result : Result Created Status) : Type 0 where

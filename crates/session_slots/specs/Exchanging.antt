@@ -1,5 +1,6 @@
 -- EXCHANGE_ID (RFC 8881, section 18.35).
-use Rattle.std.specs.Prelude.{◌≡◌, ◌⊎◌, ℕ, ◌+◌, ◌==◌, ◌&&◌, ◌||◌, Bool, true, false, not, nat_eq, nat_le, bit_and, if◌then◌else◌, List, length, filter, Option, Some, None, Result, Ok, Err}
+use Rattle.std.specs.Prelude.{◌≡◌, ◌⊎◌, ℕ, ◌+◌, ◌==◌, ◌&&◌, ◌||◌, Bool, true, false, not, nat_eq, nat_le, bit_and}
+use Rattle.std.specs.Prelude.{if◌then◌else◌, List, length, filter, Option, Some, None, Result, Ok, Err}
 use Rattle.std.specs.BTreeMap.{insert_entry}
 use Rattle.std.specs.Ordering.{nat_cmp}
 use Rattle.std.specs.Cmp.Lexicographic.{pointwise}
@@ -44,12 +45,22 @@ abbrev pub stays : Option ℕ → List ℕ → ℕ × Client → Bool
 stays gone owner e = not (is_unconfirmed_of owner e.1) && not (goes gone e.0)
 
 abbrev pub new_client : ℕ → Exchanging → Client
-new_client number a = record { number = number; owner = a.owner; verifier = a.verifier; uid = a.uid; confirmed = false; created = None; reclaimed = false }
+new_client number a = record {
+  number = number;
+  owner = a.owner;
+  verifier = a.verifier;
+  uid = a.uid;
+  confirmed = false;
+  created = None;
+  reclaimed = false;
+}
 
 -- a new record, beside those that stay; the sessions of the client that goes are gone
 abbrev pub with_client : Option ℕ → Registry → Exchanging → Registry
 with_client gone r a = record r {
-  clients = filter (λ e. e.0 == r.next_client || stays gone a.owner e) (insert_entry nat_cmp r.clients r.next_client (new_client r.next_client a));
+  clients =
+      filter (λ e. e.0 == r.next_client || stays gone a.owner e)
+      (insert_entry nat_cmp r.clients r.next_client (new_client r.next_client a));
   sessions = without_sessions gone r.sessions;
   next_client = r.next_client + 1;
 }
@@ -89,7 +100,8 @@ made_known number = record { client = number; sequence = 1; is_confirmed = false
 -- a record is created, unless memory is refused: then nothing changes
 abbrev pub MakesClient : Registry → Exchanging → Option ℕ → Result Exchanged Status → Registry → Type 0
 MakesClient r a gone result new =
-    ((result ≡ Ok (made_known r.next_client)) × (new ≡ with_client gone r a)) ⊎ ((result ≡ Err statuses.Delay) × (new ≡ r))
+    ((result ≡ Ok (made_known r.next_client)) × (new ≡ with_client gone r a))
+    ⊎ ((result ≡ Err statuses.Delay) × (new ≡ r))
 
 abbrev pub ExchangesBy : Standing → Registry → Exchanging → Result Exchanged Status → Registry → Type 0
 ExchangesBy (Refuses status) r a result new = (result ≡ Err status) × (new ≡ r)

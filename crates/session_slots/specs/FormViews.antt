@@ -9,7 +9,15 @@ use Rattle.session_slots.specs.Registry.{Client}
 use Rattle.session_slots.specs.Forms.{call}
 
 abbrev pub form_client : RecordForm → Client
-form_client f = record { number = f.number; owner = f.owner.bytes.now; verifier = f.verifier; uid = f.uid; confirmed = f.confirmed; created = f.created; reclaimed = f.reclaimed }
+form_client f = record {
+  number = f.number;
+  owner = f.owner.bytes.now;
+  verifier = f.verifier;
+  uid = f.uid;
+  confirmed = f.confirmed;
+  created = f.created;
+  reclaimed = f.reclaimed;
+}
 
 -- the groups as they were read
 abbrev pub groups_in : ℕ → List ℕ → List ℕ
@@ -20,4 +28,13 @@ abbrev pub is_above : List ℕ → ℕ → Bool
 is_above set group = not (list_any (λ g. nat_le group g) set)
 
 abbrev pub form_call : CallForm → Value call
-form_call f = (f.session, (f.slot, (f.number, ((f.uid, (f.gid, groups_in f.groups.count f.groups.bytes.now)), (f.arguments.bytes.now, f.results.bytes.now)))))
+form_call f = (
+  f.session,
+  (
+    f.slot,
+    (
+      f.number,
+      ((f.uid, (f.gid, groups_in f.groups.count f.groups.bytes.now)), (f.arguments.bytes.now, f.results.bytes.now)),
+    ),
+  ),
+)

@@ -5,7 +5,8 @@ use Rattle.std.proofs.Common.{inl, inr}
 use Rattle.rpc_record.specs.Identity.{Identity}
 use Rattle.nfs_types.specs.declared.status.Status.{Status}
 use Rattle.nfs_types.specs.declared.status.Status.TheVariants as statuses
-use Rattle.xdr_wire.specs.Xdr.{Xdr, Value, void, uint, hyper, boolean, opaque, array, optional, union, arm, no_more, fields}
+use Rattle.xdr_wire.specs.Xdr.{Xdr, Value, void, uint, hyper, boolean, opaque, array, optional, union, arm, no_more}
+use Rattle.xdr_wire.specs.Xdr.{fields}
 use Rattle.session_slots.specs.declared.session.Channel.{Channel}
 use Rattle.session_slots.specs.declared.session.Held.{Held}
 use Rattle.session_slots.specs.declared.client.Created.{Created}
@@ -57,7 +58,8 @@ refusal_value statuses.NoSpc = inl tt
 refusal_value statuses.TooSmall = inr (inl tt)
 refusal_value _ = inr (inr (inl tt))
 
-abbrev pub result_value : Result Created Status → Value (union (arm 0 created (arm 28 void (arm 10005 void (arm 10017 void no_more)))))
+abbrev pub result_value : Result Created Status
+    → Value (union (arm 0 created (arm 28 void (arm 10005 void (arm 10017 void no_more)))))
 result_value (Ok c) = inl (created_value c)
 result_value (Err status) = inr (refusal_value status)
 
@@ -65,7 +67,8 @@ abbrev pub creation_value : Creation → Value creation
 creation_value c = (c.number, result_value c.result)
 
 abbrev pub client_value : Client → Value client
-client_value c = (c.number, (c.owner, (c.verifier, (c.uid, (c.confirmed, (option_map creation_value c.created, c.reclaimed))))))
+client_value c =
+    (c.number, (c.owner, (c.verifier, (c.uid, (c.confirmed, (option_map creation_value c.created, c.reclaimed))))))
 
 abbrev pub session_value : ℕ → Held → Value session
 session_value number held = (number, (held.client, channel_value held.granted))
@@ -74,4 +77,5 @@ abbrev pub caller_value : Identity → Value caller
 caller_value c = (c.uid, (c.gid, c.groups))
 
 abbrev pub call_value : ℕ → ℕ → Kept → Value call
-call_value session slot k = (session, (slot, (k.call.number, (caller_value k.call.caller, (k.call.arguments, k.results)))))
+call_value session slot k =
+    (session, (slot, (k.call.number, (caller_value k.call.caller, (k.call.arguments, k.results)))))

@@ -5,4 +5,7 @@ use Rattle.session_slots.specs.Registry.{Registry, without_record, without_sessi
 
 -- without a client, its record and its sessions
 abbrev pub let_go : ℕ → Registry → Registry
-let_go client r = record r { clients = without_record (Some client) r.clients; sessions = without_sessions (Some client) r.sessions }
+let_go client r = record r {
+  clients = without_record (Some client) r.clients;
+  sessions = without_sessions (Some client) r.sessions;
+}

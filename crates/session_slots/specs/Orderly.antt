@@ -1,10 +1,12 @@
 -- Records and sessions that belong together.
-use Rattle.std.specs.Prelude.{◌≡◌, ℕ, ◌<◌, ◌≤◌, Bool, true, false, nat_lt, if◌then◌else◌, List, [], ◌∷◌, ◌⊎◌, Option, Some, None, Result, Ok, Err, length}
+use Rattle.std.specs.Prelude.{◌≡◌, ℕ, ◌<◌, ◌≤◌, Bool, true, false, nat_lt, if◌then◌else◌, List, [], ◌∷◌, ◌⊎◌, Option}
+use Rattle.std.specs.Prelude.{Some, None, Result, Ok, Err, length}
 use Rattle.nfs_types.specs.declared.status.Status.{Status}
 use Rattle.nfs_types.specs.declared.status.Status.TheVariants as statuses
 use Rattle.session_slots.specs.declared.client.Created.{Created}
 use Rattle.session_slots.specs.declared.client.Creation.{Creation}
-use Rattle.session_slots.specs.Limits.{MOST_CLIENTS, MOST_SESSIONS, MOST_SLOTS, MOST_BYTES, LEAST_REPLY, MOST_OPERATIONS, MOST_OWNER, END}
+use Rattle.session_slots.specs.Limits.{MOST_CLIENTS, MOST_SESSIONS, MOST_SLOTS, MOST_BYTES, LEAST_REPLY}
+use Rattle.session_slots.specs.Limits.{MOST_OPERATIONS, MOST_OWNER, END}
 use Rattle.session_slots.specs.declared.session.Channel.{Channel}
 use Rattle.session_slots.specs.Registry.{Client, Session, Registry, client_at, is_confirmed_of}
 
@@ -45,11 +47,13 @@ pub record IsOrderly (r : Registry) : Type 0 where
   -- a record is kept by its own number, which was given to it
   pub numbered : (e : ℕ × Client) → IsIn e r.clients → (e.1.number ≡ e.0) × (e.0 < r.next_client)
   -- an owner has at most one confirmed record
-  pub one_confirmed : (owner : List ℕ) (e f : ℕ × Client) → IsIn e r.clients → IsIn f r.clients → is_confirmed_of owner e.1 ≡ true → is_confirmed_of owner f.1 ≡ true → e.0 ≡ f.0
+  pub one_confirmed : (owner : List ℕ) (e f : ℕ × Client) → IsIn e r.clients → IsIn f r.clients
+      → is_confirmed_of owner e.1 ≡ true → is_confirmed_of owner f.1 ≡ true → e.0 ≡ f.0
   -- the number of a session was given to it
   pub given : (e : ℕ × Session) → IsIn e r.sessions → e.0 < r.next_session
   -- the client of a session has a confirmed record
-  pub at_home : (e : ℕ × Session) → IsIn e r.sessions → (c : Client) × (client_at r e.1.client ≡ Some c) × (c.confirmed ≡ true)
+  pub at_home : (e : ℕ × Session) → IsIn e r.sessions
+      → (c : Client) × (client_at r e.1.client ≡ Some c) × (c.confirmed ≡ true)
   pub within : (e : ℕ × Session) → IsIn e r.sessions → IsWithin e.1.granted
   pub formed : (e : ℕ × Client) → IsIn e r.clients → has_form e.1 ≡ true
   -- there aren't too many records and sessions, and no number is 2 ^ 63

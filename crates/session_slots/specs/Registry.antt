@@ -1,5 +1,6 @@
 -- Clients and their sessions, by number, and the slots of a session, by place (RFC 8881, sections 2.4 and 2.10).
-use Rattle.std.specs.Prelude.{ℕ, ◌-◌, ◌==◌, ◌&&◌, Bool, true, false, not, nat_eq, List, [], filter, find, set, replicate, slice_get, Option, Some, None}
+use Rattle.std.specs.Prelude.{ℕ, ◌-◌, ◌==◌, ◌&&◌, Bool, true, false, not, nat_eq, List, [], filter, find, set}
+use Rattle.std.specs.Prelude.{replicate, slice_get, Option, Some, None}
 use Rattle.std.specs.Option.{option_map_or, option_and_then}
 use Rattle.std.specs.Map.{lookup, set_value, values_of}
 use Rattle.std.specs.BTreeMap.{is_at}
@@ -65,7 +66,9 @@ confirmed_entry r owner = find (is_confirmed_of owner) (values_of r.clients)
 
 -- the clients after a change f of the record of a number
 abbrev pub changed_client : ℕ → (Client → Client) → List (ℕ × Client) → List (ℕ × Client)
-changed_client number f clients = option_map_or (λ c. set_value (is_at (nat_cmp number)) clients (f c)) (lookup (is_at (nat_cmp number)) clients) clients
+changed_client number f clients =
+    option_map_or (λ c. set_value (is_at (nat_cmp number)) clients (f c))
+    (lookup (is_at (nat_cmp number)) clients) clients
 
 -- the clients without the record of a client that goes, if one does
 abbrev pub without_record : Option ℕ → List (ℕ × Client) → List (ℕ × Client)
@@ -79,7 +82,9 @@ without_sessions (Some client) sessions = filter (λ e. not (e.1.client == clien
 
 -- the sessions after a change f of the session of a number
 abbrev pub changed_session : ℕ → (Session → Session) → List (ℕ × Session) → List (ℕ × Session)
-changed_session number f sessions = option_map_or (λ s. set_value (is_at (nat_cmp number)) sessions (f s)) (lookup (is_at (nat_cmp number)) sessions) sessions
+changed_session number f sessions =
+    option_map_or (λ s. set_value (is_at (nat_cmp number)) sessions (f s))
+    (lookup (is_at (nat_cmp number)) sessions) sessions
 
 abbrev pub with_session : ℕ → (Session → Session) → Registry → Registry
 with_session number f r = record r { sessions = changed_session number f r.sessions }
@@ -93,7 +98,12 @@ with_place slot f s = record s { slots = changed_place slot f s.slots }
 
 -- this many slots that have accepted no call, or that keep none and lag
 abbrev pub unused_places : Bool → ℕ → ℕ → ℕ → List Place
-unused_places lags count most_arguments most_results = replicate count (record { kept = None; most_arguments = most_arguments; most_results = most_results; lags = lags })
+unused_places lags count most_arguments most_results = replicate count (record {
+  kept = None;
+  most_arguments = most_arguments;
+  most_results = most_results;
+  lags = lags;
+})
 
 -- how many bytes of results each slot of a session caches: those of a reply after its header
 abbrev pub kept_size : Channel → ℕ
@@ -105,8 +115,16 @@ most_kept None = 0
 most_kept (Some s) = kept_size s.granted
 
 abbrev pub new_session : ℕ → Channel → Session
-new_session client granted = record { client = client; granted = granted; slots = unused_places false granted.slots granted.request_size (kept_size granted) }
+new_session client granted = record {
+  client = client;
+  granted = granted;
+  slots = unused_places false granted.slots granted.request_size (kept_size granted);
+}
 
 -- a session after a restart, whose slots keep no call yet
 abbrev pub restored_session : ℕ → Channel → Session
-restored_session client granted = record { client = client; granted = granted; slots = unused_places true granted.slots granted.request_size (kept_size granted) }
+restored_session client granted = record {
+  client = client;
+  granted = granted;
+  slots = unused_places true granted.slots granted.request_size (kept_size granted);
+}

@@ -14,13 +14,15 @@ is_repeat (Fails reply) = false
 
 -- A call is answered by its fate: `Runs` holds for the results and states of a call that is run. Otherwise the
 -- state stays.
-abbrev pub AnswersBy : {Call State Reply : Type 0} → (Call → State → Reply → State → Type 0) → Fate Reply → Call → State → Reply → State → Type 0
+abbrev pub AnswersBy : {Call State Reply : Type 0} → (Call → State → Reply → State → Type 0) → Fate Reply → Call → State
+    → Reply → State → Type 0
 AnswersBy Run Runs call old reply new = Run call old reply new
 AnswersBy Run (Repeats kept) call old reply new = (reply ≡ kept) × (new ≡ old)
 AnswersBy Run (Fails refusal) call old reply new = (reply ≡ refusal) × (new ≡ old)
 
 -- calls are answered in turn
-abbrev pub AnswersAll : {Call State Reply : Type 0} → (State → Call → Fate Reply) → (Call → State → Reply → State → Type 0) → List Call → List Reply → State → State → Type 0
+abbrev pub AnswersAll : {Call State Reply : Type 0} → (State → Call → Fate Reply)
+    → (Call → State → Reply → State → Type 0) → List Call → List Reply → State → State → Type 0
 AnswersAll fate Run [] [] old new = new ≡ old
 AnswersAll fate Run [] (reply ∷ replies) old new = ⊥
 AnswersAll fate Run (call ∷ calls) [] old new = ⊥
@@ -44,13 +46,17 @@ abbrev pub first_ones : {Call Reply : Type 0} → List (Exchange Call Reply) →
 first_ones es = filter (λ e. not e.repeats) es
 
 -- each call is marked as a repeat where it was one, in the state after the calls before it
-abbrev pub AreAnswered : {Call State Reply : Type 0} → (State → Call → Fate Reply) → (Call → State → Reply → State → Type 0) → List (Exchange Call Reply) → State → State → Type 0
+abbrev pub AreAnswered : {Call State Reply : Type 0} → (State → Call → Fate Reply)
+    → (Call → State → Reply → State → Type 0) → List (Exchange Call Reply) → State → State → Type 0
 AreAnswered fate Run [] old new = new ≡ old
 AreAnswered {Call} {State} fate Run (e ∷ es) old new =
-    (mid : State) × AnswersBy Run (fate old e.call) e.call old e.reply mid × (e.repeats ≡ is_repeat (fate old e.call)) × AreAnswered fate Run es mid new
+    (mid : State) × AnswersBy Run (fate old e.call) e.call old e.reply mid × (e.repeats ≡ is_repeat (fate old e.call))
+    × AreAnswered fate Run es mid new
 
 -- The calls with their replies, marked; and the calls without the repeats, which lead to the same state.
-pub record WithoutRepeats {Call State Reply : Type 0} (fate : State → Call → Fate Reply) (Run : Call → State → Reply → State → Type 0) (calls : List Call) (replies : List Reply) (old new : State) : Type 0 where
+pub record WithoutRepeats {Call State Reply : Type 0} (fate : State → Call → Fate Reply)
+    (Run : Call → State → Reply → State → Type 0) (calls : List Call) (replies : List Reply)
+    (old new : State) : Type 0 where
   pub exchanges : List (Exchange Call Reply)
   pub of_calls : calls_of exchanges ≡ calls
   pub of_replies : replies_of exchanges ≡ replies

@@ -6,7 +6,8 @@ use Rattle.session_slots.specs.Slots.{Kept, Place}
 use Rattle.session_slots.specs.Registry.{Client, Session, Registry, session_at}
 use Rattle.session_slots.specs.Orderly.{IsOrderly}
 use Rattle.session_slots.specs.Sequencing.{HasSlots}
-use Rattle.session_slots.specs.Restoring.{IsRising, number_from, nothing_yet, record_fits, with_record, session_fits, with_restored, slot_fits, with_kept, kept_at, held_of}
+use Rattle.session_slots.specs.Restoring.{IsRising, number_from, nothing_yet, record_fits, with_record, session_fits}
+use Rattle.session_slots.specs.Restoring.{with_restored, slot_fits, with_kept, kept_at, held_of}
 
 -- These facts are said of every registry: by `counts`, by `held` for each session, and by `kept`
 -- for each slot.
@@ -15,7 +16,8 @@ pub record IsReadable (r : Registry) : Type 0 where
   pub clients : IsRising r.clients
   pub sessions : IsRising r.sessions
   pub slots : (number : ℕ) (s : Session) → session_at r number ≡ Some s → HasSlots s.granted s.slots
-  pub fit : (session slot : ℕ) (k : Kept) → kept_at r session slot ≡ Some k → slot_fits (session_at r session) slot k ≡ true
+  pub fit : (session slot : ℕ) (k : Kept) → kept_at r session slot ≡ Some k
+      → slot_fits (session_at r session) slot k ≡ true
 
 -- ---- reading
 
@@ -23,7 +25,8 @@ pub record IsReadable (r : Registry) : Type 0 where
 -- found, gets all numbers in order.
 pub record IsReadInOrder {X : Type 0} (es : List (ℕ × X)) : Type 0 where
   pub first : number_from 0 es ≡ option_map (λ e. e.0) (slice_get es 0)
-  pub next : (before after : List (ℕ × X)) (number : ℕ) (x : X) → es ≡ before ++ (number, x) ∷ after → number_from (number + 1) es ≡ option_map (λ e. e.0) (slice_get after 0)
+  pub next : (before after : List (ℕ × X)) (number : ℕ) (x : X) → es ≡ before ++ (number, x) ∷ after
+      → number_from (number + 1) es ≡ option_map (λ e. e.0) (slice_get after 0)
 
 -- ---- restoring
 
@@ -54,7 +57,9 @@ RecordsFit (e ∷ es) r = (record_fits r e.1 ≡ true) × RecordsFit es (with_re
 
 abbrev pub SlotsFit : ℕ → ℕ → List Place → Registry → Type 0
 SlotsFit session slot [] r = Unit {0}
-SlotsFit session slot (p ∷ ps) r = IfSome p.kept (λ k. slot_fits (session_at r session) slot k ≡ true) × SlotsFit session (slot + 1) ps (with_call session slot p.kept r)
+SlotsFit session slot (p ∷ ps) r =
+    IfSome p.kept (λ k. slot_fits (session_at r session) slot k ≡ true)
+    × SlotsFit session (slot + 1) ps (with_call session slot p.kept r)
 
 abbrev pub SessionsFit : List (ℕ × Session) → Registry → Type 0
 SessionsFit [] r = Unit {0}

@@ -1,6 +1,7 @@
 -- How clients, sessions and slots are kept over a restart, and made again of what is kept
 -- (RFC 8881, section 2.10.6.5).
-use Rattle.std.specs.Prelude.{◌≡◌, ℕ, ◌&&◌, Bool, false, not, nat_lt, nat_le, List, [], map, length, Option, Some, None, is_some, is_none, find}
+use Rattle.std.specs.Prelude.{◌≡◌, ℕ, ◌&&◌, Bool, false, not, nat_lt, nat_le, List, [], map, length, Option, Some, None}
+use Rattle.std.specs.Prelude.{is_some, is_none, find}
 use Rattle.std.specs.List.Sorted.{IsStrictlySortedBy}
 use Rattle.std.specs.Map.{keys_of}
 use Rattle.std.specs.Option.{option_and_then}
@@ -8,20 +9,28 @@ use Rattle.std.specs.BTreeMap.{insert_entry}
 use Rattle.std.specs.Ordering.{nat_cmp}
 use Rattle.session_slots.specs.declared.session.Channel.{Channel}
 use Rattle.session_slots.specs.declared.session.Held.{Held}
-use Rattle.session_slots.specs.Limits.{MOST_CLIENTS, MOST_SESSIONS, MOST_SLOTS, MOST_BYTES, LEAST_REPLY, MOST_OPERATIONS, END}
+use Rattle.session_slots.specs.Limits.{MOST_CLIENTS, MOST_SESSIONS, MOST_SLOTS, MOST_BYTES, LEAST_REPLY}
+use Rattle.session_slots.specs.Limits.{MOST_OPERATIONS, END}
 use Rattle.session_slots.specs.Slots.{Kept, restored}
 use Rattle.session_slots.specs.Orderly.{has_form}
-use Rattle.session_slots.specs.Registry.{Client, Session, Registry, client_at, session_at, place_at, confirmed_entry, kept_size, restored_session, with_session, with_place}
+use Rattle.session_slots.specs.Registry.{Client, Session, Registry, client_at, session_at, place_at, confirmed_entry}
+use Rattle.session_slots.specs.Registry.{kept_size, restored_session, with_session, with_place}
 
 -- nothing is restored yet: the next client and the next session get these numbers
 abbrev pub nothing_yet : ℕ → ℕ → Registry
-nothing_yet next_client next_session = record { clients = []; sessions = []; next_client = next_client; next_session = next_session }
+nothing_yet next_client next_session = record {
+  clients = [];
+  sessions = [];
+  next_client = next_client;
+  next_session = next_session;
+}
 
 -- Numbers that the next client and the next session may get: none is below that which would have been given, or above
 -- 2 ^ 63.
 abbrev pub numbers_fit : Registry → ℕ → ℕ → Bool
 numbers_fit r next_client next_session =
-    nat_le r.next_client next_client && (nat_le r.next_session next_session && (nat_le next_client END && nat_le next_session END))
+    nat_le r.next_client next_client
+    && (nat_le r.next_session next_session && (nat_le next_client END && nat_le next_session END))
 
 abbrev pub with_numbers : ℕ → ℕ → Registry → Registry
 with_numbers next_client next_session r = record r { next_client = next_client; next_session = next_session }
@@ -31,7 +40,9 @@ with_numbers next_client next_session r = record r { next_client = next_client; 
 -- a record may stand beside those that are there
 abbrev pub record_fits : Registry → Client → Bool
 record_fits r c =
-    nat_lt c.number r.next_client && (nat_lt (length r.clients) MOST_CLIENTS && (is_none (client_at r c.number) && (not (c.confirmed && is_some (confirmed_entry r c.owner)) && has_form c)))
+    nat_lt c.number r.next_client
+    && (nat_lt (length r.clients) MOST_CLIENTS
+    && (is_none (client_at r c.number) && (not (c.confirmed && is_some (confirmed_entry r c.owner)) && has_form c)))
 
 abbrev pub with_record : Registry → Client → Registry
 with_record r c = record r { clients = insert_entry nat_cmp r.clients c.number c }
@@ -41,7 +52,10 @@ with_record r c = record r { clients = insert_entry nat_cmp r.clients c.number c
 -- no more is granted than may be
 abbrev pub is_within : Channel → Bool
 is_within g =
-    nat_le g.request_size MOST_BYTES && (nat_le LEAST_REPLY g.reply_size && (nat_le g.reply_size MOST_BYTES && (nat_le g.operations MOST_OPERATIONS && (nat_le g.slots MOST_SLOTS && nat_le 1 g.slots))))
+    nat_le g.request_size MOST_BYTES
+    && (nat_le LEAST_REPLY g.reply_size
+    && (nat_le g.reply_size MOST_BYTES
+    && (nat_le g.operations MOST_OPERATIONS && (nat_le g.slots MOST_SLOTS && nat_le 1 g.slots))))
 
 abbrev pub is_home : Option Client → Bool
 is_home None = false
@@ -50,17 +64,22 @@ is_home (Some c) = c.confirmed
 -- a session may stand: it has a number that was given, and its client a confirmed record
 abbrev pub session_fits : Registry → ℕ → Held → Bool
 session_fits r number held =
-    nat_lt number r.next_session && (nat_lt (length r.sessions) MOST_SESSIONS && (is_none (session_at r number) && (is_home (client_at r held.client) && is_within held.granted)))
+    nat_lt number r.next_session
+    && (nat_lt (length r.sessions) MOST_SESSIONS
+    && (is_none (session_at r number) && (is_home (client_at r held.client) && is_within held.granted)))
 
 abbrev pub with_restored : Registry → ℕ → Held → Registry
-with_restored r number held = record r { sessions = insert_entry nat_cmp r.sessions number (restored_session held.client held.granted) }
+with_restored r number held =
+    record r { sessions = insert_entry nat_cmp r.sessions number (restored_session held.client held.granted) }
 
 -- ---- a slot
 
 -- a call may stand in a slot: the slot is there, and there is room
 abbrev pub slot_fits : Option Session → ℕ → Kept → Bool
 slot_fits None slot k = false
-slot_fits (Some s) slot k = nat_lt slot s.granted.slots && (nat_le (length k.call.arguments) s.granted.request_size && nat_le (length k.results) (kept_size s.granted))
+slot_fits (Some s) slot k =
+    nat_lt slot s.granted.slots
+    && (nat_le (length k.call.arguments) s.granted.request_size && nat_le (length k.results) (kept_size s.granted))
 
 abbrev pub with_kept : Registry → ℕ → ℕ → Kept → Registry
 with_kept r session slot k = with_session session (with_place slot (restored k)) r

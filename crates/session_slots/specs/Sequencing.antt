@@ -1,5 +1,6 @@
 -- SEQUENCE (RFC 8881, section 18.46).
-use Rattle.std.specs.Prelude.{◌≡◌, ℕ, ◌+◌, ◌-◌, ◌≤◌, nat_lt, nat_le, if◌then◌else◌, List, length, All, slice_get, Option, Some, None, IsSome}
+use Rattle.std.specs.Prelude.{◌≡◌, ℕ, ◌+◌, ◌-◌, ◌≤◌, nat_lt, nat_le, if◌then◌else◌, List, length, All, slice_get}
+use Rattle.std.specs.Prelude.{Option, Some, None, IsSome}
 use Rattle.nfs_types.specs.declared.status.Status.{Status}
 use Rattle.nfs_types.specs.declared.status.Status.TheVariants as statuses
 use Rattle.session_slots.specs.declared.session.Channel.{Channel}
@@ -9,7 +10,8 @@ use Rattle.session_slots.specs.declared.slot.Turn.{Turn}
 use Rattle.session_slots.specs.declared.slot.Turn.TheVariants as turns
 use Rattle.session_slots.specs.Limits.{MOST_BYTES, LEAST_REPLY}
 use Rattle.session_slots.specs.Slots.{Call, Place, turn_of, begun, BeginsBy, KeepsByHistory}
-use Rattle.session_slots.specs.Registry.{Session, Registry, kept_size, session_at, place_at, client_at, with_session, with_place}
+use Rattle.session_slots.specs.Registry.{Session, Registry, kept_size, session_at, place_at, client_at, with_session}
+use Rattle.session_slots.specs.Registry.{with_place}
 
 -- the arguments of SEQUENCE, and its COMPOUND
 pub record Asked : Type 0 where
@@ -49,7 +51,11 @@ session_begun s a = begun_unless (grant_fault s.granted a) s a
 
 -- the answer to a turn: a new call gets its client, the size of its reply, and the highest slot
 abbrev pub begin_of : ℕ → Channel → Turn → Begin
-begin_of client granted turns.New = begins.New (record { client = client; reply_size = granted.reply_size; highest_slot = granted.slots - 1 })
+begin_of client granted turns.New = begins.New (record {
+  client = client;
+  reply_size = granted.reply_size;
+  highest_slot = granted.slots - 1;
+})
 begin_of client granted turns.Repeat = begins.Repeat
 begin_of client granted (turns.Refused status) = begins.Refused status
 
@@ -89,7 +95,8 @@ turn_told (begins.Refused status) = turns.Refused status
 -- A call that isn't refused before its number is checked. For every history of its slot it gets the
 -- history's result, and the slot stands for the history with the call.
 pub record SequencesByHistory (old new : Registry) (session : ℕ) (a : Asked) (answer : Begin) : Type 0 where
-  pub by_history : (s : Session) (p : Place) → session_at old session ≡ Some s → grant_fault s.granted a ≡ None → slice_get s.slots a.slot ≡ Some p →
+  pub by_history : (s : Session) (p : Place) → session_at old session ≡ Some s → grant_fault s.granted a ≡ None
+      → slice_get s.slots a.slot ≡ Some p →
       (q : Place) × (place_at new session a.slot ≡ Some q) × BeginsBy p.lags p.kept q a.call (turn_told answer)
 
 -- A new call has a session that is there, with its slot and its client, until one of them is

@@ -1,5 +1,6 @@
 -- A slot, by the history of its calls (RFC 8881, section 2.10.6.1).
-use Rattle.std.specs.Prelude.{◌≡◌, ℕ, ◌==◌, ◌&&◌, ◌+◌, ◌<◌, ◌++◌, ◌%◌, ◌^◌, Bool, true, false, nat_eq, if◌then◌else◌, List, [], ◌∷◌, length, Option, Some, None}
+use Rattle.std.specs.Prelude.{◌≡◌, ℕ, ◌==◌, ◌&&◌, ◌+◌, ◌<◌, ◌++◌, ◌%◌, ◌^◌, Bool, true, false, nat_eq, if◌then◌else◌}
+use Rattle.std.specs.Prelude.{List, [], ◌∷◌, length, Option, Some, None}
 use Rattle.std.specs.Cmp.Lexicographic.{pointwise}
 use Rattle.rpc_record.specs.Identity.{Identity, is_same}
 use Rattle.nfs_types.specs.declared.status.Status.{Status}
@@ -37,7 +38,8 @@ is_same_call a b = pointwise nat_eq a.arguments b.arguments && is_same a.caller 
 abbrev pub old_turn : Option Kept → Call → Turn
 old_turn None call = turns.Refused statuses.SeqMisordered
 old_turn (Some kept) call =
-    if call.number == kept.call.number then (if is_same_call call kept.call then turns.Repeat else turns.Refused statuses.SeqFalseRetry)
+    if call.number == kept.call.number
+    then (if is_same_call call kept.call then turns.Repeat else turns.Refused statuses.SeqFalseRetry)
     else turns.Refused statuses.SeqMisordered
 
 abbrev pub number_of : Kept → ℕ
@@ -96,7 +98,8 @@ abbrev pub fate_behind : List Kept → Call → Fate
 fate_behind [] call = if call.number == 1 then Runs else Fails statuses.SeqMisordered
 fate_behind (last ∷ before) call =
     if call.number == due (length (last ∷ before)) then Runs
-    else if call.number == length (last ∷ before) % 2 ^ 32 then (if is_same_call call last.call then Repeats last.results else Fails statuses.SeqFalseRetry)
+    else if call.number == length (last ∷ before) % 2 ^ 32
+    then (if is_same_call call last.call then Repeats last.results else Fails statuses.SeqFalseRetry)
     else Fails statuses.SeqMisordered
 
 abbrev pub fate : List Kept → Call → Fate
@@ -139,10 +142,14 @@ PlaceStandsFor true kept history = LagStandsFor kept history
 -- lags no more. Where it repeats the last call of a history without later calls, it gets that
 -- call's results. A call that isn't new is in no history accepted, and the slot lags on.
 pub record BeginsLagging (old new : Option Kept) (lags : Bool) (call : Call) (turn : Turn) : Type 0 where
-  pub next : (history : List Kept) → LagStandsFor old history → fate history call ≡ Runs → (turn ≡ turns.New) × SlotStandsFor new (opened call ∷ history) × (lags ≡ false)
-  pub again : (history : List Kept) (results : List ℕ) → SlotStandsFor old history → fate history call ≡ Repeats results → told turn old ≡ Repeats results
-  pub waits : (history : List Kept) → LagStandsFor old history → (turn ≡ turns.New → ⊥) → LagStandsFor new (opened call ∷ history) × (lags ≡ true) × (new ≡ old)
-  pub some : last_number number_of old < 2 ^ 32 → call.number < 2 ^ 32 → (history : List Kept) × LagStandsFor old history × (told turn old ≡ fate history call)
+  pub next : (history : List Kept) → LagStandsFor old history → fate history call ≡ Runs
+      → (turn ≡ turns.New) × SlotStandsFor new (opened call ∷ history) × (lags ≡ false)
+  pub again : (history : List Kept) (results : List ℕ) → SlotStandsFor old history → fate history call ≡ Repeats results
+      → told turn old ≡ Repeats results
+  pub waits : (history : List Kept) → LagStandsFor old history → (turn ≡ turns.New → ⊥)
+      → LagStandsFor new (opened call ∷ history) × (lags ≡ true) × (new ≡ old)
+  pub some : last_number number_of old < 2 ^ 32 → call.number < 2 ^ 32
+      → (history : List Kept) × LagStandsFor old history × (told turn old ≡ fate history call)
 
 -- a call on a slot, whether it lags or not
 abbrev pub BeginsBy : Bool → Option Kept → Place → Call → Turn → Type 0
@@ -151,5 +158,6 @@ BeginsBy true old q call turn = BeginsLagging old q.kept q.lags call turn
 
 -- The newest call of every history that the slot stood for has these results now.
 pub record KeepsByHistory (old new : Option Kept) (results : List ℕ) : Type 0 where
-  pub stands : (kept : Kept) (history : List Kept) → SlotStandsFor old (kept ∷ history) → fate history kept.call ≡ Runs →
+  pub stands : (kept : Kept) (history : List Kept) → SlotStandsFor old (kept ∷ history) → fate history kept.call ≡ Runs
+      →
       SlotStandsFor new (record kept { results = results } ∷ history)

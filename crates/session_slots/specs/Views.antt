@@ -21,10 +21,27 @@ abbrev pub asked_of : Sequence → Asked
 asked_of s = record { slot = s.slot; highest = s.highest; count = s.count; record_len = s.record_len; call = call_of s }
 
 abbrev pub exchanging_of : Exchange → Exchanging
-exchanging_of e = record { owner = e.owner.now; verifier = e.verifier; uid = e.uid; flags = e.flags; has_opens = e.has_opens }
+exchanging_of e = record {
+  owner = e.owner.now;
+  verifier = e.verifier;
+  uid = e.uid;
+  flags = e.flags;
+  has_opens = e.has_opens;
+}
 
 abbrev pub kept_of : KeptCall → Kept
-kept_of k = record { call = record { number = k.number; caller = k.caller.now; arguments = k.arguments.now }; results = k.results.now }
+kept_of k = record {
+  call = record { number = k.number; caller = k.caller.now; arguments = k.arguments.now };
+  results = k.results.now;
+}
 
 abbrev pub client_of : Record → Client
-client_of r = record { number = r.number; owner = r.owner.now; verifier = r.verifier; uid = r.uid; confirmed = r.confirmed; created = r.created; reclaimed = r.reclaimed }
+client_of r = record {
+  number = r.number;
+  owner = r.owner.now;
+  verifier = r.verifier;
+  uid = r.uid;
+  confirmed = r.confirmed;
+  created = r.created;
+  reclaimed = r.reclaimed;
+}

@@ -76,7 +76,15 @@ impl<A: Allocator> Model for Client<A> {
 
     ghost Value = { Client };
 
-    ghost view = { λ c. record { number = c.number; owner = c.owner.items; verifier = c.verifier; uid = c.uid; confirmed = c.confirmed; created = c.created; reclaimed = c.reclaimed } };
+    ghost view = { λ c. record {
+      number = c.number;
+      owner = c.owner.items;
+      verifier = c.verifier;
+      uid = c.uid;
+      confirmed = c.confirmed;
+      created = c.created;
+      reclaimed = c.reclaimed;
+    } };
 }
 
 impl<A: Allocator> Client<A> {
@@ -89,7 +97,15 @@ impl<A: Allocator> Client<A> {
         uid: u32,
         now: u64,
     ) -> Result<Self, AllocError>
-        ensures { IfOk result (λ c. c ≡ record { number = number; owner = owner.now; verifier = verifier; uid = uid; confirmed = false; created = None; reclaimed = false }) }
+        ensures { IfOk result (λ c. c ≡ record {
+          number = number;
+          owner = owner.now;
+          verifier = verifier;
+          uid = uid;
+          confirmed = false;
+          created = None;
+          reclaimed = false;
+        }) }
     {
         Ok(Client {
             number,

@@ -208,7 +208,7 @@ impl<A: Allocator + Copy> Clients<A> {
 
     /// Restores the last call of a slot, which lags. `false`: the slot isn't there, or hasn't the
     /// room, and nothing changes. It takes no memory.
-    #[tactic(auto, using(crate::proofs::Restored::fits_slot, crate::proofs::Restored::fits_arguments, crate::proofs::Restored::fits_results))]
+    #[tactic(auto, using(crate::proofs::Restored::slot_fit_facts))]
     pub fn restore_slot(&mut self, session: u64, slot: u32, kept: KeptCall<'_>) -> bool
         ensures fits { result ≡ slot_fits (session_at self.old session) slot (kept_of kept.entry) }
         ensures kept { self.new ≡ (if result then with_kept self.old session slot (kept_of kept.entry) else self.old) }

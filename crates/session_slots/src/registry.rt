@@ -33,7 +33,12 @@ impl<A: Allocator> Model for Registry<A> {
 
     ghost Value = { Registry };
 
-    ghost view = { λ r. record { clients = r.clients.entries; sessions = r.sessions.entries; next_client = r.next_client; next_session = r.next_session } };
+    ghost view = { λ r. record {
+      clients = r.clients.entries;
+      sessions = r.sessions.entries;
+      next_client = r.next_client;
+      next_session = r.next_session;
+    } };
 }
 
 impl<A: Allocator + Copy> Registry<A> {

@@ -231,7 +231,7 @@ impl<A: Allocator + Copy> Session<A> {
     }
 
     /// Keeps a call of before a restart as the last one on a slot, which lags. It takes no memory.
-    #[tactic(auto, using(crate::proofs::Places::restored_has_slots, crate::proofs::Places::has_room_for_arguments, crate::proofs::Places::has_room_for_results))]
+    #[tactic(auto, using(crate::proofs::Places::restored_slot_facts))]
     pub fn restore(&mut self, number: u32, kept: KeptCall<'_>)
         requires slot { number < self.old.granted.slots }
         requires arguments { length kept.arguments.now ≤ self.old.granted.request_size }

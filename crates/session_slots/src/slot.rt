@@ -85,13 +85,18 @@ impl<A: Allocator> Model for Slot<A> {
     ghost Value = { Place };
 
     ghost view = { λ s. record {
-      kept = option_map (λ last. record { call = record { number = last.0; caller = last.1; arguments = s.arguments.items }; results = s.results.items }) s.last;
+      kept =
+          option_map (λ last. record {
+            call = record { number = last.0; caller = last.1; arguments = s.arguments.items };
+            results = s.results.items;
+          }) s.last;
       most_arguments = s.most_arguments;
       most_results = s.most_results;
       lags = s.lags;
     } };
 
-    ghost invariant = { λ s. (s.most_arguments ≤ vec_capacity s.arguments) × (s.most_results ≤ vec_capacity s.results) × (vec_len s.arguments ≤ s.most_arguments) × (vec_len s.results ≤ s.most_results) };
+    ghost invariant = { λ s. (s.most_arguments ≤ vec_capacity s.arguments) × (s.most_results ≤ vec_capacity s.results)
+        × (vec_len s.arguments ≤ s.most_arguments) × (vec_len s.results ≤ s.most_results) };
 }
 
 impl<A: Allocator + Copy> Slot<A> {
@@ -103,7 +108,12 @@ impl<A: Allocator + Copy> Slot<A> {
         most_arguments: usize,
         most_results: usize,
     ) -> Result<Self, AllocError>
-        ensures { IfOk result (λ slot. slot ≡ record { kept = None; most_arguments = most_arguments; most_results = most_results; lags = lags }) }
+        ensures { IfOk result (λ slot. slot ≡ record {
+          kept = None;
+          most_arguments = most_arguments;
+          most_results = most_results;
+          lags = lags;
+        }) }
     {
         Ok(Slot {
             last: None,
@@ -138,7 +148,11 @@ impl<A: Allocator + Copy> Slot<A> {
 
     /// Whether a call is new, a repeat of the last one, or refused.
     fn turn(&self, number: u32, arguments: CallBytes<'_>, caller: &Caller) -> Turn
-        ensures { result ≡ turn_of self.now.lags self.now.kept (record { number = number; caller = caller.now; arguments = bytes_of arguments.entry }) }
+        ensures { result ≡ turn_of self.now.lags self.now.kept (record {
+          number = number;
+          caller = caller.now;
+          arguments = bytes_of arguments.entry;
+        }) }
     {
         if is_next(self.lags, self.last_number(), number) {
             return Turn::New;
@@ -158,8 +172,16 @@ impl<A: Allocator + Copy> Slot<A> {
     /// Begins a call, as [`Slot::begin`] does.
     fn take(&mut self, number: u32, arguments: CallBytes<'_>, caller: &Caller) -> Turn
         requires { length (bytes_of arguments) ≤ self.old.most_arguments }
-        ensures turn { result ≡ turn_of self.old.lags self.old.kept (record { number = number; caller = caller.now; arguments = bytes_of arguments.entry }) }
-        ensures begun { self.new ≡ begun self.old (record { number = number; caller = caller.now; arguments = bytes_of arguments.entry }) }
+        ensures turn { result ≡ turn_of self.old.lags self.old.kept (record {
+          number = number;
+          caller = caller.now;
+          arguments = bytes_of arguments.entry;
+        }) }
+        ensures begun { self.new ≡ begun self.old (record {
+          number = number;
+          caller = caller.now;
+          arguments = bytes_of arguments.entry;
+        }) }
     {
         let turn = self.turn(number, arguments, caller);
         if let Turn::New = turn {
@@ -181,9 +203,18 @@ impl<A: Allocator + Copy> Slot<A> {
     #[tactic(auto, using(crate::proofs::Lagging::begins_by))]
     pub fn begin(&mut self, number: u32, arguments: CallBytes<'_>, caller: &Caller) -> Turn
         requires { length (bytes_of arguments) ≤ self.old.most_arguments }
-        ensures turn { result ≡ turn_of self.old.lags self.old.kept (record { number = number; caller = caller.now; arguments = bytes_of arguments.entry }) }
-        ensures begun { self.new ≡ begun self.old (record { number = number; caller = caller.now; arguments = bytes_of arguments.entry }) }
-        ensures by_history { BeginsBy self.old.lags self.old.kept self.new (record { number = number; caller = caller.now; arguments = bytes_of arguments.entry }) result }
+        ensures turn { result ≡ turn_of self.old.lags self.old.kept (record {
+          number = number;
+          caller = caller.now;
+          arguments = bytes_of arguments.entry;
+        }) }
+        ensures begun { self.new ≡ begun self.old (record {
+          number = number;
+          caller = caller.now;
+          arguments = bytes_of arguments.entry;
+        }) }
+        ensures by_history { BeginsBy self.old.lags self.old.kept self.new
+            (record { number = number; caller = caller.now; arguments = bytes_of arguments.entry }) result }
     {
         self.take(number, arguments, caller)
     }

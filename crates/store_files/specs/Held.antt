@@ -1,5 +1,6 @@
 -- The folder of a store as it is held: its two files, the key, and what the system said where a call failed.
-use Rattle.std.specs.Prelude.{◌≡◌, ◌≢◌, ◌⊎◌, ◌≤◌, ◌<◌, ◌+◌, ◌-◌, ℕ, nat_lt, if◌then◌else◌, Bool, true, false, List, [], length, Option, Some, None, Result, Ok, Err}
+use Rattle.std.specs.Prelude.{◌≡◌, ◌≢◌, ◌⊎◌, ◌≤◌, ◌<◌, ◌+◌, ◌-◌, ℕ, nat_lt, if◌then◌else◌, Bool, true, false, List, []}
+use Rattle.std.specs.Prelude.{length, Option, Some, None, Result, Ok, Err}
 use Rattle.std.specs.declared.fs.File.{File}
 use Rattle.std.specs.declared.io.Error.{Error}
 use Rattle.std.specs.declared.io.ErrorKind.TheVariants.{OutOfMemory}
@@ -91,14 +92,16 @@ Keeps old (Unemptied slot) new = HasFailed slot old new
 -- the system gave this for a call on a file, and this is kept of it
 abbrev pub WentSo : Slot → Result (Unit {0}) Error → Bool → StoreFolder → StoreFolder → Type 0
 WentSo slot (Ok done) went old new = (went ≡ true) × (new ≡ old)
-WentSo slot (Err error) went old new = (went ≡ false) × (new ≡ record old { failure = Some (record { part = part_in slot; error = error }) })
+WentSo slot (Err error) went old new =
+    (went ≡ false) × (new ≡ record old { failure = Some (record { part = part_in slot; error = error }) })
 
 -- The system gave this for a load, and this is kept of it. Want of memory is a case of its own, and
 -- is no failure.
 abbrev pub UnloadedSo : Slot → Error → LoadFault → StoreFolder → StoreFolder → Type 0
 UnloadedSo slot error NoMemory old new = (error_kind error ≡ OutOfMemory) × (new ≡ old)
 UnloadedSo slot error NotLoaded old new =
-    (error_kind error ≢ OutOfMemory) × (new ≡ record old { failure = Some (record { part = part_in slot; error = error }) })
+    (error_kind error ≢ OutOfMemory)
+    × (new ≡ record old { failure = Some (record { part = part_in slot; error = error }) })
 
 -- a load that fails, and isn't for want of memory, is a failure
 abbrev pub IsUnloaded : Slot → LoadFault → StoreFolder → StoreFolder → Type 0
@@ -114,7 +117,8 @@ without_failure f = record f { failure = None }
 -- the system says this of a part; want of memory is a case of its own
 abbrev pub IsFaultOf : Part → Error → FolderFault → Type 0
 IsFaultOf part error InUse = ⊥
-IsFaultOf part error (Failed failure) = (error_kind error ≢ OutOfMemory) × (failure ≡ record { part = part; error = error })
+IsFaultOf part error (Failed failure) =
+    (error_kind error ≢ OutOfMemory) × (failure ≡ record { part = part; error = error })
 IsFaultOf part error (Damaged other) = ⊥
 IsFaultOf part error Memory = error_kind error ≡ OutOfMemory
 

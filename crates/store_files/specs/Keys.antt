@@ -1,5 +1,6 @@
 -- The file of the key: a struct of two hypers, the key and its complement (RFC 4506, section 4.14).
-use Rattle.std.specs.Prelude.{◌≡◌, ◌==◌, ◌-◌, ◌^◌, ℕ, Bool, true, false, List, Option, Some, None, Result, Ok, Err, if◌then◌else◌}
+use Rattle.std.specs.Prelude.{◌≡◌, ◌==◌, ◌-◌, ◌^◌, ℕ, Bool, true, false, List, Option, Some, None, Result, Ok, Err}
+use Rattle.std.specs.Prelude.{if◌then◌else◌}
 use Rattle.xdr_wire.specs.Xdr.{Xdr, Value, hyper, pair, spelling}
 use Rattle.xdr_wire.specs.Reading.{Read, read_at}
 use Rattle.store_files.specs.declared.fault.FolderFault.{FolderFault}

@@ -5,7 +5,8 @@ use Rattle.journal.specs.Frames.{Bytes}
 use Rattle.journal.specs.Files.{File, Has, Content}
 use Rattle.journal.specs.Opening.{Chooses, Refuses}
 use Rattle.store_files.specs.declared.damage.Damage.{Damage}
-use Rattle.store_files.specs.declared.damage.Damage.TheVariants.{Missing, Key as NoKey, Rotten, NoCheckpoint, Content as NoTree}
+use Rattle.store_files.specs.declared.damage.Damage.TheVariants.{Missing, Key as NoKey, Rotten, NoCheckpoint}
+use Rattle.store_files.specs.declared.damage.Damage.TheVariants.{Content as NoTree}
 use Rattle.store_files.specs.declared.damage.Place.{Place}
 use Rattle.store_files.specs.declared.fault.Part.{Part}
 use Rattle.store_files.specs.declared.fault.Part.TheVariants.{Folder, Key, A, B}

@@ -10,8 +10,8 @@ abbrev pub Did : List Act → StoreFolder → StoreFolder → Type 0
 Did [] old new = new ≡ old
 Did (act ∷ acts) old new = (mid : StoreFolder) × Did acts old mid × Keeps mid act new
 
--- Where nothing of a file is loose all its bytes stand before the end of its room. A sync makes no room then (`enough` of
--- `IsSynced`). So zero bytes that aren't on the disk yet are there only together with loose bytes.
+-- Where nothing of a file is loose all its bytes stand before the end of its room. A sync makes no room then
+-- (`enough` of `IsSynced`). So zero bytes that aren't on the disk yet are there only together with loose bytes.
 abbrev pub RoomLaw : Type 0
 RoomLaw = (s : Slot) (acts : List Act) (old new : StoreFolder) → IsThere (file_in s old) → Did acts old new
     → (on_disk s acts).loose ≡ false → (file_in s new).len ≤ (file_in s new).end

@@ -3,7 +3,8 @@ use Rattle.std.specs.Prelude.{◌≡◌, ◌⊎◌, ℕ, List, Some, None}
 use Rattle.journal.specs.Keeping.{BothFound, NotBoth}
 use Rattle.store_files.specs.declared.damage.Damage.TheVariants.{Missing, Key as NoKey}
 use Rattle.store_files.specs.declared.fault.FolderFault.{FolderFault}
-use Rattle.store_files.specs.declared.fault.FolderFault.TheVariants.{InUse as HadByAnother, Failed as Said, Damaged as Lost, Memory as NoMemory}
+use Rattle.store_files.specs.declared.fault.FolderFault.TheVariants.{InUse as HadByAnother, Failed as Said}
+use Rattle.store_files.specs.declared.fault.FolderFault.TheVariants.{Damaged as Lost, Memory as NoMemory}
 use Rattle.store_files.specs.declared.fault.Part.TheVariants.{Folder, Key, A, B}
 use Rattle.store_files.specs.declared.folder.StoreFolder.{StoreFolder}
 use Rattle.store_files.specs.declared.stop.StoreStop.{StoreStop}

@@ -32,7 +32,13 @@ counters_value w = inl (w.next_number, (w.next_tick, (w.next_stamp, w.next_cooki
 
 abbrev pub object_value : ℕ → Object → Value part
 object_value number o =
-    inr (inl (number, ((object_kind_value o.kind, (o.bytes, (o.owner, (o.group, (list_value o.list, o.high))))), (o.change, (moment_value o.time_modify, (moment_value o.time_metadata, o.stamp))))))
+    inr (inl (
+      number,
+      (
+        (object_kind_value o.kind, (o.bytes, (o.owner, (o.group, (list_value o.list, o.high))))),
+        (o.change, (moment_value o.time_modify, (moment_value o.time_metadata, o.stamp))),
+      ),
+    ))
 
 abbrev pub name_value : Name → Value part
 name_value n = inr (inr (inl (n.cookie, (n.directory, (n.name, n.child)))))
@@ -45,5 +51,20 @@ parts w = counters_value w ∷ map (λ e. object_value e.0 e.1) w.objects ++ map
 abbrev pub said_part : SaidPart → Value part
 said_part (said.Counters numbers) = inl numbers
 said_part (said.Object number new last) =
-    inr (inl (number, ((object_kind_value new.0.0, (new.1.0.bytes.now, (new.1.1.0, (new.1.1.1.0, (array_values entry None new.1.1.1.1.0.count new.1.1.1.1.0.bytes.now, new.1.1.1.1.1))))), last)))
+    inr (inl (
+      number,
+      (
+        (
+          object_kind_value new.0.0,
+          (
+            new.1.0.bytes.now,
+            (
+              new.1.1.0,
+              (new.1.1.1.0, (array_values entry None new.1.1.1.1.0.count new.1.1.1.1.0.bytes.now, new.1.1.1.1.1)),
+            ),
+          ),
+        ),
+        last,
+      ),
+    ))
 said_part (said.Name cookie directory name child) = inr (inr (inl (cookie, (directory, (name.bytes.now, child)))))

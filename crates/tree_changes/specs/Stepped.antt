@@ -1,12 +1,14 @@
 -- The world after changes that are data.
 use Rattle.std.specs.Prelude.{◌≡◌, true, List, [], ◌∷◌}
 use Rattle.node_tree.specs.World.{World}
-use Rattle.node_tree.specs.Changes.{new_object, with_new, with_link, unlinked, renamed, with_write, with_size, with_list, with_owner}
+use Rattle.node_tree.specs.Changes.{new_object, with_new, with_link, unlinked, renamed, with_write, with_size}
+use Rattle.node_tree.specs.Changes.{with_list, with_owner}
 use Rattle.node_tree.specs.Steps.{Step, Add, Link, Unlink, Rename, Write, Resize, SetList, SetOwner, allows}
 
 -- the world after a change
 abbrev pub stepped : World → Step → World
-stepped w (Add directory name kind bytes owner group list high at) = with_new w directory name (new_object kind bytes owner group list high w.next_stamp at) at
+stepped w (Add directory name kind bytes owner group list high at) =
+    with_new w directory name (new_object kind bytes owner group list high w.next_stamp at) at
 stepped w (Link directory name number at) = with_link w directory name number at
 stepped w (Unlink directory name at) = unlinked w directory name at
 stepped w (Rename from old to new at) = renamed w from old to new at

@@ -11,8 +11,11 @@ abbrev pub Takes : Option Begun → Value part → Begun → Type 0
 Takes None (inl v) new = (counters_fit v.0 v.1.0 v.1.1.0 v.1.1.1 ≡ true) × (new ≡ begun v.0 v.1.0 v.1.1.0 v.1.1.1)
 Takes None (inr v) new = ⊥
 Takes (Some old) (inl v) new = ⊥
-Takes (Some old) (inr (inl v)) new = (number : ℕ) × (o : Object) × (object_value number o ≡ inr (inl v)) × (object_fits old number o ≡ true) × (new ≡ with_object old number o)
-Takes (Some old) (inr (inr (inl v))) new = (n : Name) × (name_value n ≡ inr (inr (inl v))) × (name_fits old n ≡ true) × (new ≡ with_name old n)
+Takes (Some old) (inr (inl v)) new =
+    (number : ℕ) × (o : Object) × (object_value number o ≡ inr (inl v)) × (object_fits old number o ≡ true)
+    × (new ≡ with_object old number o)
+Takes (Some old) (inr (inr (inl v))) new =
+    (n : Name) × (name_value n ≡ inr (inr (inl v))) × (name_fits old n ≡ true) × (new ≡ with_name old n)
 Takes (Some old) (inr (inr (inr more))) new = elim more [ ]
 
 -- all of these parts were taken

@@ -9,7 +9,8 @@ use Rattle.tree_changes.specs.declared.applying.ApplyFault.{ApplyFault}
 use Rattle.tree_changes.specs.declared.applying.ApplyFault.TheVariants as kinds
 
 abbrev pub step_of : {A : Type 0} → Change A → Step
-step_of (changes.Add directory name new at) = steps.Add directory name.now new.kind new.bytes.items new.owner new.group new.list new.high at
+step_of (changes.Add directory name new at) =
+    steps.Add directory name.now new.kind new.bytes.items new.owner new.group new.list new.high at
 step_of (changes.Link directory name number at) = steps.Link directory name.now number at
 step_of (changes.Unlink directory name at) = steps.Unlink directory name.now at
 step_of (changes.Rename from old to new at) = steps.Rename from old.now to new.now at

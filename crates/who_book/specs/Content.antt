@@ -31,7 +31,15 @@ pub record IsBook (book : Content) : Type 0 where
 
 -- without a book: the root's owner is 0, its group 0 and its mode 0755, and no number has a name
 abbrev pub nameless : Content
-nameless = record { domain = codes "localdomain"; root_owner = 0; root_group = 0; root_mode = 493; users = []; groups = []; members = None }
+nameless = record {
+  domain = codes "localdomain";
+  root_owner = 0;
+  root_group = 0;
+  root_mode = 493;
+  users = [];
+  groups = [];
+  members = None;
+}
 
 -- the table of a kind
 abbrev pub table_of : NameKind → Content → Rows

@@ -1,10 +1,13 @@
 -- The book of a TOML document, or its first fault.
-use Rattle.std.specs.Prelude.{◌≡◌, ◌⊎◌, ℕ, nat_le, Bool, true, false, not, ◌&&◌, ◌||◌, if◌then◌else◌, ℤ, pos, negsuc, List, [], ◌∷◌, map, length, codes, Option, Some, None, option_map, option_and_then, Result, Ok, Err}
+use Rattle.std.specs.Prelude.{◌≡◌, ◌⊎◌, ℕ, nat_le, Bool, true, false, not, ◌&&◌, ◌||◌, if◌then◌else◌, ℤ, pos, negsuc}
+use Rattle.std.specs.Prelude.{List, [], ◌∷◌, map, length, codes, Option, Some, None, option_map, option_and_then}
+use Rattle.std.specs.Prelude.{Result, Ok, Err}
 use Rattle.std.specs.List.{list_any, list_all}
 use Rattle.std.specs.Map.{values_of}
 use Rattle.std.specs.Bool.{nat_eq}
 use Rattle.std.specs.Str.{bytes_eq}
-use Rattle.toml.specs.Data.{Data, Items, no_items, item, Members, no_members, member, get_member, as_str, as_integer, as_array, as_table}
+use Rattle.toml.specs.Data.{Data, Items, no_items, item, Members, no_members, member, get_member, as_str, as_integer}
+use Rattle.toml.specs.Data.{as_array, as_table}
 use Rattle.toml.specs.Parse.{parse_document}
 use Rattle.who_book.specs.Content.{Content, is_domain}
 use Rattle.who_book.specs.Members.{Rolls, memberships, are_rolls}
@@ -30,7 +33,8 @@ pub record Outline : Type 0 where
 
 abbrev pub known_keys : List (List ℕ)
 known_keys =
-    codes "domain" ∷ codes "root_owner" ∷ codes "root_group" ∷ codes "root_mode" ∷ codes "users" ∷ codes "groups" ∷ codes "members" ∷ []
+    codes "domain" ∷ codes "root_owner" ∷ codes "root_group" ∷ codes "root_mode" ∷ codes "users" ∷ codes "groups"
+    ∷ codes "members" ∷ []
 
 abbrev pub is_known : List ℕ → Bool
 is_known key = list_any (bytes_eq key) known_keys
@@ -100,7 +104,15 @@ outline document = if not (has_known_keys document) then None else do
   users ← integers_at (codes "users") document
   groups ← integers_at (codes "groups") document
   members ← rolls_at (codes "members") document
-  Some (record { domain = domain; root_owner = root_owner; root_group = root_group; root_mode = root_mode; users = users; groups = groups; members = members })
+  Some (record {
+    domain = domain;
+    root_owner = root_owner;
+    root_group = root_group;
+    root_mode = root_mode;
+    users = users;
+    groups = groups;
+    members = members;
+  })
 
 -- Range
 
@@ -118,7 +130,8 @@ is_table rows = nat_le (length rows) 1024 && list_all is_row rows
 -- 4095 is 07777 in octal
 unfoldable pub is_in_range : Outline → Bool
 is_in_range said =
-    (is_domain said.domain && (is_up_to 4294967295 said.root_owner && (is_up_to 4294967295 said.root_group && is_up_to 4095 said.root_mode)))
+    (is_domain said.domain
+    && (is_up_to 4294967295 said.root_owner && (is_up_to 4294967295 said.root_group && is_up_to 4095 said.root_mode)))
     && (is_table said.users && is_table said.groups)
 
 -- Twice

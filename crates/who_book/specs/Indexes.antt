@@ -1,5 +1,6 @@
 -- The two indexes by which a table of names is kept, and the index of the groups of its users.
-use Rattle.std.specs.Prelude.{◌≡◌, ◌⊎◌, ◌≤◌, ℕ, Bool, true, false, if◌then◌else◌, List, [], length, map, Option, Some, None, option_map, unwrap_or, Result, Ok, Err, String, Vec, string_bytes}
+use Rattle.std.specs.Prelude.{◌≡◌, ◌⊎◌, ◌≤◌, ℕ, Bool, true, false, if◌then◌else◌, List, [], length, map, Option, Some}
+use Rattle.std.specs.Prelude.{None, option_map, unwrap_or, Result, Ok, Err, String, Vec, string_bytes}
 use Rattle.std.specs.BTreeMap.{BTreeMap, get, is_at}
 use Rattle.std.specs.declared.alloc.Global.{Global}
 use Rattle.std.specs.Map.{values_of, lookup}
@@ -59,13 +60,18 @@ AreAdded users gid names before after =
 
 -- a user whose name is among these is in 17 groups before
 abbrev pub HasFull : Rows → List (List ℕ) → (ℕ → List ℕ) → Type 0
-HasFull users names groups_of = (uid : ℕ) × ((is_listed names (name_at uid users) ≡ true) × (17 ≤ length (groups_of uid)))
+HasFull users names groups_of =
+    (uid : ℕ) × ((is_listed names (name_at uid users) ≡ true) × (17 ≤ length (groups_of uid)))
 
 abbrev pub Enrolls : Rows → Rows → Rolls → Result (List (ℕ × List ℕ)) BookFault → Type 0
-Enrolls users groups rolls (Ok index) = ((uid : ℕ) → groups_in index uid ≡ groups_with groups rolls (name_at uid users)) × (are_rolls users groups rolls ≡ true)
+Enrolls users groups rolls (Ok index) =
+    ((uid : ℕ) → groups_in index uid ≡ groups_with groups rolls (name_at uid users))
+    × (are_rolls users groups rolls ≡ true)
 Enrolls users groups rolls (Err fault) = (fault ≡ Memory) ⊎ ((fault ≡ Member) × (are_rolls users groups rolls ≡ false))
 
 -- the rolls of a key that may be missing agree with the tables
 abbrev pub EnrollsAny : Rows → Rows → Option Rolls → Result (Option (List (ℕ × List ℕ))) BookFault → Type 0
-EnrollsAny users groups rolls (Ok index) = (option_map (memberships_in users) index ≡ option_map (memberships users groups) rolls) × (KnowsMembers users index × (agrees users groups rolls ≡ true))
+EnrollsAny users groups rolls (Ok index) =
+    (option_map (memberships_in users) index ≡ option_map (memberships users groups) rolls)
+    × (KnowsMembers users index × (agrees users groups rolls ≡ true))
 EnrollsAny users groups rolls (Err fault) = (fault ≡ Memory) ⊎ ((fault ≡ Member) × (agrees users groups rolls ≡ false))

@@ -1,5 +1,6 @@
 -- The groups that a book gives its users in place of those that they send.
-use Rattle.std.specs.Prelude.{ℕ, nat_le, Bool, false, not, ◌&&◌, ◌||◌, if◌then◌else◌, List, [], ◌∷◌, map, length, Option, Some, None, unwrap_or}
+use Rattle.std.specs.Prelude.{ℕ, nat_le, Bool, false, not, ◌&&◌, ◌||◌, if◌then◌else◌, List, [], ◌∷◌, map, length}
+use Rattle.std.specs.Prelude.{Option, Some, None, unwrap_or}
 use Rattle.std.specs.List.{list_any, list_all, filter_map}
 use Rattle.std.specs.Bool.{nat_eq}
 use Rattle.std.specs.Map.{lookup}
@@ -30,7 +31,11 @@ groups_by (Some members) caller = groups_at caller.uid members
 
 -- the caller as sent where the book has no memberships, else its user with the groups that these give it
 unfoldable pub member : Content → Identity → Identity
-member book caller = record { uid = caller.uid; gid = gid_by book.members caller; groups = groups_by book.members caller }
+member book caller = record {
+  uid = caller.uid;
+  gid = gid_by book.members caller;
+  groups = groups_by book.members caller;
+}
 
 -- The memberships of a document
 
@@ -43,7 +48,8 @@ is_among names name = list_any (bytes_eq name) names
 
 -- the numbers of the groups whose array has the user's name
 abbrev pub numbers_with : Rows → Rolls → List ℕ → List ℕ
-numbers_with groups rolls user = filter_map (λ roll. if is_among roll.1 user then number_at roll.0 groups else None) rolls
+numbers_with groups rolls user =
+    filter_map (λ roll. if is_among roll.1 user then number_at roll.0 groups else None) rolls
 
 -- the memberships of the users of a book by the rolls
 abbrev pub memberships : Rows → Rows → Rolls → Memberships
@@ -69,4 +75,6 @@ is_roll users groups roll = is_named groups roll.0 && are_users users roll.1
 
 -- each roll has a group and users of the book, and no user is in more than 17 groups
 abbrev pub are_rolls : Rows → Rows → Rolls → Bool
-are_rolls users groups rolls = list_all (is_roll users groups) rolls && list_all (λ user. nat_le (length user.1) 17) (memberships users groups rolls)
+are_rolls users groups rolls =
+    list_all (is_roll users groups) rolls
+    && list_all (λ user. nat_le (length user.1) 17) (memberships users groups rolls)

@@ -1,5 +1,6 @@
 -- A table of names: a list of rows, each a name and its number.
-use Rattle.std.specs.Prelude.{◌≡◌, ℕ, ◌==◌, ◌≤◌, nat_lt, nat_le, Bool, true, not, ◌&&◌, List, length, Option, option_map}
+use Rattle.std.specs.Prelude.{◌≡◌, ℕ, ◌==◌, ◌≤◌, nat_lt, nat_le, Bool, true, not, ◌&&◌, List, length, Option}
+use Rattle.std.specs.Prelude.{option_map}
 use Rattle.std.specs.List.{find, list_any, list_all, IsDistinct}
 use Rattle.std.specs.Map.{lookup, keys_of, values_of}
 use Rattle.std.specs.Bool.{nat_eq}

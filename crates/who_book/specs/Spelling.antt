@@ -1,5 +1,6 @@
 -- The texts of users, groups and whos (RFC 8881, sections 5.9 and 6.2.1.5).
-use Rattle.std.specs.Prelude.{◌≡◌, ◌⊎◌, ℕ, ◌+◌, ◌-◌, ◌*◌, ◌<◌, ◌^◌, ◌==◌, nat_lt, Bool, true, false, not, ◌&&◌, if◌then◌else◌, List, [], ◌∷◌, ◌++◌, codes, decimal, Option, Some, None, option_map}
+use Rattle.std.specs.Prelude.{◌≡◌, ◌⊎◌, ℕ, ◌+◌, ◌-◌, ◌*◌, ◌<◌, ◌^◌, ◌==◌, nat_lt, Bool, true, false, not, ◌&&◌}
+use Rattle.std.specs.Prelude.{if◌then◌else◌, List, [], ◌∷◌, ◌++◌, codes, decimal, Option, Some, None, option_map}
 use Rattle.std.specs.List.{find}
 use Rattle.std.specs.Option.{option_or}
 use Rattle.std.specs.Str.{bytes_eq, all_ascii_digits}
@@ -24,7 +25,10 @@ is_short (digit ∷ next ∷ digits) = not (digit == 48)
 
 -- the number of 32 bits that a text is in decimal digits without leading zeros
 abbrev pub number_in : List ℕ → Option ℕ
-number_in text = if (all_ascii_digits text && is_short text) && nat_lt (value_after 0 text) 4294967296 then Some (value_after 0 text) else None
+number_in text =
+    if (all_ascii_digits text && is_short text) && nat_lt (value_after 0 text) 4294967296
+    then Some (value_after 0 text)
+    else None
 
 -- a name with @ and the domain
 abbrev pub full_name : List ℕ → List ℕ → List ℕ
@@ -70,7 +74,8 @@ special_in text =
 
 -- the who of a text under an entry's flags
 unfoldable pub who_in : ℕ → Content → List ℕ → Option Who
-who_in flags book text = option_or (special_in text) (option_map (named_who (kind_of flags)) (principal_in (kind_of flags) book text))
+who_in flags book text =
+    option_or (special_in text) (option_map (named_who (kind_of flags)) (principal_in (kind_of flags) book text))
 
 -- the text of a who
 abbrev pub who_text : Content → Who → List ℕ

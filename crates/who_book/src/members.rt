@@ -96,7 +96,8 @@ impl Members {
             (groups_in self.new)) }
         ensures few { OnOk result ((n : ℕ) → length (groups_in self.new n) ≤ MOST_GROUPS) }
         ensures err { IfErr result (λ fault. (fault ≡ Memory) ⊎ ((fault ≡ Member) ×
-            ((are_users users.now (texts_of names.now) ≡ false) ⊎ HasFull users.now (texts_of names.now) (groups_in self.old)))) }
+            ((are_users users.now (texts_of names.now) ≡ false)
+            ⊎ HasFull users.now (texts_of names.now) (groups_in self.old)))) }
     {
         for name in names {
             let Some(uid) = users.number_of(name.as_bytes()) else {
@@ -112,7 +113,9 @@ impl Members {
         ensures absent { OnOk result (has_group (groups_in self.old uid) gid ≡ false) }
         ensures room { OnOk result (length (groups_in self.old uid) < MOST_GROUPS) }
         ensures added { OnOk result
-            ((n : ℕ) → groups_in self.new n ≡ (if uid == n then with_group gid (groups_in self.old uid) else groups_in self.old n)) }
+            ((n : ℕ)
+            → groups_in self.new n
+            ≡ (if uid == n then with_group gid (groups_in self.old uid) else groups_in self.old n)) }
         ensures err { IfErr result (λ fault. (fault ≡ Memory) ⊎ ((fault ≡ Member) ×
             ((has_group (groups_in self.old uid) gid ≡ true) ⊎ (MOST_GROUPS ≤ length (groups_in self.old uid))))) }
     {

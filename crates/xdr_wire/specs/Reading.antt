@@ -1,11 +1,13 @@
 -- Reading a value from left to right, with the first fault that is met.
-use Rattle.std.specs.Prelude.{◌≡◌, ◌+◌, ℕ, ℤ, zero, suc, Bool, true, false, List, [], ◌∷◌, length, take, drop, Option, Some, None, Result, Ok, Err, nat_lt, ◌==◌, if◌then◌else◌}
+use Rattle.std.specs.Prelude.{◌≡◌, ◌+◌, ℕ, ℤ, zero, suc, Bool, true, false, List, [], ◌∷◌, length, take, drop, Option}
+use Rattle.std.specs.Prelude.{Some, None, Result, Ok, Err, nat_lt, ◌==◌, if◌then◌else◌}
 use Rattle.std.proofs.Common.{inl, inr}
 use Rattle.std.specs.Int.{Width, w32, w64, byte_len, from_be_bytes, cast_signed}
 use Rattle.std.specs.List.{list_all}
 use Rattle.xdr_wire.specs.declared.fault.XdrFault.{XdrFault}
 use Rattle.xdr_wire.specs.declared.fault.XdrFault.TheVariants.{Short, BadBool, BadPad, TooLong, BadChoice}
-use Rattle.xdr_wire.specs.Xdr.{Xdr, void, uint, hyper, signed_hyper, boolean, fixed, opaque, pair, fixed_array, array, optional, chain, union, Arms, no_more, arm, otherwise, ArmValue, Value, padding}
+use Rattle.xdr_wire.specs.Xdr.{Xdr, void, uint, hyper, signed_hyper, boolean, fixed, opaque, pair, fixed_array, array}
+use Rattle.xdr_wire.specs.Xdr.{optional, chain, union, Arms, no_more, arm, otherwise, ArmValue, Value, padding}
 
 infixl 10 ◌>>=◌
 abbrev pub ◌>>=◌ : {A B : Type 0} → Result A XdrFault → (A → Result B XdrFault) → Result B XdrFault
@@ -17,7 +19,9 @@ abbrev pub Read : Type 0 → Type 0
 Read V = Result (V × List ℕ) XdrFault
 
 abbrev pub number_at : Width → List ℕ → Read ℕ
-number_at w bytes = if nat_lt (length bytes) (byte_len w) then Err Short else Ok (from_be_bytes w (take (byte_len w) bytes), drop (byte_len w) bytes)
+number_at w bytes =
+    if nat_lt (length bytes) (byte_len w) then Err Short
+    else Ok (from_be_bytes w (take (byte_len w) bytes), drop (byte_len w) bytes)
 
 abbrev pub integer_at : Width → List ℕ → Read ℤ
 integer_at w bytes = number_at w bytes >>= λ n. Ok (cast_signed w n.0, n.1)
@@ -64,7 +68,8 @@ linked onward (true, rest) = onward rest
 -- bytes.
 abbrev pub links_at : {V : Type 0} → (List ℕ → Read V) → ℕ → List ℕ → Read (List V)
 links_at item zero bytes = Err Short
-links_at item (suc n) bytes = boolean_at bytes >>= linked (λ rest. item rest >>= λ x. links_at item n x.1 >>= λ xs. Ok (x.0 ∷ xs.0, xs.1))
+links_at item (suc n) bytes =
+    boolean_at bytes >>= linked (λ rest. item rest >>= λ x. links_at item n x.1 >>= λ xs. Ok (x.0 ∷ xs.0, xs.1))
 
 abbrev mutual
   pub read_at : (t : Xdr) → List ℕ → Read (Value t)
@@ -86,7 +91,8 @@ abbrev mutual
   pub read_arm : (a : Arms) → ℕ → List ℕ → Read (ArmValue a)
   read_arm no_more d bytes = Err BadChoice
   read_arm (arm n t others) d bytes =
-      if d == n then (read_at t bytes >>= λ x. Ok (inl x.0, x.1)) else (read_arm others d bytes >>= λ x. Ok (inr x.0, x.1))
+      if d == n then (read_at t bytes >>= λ x. Ok (inl x.0, x.1))
+      else (read_arm others d bytes >>= λ x. Ok (inr x.0, x.1))
   read_arm (otherwise t) d bytes = read_at t bytes >>= λ x. Ok ((d, x.0), x.1)
 
 -- A call gives the value that reading gives, or its fault; then the bytes are left as they were.

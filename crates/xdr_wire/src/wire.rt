@@ -36,5 +36,6 @@ pub trait Wire<'a>: Spell {
     /// Reads the value whose spelling stands at the front, and lends what it holds of the bytes. A fault leaves the
     /// reader where the value begins.
     fn read(reader: &mut Reader<'a>) -> Result<Self, XdrFault>
-        ensures { Gives Self.view reader.old reader.new result (in_normal_form Self.normal (read_at Self.form reader.old)) };
+        ensures { Gives Self.view reader.old reader.new result
+            (in_normal_form Self.normal (read_at Self.form reader.old)) };
 }
