@@ -111,7 +111,7 @@ fn plain(kind: EntryKind, mask: u32, who: Who) -> Entry
 /// |---|---|---|---|---|
 /// | AUDIT, ALARM | any | as it is | as it is | as it is |
 /// | ALLOW, DENY | OWNER@, GROUP@, EVERYONE@ | as it is | with 8 set | dropped |
-/// | ALLOW | another user or group | as it is | without class bits that the group lacks | so too, even if none is left |
+/// | ALLOW | another user or group | as it is | less the class bits the group lacks | so too, even if none is left |
 /// | DENY | another user or group | as it is | as it is | as it is |
 ///
 /// Bits of a mask that the standard doesn't define stay. From a list within the bounds of
