@@ -51,9 +51,10 @@ with_torn d = record { safe = d.safe; unsynced = d.unsynced; loose = true; room 
 abbrev pub after_sync : Disk → Disk
 after_sync d = record { safe = d.safe ++ d.unsynced; unsynced = []; loose = false; room = d.room }
 
--- A file that is emptied and not yet synced may have any bytes after a crash. Its room is gone with its bytes.
+-- A file that is emptied and not yet synced may have any bytes after a crash. After a sync room may
+-- stand where its bytes were.
 abbrev pub after_emptying : Disk → Disk
-after_emptying d = record { safe = []; unsynced = []; loose = true; room = false }
+after_emptying d = record { safe = []; unsynced = []; loose = true; room = true }
 
 -- an act on one file does this to a file
 abbrev pub if_same : Slot → Slot → (Disk → Disk) → Disk → Disk

@@ -45,7 +45,8 @@ pub trait Disk {
     fn sync(&mut self, slot: Slot) -> bool
         ensures { adds self.old (synced result slot) self.new };
 
-    /// Makes a file empty. `false`: that failed, and it may be empty or not.
+    /// Makes a file empty. After a sync zero bytes may stand where its bytes were. `false`: that failed, and it may be
+    /// empty or not.
     fn empty(&mut self, slot: Slot) -> bool
         ensures { adds self.old (emptied result slot) self.new };
 }

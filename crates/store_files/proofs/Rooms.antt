@@ -7,7 +7,7 @@ use Rattle.journal.specs.declared.disk.Slot.TheVariants.{A, B}
 use Rattle.journal.specs.Disk.{Act, Found, Unfound, Appended, Tore, Synced, Unsynced, Emptied, Unemptied, Disk, on_disk, if_same, settled, with_bytes, with_torn, after_sync, after_emptying}
 use Rattle.store_files.specs.declared.folder.StoreFolder.{StoreFolder}
 use Rattle.store_files.specs.declared.store_file.StoreFile.{StoreFile}
-use Rattle.store_files.specs.Held.{HasFailed, IsFound, IsGrown, IsSynced, IsThere, Keeps, file_in, of_length, with_file}
+use Rattle.store_files.specs.Held.{HasFailed, IsEmptied, IsFound, IsGrown, IsSynced, IsThere, Keeps, file_in, with_file}
 use Rattle.store_files.specs.Rooms.{Did, RoomLaw}
 
 -- a file is there, and where nothing is loose its bytes stand before the end of its room
@@ -42,8 +42,8 @@ synced loose x y st is = record {
   ]);
 }
 
-emptied : (loose : Bool) (x : StoreFile) → Stays loose x → Stays true (of_length 0 x)
-emptied loose x st = record { there = st.there; before = λ quiet. never quiet }
+emptied : (loose : Bool) (x y : StoreFile) → Stays loose x → IsEmptied x y → Stays true y
+emptied loose x y st is = record { there = λ none. st.there (sym (ap (λ (z : StoreFile). z.file) is.stays) ∙ none); before = λ quiet. never quiet }
 
 loosened : (loose : Bool) (x : StoreFile) → Stays loose x → Stays true x
 loosened loose x st = record { there = st.there; before = λ quiet. never quiet }
@@ -74,10 +74,10 @@ step A (Synced B) acts old new st k = subst (Stays (on_disk A acts).loose) (sym 
 step B (Synced A) acts old new st k = subst (Stays (on_disk B acts).loose) (sym (ap (λ (x : StoreFolder). x.b) k.1)) st
 step B (Synced B) acts old new st k = synced (on_disk B acts).loose old.b new.b st k.0
 step s (Unsynced t) acts old new st f = subst (Stays (on_disk s acts).loose) (sym (same_of_failed s t old new f)) st
-step A (Emptied A) acts old new st is = subst (Stays true) (sym (ap (λ (x : StoreFolder). x.a) is)) (emptied (on_disk A acts).loose old.a st)
-step A (Emptied B) acts old new st is = subst (Stays (on_disk A acts).loose) (sym (ap (λ (x : StoreFolder). x.a) is)) st
-step B (Emptied A) acts old new st is = subst (Stays (on_disk B acts).loose) (sym (ap (λ (x : StoreFolder). x.b) is)) st
-step B (Emptied B) acts old new st is = subst (Stays true) (sym (ap (λ (x : StoreFolder). x.b) is)) (emptied (on_disk B acts).loose old.b st)
+step A (Emptied A) acts old new st k = emptied (on_disk A acts).loose old.a new.a st k.0
+step A (Emptied B) acts old new st k = subst (Stays (on_disk A acts).loose) (sym (ap (λ (x : StoreFolder). x.a) k.1)) st
+step B (Emptied A) acts old new st k = subst (Stays (on_disk B acts).loose) (sym (ap (λ (x : StoreFolder). x.b) k.1)) st
+step B (Emptied B) acts old new st k = emptied (on_disk B acts).loose old.b new.b st k.0
 step A (Unemptied A) acts old new st f = subst (Stays true) (sym (same_of_failed A A old new f)) (loosened (on_disk A acts).loose old.a st)
 step A (Unemptied B) acts old new st f = subst (Stays (on_disk A acts).loose) (sym (same_of_failed A B old new f)) st
 step B (Unemptied A) acts old new st f = subst (Stays (on_disk B acts).loose) (sym (same_of_failed B A old new f)) st

@@ -53,6 +53,13 @@ pub record IsSynced (old new : StoreFile) : Type 0 where
   pub enough : old.len ≤ old.end → new.end ≡ old.end
   pub made : old.end < old.len → old.file ≢ None → (old.len ≤ new.end) × (new.end ≤ old.len + ahead old)
 
+-- An emptied file may have room where it had bytes: at most 64 MiB, and never past the limit.
+pub record IsEmptied (old new : StoreFile) : Type 0 where
+  pub stays : new ≡ record old { len = 0; end = new.end }
+  pub within : new.end ≤ old.len
+  pub most : new.end ≤ 67108864
+  pub allowed : new.end ≤ old.limit
+
 -- ---- the folder
 
 abbrev pub part_in : Slot → Part
@@ -86,7 +93,8 @@ Keeps old (Tore slot bytes) new = HasFailed slot old new
 Keeps old (Synced slot) new =
     IsSynced (file_in slot old) (file_in slot new) × (new ≡ with_file slot (file_in slot new) old)
 Keeps old (Unsynced slot) new = HasFailed slot old new
-Keeps old (Emptied slot) new = new ≡ with_file slot (of_length 0 (file_in slot old)) old
+Keeps old (Emptied slot) new =
+    IsEmptied (file_in slot old) (file_in slot new) × (new ≡ with_file slot (file_in slot new) old)
 Keeps old (Unemptied slot) new = HasFailed slot old new
 
 -- the system gave this for a call on a file, and this is kept of it

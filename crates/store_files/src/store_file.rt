@@ -2,7 +2,7 @@
 ghost use Rattle.std.specs.Prelude.{◌≡◌, ◌+◌, ◌-◌, ◌≤◌, ◌<◌, ◌^◌, ◌↔◌, Some, None, length, IfOk, OnErr, IsErrAnd};
 ghost use Rattle.std.specs.Prelude.{IsTrue, MatchResult};
 ghost use Rattle.std.specs.IoError.{error_kind};
-ghost use Rattle.store_files.specs.Held.{IsFound, IsGrown, IsSynced, IsThere, ahead, of_length, room};
+ghost use Rattle.store_files.specs.Held.{IsEmptied, IsFound, IsGrown, IsSynced, IsThere, ahead, room};
 
 use std::alloc::Allocator;
 use std::fs::File;
@@ -16,9 +16,13 @@ const MOST_AHEAD: u64 = 4_194_304;
 /// The least, where there is room for them below the limit.
 const LEAST_AHEAD: u64 = 65_536;
 
+/// The most bytes of room that a file has as it is emptied: as many as the records of a small store, before its next
+/// checkpoint is written.
+const MOST_EMPTIED: u64 = 67_108_864;
+
 /// A file that is only appended to and emptied. After what was appended it may have room: zero
 /// bytes, over which more is appended. A sync of bytes that stand in room is quicker, since the
-/// file has no new length that the system would have to keep too.
+/// file has no new length and no new blocks that the system would have to keep too.
 #[derive(Drop)]
 pub(crate) struct StoreFile {
     /// `None`: it isn't there, and isn't made.
@@ -166,16 +170,19 @@ impl StoreFile {
         Ok(())
     }
 
-    /// Makes it empty.
+    /// Makes it empty. Zero bytes are written over what it has, up to a most, and are its room; what it
+    /// has behind them is cut off. So what is appended then takes the blocks that it had, and a sync of
+    /// it is quicker. At an error it may have any bytes.
     pub(crate) fn empty(&mut self) -> io::Result<()>
-        ensures { MatchResult result (λ done. self.new ≡ of_length 0 self.old) (λ e. self.new ≡ self.old) }
+        ensures { MatchResult result (λ done. IsEmptied self.old self.new) (λ e. self.new ≡ self.old) }
     {
         let Some(file) = &self.file else {
             return Err(ErrorKind::ReadOnlyFilesystem.into());
         };
-        file.set_len(0)?;
+        let zeroed = write_zeros(file, 0, self.len.min(MOST_EMPTIED).min(self.limit));
+        file.set_len(zeroed)?;
         self.len = 0;
-        self.end = 0;
+        self.end = zeroed;
         Ok(())
     }
 }
